@@ -1,0 +1,2 @@
+pub mod FrameContent
+pub mod FrameFields

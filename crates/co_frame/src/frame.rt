@@ -1,0 +1,94 @@
+//! A CAN data frame with an identifier of 11 bits.
+
+ghost use Rattle.std.specs.Prelude.{◌≡◌, ◌↔◌, ◌<◌, ◌≤◌, [], length, IsOk, IfOk, IsErrOf};
+ghost use Rattle.co_frame.specs.FrameContent.{FrameContent, IsFrame};
+
+use std::marker::Model;
+
+/// Why a frame can't be made.
+#[derive(Clone, Copy, Debug, PartialEq, Eq, Hash)]
+pub enum FrameFault {
+    /// The identifier is above 7FFh.
+    BadId,
+    /// There are more than 8 data bytes.
+    TooLong,
+}
+
+/// A CAN data frame: an identifier from 0 to 7FFh and 0 to 8 data bytes (CiA 301, 7.2.1).
+/// Contracts see it as the record of both. The default is identifier 0 without data.
+#[derive(Clone, Copy, Debug, PartialEq, Eq, Hash)]
+pub struct Frame {
+    id: u16,
+    len: u8,
+    // those from `len` on are 0
+    cells: [u8; 8],
+}
+
+impl Model for Frame {
+    ghost use Rattle.co_frame.specs.FrameContent.{FrameContent};
+
+    ghost Value = { FrameContent };
+
+    ghost use Rattle.co_frame.specs.FrameFields.{content_of, IsPadded, fields_of, fields_of-content_of};
+
+    ghost view = { content_of };
+
+    ghost invariant = { IsPadded };
+
+    ghost inverse = { fields_of };
+
+    ghost inverse_ok = { fields_of-content_of };
+}
+
+impl Frame {
+    /// The frame with this identifier and these data bytes.
+    /// `BadId` for an identifier above 7FFh, else `TooLong` for more than 8 bytes.
+    pub fn new(id: u16, bytes: &[u8]) -> Result<Frame, FrameFault>
+        ensures ok { IsOk result ↔ ((id < 2048) × (length bytes.now ≤ 8)) }
+        ensures frame { IfOk result (λ frame. frame ≡ record { id = id; bytes = bytes.now }) }
+        ensures bad_id { IsErrOf result FrameFault.BadId ↔ (2048 ≤ id) }
+        ensures too_long { IsErrOf result FrameFault.TooLong ↔ ((id < 2048) × (8 < length bytes.now)) }
+    {
+        if id > 0x7FF {
+            return Err(FrameFault::BadId);
+        }
+        if bytes.len() > 8 {
+            return Err(FrameFault::TooLong);
+        }
+        let mut cells = [0; 8];
+        cells[..bytes.len()].copy_from_slice(bytes);
+        Ok(Frame {
+            id,
+            len: bytes.len() as u8,
+            cells,
+        })
+    }
+
+    /// The identifier, 0 to 7FFh.
+    pub fn id(&self) -> u16
+        ensures id { result ≡ self.now.id }
+        ensures small { result < 2048 }
+    {
+        self.id
+    }
+
+    /// The data, 0 to 8 bytes.
+    pub fn bytes(&self) -> &[u8]
+        ensures bytes { result.now ≡ self.now.bytes }
+        ensures few { length result.now ≤ 8 }
+    {
+        &self.cells[..self.len as usize]
+    }
+}
+
+impl Default for Frame {
+    ghost is_default = { λ frame. frame ≡ record { id = 0; bytes = [] } };
+
+    fn default() -> Self {
+        Frame {
+            id: 0,
+            len: 0,
+            cells: [0; 8],
+        }
+    }
+}

@@ -1,0 +1,82 @@
+-- Numbers and their bytes determine each other.
+use Rattle.std.proofs.Common.{◌≡◌, ℕ, zero, suc, ◌-◌, ◌*◌, ◌/◌, ◌%◌, ◌^◌, ◌<◌, ◌≤ℤ◌, ℤ, pos, negsuc, neg_ℤ, length, refl, sym, ap, ◌∙◌, arith, true, false, leb, lit<}
+use Rattle.std.proofs.lemmas.Int.{ints}
+use Rattle.std.proofs.lemmas.Bool.Decides.{nat_tests}
+use Rattle.std.proofs.Math.Nat.{pow-suc, div-div-eq-div-mul, div-one}
+use Rattle.std.proofs.lemmas.Nat.{div_below}
+use Rattle.std.specs.Int.{byte_at, bytes_low_first}
+use Rattle.co_value.specs.declared.data_type.DataType.{DataType}
+use Rattle.co_value.specs.declared.data_type.DataType.TheVariants.{Boolean, Integer8, Integer16, Integer24, Integer32, Integer40, Integer48, Integer56, Integer64, Unsigned8, Unsigned16, Unsigned24, Unsigned32, Unsigned40, Unsigned48, Unsigned56, Unsigned64, VisibleString, OctetString, Domain}
+use Rattle.co_value.specs.Types.{InRange}
+use Rattle.co_value.specs.Numbers.{unsigned_of, signed_of, low_bytes, bits_of, bytes_of, IsNumber}
+
+byte_at-pow : (k x : ℕ) → byte_at k x ≡ x / 256 ^ k % 256
+byte_at-pow zero x = ap (λ (y : ℕ). y % 256) (sym (div-one x))
+byte_at-pow (suc k) x = refl
+
+-- the bytes from byte j up are those of the number without its lowest j bytes
+pub bytes_low_first-is : (j k x : ℕ) → bytes_low_first j k x ≡ low_bytes k (x / 256 ^ j)
+bytes_low_first-is j zero x = refl
+bytes_low_first-is j (suc k) x =
+    let shift : x / 256 ^ suc j ≡ x / 256 ^ j / 256 = ap (λ (p : ℕ). x / p) (pow-suc 256 j) ∙ sym (div-div-eq-div-mul x (256 ^ j) 256) in
+    rw (byte_at-pow j x, bytes_low_first-is (suc j) k x, shift) refl
+
+pub length-low_bytes : (k x : ℕ) → length (low_bytes k x) ≡ k
+length-low_bytes zero x = refl
+length-low_bytes (suc k) x = let e = length-low_bytes k (x / 256) in omega (arith, e)
+
+pub unsigned_of-low_bytes : (k x : ℕ) → x < 256 ^ k → unsigned_of (low_bytes k x) ≡ x
+unsigned_of-low_bytes zero x h = omega arith
+unsigned_of-low_bytes (suc k) x h =
+    let below : x / 256 < 256 ^ k = div_below x 256 (256 ^ k) (omega arith) (rw (pow-suc 256 k) at h) in
+    let rest = unsigned_of-low_bytes k (x / 256) below in
+    omega (arith, rest)
+
+-- a number in two's complement of at least one bit
+pub signed_of-bits_of : (bits half : ℕ) (value : ℤ) → 0 < half → 2 ^ (bits - 1) ≡ half → 2 ^ bits ≡ 2 * half → neg_ℤ (pos half) ≤ℤ value → value ≤ℤ pos (half - 1) → signed_of bits (bits_of bits value) ≡ value
+signed_of-bits_of bits half (pos n) some p q low high =
+    let small : n < half = omega (arith, ints) in
+    let test : leb half n ≡ false = grind (arith, nat_tests) in
+    rw (p, test) refl
+signed_of-bits_of bits half (negsuc n) some p q low high =
+    let small : n < half = omega (arith, ints) in
+    let test : leb half (2 * half - suc n) ≡ true = grind (arith, nat_tests) in
+    rw (p, q, test) (omega (arith, ints))
+
+bits_below : (bits half : ℕ) {end : ℕ} (value : ℤ) → 0 < half → 2 ^ bits ≡ 2 * half → end ≡ 2 * half → neg_ℤ (pos half) ≤ℤ value → value ≤ℤ pos (half - 1) → bits_of bits value < end
+bits_below bits half (pos n) some q r low high = omega (arith, ints)
+bits_below bits half (negsuc n) some q r low high = omega (arith, ints)
+
+-- the bytes of an unsigned number at a width
+unsigned_bytes : (width : ℕ) (value : ℤ) → pos 0 ≤ℤ value → value ≤ℤ pos (256 ^ width - 1) → 0 < 256 ^ width → pos (unsigned_of (low_bytes width (bits_of (8 * width) value))) ≡ value
+unsigned_bytes width (pos n) low high some = ap pos (unsigned_of-low_bytes width n (omega (arith, ints)))
+unsigned_bytes width (negsuc n) low high some = absurd (omega (arith, ints))
+
+-- the bytes of a signed one
+signed_bytes : (width half : ℕ) (value : ℤ) → 0 < half → 2 ^ (8 * width - 1) ≡ half → 2 ^ (8 * width) ≡ 2 * half → 256 ^ width ≡ 2 * half → neg_ℤ (pos half) ≤ℤ value → value ≤ℤ pos (half - 1) → signed_of (8 * length (low_bytes width (bits_of (8 * width) value))) (unsigned_of (low_bytes width (bits_of (8 * width) value))) ≡ value
+signed_bytes width half value some p q r low high =
+    let fits : bits_of (8 * width) value < 256 ^ width = bits_below (8 * width) half value some q r low high in
+    rw (length-low_bytes width (bits_of (8 * width) value), unsigned_of-low_bytes width (bits_of (8 * width) value) fits) (signed_of-bits_of (8 * width) half value some p q low high)
+
+-- the bytes of a number in a type's range are those of the number
+pub IsNumber-bytes_of : (t : DataType) (value : ℤ) → InRange t value → IsNumber t (bytes_of t value) value
+IsNumber-bytes_of Boolean value range = record { width = refl; number = unsigned_bytes 1 value range.0 (omega (arith, ints, range.1)) (lit< tt) }
+IsNumber-bytes_of Integer8 value range = record { width = refl; number = signed_bytes 1 (2 ^ 7) value (lit< tt) refl refl refl range.0 range.1 }
+IsNumber-bytes_of Integer16 value range = record { width = refl; number = signed_bytes 2 (2 ^ 15) value (lit< tt) refl refl refl range.0 range.1 }
+IsNumber-bytes_of Integer24 value range = record { width = refl; number = signed_bytes 3 (2 ^ 23) value (lit< tt) refl refl refl range.0 range.1 }
+IsNumber-bytes_of Integer32 value range = record { width = refl; number = signed_bytes 4 (2 ^ 31) value (lit< tt) refl refl refl range.0 range.1 }
+IsNumber-bytes_of Integer40 value range = record { width = refl; number = signed_bytes 5 (2 ^ 39) value (lit< tt) refl refl refl range.0 range.1 }
+IsNumber-bytes_of Integer48 value range = record { width = refl; number = signed_bytes 6 (2 ^ 47) value (lit< tt) refl refl refl range.0 range.1 }
+IsNumber-bytes_of Integer56 value range = record { width = refl; number = signed_bytes 7 (2 ^ 55) value (lit< tt) refl refl refl range.0 range.1 }
+IsNumber-bytes_of Integer64 value range = record { width = refl; number = signed_bytes 8 (2 ^ 63) value (lit< tt) refl refl refl range.0 range.1 }
+IsNumber-bytes_of Unsigned8 value range = record { width = refl; number = unsigned_bytes 1 value range.0 range.1 (lit< tt) }
+IsNumber-bytes_of Unsigned16 value range = record { width = refl; number = unsigned_bytes 2 value range.0 range.1 (lit< tt) }
+IsNumber-bytes_of Unsigned24 value range = record { width = refl; number = unsigned_bytes 3 value range.0 range.1 (lit< tt) }
+IsNumber-bytes_of Unsigned32 value range = record { width = refl; number = unsigned_bytes 4 value range.0 range.1 (lit< tt) }
+IsNumber-bytes_of Unsigned40 value range = record { width = refl; number = unsigned_bytes 5 value range.0 range.1 (lit< tt) }
+IsNumber-bytes_of Unsigned48 value range = record { width = refl; number = unsigned_bytes 6 value range.0 range.1 (lit< tt) }
+IsNumber-bytes_of Unsigned56 value range = record { width = refl; number = unsigned_bytes 7 value range.0 range.1 (lit< tt) }
+IsNumber-bytes_of Unsigned64 value range = record { width = refl; number = unsigned_bytes 8 value range.0 range.1 (lit< tt) }
+IsNumber-bytes_of VisibleString value range = absurd range.0
+IsNumber-bytes_of OctetString value range = absurd range.0
+IsNumber-bytes_of Domain value range = absurd range.0

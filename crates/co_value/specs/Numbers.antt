@@ -1,0 +1,36 @@
+-- Numbers as bytes: little-endian, signed ones in two's complement (CiA 301, 7.1.4).
+use Rattle.std.specs.Prelude.{◌≡◌, ℕ, zero, suc, ◌+◌, ◌-◌, ◌*◌, ◌/◌, ◌%◌, ◌^◌, ◌+ℤ◌, nat_le, if◌then◌else◌, ℤ, pos, negsuc, neg_ℤ, Some, List, [], ◌∷◌, length, unwrap_or}
+use Rattle.co_value.specs.declared.data_type.DataType.{DataType}
+use Rattle.co_value.specs.Types.{width_of, is_signed}
+
+-- the bytes as an unsigned number, the lowest byte first
+abbrev pub unsigned_of : List ℕ → ℕ
+unsigned_of [] = 0
+unsigned_of (byte ∷ bytes) = byte + 256 * unsigned_of bytes
+
+-- two's complement: an unsigned number of this many bits whose top bit is set stands for itself less 2 ^ bits
+abbrev pub signed_of : ℕ → ℕ → ℤ
+signed_of bits number = if nat_le (2 ^ (bits - 1)) number then pos number +ℤ neg_ℤ (pos (2 ^ bits)) else pos number
+
+-- the bytes as a number of a numeric type
+abbrev pub number_of : DataType → List ℕ → ℤ
+number_of t bytes = if is_signed t then signed_of (8 * length bytes) (unsigned_of bytes) else pos (unsigned_of bytes)
+
+-- the bytes are those of the number: as many as the type is wide
+pub record IsNumber (t : DataType) (bytes : List ℕ) (value : ℤ) : Type 0 where
+  pub width : width_of t ≡ Some (length bytes)
+  pub number : number_of t bytes ≡ value
+
+-- the lowest bytes of an unsigned number, the lowest first
+abbrev pub low_bytes : ℕ → ℕ → List ℕ
+low_bytes zero number = []
+low_bytes (suc width) number = number % 256 ∷ low_bytes width (number / 256)
+
+-- a number as unsigned bits: a negative one plus 2 ^ bits
+abbrev pub bits_of : ℕ → ℤ → ℕ
+bits_of bits (pos n) = n
+bits_of bits (negsuc n) = 2 ^ bits - suc n
+
+-- the bytes of a number at a numeric type
+abbrev pub bytes_of : DataType → ℤ → List ℕ
+bytes_of t value = let width = unwrap_or (width_of t) 0 in low_bytes width (bits_of (8 * width) value)

@@ -1,0 +1,10 @@
+//! The values of an object dictionary: keys, data types, and numbers as bytes.
+#![tactic(auto)]
+
+mod data_type;
+mod key;
+mod value;
+
+pub use data_type::DataType;
+pub use key::Key;
+pub use value::{ValueFault, from_bytes, to_bytes};
