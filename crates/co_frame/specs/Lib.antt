@@ -1,2 +1,9 @@
 pub mod FrameContent
 pub mod FrameFields
+pub mod SdoFields
+pub mod SdoParts
+pub mod SdoRequests
+pub mod SdoResponses
+pub use Rattle.co_value.specs.Types
+pub use Rattle.co_value.specs.Numbers
+pub use Rattle.arrayvec.specs.ArrayVec

@@ -64,6 +64,18 @@ impl Frame {
         })
     }
 
+    // The frame of a service that has eight bytes.
+    pub(crate) fn of_eight(id: u16, bytes: [u8; 8]) -> Frame
+        requires { id < 2048 }
+        ensures { result ≡ record { id = id; bytes = bytes } }
+    {
+        Frame {
+            id,
+            len: 8,
+            cells: bytes,
+        }
+    }
+
     /// The identifier, 0 to 7FFh.
     pub fn id(&self) -> u16
         ensures id { result ≡ self.now.id }

@@ -1,36 +1,44 @@
 -- Numbers and their bytes determine each other.
-use Rattle.std.proofs.Common.{◌≡◌, ℕ, zero, suc, ◌-◌, ◌*◌, ◌/◌, ◌%◌, ◌^◌, ◌<◌, ◌≤ℤ◌, ℤ, pos, negsuc, neg_ℤ, length, refl, sym, ap, ◌∙◌, arith, true, false, leb, lit<}
+use Rattle.std.proofs.Common.{List, [], ◌∷◌, ◌≡◌, ℕ, zero, suc, ◌-◌, ◌*◌, ◌/◌, ◌%◌, ◌^◌, ◌<◌, ◌≤ℤ◌, ℤ, pos, negsuc, neg_ℤ, length, refl, sym, ap, ◌∙◌, arith, true, false, leb, lit<}
 use Rattle.std.proofs.lemmas.Int.{ints}
 use Rattle.std.proofs.lemmas.Bool.Decides.{nat_tests}
 use Rattle.std.proofs.Math.Nat.{pow-suc, div-div-eq-div-mul, div-one}
 use Rattle.std.proofs.lemmas.Nat.{div_below}
 use Rattle.std.specs.Int.{byte_at, bytes_low_first}
+use Rattle.byteorder.specs.Numbers.{length-bytes_low_first}
 use Rattle.co_value.specs.declared.data_type.DataType.{DataType}
 use Rattle.co_value.specs.declared.data_type.DataType.TheVariants.{Boolean, Integer8, Integer16, Integer24, Integer32, Integer40, Integer48, Integer56, Integer64, Unsigned8, Unsigned16, Unsigned24, Unsigned32, Unsigned40, Unsigned48, Unsigned56, Unsigned64, VisibleString, OctetString, Domain}
 use Rattle.co_value.specs.Types.{InRange}
 use Rattle.co_value.specs.Numbers.{unsigned_of, signed_of, low_bytes, bits_of, bytes_of, IsNumber}
+
+-- the same bytes by a recursion on the number
+quotient_bytes : ℕ → ℕ → List ℕ
+quotient_bytes zero number = []
+quotient_bytes (suc width) number = number % 256 ∷ quotient_bytes width (number / 256)
 
 byte_at-pow : (k x : ℕ) → byte_at k x ≡ x / 256 ^ k % 256
 byte_at-pow zero x = ap (λ (y : ℕ). y % 256) (sym (div-one x))
 byte_at-pow (suc k) x = refl
 
 -- the bytes from byte j up are those of the number without its lowest j bytes
-pub bytes_low_first-is : (j k x : ℕ) → bytes_low_first j k x ≡ low_bytes k (x / 256 ^ j)
+bytes_low_first-is : (j k x : ℕ) → bytes_low_first j k x ≡ quotient_bytes k (x / 256 ^ j)
+unfolding quotient_bytes
 bytes_low_first-is j zero x = refl
 bytes_low_first-is j (suc k) x =
     let shift : x / 256 ^ suc j ≡ x / 256 ^ j / 256 = ap (λ (p : ℕ). x / p) (pow-suc 256 j) ∙ sym (div-div-eq-div-mul x (256 ^ j) 256) in
     rw (byte_at-pow j x, bytes_low_first-is (suc j) k x, shift) refl
 
-pub length-low_bytes : (k x : ℕ) → length (low_bytes k x) ≡ k
-length-low_bytes zero x = refl
-length-low_bytes (suc k) x = let e = length-low_bytes k (x / 256) in omega (arith, e)
-
-pub unsigned_of-low_bytes : (k x : ℕ) → x < 256 ^ k → unsigned_of (low_bytes k x) ≡ x
-unsigned_of-low_bytes zero x h = omega arith
-unsigned_of-low_bytes (suc k) x h =
+unsigned_of-quotient_bytes : (k x : ℕ) → x < 256 ^ k → unsigned_of (quotient_bytes k x) ≡ x
+unfolding quotient_bytes
+unsigned_of-quotient_bytes zero x h = omega arith
+unsigned_of-quotient_bytes (suc k) x h =
     let below : x / 256 < 256 ^ k = div_below x 256 (256 ^ k) (omega arith) (rw (pow-suc 256 k) at h) in
-    let rest = unsigned_of-low_bytes k (x / 256) below in
+    let rest = unsigned_of-quotient_bytes k (x / 256) below in
     omega (arith, rest)
+
+unsigned_of-low_bytes : (k x : ℕ) → x < 256 ^ k → unsigned_of (low_bytes k x) ≡ x
+unsigned_of-low_bytes k x h =
+    ap unsigned_of (bytes_low_first-is 0 k x ∙ ap (quotient_bytes k) (div-one x)) ∙ unsigned_of-quotient_bytes k x h
 
 -- a number in two's complement of at least one bit
 pub signed_of-bits_of : (bits half : ℕ) (value : ℤ) → 0 < half → 2 ^ (bits - 1) ≡ half → 2 ^ bits ≡ 2 * half → neg_ℤ (pos half) ≤ℤ value → value ≤ℤ pos (half - 1) → signed_of bits (bits_of bits value) ≡ value
@@ -56,7 +64,7 @@ unsigned_bytes width (negsuc n) low high some = absurd (omega (arith, ints))
 signed_bytes : (width half : ℕ) (value : ℤ) → 0 < half → 2 ^ (8 * width - 1) ≡ half → 2 ^ (8 * width) ≡ 2 * half → 256 ^ width ≡ 2 * half → neg_ℤ (pos half) ≤ℤ value → value ≤ℤ pos (half - 1) → signed_of (8 * length (low_bytes width (bits_of (8 * width) value))) (unsigned_of (low_bytes width (bits_of (8 * width) value))) ≡ value
 signed_bytes width half value some p q r low high =
     let fits : bits_of (8 * width) value < 256 ^ width = bits_below (8 * width) half value some q r low high in
-    rw (length-low_bytes width (bits_of (8 * width) value), unsigned_of-low_bytes width (bits_of (8 * width) value) fits) (signed_of-bits_of (8 * width) half value some p q low high)
+    rw (length-bytes_low_first 0 width (bits_of (8 * width) value), unsigned_of-low_bytes width (bits_of (8 * width) value) fits) (signed_of-bits_of (8 * width) half value some p q low high)
 
 -- the bytes of a number in a type's range are those of the number
 pub IsNumber-bytes_of : (t : DataType) (value : ℤ) → InRange t value → IsNumber t (bytes_of t value) value

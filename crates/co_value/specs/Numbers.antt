@@ -1,5 +1,6 @@
 -- Numbers as bytes: little-endian, signed ones in two's complement (CiA 301, 7.1.4).
-use Rattle.std.specs.Prelude.{◌≡◌, ℕ, zero, suc, ◌+◌, ◌-◌, ◌*◌, ◌/◌, ◌%◌, ◌^◌, ◌+ℤ◌, nat_le, if◌then◌else◌, ℤ, pos, negsuc, neg_ℤ, Some, List, [], ◌∷◌, length, unwrap_or}
+use Rattle.std.specs.Prelude.{◌≡◌, ℕ, suc, ◌+◌, ◌-◌, ◌*◌, ◌^◌, ◌+ℤ◌, nat_le, if◌then◌else◌, ℤ, pos, negsuc, neg_ℤ, Some, List, [], ◌∷◌, length, unwrap_or}
+use Rattle.std.specs.Int.{bytes_low_first}
 use Rattle.co_value.specs.declared.data_type.DataType.{DataType}
 use Rattle.co_value.specs.Types.{width_of, is_signed}
 
@@ -21,10 +22,9 @@ pub record IsNumber (t : DataType) (bytes : List ℕ) (value : ℤ) : Type 0 whe
   pub width : width_of t ≡ Some (length bytes)
   pub number : number_of t bytes ≡ value
 
--- the lowest bytes of an unsigned number, the lowest first
+-- the lowest bytes of an unsigned number, the lowest first: byte i is number / 256 ^ i % 256
 abbrev pub low_bytes : ℕ → ℕ → List ℕ
-low_bytes zero number = []
-low_bytes (suc width) number = number % 256 ∷ low_bytes width (number / 256)
+low_bytes width number = bytes_low_first 0 width number
 
 -- a number as unsigned bits: a negative one plus 2 ^ bits
 abbrev pub bits_of : ℕ → ℤ → ℕ

@@ -1,0 +1,4 @@
+mod Tests
+mod Parts
+mod Requests
+mod Responses

@@ -1,0 +1,81 @@
+-- The forms that rows of both tables of SDO services share (CiA 301, 7.2.4.3): what spells them, and how they are written.
+use Rattle.std.specs.Prelude.{◌≡◌, ℕ, ◌+◌, ◌-◌, ◌*◌, ◌≤◌, Bool, true, false, Option, Some, None, List, ◌∷◌, ◌++◌, length, slice_index, take, drop, replicate}
+use Rattle.arrayvec.specs.ArrayVec.{ArrayVec}
+use Rattle.co_value.specs.declared.key.Key.{Key}
+use Rattle.co_value.specs.Numbers.{low_bytes}
+use Rattle.co_frame.specs.declared.abort_code.AbortCode.{AbortCode}
+use Rattle.co_frame.specs.declared.sdo_request.ExpeditedData.{ExpeditedData}
+use Rattle.co_frame.specs.declared.sdo_request.ExpeditedData.TheVariants.{Indicated, NotIndicated}
+use Rattle.co_frame.specs.SdoFields.{command, specifier, has_bit, unused_of_segment, unused_of_expedited, unused_of_end, key_in, number_in, key_bytes, weight, padded}
+
+-- expedited data: bit 1 (e) is set; where bit 0 (s) is, bits 3 to 2 (n) are the unused ones of the four data bytes
+abbrev pub SpellsExpedited : Key → ExpeditedData → List ℕ → Type 0
+SpellsExpedited key (Indicated counted) bytes = (has_bit 1 bytes ≡ true) × (has_bit 0 bytes ≡ true) × (key ≡ key_in bytes) × (counted.items ≡ take (4 - unused_of_expedited bytes) (drop 4 bytes))
+SpellsExpedited key (NotIndicated four) bytes = (has_bit 1 bytes ≡ true) × (has_bit 0 bytes ≡ false) × (key ≡ key_in bytes) × (four ≡ drop 4 bytes)
+
+-- the begin of a segmented transfer: bit 1 (e) is clear; where bit 0 (s) is set, the size stands in the data bytes
+abbrev pub SpellsBegin : Key → Option ℕ → List ℕ → Type 0
+SpellsBegin key (Some size) bytes = (has_bit 1 bytes ≡ false) × (has_bit 0 bytes ≡ true) × (key ≡ key_in bytes) × (size ≡ number_in bytes)
+SpellsBegin key None bytes = (has_bit 1 bytes ≡ false) × (has_bit 0 bytes ≡ false) × (key ≡ key_in bytes)
+
+-- a segment: bit 4 is the toggle, bits 3 to 1 (n) the unused ones of the seven data bytes, bit 0 (c) marks the last
+abbrev pub SpellsSegment : Bool → ArrayVec ℕ → Bool → List ℕ → Type 0
+SpellsSegment toggle segment last bytes = (toggle ≡ has_bit 4 bytes) × (segment.items ≡ take (7 - unused_of_segment bytes) (drop 1 bytes)) × (last ≡ has_bit 0 bytes)
+
+-- an abort: the data bytes are the code
+abbrev pub SpellsAbort : Key → AbortCode → List ℕ → Type 0
+SpellsAbort key code bytes = (key ≡ key_in bytes) × (code.0 ≡ number_in bytes)
+
+-- the begin of a block transfer: bit 0 is clear; where bit 1 (s) is set, the size stands in the data bytes
+abbrev pub SpellsBlockBegin : Key → Option ℕ → List ℕ → Type 0
+SpellsBlockBegin key (Some size) bytes = (has_bit 0 bytes ≡ false) × (has_bit 1 bytes ≡ true) × (key ≡ key_in bytes) × (size ≡ number_in bytes)
+SpellsBlockBegin key None bytes = (has_bit 0 bytes ≡ false) × (has_bit 1 bytes ≡ false) × (key ≡ key_in bytes)
+
+-- the end of a block transfer: bit 0 is set, bits 4 to 2 (n) are the unused bytes of the last segment
+abbrev pub SpellsBlockEnd : ℕ → List ℕ → Type 0
+SpellsBlockEnd unused bytes = (has_bit 0 bytes ≡ true) × (unused ≡ unused_of_end bytes)
+
+-- the acknowledgement of a block: byte 1 is the sequence number of the last segment taken, byte 2 the next block's size
+abbrev pub SpellsAcknowledge : ℕ → ℕ → List ℕ → Type 0
+SpellsAcknowledge sequence block_size bytes = (sequence ≡ slice_index bytes 1) × (block_size ≡ slice_index bytes 2)
+
+-- ---- what is written: reserved bits and bytes are 0
+
+abbrev pub expedited_bytes : ℕ → Key → ExpeditedData → List ℕ
+expedited_bytes specifier key (Indicated counted) = (32 * specifier + 4 * (4 - length counted.items) + 3) ∷ key_bytes key ++ padded 4 counted.items
+expedited_bytes specifier key (NotIndicated four) = (32 * specifier + 2) ∷ key_bytes key ++ four
+
+abbrev pub begin_bytes : ℕ → Key → Option ℕ → List ℕ
+begin_bytes specifier key (Some size) = (32 * specifier + 1) ∷ key_bytes key ++ low_bytes 4 size
+begin_bytes specifier key None = (32 * specifier) ∷ key_bytes key ++ replicate 4 0
+
+abbrev pub segment_bytes : Bool → ArrayVec ℕ → Bool → List ℕ
+segment_bytes toggle segment last = (weight 4 toggle + 2 * (7 - length segment.items) + weight 0 last) ∷ padded 7 segment.items
+
+abbrev pub abort_bytes : Key → AbortCode → List ℕ
+abort_bytes key code = 128 ∷ key_bytes key ++ low_bytes 4 code.0
+
+abbrev pub block_begin_bytes : Key → Option ℕ → List ℕ
+block_begin_bytes key (Some size) = 194 ∷ key_bytes key ++ low_bytes 4 size
+block_begin_bytes key None = 192 ∷ key_bytes key ++ replicate 4 0
+
+abbrev pub block_end_bytes : ℕ → List ℕ
+block_end_bytes unused = (193 + 4 * unused) ∷ replicate 7 0
+
+abbrev pub acknowledge_bytes : ℕ → ℕ → List ℕ
+acknowledge_bytes sequence block_size = 162 ∷ sequence ∷ block_size ∷ replicate 5 0
+
+-- a key, and four bytes after it
+abbrev pub keyed_bytes : ℕ → Key → List ℕ → List ℕ
+keyed_bytes command key bytes = command ∷ key_bytes key ++ bytes
+
+-- a command byte alone
+abbrev pub bare_bytes : ℕ → List ℕ
+bare_bytes command = command ∷ replicate 7 0
+
+-- ---- what can be written
+
+-- expedited data of which the size is told has 1 to 4 bytes
+abbrev pub IsExpeditedData : ExpeditedData → Type 0
+IsExpeditedData (Indicated counted) = (1 ≤ length counted.items) × (length counted.items ≤ 4)
+IsExpeditedData (NotIndicated four) = Unit {0}

@@ -1,0 +1,50 @@
+//! Why a transfer was aborted.
+
+/// An abort code of the SDO protocol (CiA 301, 7.2.4.3.17). Any number may come in a frame.
+#[derive(Clone, Copy, Debug, PartialEq, Eq, Hash)]
+pub struct AbortCode(pub u32);
+
+impl AbortCode {
+    /// The toggle bit wasn't alternated.
+    pub const TOGGLE_NOT_ALTERNATED: AbortCode = AbortCode(0x0503_0000);
+    /// The protocol timed out.
+    pub const TIMED_OUT: AbortCode = AbortCode(0x0504_0000);
+    /// The command specifier isn't valid or known.
+    pub const UNKNOWN_COMMAND: AbortCode = AbortCode(0x0504_0001);
+    /// The block size isn't valid.
+    pub const INVALID_BLOCK_SIZE: AbortCode = AbortCode(0x0504_0002);
+    /// The sequence number isn't valid.
+    pub const INVALID_SEQUENCE_NUMBER: AbortCode = AbortCode(0x0504_0003);
+    /// There is no room for the value.
+    pub const OUT_OF_MEMORY: AbortCode = AbortCode(0x0504_0005);
+    /// The object can't be read: it is write only.
+    pub const WRITE_ONLY: AbortCode = AbortCode(0x0601_0001);
+    /// The object can't be written: it is read only.
+    pub const READ_ONLY: AbortCode = AbortCode(0x0601_0002);
+    /// There is no object of the index.
+    pub const OBJECT_MISSING: AbortCode = AbortCode(0x0602_0000);
+    /// The object can't be mapped to the PDO.
+    pub const NOT_MAPPABLE: AbortCode = AbortCode(0x0604_0041);
+    /// The mapped objects are longer than a PDO.
+    pub const MAPPING_TOO_LONG: AbortCode = AbortCode(0x0604_0042);
+    /// The parameter doesn't go with another one.
+    pub const PARAMETER_INCOMPATIBLE: AbortCode = AbortCode(0x0604_0043);
+    /// The value is longer than the entry.
+    pub const TOO_LONG: AbortCode = AbortCode(0x0607_0012);
+    /// The value is shorter than the entry.
+    pub const TOO_SHORT: AbortCode = AbortCode(0x0607_0013);
+    /// The object has no such sub-index.
+    pub const SUB_INDEX_MISSING: AbortCode = AbortCode(0x0609_0011);
+    /// The value is invalid for the parameter.
+    pub const INVALID_VALUE: AbortCode = AbortCode(0x0609_0030);
+    /// The value is above the high limit.
+    pub const ABOVE_HIGH_LIMIT: AbortCode = AbortCode(0x0609_0031);
+    /// The value is below the low limit.
+    pub const BELOW_LOW_LIMIT: AbortCode = AbortCode(0x0609_0032);
+    /// The value can't be stored by the application.
+    pub const NOT_STORABLE: AbortCode = AbortCode(0x0800_0020);
+    /// The value can't be stored in the device's present state.
+    pub const NOT_IN_THIS_STATE: AbortCode = AbortCode(0x0800_0022);
+    /// No value is there to be read.
+    pub const NO_VALUE: AbortCode = AbortCode(0x0800_0024);
+}

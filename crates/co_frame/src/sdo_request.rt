@@ -1,0 +1,253 @@
+//! What an SDO client asks of a server.
+
+ghost use Rattle.std.specs.Prelude.{◌≡◌, ◌↔◌, ◌<◌, List, length, ℕ, Some, None, IfSome, IsTrue};
+ghost use Rattle.co_frame.specs.declared.sdo_request.SdoRequest.{SdoRequest};
+ghost use Rattle.co_frame.specs.SdoRequests.{request_in, request_row_in, download_in, block_upload_in, block_download_in, SpellsRequestRow, SpellsSdoRequest, IsSdoRequest, request_bytes};
+ghost use Rattle.co_frame.specs.SdoParts.{IsExpeditedData};
+
+use crate::abort_code::AbortCode;
+use crate::frame::Frame;
+use crate::sdo_bytes::{
+    abort, acknowledge, bare, begin, block_begin, block_end, expedited, keyed, segment, weight,
+};
+use crate::sdo_fields::{
+    code_in, expedited_in, has_bit, key_in, segment_in, size_in, specifier, subcommand,
+    unused_of_end,
+};
+use arrayvec::ArrayVec;
+use co_value::Key;
+
+/// The data of an expedited transfer.
+#[derive(Clone, Debug, PartialEq, Eq, Drop)]
+pub enum ExpeditedData {
+    /// The frame tells how many bytes count: 1 to 4.
+    Indicated(ArrayVec<u8, 4>),
+    /// It doesn't: of the four bytes as many count as the entry has.
+    NotIndicated([u8; 4]),
+}
+
+impl ExpeditedData {
+    /// Whether the data can be spelled: where the size is indicated, 1 to 4 bytes.
+    pub fn is_spellable(&self) -> bool
+        ensures { IsTrue result ↔ IsExpeditedData self.now }
+    {
+        match self {
+            ExpeditedData::Indicated(counted) => !counted.is_empty() && counted.len() <= 4,
+            ExpeditedData::NotIndicated(_) => true,
+        }
+    }
+}
+
+/// A request of an SDO client (CiA 301, 7.2.4.3).
+#[derive(Clone, Debug, PartialEq, Eq, Drop)]
+pub enum SdoRequest {
+    /// A whole download of 1 to 4 bytes.
+    DownloadExpedited {
+        key: Key,
+        data: ExpeditedData,
+    },
+    /// The begin of a segmented download, with the number of bytes where it is told.
+    DownloadBegin {
+        key: Key,
+        size: Option<u32>,
+    },
+    /// A segment of 0 to 7 bytes.
+    DownloadSegment {
+        toggle: bool,
+        data: ArrayVec<u8, 7>,
+        last: bool,
+    },
+    /// The begin of an upload.
+    Upload {
+        key: Key,
+    },
+    /// The next segment of an upload is asked for.
+    UploadSegment {
+        toggle: bool,
+    },
+    /// The transfer is given up.
+    Abort {
+        key: Key,
+        code: AbortCode,
+    },
+    /// The begin of a block upload, with the number of segments in a block.
+    BlockUploadBegin {
+        key: Key,
+        block_size: u8,
+        threshold: u8,
+    },
+    /// The end of a block upload.
+    BlockUploadEnd,
+    /// A block came up to this segment; the next block has this many.
+    BlockUploadAcknowledge {
+        sequence: u8,
+        block_size: u8,
+    },
+    /// The blocks of an upload may be sent.
+    BlockUploadStart,
+    /// The begin of a block download, with the number of bytes where it is told.
+    BlockDownloadBegin {
+        key: Key,
+        size: Option<u32>,
+    },
+    /// The end of a block download, with the number of bytes that the last segment leaves unused, 0 to 7.
+    BlockDownloadEnd {
+        unused: u8,
+    },
+}
+
+impl SdoRequest {
+    /// The request that a frame's data spells, whatever its identifier (CiA 301, 7.2.4.3).
+    /// `None` for a frame that hasn't eight bytes, and for a command specifier that no request has.
+    pub fn read(frame: &Frame) -> Option<SdoRequest>
+        ensures exact { result ≡ request_in frame.now.bytes }
+        // What is read is spelled by the frame, and what the frame spells is read, so it spells one request at most.
+        ensures found { IfSome result (λ request. SpellsSdoRequest request frame.now.bytes) }
+        ensures only { (request : SdoRequest) → SpellsSdoRequest request frame.now.bytes → result ≡ Some request }
+    {
+        request_of(frame.bytes())
+    }
+
+    /// Whether the request can be spelled: expedited data whose size is indicated has 1 to 4 bytes, and an
+    /// end of a block download leaves at most 7 unused.
+    pub fn is_spellable(&self) -> bool
+        ensures { IsTrue result ↔ IsSdoRequest self.now }
+    {
+        match self {
+            SdoRequest::DownloadExpedited { key: _, data } => data.is_spellable(),
+            SdoRequest::DownloadSegment {
+                toggle: _,
+                data,
+                last: _,
+            } => data.len() <= 7,
+            SdoRequest::BlockDownloadEnd { unused } => *unused <= 7,
+            _ => true,
+        }
+    }
+
+    /// The frame of the request on an identifier, 0 to 7FFh; reserved bits and bytes are 0 (CiA 301, 7.2.4.3).
+    pub fn write(&self, id: u16) -> Frame
+        requires id { id < 2048 }
+        requires spellable { IsSdoRequest self.now }
+        ensures frame { result ≡ record { id = id; bytes = request_bytes self.now } }
+        ensures spelled { SpellsSdoRequest self.now result.bytes }
+    {
+        Frame::of_eight(id, self.spelling())
+    }
+
+    fn spelling(&self) -> [u8; 8]
+        requires { IsSdoRequest self.now }
+        ensures bytes { result ≡ request_bytes self.now }
+        ensures row { SpellsRequestRow self.now result }
+    {
+        match self {
+            SdoRequest::DownloadExpedited { key, data } => expedited(1, *key, data),
+            SdoRequest::DownloadBegin { key, size } => begin(1, *key, *size),
+            SdoRequest::DownloadSegment { toggle, data, last } => segment(*toggle, data, *last),
+            SdoRequest::Upload { key } => keyed(64, *key, [0; 4]),
+            SdoRequest::UploadSegment { toggle } => bare(96 + weight(4, *toggle)),
+            SdoRequest::Abort { key, code } => abort(*key, *code),
+            SdoRequest::BlockUploadBegin {
+                key,
+                block_size,
+                threshold,
+            } => keyed(160, *key, [*block_size, *threshold, 0, 0]),
+            SdoRequest::BlockUploadEnd => bare(161),
+            SdoRequest::BlockUploadAcknowledge {
+                sequence,
+                block_size,
+            } => acknowledge(*sequence, *block_size),
+            SdoRequest::BlockUploadStart => bare(163),
+            SdoRequest::BlockDownloadBegin { key, size } => block_begin(*key, *size),
+            SdoRequest::BlockDownloadEnd { unused } => block_end(*unused),
+        }
+    }
+}
+
+fn request_of(bytes: &[u8]) -> Option<SdoRequest>
+    ensures { result ≡ request_in bytes.now }
+{
+    if bytes.len() != 8 {
+        return None;
+    }
+    request_row(bytes)
+}
+
+#[tactic(auto, unfolding(crate::specs::SdoRequests::request_row_in))]
+fn request_row(bytes: &[u8]) -> Option<SdoRequest>
+    requires { length bytes.now ≡ 8 }
+    ensures { result ≡ request_row_in bytes.now }
+{
+    match specifier(bytes) {
+        0 => Some(SdoRequest::DownloadSegment {
+            toggle: has_bit(bytes, 4),
+            data: segment_in(bytes),
+            last: has_bit(bytes, 0),
+        }),
+        1 => Some(download(bytes)),
+        2 => Some(SdoRequest::Upload { key: key_in(bytes) }),
+        3 => Some(SdoRequest::UploadSegment {
+            toggle: has_bit(bytes, 4),
+        }),
+        4 => Some(SdoRequest::Abort {
+            key: key_in(bytes),
+            code: code_in(bytes),
+        }),
+        5 => Some(block_upload(bytes)),
+        6 => Some(block_download(bytes)),
+        _ => None,
+    }
+}
+
+fn download(bytes: &[u8]) -> SdoRequest
+    requires { length bytes.now ≡ 8 }
+    ensures { result ≡ download_in bytes.now }
+{
+    let key = key_in(bytes);
+    if has_bit(bytes, 1) {
+        SdoRequest::DownloadExpedited {
+            key,
+            data: expedited_in(bytes),
+        }
+    } else {
+        SdoRequest::DownloadBegin {
+            key,
+            size: size_in(bytes, has_bit(bytes, 0)),
+        }
+    }
+}
+
+fn block_upload(bytes: &[u8]) -> SdoRequest
+    requires { length bytes.now ≡ 8 }
+    ensures { result ≡ block_upload_in bytes.now }
+{
+    match subcommand(bytes) {
+        0 => SdoRequest::BlockUploadBegin {
+            key: key_in(bytes),
+            block_size: bytes[4],
+            threshold: bytes[5],
+        },
+        1 => SdoRequest::BlockUploadEnd,
+        2 => SdoRequest::BlockUploadAcknowledge {
+            sequence: bytes[1],
+            block_size: bytes[2],
+        },
+        _ => SdoRequest::BlockUploadStart,
+    }
+}
+
+fn block_download(bytes: &[u8]) -> SdoRequest
+    requires { length bytes.now ≡ 8 }
+    ensures { result ≡ block_download_in bytes.now }
+{
+    if has_bit(bytes, 0) {
+        SdoRequest::BlockDownloadEnd {
+            unused: unused_of_end(bytes),
+        }
+    } else {
+        SdoRequest::BlockDownloadBegin {
+            key: key_in(bytes),
+            size: size_in(bytes, has_bit(bytes, 1)),
+        }
+    }
+}
