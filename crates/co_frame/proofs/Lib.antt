@@ -1,4 +1,4 @@
-mod Tests
+mod Branches
 mod Parts
 mod Requests
 mod Responses

@@ -4,7 +4,7 @@ use Rattle.co_frame.specs.declared.sdo_request.ExpeditedData.{ExpeditedData}
 use Rattle.co_frame.specs.declared.sdo_request.ExpeditedData.TheVariants.{Indicated, NotIndicated}
 use Rattle.co_frame.specs.SdoFields.{has_bit, unused_of_expedited, key_in, number_in}
 use Rattle.co_frame.specs.SdoParts.{SpellsExpedited, SpellsBegin, SpellsBlockBegin}
-use Rattle.co_frame.proofs.Tests.{branches}
+use Rattle.co_frame.proofs.Branches.{branches}
 
 abbrev pub expedited_in : List ℕ → ExpeditedData
 expedited_in bytes = cond (has_bit 0 bytes) (Indicated (record { items = take (4 - unused_of_expedited bytes) (drop 4 bytes) })) (NotIndicated (drop 4 bytes))

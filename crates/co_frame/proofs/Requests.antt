@@ -7,7 +7,7 @@ use Rattle.co_frame.specs.declared.sdo_request.SdoRequest.{SdoRequest}
 use Rattle.co_frame.specs.declared.sdo_request.SdoRequest.TheVariants.{DownloadExpedited, DownloadBegin, DownloadSegment, Upload, UploadSegment, Abort, BlockUploadBegin, BlockUploadEnd, BlockUploadAcknowledge, BlockUploadStart, BlockDownloadBegin, BlockDownloadEnd}
 use Rattle.co_frame.specs.SdoFields.{command, specifier, subcommand, has_bit, key_in}
 use Rattle.co_frame.specs.SdoRequests.{SpellsSdoRequest, request_row_in, request_in}
-use Rattle.co_frame.proofs.Tests.{branches, some_branches}
+use Rattle.co_frame.proofs.Branches.{branches, some_branches}
 use Rattle.co_frame.proofs.Parts.{expedited_spelled, begin_spelled, block_begin_spelled}
 
 -- ---- what is spelled is read

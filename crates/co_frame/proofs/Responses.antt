@@ -6,7 +6,7 @@ use Rattle.co_frame.specs.declared.sdo_response.SdoResponse.{SdoResponse}
 use Rattle.co_frame.specs.declared.sdo_response.SdoResponse.TheVariants.{DownloadDone, DownloadSegmentDone, UploadExpedited, UploadBegin, UploadSegment, Abort, BlockDownloadBegun, BlockDownloadDone, BlockDownloadAcknowledge, BlockUploadBegun, BlockUploadEnd}
 use Rattle.co_frame.specs.SdoFields.{specifier, subcommand, has_bit, key_in}
 use Rattle.co_frame.specs.SdoResponses.{SpellsSdoResponse, response_row_in, response_in}
-use Rattle.co_frame.proofs.Tests.{branches, some_branches}
+use Rattle.co_frame.proofs.Branches.{branches, some_branches}
 use Rattle.co_frame.proofs.Parts.{expedited_spelled, begin_spelled, block_begin_spelled}
 
 -- ---- what is spelled is read

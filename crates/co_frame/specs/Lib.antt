@@ -1,9 +1,14 @@
+pub mod BlockSegments
+pub mod Emergencies
 pub mod FrameContent
 pub mod FrameFields
+pub mod Heartbeats
+pub mod Nmt
 pub mod SdoFields
 pub mod SdoParts
 pub mod SdoRequests
 pub mod SdoResponses
+pub mod Syncs
 pub use Rattle.co_value.specs.Types
 pub use Rattle.co_value.specs.Numbers
 pub use Rattle.arrayvec.specs.ArrayVec

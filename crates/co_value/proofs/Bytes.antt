@@ -1,15 +1,15 @@
 -- Numbers and their bytes determine each other.
-use Rattle.std.proofs.Common.{List, [], ◌∷◌, ◌≡◌, ℕ, zero, suc, ◌-◌, ◌*◌, ◌/◌, ◌%◌, ◌^◌, ◌<◌, ◌≤ℤ◌, ℤ, pos, negsuc, neg_ℤ, length, refl, sym, ap, ◌∙◌, arith, true, false, leb, lit<}
+use Rattle.std.proofs.Common.{◌+ℤ◌, ◌+◌, List, [], ◌∷◌, ◌≡◌, ℕ, zero, suc, ◌-◌, ◌*◌, ◌/◌, ◌%◌, ◌^◌, ◌<◌, ◌≤ℤ◌, ℤ, pos, negsuc, neg_ℤ, length, refl, sym, ap, ◌∙◌, arith, true, false, Bool, cond, leb, lit<}
 use Rattle.std.proofs.lemmas.Int.{ints}
 use Rattle.std.proofs.lemmas.Bool.Decides.{nat_tests}
 use Rattle.std.proofs.Math.Nat.{pow-suc, div-div-eq-div-mul, div-one}
-use Rattle.std.proofs.lemmas.Nat.{div_below}
+use Rattle.std.proofs.lemmas.Nat.{div_below, pow-add}
 use Rattle.std.specs.Int.{byte_at, bytes_low_first}
 use Rattle.byteorder.specs.Numbers.{length-bytes_low_first}
 use Rattle.co_value.specs.declared.data_type.DataType.{DataType}
 use Rattle.co_value.specs.declared.data_type.DataType.TheVariants.{Boolean, Integer8, Integer16, Integer24, Integer32, Integer40, Integer48, Integer56, Integer64, Unsigned8, Unsigned16, Unsigned24, Unsigned32, Unsigned40, Unsigned48, Unsigned56, Unsigned64, VisibleString, OctetString, Domain}
-use Rattle.co_value.specs.Types.{InRange}
-use Rattle.co_value.specs.Numbers.{unsigned_of, signed_of, low_bytes, bits_of, bytes_of, IsNumber}
+use Rattle.co_value.specs.Types.{is_signed, InRange}
+use Rattle.co_value.specs.Numbers.{unsigned_of, signed_of, low_bytes, bits_of, bytes_of, number_of, AreBytes, HasOneSpelling, IsNumber}
 
 -- the same bytes by a recursion on the number
 quotient_bytes : ℕ → ℕ → List ℕ
@@ -88,3 +88,51 @@ IsNumber-bytes_of Unsigned64 value range = record { width = refl; number = unsig
 IsNumber-bytes_of VisibleString value range = absurd range.0
 IsNumber-bytes_of OctetString value range = absurd range.0
 IsNumber-bytes_of Domain value range = absurd range.0
+
+-- ---- as many bytes with the same number are the same bytes
+
+unsigned_of-exact : (a b : List ℕ) → AreBytes a → AreBytes b → length a ≡ length b → unsigned_of a ≡ unsigned_of b → a ≡ b
+unsigned_of-exact [] [] p q n e = refl
+unsigned_of-exact [] (y ∷ ys) p q n e = absurd (omega arith)
+unsigned_of-exact (x ∷ xs) [] p q n e = absurd (omega arith)
+unsigned_of-exact (x ∷ xs) (y ∷ ys) p q n e =
+    let low = p.0 in
+    let low' = q.0 in
+    let same : x ≡ y = omega arith in
+    let rest = unsigned_of-exact xs ys p.1 q.1 (omega arith) (omega arith) in
+    cc
+
+unsigned_of-below : (a : List ℕ) → AreBytes a → unsigned_of a < 256 ^ length a
+unsigned_of-below [] p = lit< tt
+unsigned_of-below (x ∷ xs) p =
+    let low = p.0 in
+    let rest = unsigned_of-below xs p.1 in
+    rw (pow-suc 256 (length xs)) (omega (arith, rest))
+
+-- with or without the top bit, less 2 ^ bits a number is negative
+by_halves : (c d : Bool) (end m n : ℕ) → m < end → n < end → cond c (pos m +ℤ neg_ℤ (pos end)) (pos m) ≡ cond d (pos n +ℤ neg_ℤ (pos end)) (pos n) → m ≡ n
+by_halves true true end m n p q e = omega (arith, ints)
+by_halves true false end m n p q e = omega (arith, ints)
+by_halves false true end m n p q e = omega (arith, ints)
+by_halves false false end m n p q e = omega (arith, ints)
+
+signed_of-exact : (bits m n : ℕ) → m < 2 ^ bits → n < 2 ^ bits → signed_of bits m ≡ signed_of bits n → m ≡ n
+signed_of-exact bits m n p q e = by_halves (leb (2 ^ (bits - 1)) m) (leb (2 ^ (bits - 1)) n) (2 ^ bits) m n p q e
+
+-- 2 ^ bits of as many bytes
+power_of_bytes : (n : ℕ) → 2 ^ (8 * n) ≡ 256 ^ n
+power_of_bytes zero = refl
+power_of_bytes (suc n) =
+    let split : 8 * suc n ≡ 8 + 8 * n = omega arith in
+    rw (split, pow-add 2 8 (8 * n), power_of_bytes n, pow-suc 256 n) (omega arith)
+
+same_unsigned : (signed : Bool) (a b : List ℕ) → AreBytes a → AreBytes b → length a ≡ length b → cond signed (signed_of (8 * length a) (unsigned_of a)) (pos (unsigned_of a)) ≡ cond signed (signed_of (8 * length b) (unsigned_of b)) (pos (unsigned_of b)) → unsigned_of a ≡ unsigned_of b
+same_unsigned false a b p q n e = omega (arith, ints)
+same_unsigned true a b p q n e =
+    let bits : 2 ^ (8 * length b) ≡ 256 ^ length b = power_of_bytes (length b) in
+    let first : unsigned_of a < 2 ^ (8 * length b) = rw (bits, ← n) (unsigned_of-below a p) in
+    let second : unsigned_of b < 2 ^ (8 * length b) = rw bits (unsigned_of-below b q) in
+    signed_of-exact (8 * length b) (unsigned_of a) (unsigned_of b) first second (rw n at e)
+
+pub has_one_spelling : (t : DataType) → HasOneSpelling t
+has_one_spelling t a b p q n e = unsigned_of-exact a b p q n (same_unsigned (is_signed t) a b p q n e)

@@ -1,5 +1,6 @@
 -- Numbers as bytes: little-endian, signed ones in two's complement (CiA 301, 7.1.4).
-use Rattle.std.specs.Prelude.{◌≡◌, ℕ, suc, ◌+◌, ◌-◌, ◌*◌, ◌^◌, ◌+ℤ◌, nat_le, if◌then◌else◌, ℤ, pos, negsuc, neg_ℤ, Some, List, [], ◌∷◌, length, unwrap_or}
+use Rattle.std.specs.Prelude.{◌≡◌, ℕ, suc, ◌+◌, ◌-◌, ◌*◌, ◌^◌, ◌<◌, ◌+ℤ◌, nat_le, if◌then◌else◌, ℤ, pos, negsuc, neg_ℤ, Some, List, [], ◌∷◌, length, unwrap_or}
+use Rattle.std.specs.List.{AllByRecursion}
 use Rattle.std.specs.Int.{bytes_low_first}
 use Rattle.co_value.specs.declared.data_type.DataType.{DataType}
 use Rattle.co_value.specs.Types.{width_of, is_signed}
@@ -34,3 +35,11 @@ bits_of bits (negsuc n) = 2 ^ bits - suc n
 -- the bytes of a number at a numeric type
 abbrev pub bytes_of : DataType → ℤ → List ℕ
 bytes_of t value = let width = unwrap_or (width_of t) 0 in low_bytes width (bits_of (8 * width) value)
+
+-- each is a byte
+abbrev pub AreBytes : List ℕ → Type 0
+AreBytes bytes = AllByRecursion (λ byte. byte < 256) bytes
+
+-- as many bytes with the same number are the same bytes
+abbrev pub HasOneSpelling : DataType → Type 0
+HasOneSpelling t = (a b : List ℕ) → AreBytes a → AreBytes b → length a ≡ length b → number_of t a ≡ number_of t b → a ≡ b

@@ -3,8 +3,10 @@
 
 mod data_type;
 mod key;
+#[cfg(test)]
+mod tests;
 mod value;
 
 pub use data_type::DataType;
 pub use key::Key;
-pub use value::{ValueFault, from_bytes, to_bytes};
+pub use value::{ValueFault, from_bytes, one_spelling, to_bytes};

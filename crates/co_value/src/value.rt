@@ -1,8 +1,9 @@
 //! Numbers as the bytes of an entry.
 
 ghost use Rattle.std.specs.Prelude.{◌≡◌, ◌↔◌, ◌-◌, ◌^◌, ◌<◌, ◌≤◌, ◌≤ℤ◌, pos, neg_ℤ, Some, length, IsOk, IfOk, IfErr};
+ghost use Rattle.co_value.specs.declared.data_type.DataType.{DataType};
 ghost use Rattle.co_value.specs.Types.{width_of, InRange};
-ghost use Rattle.co_value.specs.Numbers.{number_of, bits_of, bytes_of, IsNumber};
+ghost use Rattle.co_value.specs.Numbers.{number_of, bits_of, bytes_of, HasOneSpelling, IsNumber};
 
 use crate::data_type::{DataType, power_of_two};
 use arrayvec::ArrayVec;
@@ -75,3 +76,9 @@ pub fn from_bytes(data_type: DataType, bytes: &[u8]) -> Result<i128, ValueFault>
         Ok(i128::from(LittleEndian::read_uint(bytes, bytes.len())))
     }
 }
+
+/// A number has one spelling: as many bytes that stand for the same number are the same bytes. A law, which
+/// does nothing when it is called.
+pub fn one_spelling()
+    ensures { (t : DataType) → HasOneSpelling t }
+{}

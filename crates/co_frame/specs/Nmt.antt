@@ -1,0 +1,42 @@
+-- Network management: how the state of a node is controlled (CiA 301, 7.2.8.3.1).
+use Rattle.std.specs.Prelude.{◌≡◌, ◌<◌, ◌==◌, ◌&&◌, nat_lt, ℕ, if◌then◌else◌, Option, Some, None, option_map, List, [], ◌∷◌, length, slice_index}
+use Rattle.co_frame.specs.declared.nmt.NmtService.{NmtService}
+use Rattle.co_frame.specs.declared.nmt.NmtService.TheVariants.{Start, Stop, EnterPreOperational, ResetNode, ResetCommunication}
+use Rattle.co_frame.specs.declared.nmt.NmtCommand.{NmtCommand}
+use Rattle.co_frame.specs.FrameContent.{FrameContent}
+
+-- the command specifier of a service
+abbrev pub specifier_of : NmtService → ℕ
+specifier_of Start = 1
+specifier_of Stop = 2
+specifier_of EnterPreOperational = 128
+specifier_of ResetNode = 129
+specifier_of ResetCommunication = 130
+
+-- identifier 0 and two bytes: the command specifier, and the node-ID, which is 0 for all nodes and at most 127
+pub record SpellsNmtCommand (command : NmtCommand) (frame : FrameContent) : Type 0 where
+  pub id : frame.id ≡ 0
+  pub bytes : frame.bytes ≡ specifier_of command.service ∷ command.node ∷ []
+  pub node : command.node < 128
+
+-- the data bytes of a command
+abbrev pub nmt_command_bytes : NmtCommand → List ℕ
+nmt_command_bytes command = specifier_of command.service ∷ command.node ∷ []
+
+-- the service with a command specifier
+abbrev pub service_with : ℕ → Option NmtService
+service_with specifier =
+    if specifier == 1 then Some Start
+    else if specifier == 2 then Some Stop
+    else if specifier == 128 then Some EnterPreOperational
+    else if specifier == 129 then Some ResetNode
+    else if specifier == 130 then Some ResetCommunication
+    else None
+
+-- what a frame says
+abbrev pub nmt_command_in : FrameContent → Option NmtCommand
+nmt_command_in frame =
+    let node = slice_index frame.bytes 1 in
+    if frame.id == 0 && length frame.bytes == 2 && nat_lt node 128
+    then option_map (λ service. record { service = service; node = node }) (service_with (slice_index frame.bytes 0))
+    else None

@@ -1,0 +1,2 @@
+mod sdo;
+mod services;
