@@ -3,7 +3,7 @@ use Rattle.std.proofs.Common.{◌≡◌, ℕ, Some, None, IfSome, List, length, 
 use Rattle.std.proofs.lemmas.Bool.{eqb-true}
 use Rattle.co_frame.specs.declared.sdo_request.ExpeditedData.TheVariants.{Indicated, NotIndicated}
 use Rattle.co_frame.specs.declared.sdo_response.SdoResponse.{SdoResponse}
-use Rattle.co_frame.specs.declared.sdo_response.SdoResponse.TheVariants.{DownloadDone, DownloadSegmentDone, UploadExpedited, UploadBegin, UploadSegment, Abort, BlockDownloadBegun, BlockDownloadDone, BlockDownloadAcknowledge, BlockUploadBegun, BlockUploadEnd}
+use Rattle.co_frame.specs.declared.sdo_response.SdoResponse.TheVariants.{DownloadDone, DownloadSegmentDone, UploadExpedited, UploadBegun, UploadSegment, Abort, BlockDownloadBegun, BlockDownloadDone, BlockDownloadAcknowledge, BlockUploadBegun, BlockUploadEnd}
 use Rattle.co_frame.specs.SdoFields.{specifier, subcommand, has_bit, key_in}
 use Rattle.co_frame.specs.SdoResponses.{SpellsSdoResponse, response_row_in, response_in}
 use Rattle.co_frame.proofs.Branches.{branches, some_branches}
@@ -19,8 +19,8 @@ spelled_response (DownloadSegmentDone toggle) bytes h = rw (h.0, h.1.0, h.1.1) r
 spelled_response (UploadExpedited key (Indicated counted)) bytes h =
     rw (h.0, h.1.0, h.1.1.0, h.1.1.1, h.1.1.2) (ap (λ (xs : List ℕ). Some (UploadExpedited (key_in bytes) (Indicated (record { items = xs })))) (sym h.1.1.3))
 spelled_response (UploadExpedited key (NotIndicated four)) bytes h = rw (h.0, h.1.0, h.1.1.0, h.1.1.1, h.1.1.2, h.1.1.3) refl
-spelled_response (UploadBegin key (Some size)) bytes h = rw (h.0, h.1.0, h.1.1.0, h.1.1.1, h.1.1.2, h.1.1.3) refl
-spelled_response (UploadBegin key None) bytes h = rw (h.0, h.1.0, h.1.1.0, h.1.1.1, h.1.1.2) refl
+spelled_response (UploadBegun key (Some size)) bytes h = rw (h.0, h.1.0, h.1.1.0, h.1.1.1, h.1.1.2, h.1.1.3) refl
+spelled_response (UploadBegun key None) bytes h = rw (h.0, h.1.0, h.1.1.0, h.1.1.1, h.1.1.2) refl
 spelled_response (DownloadDone key) bytes h = rw (h.0, h.1.0, h.1.1) refl
 spelled_response (Abort key code) bytes h =
     rw (h.0, h.1.0, h.1.1.0) (ap (λ (n : ℕ). Some (Abort (key_in bytes) (record { 0 = n }))) (sym h.1.1.1))

@@ -1,6 +1,10 @@
 -- The segments of an SDO block transfer (CiA 301, 7.2.4.3.10 and 7.2.4.3.14).
-use Rattle.std.specs.Prelude.{◌≡◌, ◌==◌, ◌&&◌, ◌≤◌, ◌+◌, ◌/◌, ◌%◌, nat_le, ℕ, if◌then◌else◌, Option, Some, None, List, ◌∷◌, length, slice_index, drop}
+use Rattle.std.specs.Prelude.{◌≡◌, ◌==◌, ◌&&◌, ◌≤◌, ◌<◌, ◌+◌, ◌/◌, ◌%◌, nat_le, ℕ, if◌then◌else◌, Option, Some, None, List, ◌∷◌, length, slice_index, drop}
 use Rattle.co_frame.specs.declared.block_segment.BlockSegment.{BlockSegment}
+
+-- a segment that can be spelled: its sequence number goes from 1 to 127
+abbrev pub IsBlockSegment : BlockSegment → Type 0
+IsBlockSegment segment = (1 ≤ segment.sequence) × (segment.sequence < 128)
 
 -- eight bytes: c in bit 7 of the first and the sequence number, which is not 0, in its bits 6..0, then seven bytes of data
 pub record SpellsBlockSegment (segment : BlockSegment) (bytes : List ℕ) : Type 0 where

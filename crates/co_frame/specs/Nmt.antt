@@ -13,11 +13,15 @@ specifier_of EnterPreOperational = 128
 specifier_of ResetNode = 129
 specifier_of ResetCommunication = 130
 
--- identifier 0 and two bytes: the command specifier, and the node-ID, which is 0 for all nodes and at most 127
+-- a command that can be spelled: its node-ID is 0, for all nodes, or one of a node
+abbrev pub IsNmtCommand : NmtCommand → Type 0
+IsNmtCommand command = command.node < 128
+
+-- on identifier 0 the command specifier and the node-ID, and no byte more
 pub record SpellsNmtCommand (command : NmtCommand) (frame : FrameContent) : Type 0 where
   pub id : frame.id ≡ 0
   pub bytes : frame.bytes ≡ specifier_of command.service ∷ command.node ∷ []
-  pub node : command.node < 128
+  pub node : IsNmtCommand command
 
 -- the data bytes of a command
 abbrev pub nmt_command_bytes : NmtCommand → List ℕ

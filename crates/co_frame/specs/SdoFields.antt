@@ -1,4 +1,4 @@
--- The fields of an SDO frame's eight bytes (CiA 301, 7.2.4.3). Bits are numbered from 0.
+-- The fields of an SDO frame's eight bytes (CiA 301, 7.2.4.3). Bit 0 is the lowest.
 use Rattle.std.specs.Prelude.{ℕ, ◌+◌, ◌-◌, ◌*◌, ◌/◌, ◌%◌, ◌^◌, ◌==◌, Bool, if◌then◌else◌, List, [], ◌∷◌, ◌++◌, length, slice_index, replicate}
 use Rattle.co_value.specs.declared.key.Key.{Key}
 use Rattle.co_value.specs.Numbers.{low_bytes}

@@ -35,35 +35,42 @@ SpellsBlockBegin key None bytes = (has_bit 0 bytes ≡ false) × (has_bit 1 byte
 abbrev pub SpellsBlockEnd : ℕ → List ℕ → Type 0
 SpellsBlockEnd unused bytes = (has_bit 0 bytes ≡ true) × (unused ≡ unused_of_end bytes)
 
--- the acknowledgement of a block: byte 1 is the sequence number of the last segment taken, byte 2 the next block's size
+-- the acknowledgement of a sub-block: byte 1 is the sequence number of the last segment taken, byte 2 the next sub-block's size
 abbrev pub SpellsAcknowledge : ℕ → ℕ → List ℕ → Type 0
 SpellsAcknowledge sequence block_size bytes = (sequence ≡ slice_index bytes 1) × (block_size ≡ slice_index bytes 2)
 
 -- ---- what is written: reserved bits and bytes are 0
 
+-- expedited data: s and n where the size is indicated
 abbrev pub expedited_bytes : ℕ → Key → ExpeditedData → List ℕ
 expedited_bytes specifier key (Indicated counted) = (32 * specifier + 4 * (4 - length counted.items) + 3) ∷ key_bytes key ++ padded 4 counted.items
 expedited_bytes specifier key (NotIndicated four) = (32 * specifier + 2) ∷ key_bytes key ++ four
 
+-- the begin of a segmented transfer
 abbrev pub begin_bytes : ℕ → Key → Option ℕ → List ℕ
 begin_bytes specifier key (Some size) = (32 * specifier + 1) ∷ key_bytes key ++ low_bytes 4 size
 begin_bytes specifier key None = (32 * specifier) ∷ key_bytes key ++ replicate 4 0
 
+-- a segment: toggle, n and c
 abbrev pub segment_bytes : Bool → ArrayVec ℕ → Bool → List ℕ
 segment_bytes toggle segment last = (weight 4 toggle + 2 * (7 - length segment.items) + weight 0 last) ∷ padded 7 segment.items
 
+-- an abort
 abbrev pub abort_bytes : Key → AbortCode → List ℕ
-abort_bytes key code = 128 ∷ key_bytes key ++ low_bytes 4 code.0
+abort_bytes key code = 0x80 ∷ key_bytes key ++ low_bytes 4 code.0
 
+-- the begin of a block transfer, without a CRC
 abbrev pub block_begin_bytes : Key → Option ℕ → List ℕ
-block_begin_bytes key (Some size) = 194 ∷ key_bytes key ++ low_bytes 4 size
-block_begin_bytes key None = 192 ∷ key_bytes key ++ replicate 4 0
+block_begin_bytes key (Some size) = 0xC2 ∷ key_bytes key ++ low_bytes 4 size
+block_begin_bytes key None = 0xC0 ∷ key_bytes key ++ replicate 4 0
 
+-- the end of a block transfer: n
 abbrev pub block_end_bytes : ℕ → List ℕ
-block_end_bytes unused = (193 + 4 * unused) ∷ replicate 7 0
+block_end_bytes unused = (0xC1 + 4 * unused) ∷ replicate 7 0
 
+-- the acknowledgement of a sub-block
 abbrev pub acknowledge_bytes : ℕ → ℕ → List ℕ
-acknowledge_bytes sequence block_size = 162 ∷ sequence ∷ block_size ∷ replicate 5 0
+acknowledge_bytes sequence block_size = 0xA2 ∷ sequence ∷ block_size ∷ replicate 5 0
 
 -- a key, and four bytes after it
 abbrev pub keyed_bytes : ℕ → Key → List ℕ → List ℕ
@@ -75,7 +82,7 @@ bare_bytes command = command ∷ replicate 7 0
 
 -- ---- what can be written
 
--- expedited data of which the size is told has 1 to 4 bytes
+-- expedited data of which the size is indicated isn't empty; it has at most the four bytes that there is room for
 abbrev pub IsExpeditedData : ExpeditedData → Type 0
-IsExpeditedData (Indicated counted) = (1 ≤ length counted.items) × (length counted.items ≤ 4)
+IsExpeditedData (Indicated counted) = 1 ≤ length counted.items
 IsExpeditedData (NotIndicated four) = Unit {0}

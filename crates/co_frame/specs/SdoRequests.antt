@@ -27,12 +27,14 @@ SpellsSdoRequest request bytes = (length bytes ≡ 8) × SpellsRequestRow reques
 
 -- ---- what a frame's bytes say
 
+-- a download: e tells expedited from the begin, s whether a size stands there
 abbrev pub download_in : List ℕ → SdoRequest
 download_in bytes =
     if has_bit 1 bytes
     then DownloadExpedited (key_in bytes) (if has_bit 0 bytes then Indicated (record { items = take (4 - unused_of_expedited bytes) (drop 4 bytes) }) else NotIndicated (drop 4 bytes))
     else DownloadBegin (key_in bytes) (if has_bit 0 bytes then Some (number_in bytes) else None)
 
+-- a block upload, by the subcommand
 abbrev pub block_upload_in : List ℕ → SdoRequest
 block_upload_in bytes =
     if subcommand bytes == 0 then BlockUploadBegin (key_in bytes) (slice_index bytes 4) (slice_index bytes 5)
@@ -40,6 +42,7 @@ block_upload_in bytes =
     else (if subcommand bytes == 2 then BlockUploadAcknowledge (slice_index bytes 1) (slice_index bytes 2)
     else BlockUploadStart))
 
+-- a block download: its end, or its begin
 abbrev pub block_download_in : List ℕ → SdoRequest
 block_download_in bytes =
     if has_bit 0 bytes then BlockDownloadEnd (unused_of_end bytes)
@@ -65,7 +68,7 @@ request_in bytes = if length bytes == 8 then request_row_in bytes else None
 
 -- a request that can be spelled
 abbrev pub IsSdoRequest : SdoRequest → Type 0
-IsSdoRequest (DownloadSegment toggle segment last) = length segment.items ≤ 7
+IsSdoRequest (DownloadSegment toggle segment last) = Unit {0}
 IsSdoRequest (DownloadExpedited key expedited) = IsExpeditedData expedited
 IsSdoRequest (BlockDownloadEnd unused) = unused ≤ 7
 IsSdoRequest (DownloadBegin key size) = Unit {0}
@@ -83,12 +86,12 @@ abbrev pub request_bytes : SdoRequest → List ℕ
 request_bytes (DownloadSegment toggle segment last) = segment_bytes toggle segment last
 request_bytes (DownloadExpedited key expedited) = expedited_bytes 1 key expedited
 request_bytes (DownloadBegin key size) = begin_bytes 1 key size
-request_bytes (Upload key) = keyed_bytes 64 key (replicate 4 0)
-request_bytes (UploadSegment toggle) = bare_bytes (96 + weight 4 toggle)
+request_bytes (Upload key) = keyed_bytes 0x40 key (replicate 4 0)
+request_bytes (UploadSegment toggle) = bare_bytes (0x60 + weight 4 toggle)
 request_bytes (Abort key code) = abort_bytes key code
-request_bytes (BlockUploadBegin key block_size threshold) = keyed_bytes 160 key (block_size ∷ threshold ∷ 0 ∷ 0 ∷ [])
-request_bytes BlockUploadEnd = bare_bytes 161
+request_bytes (BlockUploadBegin key block_size threshold) = keyed_bytes 0xA0 key (block_size ∷ threshold ∷ 0 ∷ 0 ∷ [])
+request_bytes BlockUploadEnd = bare_bytes 0xA1
 request_bytes (BlockUploadAcknowledge sequence block_size) = acknowledge_bytes sequence block_size
-request_bytes BlockUploadStart = bare_bytes 163
+request_bytes BlockUploadStart = bare_bytes 0xA3
 request_bytes (BlockDownloadBegin key size) = block_begin_bytes key size
 request_bytes (BlockDownloadEnd unused) = block_end_bytes unused

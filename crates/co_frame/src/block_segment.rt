@@ -1,7 +1,7 @@
 //! The segments of a block transfer.
 
 ghost use Rattle.std.specs.Prelude.{◌≡◌, ◌↔◌, ◌<◌, ◌≤◌, Some, IsTrue, IfSome};
-ghost use Rattle.co_frame.specs.BlockSegments.{SpellsBlockSegment, block_segment_bytes, block_segment_in};
+ghost use Rattle.co_frame.specs.BlockSegments.{IsBlockSegment, SpellsBlockSegment, block_segment_bytes, block_segment_in};
 
 use crate::frame::Frame;
 
@@ -41,7 +41,7 @@ impl BlockSegment {
     /// The frame of the segment with this identifier, 0 to 7FFh.
     pub fn write(&self, id: u16) -> Frame
         requires id { id < 2048 }
-        requires spellable { (1 ≤ self.now.sequence) × (self.now.sequence < 128) }
+        requires spellable { IsBlockSegment self.now }
         ensures frame { result ≡ record { id = id; bytes = block_segment_bytes self.now } }
         ensures spelled { SpellsBlockSegment self.now result.bytes }
     {
@@ -57,14 +57,14 @@ impl BlockSegment {
 
     /// Whether a frame can spell the segment: its sequence number is 1 to 127.
     pub fn is_spellable(&self) -> bool
-        ensures { IsTrue result ↔ ((1 ≤ self.now.sequence) × (self.now.sequence < 128)) }
+        ensures { IsTrue result ↔ IsBlockSegment self.now }
     {
         1 <= self.sequence && self.sequence <= 127
     }
 
-    /// What is written is read again. This is a law: the function does nothing.
+    /// Writing and then reading gives the same value. This is a law: a call of it changes nothing.
     pub fn round_trip(self)
-        requires spellable { (1 ≤ self.sequence) × (self.sequence < 128) }
+        requires spellable { IsBlockSegment self }
         ensures { block_segment_in (block_segment_bytes self) ≡ Some self }
     {}
 }

@@ -57,7 +57,7 @@ impl Emergency {
         Frame::new(id, &bytes).unwrap()
     }
 
-    /// What is written is read again. This is a law: the function does nothing.
+    /// Writing and then reading gives the same value. This is a law: a call of it changes nothing.
     pub fn round_trip(self)
         ensures { emergency_in (emergency_bytes self) ≡ Some self }
     {}

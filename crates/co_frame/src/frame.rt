@@ -14,7 +14,7 @@ pub enum FrameFault {
     TooLong,
 }
 
-/// A CAN data frame: an identifier from 0 to 7FFh and 0 to 8 data bytes (CiA 301, 7.2.1).
+/// A CAN data frame with an identifier of 11 bits, up to 7FFh, and up to 8 bytes of data (CiA 301, 6.2).
 /// Contracts see it as the record of both. The default is identifier 0 without data.
 #[derive(Clone, Copy, Debug, PartialEq, Eq, Hash)]
 pub struct Frame {
@@ -44,7 +44,7 @@ impl Frame {
     /// The frame with this identifier and these data bytes.
     /// `BadId` for an identifier above 7FFh, else `TooLong` for more than 8 bytes.
     pub fn new(id: u16, bytes: &[u8]) -> Result<Frame, FrameFault>
-        ensures ok { IsOk result ↔ ((id < 2048) × (length bytes.now ≤ 8)) }
+        ensures ok { IsOk result ↔ IsFrame (record { id = id; bytes = bytes.now }) }
         ensures frame { IfOk result (λ frame. frame ≡ record { id = id; bytes = bytes.now }) }
         ensures bad_id { IsErrOf result FrameFault.BadId ↔ (2048 ≤ id) }
         ensures too_long { IsErrOf result FrameFault.TooLong ↔ ((id < 2048) × (8 < length bytes.now)) }

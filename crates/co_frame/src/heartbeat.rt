@@ -46,7 +46,7 @@ impl Heartbeat {
         Frame::new(id, &[*self as u8]).unwrap()
     }
 
-    /// What is written is read again. This is a law: the function does nothing.
+    /// Writing and then reading gives the same value. This is a law: a call of it changes nothing.
     pub fn round_trip(self)
         ensures { heartbeat_in (heartbeat_bytes self) ≡ Some self }
     {}

@@ -1,7 +1,7 @@
 //! Network management commands.
 
 ghost use Rattle.std.specs.Prelude.{◌≡◌, ◌↔◌, ◌<◌, Some, IsTrue, IfSome};
-ghost use Rattle.co_frame.specs.Nmt.{SpellsNmtCommand, nmt_command_bytes, nmt_command_in, specifier_of, service_with};
+ghost use Rattle.co_frame.specs.Nmt.{IsNmtCommand, SpellsNmtCommand, nmt_command_bytes, nmt_command_in, specifier_of, service_with};
 
 use crate::frame::Frame;
 
@@ -66,7 +66,7 @@ impl NmtCommand {
 
     /// The frame of the command, with identifier 0.
     pub fn write(&self) -> Frame
-        requires spellable { self.now.node < 128 }
+        requires spellable { IsNmtCommand self.now }
         ensures frame { result ≡ record { id = 0; bytes = nmt_command_bytes self.now } }
         ensures spelled { SpellsNmtCommand self.now result }
     {
@@ -75,14 +75,14 @@ impl NmtCommand {
 
     /// Whether a frame can spell the command: its node-ID is at most 127.
     pub fn is_spellable(&self) -> bool
-        ensures { IsTrue result ↔ (self.now.node < 128) }
+        ensures { IsTrue result ↔ IsNmtCommand self.now }
     {
         self.node <= 127
     }
 
-    /// What is written is read again. This is a law: the function does nothing.
+    /// Writing and then reading gives the same value. This is a law: a call of it changes nothing.
     pub fn round_trip(self)
-        requires spellable { self.node < 128 }
+        requires spellable { IsNmtCommand self }
         ensures { nmt_command_in (record { id = 0; bytes = nmt_command_bytes self }) ≡ Some self }
     {}
 }

@@ -47,7 +47,6 @@ fn four_of(number: u32) -> [u8; 4]
 }
 
 fn padded_four(counted: &ArrayVec<u8, 4>) -> [u8; 4]
-    requires { length counted.now.items ≤ 4 }
     ensures { result ≡ padded 4 counted.now.items }
 {
     let mut four = [0; 4];
@@ -84,7 +83,6 @@ pub(crate) fn begin(specifier: u8, key: Key, size: Option<u32>) -> [u8; 8]
 }
 
 pub(crate) fn segment(toggle: bool, part: &ArrayVec<u8, 7>, last: bool) -> [u8; 8]
-    requires { length part.now.items ≤ 7 }
     ensures bytes { result ≡ segment_bytes toggle part.now last }
     ensures specifier { specifier_of result ≡ 0 }
     ensures spelled { SpellsSegment toggle part.now last result }
@@ -99,7 +97,7 @@ pub(crate) fn abort(key: Key, code: AbortCode) -> [u8; 8]
     ensures bytes { result ≡ abort_bytes key code }
     ensures spelled { SpellsAbort key code result }
 {
-    keyed(128, key, four_of(code.0))
+    keyed(0x80, key, four_of(code.0))
 }
 
 pub(crate) fn block_begin(key: Key, size: Option<u32>) -> [u8; 8]
@@ -107,8 +105,8 @@ pub(crate) fn block_begin(key: Key, size: Option<u32>) -> [u8; 8]
     ensures spelled { SpellsBlockBegin key size result }
 {
     match size {
-        Some(size) => keyed(194, key, four_of(size)),
-        None => keyed(192, key, [0; 4]),
+        Some(size) => keyed(0xC2, key, four_of(size)),
+        None => keyed(0xC0, key, [0; 4]),
     }
 }
 
@@ -118,11 +116,11 @@ pub(crate) fn block_end(unused: u8) -> [u8; 8]
     ensures specifier { specifier_of result ≡ 6 }
     ensures spelled { SpellsBlockEnd unused result }
 {
-    bare(193 + 4 * unused)
+    bare(0xC1 + 4 * unused)
 }
 
 pub(crate) fn acknowledge(sequence: u8, block_size: u8) -> [u8; 8]
     ensures { result ≡ acknowledge_bytes sequence block_size }
 {
-    [162, sequence, block_size, 0, 0, 0, 0, 0]
+    [0xA2, sequence, block_size, 0, 0, 0, 0, 0]
 }

@@ -32,7 +32,7 @@ impl ExpeditedData {
         ensures { IsTrue result ↔ IsExpeditedData self.now }
     {
         match self {
-            ExpeditedData::Indicated(counted) => !counted.is_empty() && counted.len() <= 4,
+            ExpeditedData::Indicated(counted) => !counted.is_empty(),
             ExpeditedData::NotIndicated(_) => true,
         }
     }
@@ -46,7 +46,7 @@ pub enum SdoRequest {
         key: Key,
         data: ExpeditedData,
     },
-    /// The begin of a segmented download, with the number of bytes where it is told.
+    /// The begin of a segmented download, with the number of bytes where it is indicated.
     DownloadBegin {
         key: Key,
         size: Option<u32>,
@@ -70,7 +70,8 @@ pub enum SdoRequest {
         key: Key,
         code: AbortCode,
     },
-    /// The begin of a block upload, with the number of segments in a block.
+    /// The begin of a block upload, with the number of segments in a sub-block, and the
+    /// number of bytes up to which the server may take another protocol (the protocol switch threshold).
     BlockUploadBegin {
         key: Key,
         block_size: u8,
@@ -78,14 +79,14 @@ pub enum SdoRequest {
     },
     /// The end of a block upload.
     BlockUploadEnd,
-    /// A block came up to this segment; the next block has this many.
+    /// A sub-block came up to this segment; the next one has this many.
     BlockUploadAcknowledge {
         sequence: u8,
         block_size: u8,
     },
-    /// The blocks of an upload may be sent.
+    /// The segments of a block upload may be sent.
     BlockUploadStart,
-    /// The begin of a block download, with the number of bytes where it is told.
+    /// The begin of a block download, with the number of bytes where it is indicated.
     BlockDownloadBegin {
         key: Key,
         size: Option<u32>,
@@ -109,17 +110,12 @@ impl SdoRequest {
     }
 
     /// Whether the request can be spelled: expedited data whose size is indicated has 1 to 4 bytes, and an
-    /// end of a block download leaves at most 7 unused.
+    /// end of a block download leaves at most 7 bytes unused.
     pub fn is_spellable(&self) -> bool
         ensures { IsTrue result ↔ IsSdoRequest self.now }
     {
         match self {
             SdoRequest::DownloadExpedited { key: _, data } => data.is_spellable(),
-            SdoRequest::DownloadSegment {
-                toggle: _,
-                data,
-                last: _,
-            } => data.len() <= 7,
             SdoRequest::BlockDownloadEnd { unused } => *unused <= 7,
             _ => true,
         }
@@ -135,6 +131,14 @@ impl SdoRequest {
         Frame::of_eight(id, self.spelling())
     }
 
+    /// Writing and then reading gives the same request. This is a law: a call of it changes nothing.
+    pub fn round_trip(&self)
+        requires spellable { IsSdoRequest self.now }
+        ensures { request_in (request_bytes self.now) ≡ Some self.now }
+    {
+        let _ = SdoRequest::read(&self.write(0));
+    }
+
     fn spelling(&self) -> [u8; 8]
         requires { IsSdoRequest self.now }
         ensures bytes { result ≡ request_bytes self.now }
@@ -144,20 +148,20 @@ impl SdoRequest {
             SdoRequest::DownloadExpedited { key, data } => expedited(1, *key, data),
             SdoRequest::DownloadBegin { key, size } => begin(1, *key, *size),
             SdoRequest::DownloadSegment { toggle, data, last } => segment(*toggle, data, *last),
-            SdoRequest::Upload { key } => keyed(64, *key, [0; 4]),
-            SdoRequest::UploadSegment { toggle } => bare(96 + weight(4, *toggle)),
+            SdoRequest::Upload { key } => keyed(0x40, *key, [0; 4]),
+            SdoRequest::UploadSegment { toggle } => bare(0x60 + weight(4, *toggle)),
             SdoRequest::Abort { key, code } => abort(*key, *code),
             SdoRequest::BlockUploadBegin {
                 key,
                 block_size,
                 threshold,
-            } => keyed(160, *key, [*block_size, *threshold, 0, 0]),
-            SdoRequest::BlockUploadEnd => bare(161),
+            } => keyed(0xA0, *key, [*block_size, *threshold, 0, 0]),
+            SdoRequest::BlockUploadEnd => bare(0xA1),
             SdoRequest::BlockUploadAcknowledge {
                 sequence,
                 block_size,
             } => acknowledge(*sequence, *block_size),
-            SdoRequest::BlockUploadStart => bare(163),
+            SdoRequest::BlockUploadStart => bare(0xA3),
             SdoRequest::BlockDownloadBegin { key, size } => block_begin(*key, *size),
             SdoRequest::BlockDownloadEnd { unused } => block_end(*unused),
         }

@@ -20,7 +20,7 @@ use co_value::Key;
 /// An answer of an SDO server (CiA 301, 7.2.4.3).
 #[derive(Clone, Debug, PartialEq, Eq, Drop)]
 pub enum SdoResponse {
-    /// A download was begun, or an expedited one done.
+    /// A download was begun, or an expedited one is done: the response to the initiation of a download.
     DownloadDone {
         key: Key,
     },
@@ -33,8 +33,8 @@ pub enum SdoResponse {
         key: Key,
         data: ExpeditedData,
     },
-    /// A segmented upload was begun, with the number of bytes where it is told.
-    UploadBegin {
+    /// A segmented upload was begun, with the number of bytes where it is indicated.
+    UploadBegun {
         key: Key,
         size: Option<u32>,
     },
@@ -49,19 +49,19 @@ pub enum SdoResponse {
         key: Key,
         code: AbortCode,
     },
-    /// A block download was begun, with the number of segments in a block.
+    /// A block download was begun, with the number of segments in a sub-block.
     BlockDownloadBegun {
         key: Key,
         block_size: u8,
     },
     /// A block download was done.
     BlockDownloadDone,
-    /// A block came up to this segment; the next block has this many.
+    /// A sub-block came up to this segment; the next one has this many.
     BlockDownloadAcknowledge {
         sequence: u8,
         block_size: u8,
     },
-    /// A block upload was begun, with the number of bytes where it is told.
+    /// A block upload was begun, with the number of bytes where it is indicated.
     BlockUploadBegun {
         key: Key,
         size: Option<u32>,
@@ -91,11 +91,6 @@ impl SdoResponse {
     {
         match self {
             SdoResponse::UploadExpedited { key: _, data } => data.is_spellable(),
-            SdoResponse::UploadSegment {
-                toggle: _,
-                data,
-                last: _,
-            } => data.len() <= 7,
             SdoResponse::BlockUploadEnd { unused } => *unused <= 7,
             _ => true,
         }
@@ -111,22 +106,30 @@ impl SdoResponse {
         Frame::of_eight(id, self.spelling())
     }
 
+    /// Writing and then reading gives the same answer. This is a law: a call of it changes nothing.
+    pub fn round_trip(&self)
+        requires spellable { IsSdoResponse self.now }
+        ensures { response_in (response_bytes self.now) ≡ Some self.now }
+    {
+        let _ = SdoResponse::read(&self.write(0));
+    }
+
     fn spelling(&self) -> [u8; 8]
         requires { IsSdoResponse self.now }
         ensures bytes { result ≡ response_bytes self.now }
         ensures row { SpellsResponseRow self.now result }
     {
         match self {
-            SdoResponse::DownloadDone { key } => keyed(96, *key, [0; 4]),
-            SdoResponse::DownloadSegmentDone { toggle } => bare(32 + weight(4, *toggle)),
+            SdoResponse::DownloadDone { key } => keyed(0x60, *key, [0; 4]),
+            SdoResponse::DownloadSegmentDone { toggle } => bare(0x20 + weight(4, *toggle)),
             SdoResponse::UploadExpedited { key, data } => expedited(2, *key, data),
-            SdoResponse::UploadBegin { key, size } => begin(2, *key, *size),
+            SdoResponse::UploadBegun { key, size } => begin(2, *key, *size),
             SdoResponse::UploadSegment { toggle, data, last } => segment(*toggle, data, *last),
             SdoResponse::Abort { key, code } => abort(*key, *code),
             SdoResponse::BlockDownloadBegun { key, block_size } => {
-                keyed(160, *key, [*block_size, 0, 0, 0])
+                keyed(0xA0, *key, [*block_size, 0, 0, 0])
             }
-            SdoResponse::BlockDownloadDone => bare(161),
+            SdoResponse::BlockDownloadDone => bare(0xA1),
             SdoResponse::BlockDownloadAcknowledge {
                 sequence,
                 block_size,
@@ -183,7 +186,7 @@ fn upload(bytes: &[u8]) -> SdoResponse
             data: expedited_in(bytes),
         }
     } else {
-        SdoResponse::UploadBegin {
+        SdoResponse::UploadBegun {
             key,
             size: size_in(bytes, has_bit(bytes, 0)),
         }

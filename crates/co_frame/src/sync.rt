@@ -41,7 +41,7 @@ impl Sync {
         }
     }
 
-    /// What is written is read again. This is a law: the function does nothing.
+    /// Writing and then reading gives the same value. This is a law: a call of it changes nothing.
     pub fn round_trip(self)
         ensures { sync_in (sync_bytes self) ≡ Some self }
     {}

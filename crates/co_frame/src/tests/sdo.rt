@@ -22,6 +22,7 @@ fn is_request(request: &SdoRequest, bytes: [u8; 8]) -> bool {
     if !request.is_spellable() {
         return false;
     }
+    request.round_trip();
     let frame = request.write(REQUEST);
     let read = SdoRequest::read(&frame);
     frame.id() == REQUEST && frame.bytes() == bytes.as_slice() && read.as_ref() == Some(request)
@@ -31,6 +32,7 @@ fn is_response(response: &SdoResponse, bytes: [u8; 8]) -> bool {
     if !response.is_spellable() {
         return false;
     }
+    response.round_trip();
     let frame = response.write(ANSWER);
     let read = SdoResponse::read(&frame);
     frame.id() == ANSWER && frame.bytes() == bytes.as_slice() && read.as_ref() == Some(response)
@@ -229,14 +231,14 @@ fn responses(rt: HostRuntime) {
             [0x42, 0x18, 0x10, 1, 5, 6, 7, 8],
         ),
         (
-            SdoResponse::UploadBegin {
+            SdoResponse::UploadBegun {
                 key: KEY,
                 size: Some(10),
             },
             [0x41, 0x18, 0x10, 1, 10, 0, 0, 0],
         ),
         (
-            SdoResponse::UploadBegin {
+            SdoResponse::UploadBegun {
                 key: KEY,
                 size: None,
             },
@@ -326,7 +328,7 @@ fn response_name(response: &SdoResponse) -> &'static str {
         SdoResponse::DownloadDone { .. } => "download done",
         SdoResponse::DownloadSegmentDone { .. } => "download segment done",
         SdoResponse::UploadExpedited { .. } => "upload expedited",
-        SdoResponse::UploadBegin { .. } => "upload begin",
+        SdoResponse::UploadBegun { .. } => "upload begun",
         SdoResponse::UploadSegment { .. } => "upload segment",
         SdoResponse::Abort { .. } => "abort",
         SdoResponse::BlockDownloadBegun { .. } => "block download begun",
@@ -351,7 +353,7 @@ const ROWS: [(u8, u8, u8, u8, &str, &str); 13] = [
     ),
     (0x20, 0x3F, 2, 0, "download begin", "download segment done"),
     (0x40, 0x5F, 2, 2, "upload", "upload expedited"),
-    (0x40, 0x5F, 2, 0, "upload", "upload begin"),
+    (0x40, 0x5F, 2, 0, "upload", "upload begun"),
     (0x60, 0x7F, 0, 0, "upload segment", "download done"),
     (0x80, 0x9F, 0, 0, "abort", "abort"),
     (
@@ -419,4 +421,34 @@ fn spellable(rt: HostRuntime) {
     assert!(rt; !ExpeditedData::Indicated(counted(&[])).is_spellable());
     assert!(rt; !SdoRequest::BlockDownloadEnd { unused: 8 }.is_spellable());
     assert!(rt; !SdoResponse::BlockUploadEnd { unused: 8 }.is_spellable());
+}
+
+#[test]
+fn abort_codes(rt: HostRuntime) {
+    let codes = [
+        (AbortCode::TOGGLE_NOT_ALTERNATED, 0x0503_0000),
+        (AbortCode::TIMED_OUT, 0x0504_0000),
+        (AbortCode::UNKNOWN_COMMAND, 0x0504_0001),
+        (AbortCode::INVALID_BLOCK_SIZE, 0x0504_0002),
+        (AbortCode::INVALID_SEQUENCE_NUMBER, 0x0504_0003),
+        (AbortCode::OUT_OF_MEMORY, 0x0504_0005),
+        (AbortCode::WRITE_ONLY, 0x0601_0001),
+        (AbortCode::READ_ONLY, 0x0601_0002),
+        (AbortCode::OBJECT_MISSING, 0x0602_0000),
+        (AbortCode::NOT_MAPPABLE, 0x0604_0041),
+        (AbortCode::MAPPING_TOO_LONG, 0x0604_0042),
+        (AbortCode::PARAMETER_INCOMPATIBLE, 0x0604_0043),
+        (AbortCode::TOO_LONG, 0x0607_0012),
+        (AbortCode::TOO_SHORT, 0x0607_0013),
+        (AbortCode::SUB_INDEX_MISSING, 0x0609_0011),
+        (AbortCode::INVALID_VALUE, 0x0609_0030),
+        (AbortCode::ABOVE_HIGH_LIMIT, 0x0609_0031),
+        (AbortCode::BELOW_LOW_LIMIT, 0x0609_0032),
+        (AbortCode::NOT_STORABLE, 0x0800_0020),
+        (AbortCode::NOT_IN_THIS_STATE, 0x0800_0022),
+        (AbortCode::NO_VALUE, 0x0800_0024),
+    ];
+    for (code, number) in codes {
+        assert_eq!(rt; code.0, number);
+    }
 }
