@@ -1,0 +1,10 @@
+pub mod Digits
+pub mod FirstLine
+pub mod GrammarBodies
+pub mod GrammarFields
+pub mod GrammarLines
+pub mod GrammarRuns
+pub mod Numbers
+pub mod Pairs
+pub mod Places
+pub mod Reached

@@ -1,0 +1,84 @@
+-- What a trace is answered, from its first line to its last.
+use Rattle.std.specs.Prelude.{◌≡◌, ℕ, ◌<◌, ◌≤◌, List, [], ◌∷◌, ◌++◌, length, take, Option, Some, None, IsSomeAnd}
+use Rattle.std.specs.Option.{option_map, option_map_or}
+use Rattle.std.specs.Io.KnownBytes.{Appends}
+use Rattle.co_frame.specs.FrameContent.{FrameContent}
+use Rattle.co_frame.specs.declared.sdo_response.SdoResponse.{SdoResponse}
+use Rattle.co_frame.specs.SdoResponses.{response_bytes}
+use Rattle.conode.specs.declared.list_entry.ListEntry.{ListEntry}
+use Rattle.conode.specs.declared.trace_line.TraceLine.{TraceLine}
+use Rattle.conode.specs.declared.trace_line.TraceLine.TheVariants.{Skipped, PassedOver, Data}
+use Rattle.conode.specs.Texts.{◌>>=◌}
+use Rattle.conode.specs.FrameLines.{line_in}
+use Rattle.conode.specs.Clocks.{ClockState, clock_at_start, clock_after}
+use Rattle.conode.specs.Answers.{answer_of, list_of}
+use Rattle.conode.specs.Printed.{frame_line}
+
+-- what a line leaves of the list and the clock, and what it is answered
+pub record Taken : Type 0 where
+  pub list : List ListEntry
+  pub clock : ClockState
+  pub answer : Option SdoResponse
+
+-- a frame that came when the clock was this
+abbrev pub taken_frame : List ListEntry → FrameContent → ClockState → Taken
+taken_frame list frame clock = record { list = list_of list frame; clock = clock; answer = answer_of list frame }
+
+-- a trace line; none where its stamp is too far past the clock
+abbrev pub taken_line : List ListEntry → ClockState → TraceLine → Option Taken
+taken_line list clock Skipped = Some (record { list = list; clock = clock; answer = None })
+taken_line list clock (PassedOver stamp) = option_map (λ after. record { list = list; clock = after; answer = None }) (clock_after clock stamp)
+taken_line list clock (Data stamp frame) = option_map (taken_frame list frame) (clock_after clock stamp)
+
+-- the bytes of a line; none where they are no line of a trace here
+unfoldable pub taken : List ListEntry → ClockState → List ℕ → Option Taken
+taken list clock line = line_in line >>= taken_line list clock
+
+-- how an answer is written: on the identifier of SDO answers of node 5
+unfoldable pub answer_text : ℕ → Option SdoResponse → List ℕ
+answer_text ms answer = option_map_or (λ response. frame_line ms (record { id = 0x585; bytes = response_bytes response })) answer []
+
+-- the list, the clock, and the text written so far
+pub record Standing : Type 0 where
+  pub list : List ListEntry
+  pub clock : ClockState
+  pub written : List ℕ
+
+-- before the first line
+abbrev pub at_start : List ListEntry → Standing
+at_start list = record { list = list; clock = clock_at_start; written = [] }
+
+-- after what a line left, with its answer written
+abbrev pub standing_after : List ℕ → Taken → Standing
+standing_after written t = record { list = t.list; clock = t.clock; written = written ++ answer_text t.clock.ms t.answer }
+
+-- after one line; none where it is no line of a trace here
+unfoldable pub after_line : Standing → List ℕ → Option Standing
+after_line s line = option_map (standing_after s.written) (taken s.list s.clock line)
+
+-- after lines, in order; none where one of them is no line of a trace here
+unfoldable pub after_lines : Standing → List (List ℕ) → Option Standing
+after_lines s [] = Some s
+after_lines s (line ∷ lines) = after_line s line >>= λ t. after_lines t lines
+
+-- all the lines are lines of a trace, and leave this list
+abbrev pub LeavesList : List ListEntry → List (List ℕ) → List ListEntry → Type 0
+LeavesList list lines left = IsSomeAnd (after_lines (at_start list) lines) (λ s. left ≡ s.list)
+
+-- all the lines are lines of a trace, and what a writer holds has grown by their answers
+abbrev pub WritesAnswers : List ListEntry → List (List ℕ) → Option (List ℕ) → Option (List ℕ) → Type 0
+WritesAnswers list lines old new = IsSomeAnd (after_lines (at_start list) lines) (λ s. Appends old new s.written)
+
+-- the first line that is no line of a trace here is this one, counted from 1
+pub record IsFirstBadLine (list : List ListEntry) (lines : List (List ℕ)) (number : ℕ) : Type 0 where
+  pub some : 0 < number
+  pub within : number ≤ length lines
+  pub bad : after_lines (at_start list) (take number lines) ≡ None
+
+-- some of the lines, from the first on, left this list
+abbrev pub LeavesListSomewhere : List ListEntry → List (List ℕ) → List ListEntry → Type 0
+LeavesListSomewhere list lines left = (number : ℕ) × (number ≤ length lines) × LeavesList list (take number lines) left
+
+-- what a writer holds has grown by the answers to some of the lines, from the first on
+abbrev pub WritesAnswersSomewhere : List ListEntry → List (List ℕ) → Option (List ℕ) → Option (List ℕ) → Type 0
+WritesAnswersSomewhere list lines old new = (number : ℕ) × (number ≤ length lines) × WritesAnswers list (take number lines) old new

@@ -1,0 +1,29 @@
+-- Bytes and digits of a text.
+use Rattle.std.specs.Prelude.{ℕ, ◌+◌, ◌-◌, ◌*◌, ◌==◌, nat_le, Bool, ◌&&◌, ◌||◌, if◌then◌else◌, List, Option, Some, None, fold, option_and_then}
+
+infixl 10 ◌>>=◌
+abbrev pub ◌>>=◌ : {A B : Type 0} → Option A → (A → Option B) → Option B
+o >>= f = option_and_then f o
+
+-- a space or a tab
+abbrev pub is_blank : ℕ → Bool
+is_blank byte = (byte == 32) || (byte == 9)
+
+-- `0` to `9`
+abbrev pub is_digit : ℕ → Bool
+is_digit byte = nat_le 48 byte && nat_le byte 57
+
+-- decimal digits as a number
+abbrev pub decimal_value : List ℕ → ℕ
+decimal_value digits = fold (λ number digit. 10 * number + (digit - 48)) 0 digits
+
+-- the value of a hexadecimal digit, in either case
+abbrev pub hex_digit : ℕ → Option ℕ
+hex_digit byte =
+    if is_digit byte then Some (byte - 48)
+    else (if nat_le 65 byte && nat_le byte 70 then Some (byte - 55)
+    else (if nat_le 97 byte && nat_le byte 102 then Some (byte - 87) else None))
+
+-- two hexadecimal digits as a byte
+abbrev pub hex_pair : ℕ → ℕ → Option ℕ
+hex_pair high low = hex_digit high >>= λ h. hex_digit low >>= λ l. Some (16 * h + l)
