@@ -1,5 +1,5 @@
 -- How far a run over lines has come.
-use Rattle.std.proofs.Common.{◌≡◌, ℕ, suc, ◌+◌, ◌<◌, ◌≤◌, List, [], ◌∷◌, ◌++◌, length, take, drop, get_or, Option, Some, None, refl, sym, ap, subst, ◌∙◌, arith, length-drop}
+use Rattle.std.proofs.Common.{◌-◌, ◌≡◌, ℕ, suc, ◌+◌, ◌<◌, ◌≤◌, List, [], ◌∷◌, ◌++◌, length, take, drop, get_or, Option, Some, None, refl, sym, ap, subst, ◌∙◌, arith, length-drop}
 use Rattle.std.specs.Prelude.{IsSomeAnd}
 use Rattle.std.specs.Io.KnownBytes.{Appends, Keeps}
 use Rattle.std.proofs.KnownBytes.{Appends-trans, Appends-nil}
@@ -9,7 +9,7 @@ use Rattle.std.proofs.Math.Numerals.{add-one}
 use Rattle.conode.specs.declared.list_entry.ListEntry.{ListEntry}
 use Rattle.conode.specs.Texts.{◌>>=◌}
 use Rattle.conode.specs.Clocks.{ClockState, clock_at_start}
-use Rattle.conode.specs.Runs.{Taken, taken, Standing, at_start, standing_after, after_line, after_lines, answer_text, LeavesList, WritesAnswers, IsFirstBadLine, LeavesListSomewhere, WritesAnswersSomewhere}
+use Rattle.conode.specs.Runs.{Taken, taken, Standing, at_start, standing_after, after_line, after_lines, answer_text, LeavesList, WritesAnswers, IsFirstBadLine, LeavesListSomewhere, IsBrokenOff}
 
 Appends-kept : (a b c : Option (List ℕ)) (bytes : List ℕ) → Appends a b bytes → Keeps b c → Appends a c bytes
 Appends-kept None b c bytes p q = tt
@@ -135,9 +135,19 @@ pub somewhere_none : (list : List ListEntry) (lines : List (List ℕ)) → Leave
 unfolding after_lines
 somewhere_none list lines = (0, omega arith, refl)
 
-pub text_somewhere_none : (list : List ListEntry) (lines : List (List ℕ)) (held : Option (List ℕ)) → WritesAnswersSomewhere list lines held held
+pub broken_none : (list : List ListEntry) (lines : List (List ℕ)) (held : Option (List ℕ)) → IsBrokenOff list lines list held held
 unfolding after_lines
-text_somewhere_none list lines held = (0, omega arith, Appends-nil held)
+broken_none list lines held = record { number = 0; within = omega arith; leaves = refl; writes = Appends-nil held }
 
-pub text_somewhere : (list : List ListEntry) (lines : List (List ℕ)) (number : ℕ) (rest : List (List ℕ)) (left : List ListEntry) (clock : ClockState) (old mid new : Option (List ℕ)) → Stands list lines number rest left clock old mid → number ≤ length lines → Keeps mid new → WritesAnswersSomewhere list lines old new
-text_somewhere list lines number rest left clock old mid new h within kept = (number, within, is_some_and _ _ (λ s. Appends old new s.written) h.reached.front (Appends-kept old mid new h.written h.appended kept))
+-- memory ran out at the answer to the next line
+pub broken_next : (list : List ListEntry) (lines : List (List ℕ)) (number : ℕ) (rest : List (List ℕ)) (line : List ℕ) (more : List (List ℕ)) (left : List ListEntry) (clock : ClockState) (old mid new : Option (List ℕ)) (h : Stands list lines number rest left clock old mid) (next : rest ≡ line ∷ more) (t : Taken) → taken left clock line ≡ Some t → Keeps mid new → IsBrokenOff list lines t.list old new
+broken_next list lines number rest line more left clock old mid new h next t step kept =
+    let reached = reached_next list lines number rest line more left clock old mid h next in
+    let further = reached_more list lines number rest line more left clock old mid h next t step in
+    let before : number + 1 - 1 ≡ number = omega arith in
+    record {
+      number = number + 1;
+      within = omega (arith, reaches_within list lines number line more _ reached);
+      leaves = is_some_and _ _ (λ s. t.list ≡ s.list) further.front refl;
+      writes = rw before (is_some_and _ _ (λ s. Appends old new s.written) h.reached.front (Appends-kept old mid new h.written h.appended kept));
+    }

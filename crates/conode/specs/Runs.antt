@@ -1,5 +1,5 @@
 -- What a trace is answered, from its first line to its last.
-use Rattle.std.specs.Prelude.{◌≡◌, ℕ, ◌<◌, ◌≤◌, List, [], ◌∷◌, ◌++◌, length, take, Option, Some, None, IsSomeAnd}
+use Rattle.std.specs.Prelude.{◌-◌, ◌≡◌, ℕ, ◌<◌, ◌≤◌, List, [], ◌∷◌, ◌++◌, length, take, Option, Some, None, IsSomeAnd}
 use Rattle.std.specs.Option.{option_map, option_map_or}
 use Rattle.std.specs.Io.KnownBytes.{Appends}
 use Rattle.co_frame.specs.FrameContent.{FrameContent}
@@ -79,6 +79,9 @@ pub record IsFirstBadLine (list : List ListEntry) (lines : List (List ℕ)) (num
 abbrev pub LeavesListSomewhere : List ListEntry → List (List ℕ) → List ListEntry → Type 0
 LeavesListSomewhere list lines left = (number : ℕ) × (number ≤ length lines) × LeavesList list (take number lines) left
 
--- what a writer holds has grown by the answers to some of the lines, from the first on
-abbrev pub WritesAnswersSomewhere : List ListEntry → List (List ℕ) → Option (List ℕ) → Option (List ℕ) → Type 0
-WritesAnswersSomewhere list lines old new = (number : ℕ) × (number ≤ length lines) × WritesAnswers list (take number lines) old new
+-- broken off at the answer to a line: the lines up to it left this list, and the answers to those before it were written
+pub record IsBrokenOff (list : List ListEntry) (lines : List (List ℕ)) (left : List ListEntry) (old new : Option (List ℕ)) : Type 0 where
+  pub number : ℕ
+  pub within : number ≤ length lines
+  pub leaves : LeavesList list (take number lines) left
+  pub writes : WritesAnswers list (take (number - 1) lines) old new

@@ -7,7 +7,7 @@ ghost use Rattle.co_frame.specs.SdoResponses.{IsSdoResponse};
 ghost use Rattle.conode.specs.Clocks.{clock_after};
 ghost use Rattle.conode.specs.Lines.{lines_of};
 ghost use Rattle.conode.specs.Answers.{IsEntry, keys_differ};
-ghost use Rattle.conode.specs.Runs.{taken, answer_text, LeavesList, WritesAnswers, IsFirstBadLine, LeavesListSomewhere, WritesAnswersSomewhere};
+ghost use Rattle.conode.specs.Runs.{taken, answer_text, LeavesList, WritesAnswers, IsFirstBadLine, LeavesListSomewhere, IsBrokenOff};
 
 use crate::answer::answer;
 use crate::clock::Clock;
@@ -91,7 +91,7 @@ fn answer_lines<W: Write>(
     ensures bad_text { (number : ℕ) → result ≡ Err (CmdFault.BadLine number) → WritesAnswers list.old (take (number - 1) (lines_of text.now)) (W.contents writer.old) (W.contents writer.new) }
 
     ensures broken_off { LeavesListSomewhere list.old (lines_of text.now) list.new }
-    ensures memory_text { result ≡ Err CmdFault.Memory → WritesAnswersSomewhere list.old (lines_of text.now) (W.contents writer.old) (W.contents writer.new) }
+    ensures memory { result ≡ Err CmdFault.Memory → IsBrokenOff list.old (lines_of text.now) list.new (W.contents writer.old) (W.contents writer.new) }
     ensures others { IfErr result (λ fault. (fault ≢ CmdFault.Read) × (fault ≢ CmdFault.NeverEnds)) }
 {
     let mut clock = Clock::new();
@@ -115,7 +115,7 @@ fn answer_lines<W: Write>(
 ///
 /// `Read` and `NeverEnds` come before the first line is taken, so nothing has changed then. `BadLine` is the first line
 /// that is no line of a trace here, event lines included; the lines before it have been answered. After `Write` or
-/// `Memory` the list stands as some number of whole lines leaves it.
+/// `Memory` the line whose answer it was has been taken, and those before it have been answered.
 pub fn first_run<R: Read, W: Write>(
     alloc: Global,
     list: &mut [ListEntry],
@@ -140,7 +140,7 @@ pub fn first_run<R: Read, W: Write>(
     ensures unread_list { IfErr result (λ fault. (fault ≡ CmdFault.Read) ⊎ (fault ≡ CmdFault.NeverEnds) → list.new ≡ list.old) }
     ensures unread_text { IfErr result (λ fault. (fault ≡ CmdFault.Read) ⊎ (fault ≡ CmdFault.NeverEnds) → Keeps (W.contents writer.old) (W.contents writer.new)) }
     ensures broken_off { IfSome (R.remaining reader.old) (λ text. LeavesListSomewhere list.old (lines_of text) list.new) }
-    ensures memory_text { result ≡ Err CmdFault.Memory → IfSome (R.remaining reader.old) (λ text. WritesAnswersSomewhere list.old (lines_of text) (W.contents writer.old) (W.contents writer.new)) }
+    ensures memory { result ≡ Err CmdFault.Memory → IfSome (R.remaining reader.old) (λ text. IsBrokenOff list.old (lines_of text) list.new (W.contents writer.old) (W.contents writer.new)) }
 {
     let text = read_all(alloc, reader)?;
     answer_lines(alloc, list, text.as_slice(), writer)
