@@ -1,0 +1,6 @@
+mod Examples
+mod Edges
+mod LargeSheet
+mod TextLemmas
+mod NumeralLemmas
+mod TypeLemmas

@@ -1,0 +1,31 @@
+-- Which texts are data sheets, and what the others have wrong with them (CiA 306).
+use Rattle.std.specs.Prelude.{◌≡◌, ℕ, nat_lt, nat_le, if◌then◌else◌, List, [], ◌∷◌, length, fold, Option, Some, None}
+use Rattle.co_sheet.specs.declared.fault.FaultKind.TheVariants.{TooLarge}
+use Rattle.co_sheet.specs.declared.fault.SheetFault.{SheetFault}
+use Rattle.co_sheet.specs.Text.{lines_of}
+use Rattle.co_sheet.specs.Sections.{SheetSection, sections_of, fault_at, or_else, first_line_fault}
+use Rattle.co_sheet.specs.Checks.{checks}
+
+-- the sections of a text
+abbrev pub sections_in : List ℕ → List SheetSection
+sections_in text = sections_of (lines_of text)
+
+-- the fault with the least line
+abbrev pub least_fault : List SheetFault → Option SheetFault
+least_fault [] = None
+least_fault (f ∷ faults) = Some (fold (λ f g. if nat_le f.line g.line then f else g) f faults)
+
+-- the first check that finds a line, with the least line that it finds
+abbrev pub first_found : List (List SheetSection → List SheetFault) → List SheetSection → Option SheetFault
+first_found [] sections = None
+first_found (check ∷ more) sections = or_else (least_fault (check sections)) (first_found more sections)
+
+-- What is wrong with a text: its size; else its first line at fault; else the first check that finds a line.
+abbrev pub first_fault : List ℕ → Option SheetFault
+first_fault text =
+    if nat_lt 1048576 (length text) then Some (fault_at 0 TooLarge)
+    else or_else (first_line_fault [] (lines_of text)) (first_found checks (sections_in text))
+
+-- a text is a data sheet
+abbrev pub IsAccepted : List ℕ → Type 0
+IsAccepted text = first_fault text ≡ None

@@ -1,0 +1,13 @@
+pub mod Text
+pub mod Names
+pub mod Sections
+pub mod Numerals
+pub mod ObjectLists
+pub mod FixedTypes
+pub mod Entries
+pub mod Limits
+pub mod Notes
+pub mod Checks
+pub mod Accepted
+pub mod Content
+pub mod Views

@@ -1,0 +1,45 @@
+-- The object lists: which indices a data sheet lists (CiA 306, object lists).
+use Rattle.std.specs.Prelude.{ℕ, Bool, false, ◌&&◌, ◌==◌, nat_le, List, [], filter, filter_map, flat_map, codes, Option, option_map, option_and_then}
+use Rattle.std.specs.List.{list_any}
+use Rattle.std.specs.Option.{option_map_or}
+use Rattle.std.specs.Result.{result_ok}
+use Rattle.co_sheet.specs.Names.{is_list, is_position, number_in}
+use Rattle.co_sheet.specs.Sections.{KeyValue, SheetSection, key_at}
+use Rattle.co_sheet.specs.Numerals.{unsigned_number}
+
+-- the number that a key gives, and the one at a key of a section, where it gives one
+abbrev pub number_of_key : KeyValue → Option ℕ
+number_of_key k = result_ok (unsigned_number k.value)
+
+abbrev pub number_at : List ℕ → SheetSection → Option ℕ
+number_at name section = option_and_then number_of_key (key_at name section)
+
+-- a number that is there and is one of these
+abbrev pub is_one_of : List ℕ → Option ℕ → Bool
+is_one_of numbers number = option_map_or (λ n. list_any (λ m. m == n) numbers) number false
+
+abbrev pub object_lists : List SheetSection → List SheetSection
+object_lists sections = filter (λ s. is_list s.kind) sections
+
+-- SupportedObjects: how many objects a list has
+abbrev pub count_of : SheetSection → Option ℕ
+count_of list = number_at (codes "SupportedObjects") list
+
+-- the keys 1 to n of a list; those past n are passed over
+abbrev pub keys_to : SheetSection → ℕ → List KeyValue
+keys_to list n = filter (λ k. is_position k.key && nat_le (number_in 10 k.key) n) list.keys
+
+-- an index that a list names, and the line where it does
+pub record Listing : Type 0 where
+  pub index : ℕ
+  pub line : ℕ
+
+abbrev pub listings_in : SheetSection → List Listing
+listings_in list = filter_map (λ k. option_map (λ n. record { index = n; line = k.line }) (number_of_key k)) (option_map_or (keys_to list) (count_of list) [])
+
+-- what the lists name; an index below 1000h is passed over
+abbrev pub listings : List SheetSection → List Listing
+listings sections = filter (λ l. nat_le 0x1000 l.index) (flat_map listings_in (object_lists sections))
+
+abbrev pub is_listed : List SheetSection → ℕ → Bool
+is_listed sections index = list_any (λ l. l.index == index) (listings sections)

@@ -1,0 +1,154 @@
+//! The entries of a data sheet's objects.
+
+ghost use Rattle.std.specs.Prelude.{◌≡◌};
+ghost use Rattle.co_sheet.specs.Numerals.{result_map};
+ghost use Rattle.co_sheet.specs.Entries.{access_with};
+ghost use Rattle.co_sheet.specs.Limits.{numeric_default, node_id_sum, is_node_id, is_pairs};
+ghost use Rattle.co_sheet.specs.Views.{default_view};
+
+use crate::numeral::{NumeralFault, all_digits, signed_numeral, unsigned_number};
+use crate::text::{same_name, split_at_first, trim};
+use co_value::{DataType, Key};
+
+/// How an entry may be accessed, by the word of its AccessType (CiA 306, object description).
+#[derive(Clone, Copy, Debug, PartialEq, Eq, Hash)]
+pub enum Access {
+    /// `ro`: read only.
+    Ro,
+    /// `wo`: write only.
+    Wo,
+    /// `rw`: read and write.
+    Rw,
+    /// `rwr`: read and write, mapped into a TPDO.
+    Rwr,
+    /// `rww`: read and write, mapped into an RPDO.
+    Rww,
+    /// `const`: read only, and never changed.
+    Constant,
+}
+
+impl Access {
+    /// The access that a word stands for (CiA 306, object description); `None` for every other word.
+    pub fn of_word(word: &[u8]) -> Option<Access>
+        ensures { result ≡ access_with word.now }
+    {
+        if same_name(word, b"ro") {
+            Some(Access::Ro)
+        } else if same_name(word, b"wo") {
+            Some(Access::Wo)
+        } else if same_name(word, b"rw") {
+            Some(Access::Rw)
+        } else if same_name(word, b"rwr") {
+            Some(Access::Rwr)
+        } else if same_name(word, b"rww") {
+            Some(Access::Rww)
+        } else if same_name(word, b"const") {
+            Some(Access::Constant)
+        } else {
+            None
+        }
+    }
+}
+
+/// The default of an entry, by its DefaultValue (CiA 306, object description).
+#[derive(Clone, Copy, Debug, PartialEq, Eq, Hash)]
+pub enum Preset<'a> {
+    /// There is none, or the entry is a DOMAIN.
+    Absent,
+    /// The number of a numeric entry.
+    Number(i128),
+    /// The node-ID plus this number, of a numeric entry.
+    NodeId(u64),
+    /// The bytes of a VISIBLE_STRING.
+    Text(&'a [u8]),
+    /// Pairs of hexadecimal digits, one for each byte of an OCTET_STRING.
+    Pairs(&'a [u8]),
+}
+
+/// What a data sheet says of one entry (CiA 306, object description).
+#[derive(Clone, Copy, Debug, PartialEq, Eq, Hash)]
+pub struct EntryRow<'a> {
+    pub key: Key,
+    pub data_type: DataType,
+    pub access: Access,
+    /// LowLimit, where a numeric entry has one.
+    pub low: Option<i128>,
+    /// HighLimit, where a numeric entry has one.
+    pub high: Option<i128>,
+    pub default: Preset<'a>,
+    /// Whether PDOMapping is there and not 0.
+    pub mappable: bool,
+    /// ParameterName, where it is there.
+    pub name: Option<&'a [u8]>,
+    /// The line of the entry's section, from 1.
+    pub line: usize,
+}
+
+/// Reads the default of a numeric type: a number, `$NODEID`, or a sum of both with blanks allowed round `+`
+/// (CiA 306, object description). The fault is that of the number; another form is `Malformed`.
+pub fn numeric_default(data_type: DataType, text: &[u8]) -> Result<Preset<'static>, NumeralFault>
+    ensures { result_map default_view result ≡ numeric_default data_type text.now }
+{
+    if is_node_id(text) {
+        return Ok(Preset::NodeId(0));
+    }
+    match split_at_first(text, b'+') {
+        Some((left, right)) => node_id_sum(trim(left), trim(right)),
+        None => Ok(Preset::Number(signed_numeral(text)?.value_at(data_type))),
+    }
+}
+
+fn is_node_id(text: &[u8]) -> bool
+    ensures { result ≡ is_node_id text.now }
+{
+    same_name(text, b"$NODEID")
+}
+
+fn node_id_sum(left: &[u8], right: &[u8]) -> Result<Preset<'static>, NumeralFault>
+    ensures { result_map default_view result ≡ node_id_sum left.now right.now }
+{
+    if is_node_id(left) {
+        Ok(Preset::NodeId(unsigned_number(right)?))
+    } else if is_node_id(right) {
+        Ok(Preset::NodeId(unsigned_number(left)?))
+    } else {
+        Err(NumeralFault::Malformed)
+    }
+}
+
+/// Whether a text is pairs of hexadecimal digits, and nothing between them.
+pub fn is_pairs(text: &[u8]) -> bool
+    ensures { result ≡ is_pairs text.now }
+{
+    text.len() % 2 == 0 && all_digits(text, 16)
+}
+
+#[cfg(test)]
+mod tests {
+    use super::*;
+
+    #[test]
+    fn reads_access_words(rt: HostRuntime) {
+        assert_eq!(rt; Access::of_word(b"RWW"), Some(Access::Rww));
+        assert_eq!(rt; Access::of_word(b"const"), Some(Access::Constant));
+        assert_eq!(rt; Access::of_word(b"rx"), None);
+    }
+
+    #[test]
+    fn reads_defaults(rt: HostRuntime) {
+        let cases: [(&[u8], Result<Preset, NumeralFault>); 8] = [
+            (b"0xFF", Ok(Preset::Number(-1))),
+            (b"$nodeid", Ok(Preset::NodeId(0))),
+            (b"$NODEID \t+ 0x180", Ok(Preset::NodeId(0x180))),
+            (b"0xFF+$NODEID", Ok(Preset::NodeId(0xFF))),
+            (b"$NODEID+010", Err(NumeralFault::Ambiguous)),
+            (b"$NODEID+-0", Err(NumeralFault::Malformed)),
+            (b"$NODEID+$NODEID", Err(NumeralFault::Malformed)),
+            (b"+$NODEID", Err(NumeralFault::Malformed)),
+        ];
+        for (text, want) in cases {
+            assert_eq!(rt; numeric_default(DataType::Integer8, text), want);
+        }
+        assert!(rt; is_pairs(b"0aFF") && !is_pairs(b"0aF") && !is_pairs(b"0a F"));
+    }
+}

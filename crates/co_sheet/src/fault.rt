@@ -1,0 +1,54 @@
+//! Why a text is no data sheet.
+
+/// What is wrong with a text.
+#[derive(Clone, Copy, Debug, PartialEq, Eq, Hash)]
+pub enum FaultKind {
+    /// More than 1,048,576 bytes of text, or more than 512 in a line.
+    TooLarge = 1,
+    /// A section line without `]`, or a line that is neither `key=value` nor anything else that a section may have.
+    BadLine = 2,
+    /// A line before the first section.
+    KeyOutsideSection = 3,
+    /// A section that stands twice.
+    DuplicateSection = 4,
+    /// A key that stands twice in its section.
+    DuplicateKey = 5,
+    /// No MandatoryObjects, or no section for a listed object.
+    MissingSection = 6,
+    /// A value that has to be a number and is none.
+    BadNumber = 7,
+    /// A decimal number with leading zeros, which might be meant as octal.
+    AmbiguousNumber = 8,
+    /// An object list without its number of objects, or without as many.
+    BadList = 9,
+    /// An index in the object lists twice.
+    ListedTwice = 10,
+    /// An entry without DataType or AccessType.
+    MissingKey = 11,
+    /// An object type or a data type that is none, or isn't the one that has to stand there.
+    BadType = 12,
+    /// A data type that isn't supported.
+    LeftOutType = 13,
+    /// A word that is no access type.
+    BadAccess = 14,
+    /// A limit outside the type's range, or a low limit above the high one.
+    BadLimits = 15,
+    /// A default outside the type or the limits, or not of the type's form.
+    BadDefault = 16,
+    /// An ARRAY or a RECORD without sub-index 0.
+    MissingSub0 = 17,
+    /// A compact form of sub-indices or PDOs.
+    CompactForm = 18,
+    /// 1000h, 1001h or 1018h in no object list.
+    MissingMandatory = 19,
+    /// Want of memory.
+    Memory = 20,
+}
+
+/// What is wrong with a text, and where.
+#[derive(Clone, Copy, Debug, PartialEq, Eq, Hash)]
+pub struct SheetFault {
+    pub kind: FaultKind,
+    /// From 1; 0 where no line is to blame.
+    pub line: usize,
+}
