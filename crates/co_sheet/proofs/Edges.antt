@@ -207,7 +207,7 @@ sub_index_object_type = refl
 section_unlisted : fault_of (with_lines 21 (codes "[2001]" ∷ codes "ObjectType=x" ∷ codes "CompactSubObj=x" ∷ codes "DataType=8" ∷ [])) ≡ None
 section_unlisted = refl
 
--- the object's line, of the least of two
+-- the object's line
 no_sub_index_0 : fault_of (replaced 15 (codes "[1018sub3]")) ≡ Some (fault_at 13 MissingSub0)
 no_sub_index_0 = refl
 
@@ -271,7 +271,7 @@ limit_above_width = refl
 limit_below_type : fault_of (with_entry (codes "DataType=5" ∷ codes "AccessType=rw" ∷ codes "LowLimit=-1" ∷ [])) ≡ Some (fault_at 28 BadLimits)
 limit_below_type = refl
 
--- a low limit above the high one: the line of HighLimit, if that is less
+-- a low limit above the high one: the line of HighLimit, also where it stands before LowLimit
 limits_crossed_line : fault_of (with_entry (codes "DataType=5" ∷ codes "AccessType=rw" ∷ codes "HighLimit=1" ∷ codes "LowLimit=2" ∷ [])) ≡ Some (fault_at 28 BadLimits)
 limits_crossed_line = refl
 

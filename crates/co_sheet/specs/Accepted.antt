@@ -15,12 +15,12 @@ abbrev pub least_fault : List SheetFault → Option SheetFault
 least_fault [] = None
 least_fault (f ∷ faults) = Some (fold (λ f g. if nat_le f.line g.line then f else g) f faults)
 
--- the first check that finds a line, with the least line that it finds
+-- of the first check that finds any fault, the one that stands highest in the text
 abbrev pub first_found : List (List SheetSection → List SheetFault) → List SheetSection → Option SheetFault
 first_found [] sections = None
 first_found (check ∷ more) sections = or_else (least_fault (check sections)) (first_found more sections)
 
--- What is wrong with a text: its size; else its first line at fault; else the first check that finds a line.
+-- What is wrong with a text: its size, or else a line by itself, or else what the checks find.
 abbrev pub first_fault : List ℕ → Option SheetFault
 first_fault text =
     if nat_lt 1048576 (length text) then Some (fault_at 0 TooLarge)

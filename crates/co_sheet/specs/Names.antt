@@ -35,7 +35,7 @@ kind_of name =
     else if is_hexadecimal_up_to 4 name then Object (number_in 16 name)
     else sub_index_kind (take_while is_hexadecimal_digit name) (drop (prefix_len is_hexadecimal_digit name) name)
 
--- names that give the same numbers name the same section
+-- two names are one section where index and sub-index agree, however they are spelled
 abbrev pub same_kind : SectionKind → SectionKind → Bool
 same_kind MandatoryObjects MandatoryObjects = true
 same_kind OptionalObjects OptionalObjects = true
@@ -60,11 +60,12 @@ abbrev pub is_position : List ℕ → Bool
 is_position [] = false
 is_position (digit ∷ digits) = list_all (λ c. is_digit c 10) (digit ∷ digits) && not (digit == 48)
 
--- the keys by name that are read in a section
+-- the names that are read in objects and sub-indices
 abbrev pub object_keys : List (List ℕ)
 object_keys = codes "ParameterName" ∷ codes "ObjectType" ∷ codes "DataType" ∷ codes "AccessType" ∷ codes "LowLimit" ∷ codes "HighLimit"
     ∷ codes "DefaultValue" ∷ codes "PDOMapping" ∷ codes "SubNumber" ∷ codes "CompactSubObj" ∷ []
 
+-- the names that are read in a section
 abbrev pub named_keys : SectionKind → List (List ℕ)
 named_keys DummyUsage = codes "Dummy0002" ∷ codes "Dummy0003" ∷ codes "Dummy0004" ∷ codes "Dummy0005" ∷ codes "Dummy0006" ∷ codes "Dummy0007" ∷ []
 named_keys DeviceInfo = codes "CompactPDO" ∷ []

@@ -60,11 +60,12 @@ abbrev pub key_given : SectionKind → ℕ → LineForm → Option KeyValue
 key_given kind line (key_value key value) = if is_given kind key value then Some (record { key = key; value = value; line = line }) else None
 key_given kind line form = None
 
--- the lines up to the next section line
+-- whether a line of this form begins a section
 abbrev pub is_section_line : LineForm → Bool
 is_section_line (section_line name) = true
 is_section_line form = false
 
+-- the lines in front of the next section line
 abbrev pub body_of : List Line → List Line
 body_of [] = []
 body_of (line ∷ lines) = if is_section_line (line_form line) then [] else line ∷ body_of lines

@@ -32,6 +32,6 @@ pub record Line : Type 0 where
   pub number : ℕ
   pub bytes : List ℕ
 
--- Each line ends with LF, and one CR before it is dropped; the last may end without. A byte order mark is part of no line.
+-- LF ends a line, and takes one CR in front of it along; the last line may come without. A byte order mark is part of no line.
 abbrev pub lines_of : List ℕ → List Line
 lines_of text = map (λ l. record { number = l.0; bytes = l.1 }) (enumerate_from 1 (lines (without_mark text)))

@@ -19,9 +19,9 @@ pub enum Access {
     Wo,
     /// `rw`: read and write.
     Rw,
-    /// `rwr`: read and write, mapped into a TPDO.
+    /// `rwr`: read and write, and may be mapped into a TPDO.
     Rwr,
-    /// `rww`: read and write, mapped into an RPDO.
+    /// `rww`: read and write, and may be mapped into an RPDO.
     Rww,
     /// `const`: read only, and never changed.
     Constant,

@@ -5,7 +5,7 @@
 pub enum FaultKind {
     /// More than 1,048,576 bytes of text, or more than 512 in a line.
     TooLarge = 1,
-    /// A section line without `]`, or a line that is neither `key=value` nor anything else that a section may have.
+    /// A section line without `]`, or a line of a section that is read without `=` or without a key before it.
     BadLine = 2,
     /// A line before the first section.
     KeyOutsideSection = 3,
@@ -17,9 +17,10 @@ pub enum FaultKind {
     MissingSection = 6,
     /// A value that has to be a number and is none.
     BadNumber = 7,
-    /// A decimal number with leading zeros, which might be meant as octal.
+    /// A decimal number that begins with 0 and that octal would not read as the same number.
     AmbiguousNumber = 8,
-    /// An object list without its number of objects, or without as many.
+    /// An object list whose number of objects is missing or above 65,535, with fewer places than it says, or with an
+    /// index above FFFFh.
     BadList = 9,
     /// An index in the object lists twice.
     ListedTwice = 10,

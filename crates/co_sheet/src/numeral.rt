@@ -23,7 +23,7 @@ pub enum Numeral {
 pub enum NumeralFault {
     /// It has another form, a sign where none may stand, or a magnitude of 2^64 or more.
     Malformed,
-    /// It begins with 0, has more digits, and as an octal number would be another one.
+    /// It begins with 0, and octal would not read it as the same number.
     Ambiguous,
 }
 
