@@ -4,3 +4,17 @@ mod LargeSheet
 mod TextLemmas
 mod NumeralLemmas
 mod TypeLemmas
+mod LinesReadLemmas
+mod LineLemmas
+mod GivenKeyLemmas
+mod SectionKindLemmas
+mod SectionsReadLemmas
+mod SectionsKeptLemmas
+mod PassLemmas
+mod LeastLemmas
+mod ListLemmas
+mod ListingLemmas
+mod DefaultLemmas
+mod OrderLemmas
+mod FirstLemmas
+mod ContentLemmas

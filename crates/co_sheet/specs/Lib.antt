@@ -11,3 +11,13 @@ pub mod Checks
 pub mod Accepted
 pub mod Content
 pub mod Views
+pub mod ParsedSections
+pub mod LinesRead
+pub mod SectionsKept
+pub mod WantOfMemory
+pub mod SectionsSoFar
+pub mod LeastFaults
+pub mod SectionViews
+pub mod ListingViews
+pub mod SheetContents
+pub mod CheckGroups

@@ -1,0 +1,13 @@
+use Rattle.std.proofs.Common.{◌≡◌, ◌+◌, ◌++◌, ◌≤◌, drop, map, length, false, nat_lt}
+use Rattle.std.specs.List.{list_any, filter, filter_map, flat_map}
+use Rattle.std.specs.Option.{option_map_or}
+use Rattle.co_sheet.specs.ObjectLists.{number_of_key}
+use Rattle.co_sheet.specs.ParsedSections.{key_view, section_view}
+use Rattle.co_sheet.specs.ListingViews.{listing_view, is_key_to, listing_at}
+use Rattle.co_sheet.proofs.listing.has_large_index.Given as goal
+
+-- what the rest has is what all have
+abbrev pub invariant-loop-given : goal.invariant-loop-given
+invariant-loop-given l =
+    list_any (λ k. option_map_or (nat_lt 0xFFFF) (number_of_key k) false) (filter (is_key_to l.count) (map key_view (drop l.given-index l.given-items)))
+    ≡ list_any (λ k. option_map_or (nat_lt 0xFFFF) (number_of_key k) false) (filter (is_key_to l.count) (map key_view l.given-items))

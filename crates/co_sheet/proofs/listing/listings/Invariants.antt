@@ -1,0 +1,13 @@
+use Rattle.std.proofs.Common.{◌≡◌, ◌+◌, ◌++◌, ◌≤◌, drop, map, length, false, nat_lt}
+use Rattle.std.specs.List.{list_any, filter, filter_map, flat_map}
+use Rattle.std.specs.Option.{option_map_or}
+use Rattle.co_sheet.specs.ObjectLists.{number_of_key}
+use Rattle.co_sheet.specs.ParsedSections.{key_view, section_view}
+use Rattle.co_sheet.specs.ListingViews.{listing_view, is_key_to, listing_at}
+use Rattle.co_sheet.proofs.ListingLemmas.{named_by}
+use Rattle.co_sheet.proofs.listing.listings.Given as goal
+
+-- what is there so far, and behind it what the rest names
+abbrev pub invariant-loop-section : goal.invariant-loop-section
+invariant-loop-section l =
+    map listing_view l.all.items ++ flat_map named_by (map section_view (drop l.section-index l.sections)) ≡ flat_map named_by (map section_view l.sections)

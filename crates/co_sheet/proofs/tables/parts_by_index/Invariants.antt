@@ -1,0 +1,10 @@
+use Rattle.std.proofs.Common.{◌≡◌, ℕ, drop, map, ◌++◌}
+use Rattle.co_sheet.specs.Entries.{sub_indices}
+use Rattle.co_sheet.specs.ParsedSections.{section_view}
+use Rattle.co_sheet.specs.SectionViews.{parts_at}
+use Rattle.co_sheet.proofs.tables.parts_by_index.Given as goal
+
+-- what is there so far, and behind it what the rest has
+abbrev pub invariant-loop-section : goal.invariant-loop-section
+invariant-loop-section l =
+    (i : ℕ) → parts_at l.parts i ++ sub_indices (map section_view (drop l.section-index l.sections)) i ≡ sub_indices (map section_view l.sections) i

@@ -1,0 +1,30 @@
+-- What the object lists name, key by key.
+use Rattle.std.specs.List.{list_any}
+use Rattle.std.specs.Option.{option_map_or}
+use Rattle.std.specs.Prelude.{ℕ, Bool, false, ◌&&◌, ◌==◌, nat_le, nat_lt, List, Option, Some, None, option_and_then, if◌then◌else◌}
+use Rattle.co_sheet.specs.declared.listing.Listing.{Listing as ListingOfCode}
+use Rattle.co_sheet.specs.Names.{is_position, number_in}
+use Rattle.co_sheet.specs.Sections.{KeyValue}
+use Rattle.co_sheet.specs.ObjectLists.{Listing, number_of_key}
+
+abbrev pub listing_view : ListingOfCode → Listing
+listing_view l = record { index = l.index; line = l.line }
+
+-- one of the places up to a number
+abbrev pub is_key_to : ℕ → KeyValue → Bool
+is_key_to count k = is_position k.key && nat_le (number_in 10 k.key) count
+
+-- what a key names, if it is one of them
+abbrev pub listing_at : ℕ → KeyValue → Option Listing
+listing_at count k = if is_key_to count k then option_and_then (λ n. if nat_le 0x1000 n then Some (record { index = n; line = k.line }) else None) (number_of_key k) else None
+
+-- a line that is there and stands before another
+abbrev pub has_before : ℕ → Option ℕ → Bool
+has_before line first = option_map_or (λ l. nat_lt l line) first false
+
+-- an index that is listed, and one that is listed before a line
+abbrev pub is_listed_at : ℕ → List Listing → Bool
+is_listed_at index listings = list_any (λ l. l.index == index) listings
+
+abbrev pub is_listed_before : ℕ → ℕ → List Listing → Bool
+is_listed_before index line listings = list_any (λ l. (l.index == index) && nat_lt l.line line) listings

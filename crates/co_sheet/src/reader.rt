@@ -1,0 +1,34 @@
+//! A data sheet, read from its text.
+
+ghost use Rattle.std.specs.Prelude.{◌≡◌, IfOk, IfErr};
+ghost use Rattle.co_sheet.specs.Accepted.{first_fault, IsAccepted};
+ghost use Rattle.co_sheet.specs.SheetContents.{content_of, IsAnswered};
+ghost use Rattle.co_sheet.specs.Sections.{sections_of};
+ghost use Rattle.co_sheet.specs.Text.{lines_of};
+
+use crate::fault::{FaultKind, SheetFault};
+use crate::pass::sections_in;
+use crate::sheet::{Sheet, sheet_of};
+use std::alloc::Global;
+
+/// The greatest number of bytes of a data sheet.
+const GREATEST_SIZE: usize = 1_048_576;
+
+/// Reads a data sheet (CiA 306). The texts of the sheet are parts of the text. The fault is the first that the text
+/// has, by its lines and then by the checks in their order; or `Memory` with line 0, where memory ran out. A text of
+/// more than 1,048,576 bytes is `TooLarge` with line 0 before any memory is asked for.
+pub fn read(alloc: Global, text: &[u8]) -> Result<Sheet<'_>, SheetFault>
+    ensures accepted { IfOk result (λ _. IsAccepted text.now) }
+    ensures content { IfOk result (λ sheet. sheet ≡ content_of (sections_of (lines_of text.now))) }
+    // So where the text is accepted nothing but want of memory keeps it from being read.
+    ensures err { IfErr result (λ fault. IsAnswered (first_fault text.now) fault) }
+{
+    if text.len() > GREATEST_SIZE {
+        return Err(SheetFault {
+            kind: FaultKind::TooLarge,
+            line: 0,
+        });
+    }
+    let sections = sections_in(alloc, text)?;
+    sheet_of(alloc, sections.as_slice())
+}
