@@ -1,12 +1,12 @@
 -- Cases at the edges of the definitions, computed from them.
-use Rattle.std.proofs.Common.{◌≡◌, ◌++◌, List, ℕ, [], ◌∷◌, refl, codes, Some, None, Ok, Err, Option}
+use Rattle.std.proofs.Common.{◌≡◌, ◌++◌, List, ℕ, [], ◌∷◌, refl, codes, Some, None, Ok, Err}
 use Rattle.std.specs.Prelude.{map, flat_map, take, drop, replicate, pos, neg_ℤ, true, false, slice_get}
-use Rattle.co_sheet.specs.declared.fault.FaultKind.TheVariants.{TooLarge, BadLine, KeyOutsideSection, DuplicateSection, DuplicateKey, MissingSection, BadNumber, AmbiguousNumber, BadList, ListedTwice, MissingKey, BadType, BadAccess, BadLimits, BadDefault, MissingSub0, CompactForm}
+use Rattle.co_sheet.specs.declared.fault.FaultKind.TheVariants.{TooLarge, BadLine, KeyOutsideSection, DuplicateSection, DuplicateKey, MissingSection, BadNumber, AmbiguousNumber, BadList, ListedTwice, MissingKey, BadType, LeftOutType, BadAccess, BadLimits, BadDefault, MissingSub0, CompactForm}
 use Rattle.co_sheet.specs.declared.note.NoteKind.TheVariants.{SubNumber, Unlisted}
 use Rattle.co_sheet.specs.declared.entry.Access.TheVariants.{Wo, Rw, Rwr, Rww, Constant}
 use Rattle.co_sheet.specs.declared.numeral.Numeral.TheVariants.{Decimal, Hexadecimal}
 use Rattle.co_sheet.specs.declared.numeral.NumeralFault.TheVariants.{Malformed, Ambiguous}
-use Rattle.co_value.specs.declared.data_type.DataType.TheVariants.{Integer8, Integer16, Unsigned16, Unsigned32, VisibleString, OctetString, Domain as DomainType}
+use Rattle.co_value.specs.declared.data_type.DataType.TheVariants.{Integer8, Integer16, Integer64, Unsigned16, Unsigned32, Unsigned64, VisibleString, OctetString, Domain as DomainType}
 use Rattle.co_sheet.specs.declared.object.ObjectType.TheVariants.{Var, Record}
 use Rattle.co_sheet.specs.Text.{lines_of}
 use Rattle.co_sheet.specs.Sections.{fault_at}
@@ -21,9 +21,9 @@ use Rattle.co_sheet.proofs.Examples.{joined, small, fault_of, replaced, with_lin
 abbrev with_entry : List (List ℕ) → List (List ℕ)
 with_entry lines = small ++ (codes "[ManufacturerObjects]" ∷ codes "SupportedObjects=1" ∷ codes "1=0x2000" ∷ codes "[2000]" ∷ []) ++ lines
 
--- the row of 2000h
-abbrev row_with_lines : List (List ℕ) → Option Row
-row_with_lines lines = slice_get (rows_of (joined (with_entry lines))) 4
+-- with these lines the text is a data sheet, and this is the row of 2000h
+abbrev SaysRow : List (List ℕ) → Row → Type 0
+SaysRow lines row = (fault_of (with_entry lines) ≡ None) × (slice_get (rows_of (joined (with_entry lines))) 4 ≡ Some row)
 
 -- ---- lines
 
@@ -212,11 +212,11 @@ no_sub_index_0 : fault_of (replaced 15 (codes "[1018sub3]")) ≡ Some (fault_at 
 no_sub_index_0 = refl
 
 -- a DOMAIN needs no DataType and no AccessType; its limits and its default are passed over
-domain : row_with_lines (codes "ObjectType=2" ∷ codes "LowLimit=x" ∷ codes "DefaultValue=x" ∷ []) ≡ Some (record { key = record { index = 0x2000; sub = 0 }; data_type = DomainType; access = Rw; low = None; high = None; default = absent; mappable = false; name = None; line = 25 })
-domain = refl
+domain : SaysRow (codes "ObjectType=2" ∷ codes "LowLimit=x" ∷ codes "DefaultValue=x" ∷ []) (record { key = record { index = 0x2000; sub = 0 }; data_type = DomainType; access = Rw; low = None; high = None; default = absent; mappable = false; name = None; line = 25 })
+domain = (refl, refl)
 
-domain_type : row_with_lines (codes "DataType=15" ∷ codes "AccessType=WO" ∷ []) ≡ Some (record { key = record { index = 0x2000; sub = 0 }; data_type = DomainType; access = Wo; low = None; high = None; default = absent; mappable = false; name = None; line = 25 })
-domain_type = refl
+domain_type : SaysRow (codes "DataType=15" ∷ codes "AccessType=WO" ∷ []) (record { key = record { index = 0x2000; sub = 0 }; data_type = DomainType; access = Wo; low = None; high = None; default = absent; mappable = false; name = None; line = 25 })
+domain_type = (refl, refl)
 
 domain_of_other_type : fault_of (with_entry (codes "ObjectType=2" ∷ codes "DataType=7" ∷ [])) ≡ Some (fault_at 27 BadType)
 domain_of_other_type = refl
@@ -245,11 +245,11 @@ unread_mapping : fault_of (with_entry (codes "AccessType=rw" ∷ codes "PDOMappi
 unread_mapping = refl
 
 -- the default of a string; its limits are passed over
-string : row_with_lines (codes "DataType=9" ∷ codes "AccessType=rwr" ∷ codes "LowLimit=x" ∷ codes "HighLimit=-" ∷ codes "DefaultValue=\t a ; b\t" ∷ codes "ParameterName= name " ∷ codes "PDOMapping=0x0" ∷ []) ≡ Some (record { key = record { index = 0x2000; sub = 0 }; data_type = VisibleString; access = Rwr; low = None; high = None; default = text (codes "a ; b"); mappable = false; name = Some (codes "name"); line = 25 })
-string = refl
+string : SaysRow (codes "DataType=9" ∷ codes "AccessType=rwr" ∷ codes "LowLimit=x" ∷ codes "HighLimit=-" ∷ codes "DefaultValue=\t a ; b\t" ∷ codes "ParameterName= name " ∷ codes "PDOMapping=0x0" ∷ []) (record { key = record { index = 0x2000; sub = 0 }; data_type = VisibleString; access = Rwr; low = None; high = None; default = text (codes "a ; b"); mappable = false; name = Some (codes "name"); line = 25 })
+string = (refl, refl)
 
-octets : row_with_lines (codes "DataType=0xA" ∷ codes "AccessType=const" ∷ codes "DefaultValue=0aFF" ∷ codes "PDOMapping=2" ∷ []) ≡ Some (record { key = record { index = 0x2000; sub = 0 }; data_type = OctetString; access = Constant; low = None; high = None; default = pairs (codes "0aFF"); mappable = true; name = None; line = 25 })
-octets = refl
+octets : SaysRow (codes "DataType=0xA" ∷ codes "AccessType=const" ∷ codes "DefaultValue=0aFF" ∷ codes "PDOMapping=2" ∷ []) (record { key = record { index = 0x2000; sub = 0 }; data_type = OctetString; access = Constant; low = None; high = None; default = pairs (codes "0aFF"); mappable = true; name = None; line = 25 })
+octets = (refl, refl)
 
 octets_odd : fault_of (with_entry (codes "DataType=0xA" ∷ codes "AccessType=const" ∷ codes "DefaultValue=0aF" ∷ [])) ≡ Some (fault_at 28 BadDefault)
 octets_odd = refl
@@ -258,11 +258,11 @@ octets_parted : fault_of (with_entry (codes "DataType=0xA" ∷ codes "AccessType
 octets_parted = refl
 
 -- hexadecimal numbers of a signed type are in two's complement
-signed_limits : row_with_lines (codes "DataType=3" ∷ codes "AccessType=rww" ∷ codes "LowLimit=0x8000" ∷ codes "HighLimit=0xFFFF" ∷ codes "DefaultValue=-2" ∷ []) ≡ Some (record { key = record { index = 0x2000; sub = 0 }; data_type = Integer16; access = Rww; low = Some (neg_ℤ (pos 32768)); high = Some (neg_ℤ (pos 1)); default = number (neg_ℤ (pos 2)); mappable = false; name = None; line = 25 })
-signed_limits = refl
+signed_limits : SaysRow (codes "DataType=3" ∷ codes "AccessType=rww" ∷ codes "LowLimit=0x8000" ∷ codes "HighLimit=0xFFFF" ∷ codes "DefaultValue=-2" ∷ []) (record { key = record { index = 0x2000; sub = 0 }; data_type = Integer16; access = Rww; low = Some (neg_ℤ (pos 32768)); high = Some (neg_ℤ (pos 1)); default = number (neg_ℤ (pos 2)); mappable = false; name = None; line = 25 })
+signed_limits = (refl, refl)
 
-own_digits : row_with_lines (codes "DataType=6" ∷ codes "AccessType=rw" ∷ codes "LowLimit=-0" ∷ codes "HighLimit=007" ∷ codes "DefaultValue=0x7" ∷ []) ≡ Some (record { key = record { index = 0x2000; sub = 0 }; data_type = Unsigned16; access = Rw; low = Some (pos 0); high = Some (pos 7); default = number (pos 7); mappable = false; name = None; line = 25 })
-own_digits = refl
+own_digits : SaysRow (codes "DataType=6" ∷ codes "AccessType=rw" ∷ codes "LowLimit=-0" ∷ codes "HighLimit=007" ∷ codes "DefaultValue=0x7" ∷ []) (record { key = record { index = 0x2000; sub = 0 }; data_type = Unsigned16; access = Rw; low = Some (pos 0); high = Some (pos 7); default = number (pos 7); mappable = false; name = None; line = 25 })
+own_digits = (refl, refl)
 
 -- a limit outside the type's range
 limit_above_width : fault_of (with_entry (codes "DataType=2" ∷ codes "AccessType=rw" ∷ codes "LowLimit=0x80" ∷ codes "HighLimit=0x1FF" ∷ [])) ≡ Some (fault_at 29 BadLimits)
@@ -293,14 +293,14 @@ ambiguous_before_bad : fault_of (with_entry (codes "DataType=7" ∷ codes "Acces
 ambiguous_before_bad = refl
 
 -- the node-ID, alone and in a sum
-node_id_alone : row_with_lines (codes "DataType=7" ∷ codes "AccessType=rw" ∷ codes "DefaultValue=$nodeid" ∷ []) ≡ Some (record { key = record { index = 0x2000; sub = 0 }; data_type = Unsigned32; access = Rw; low = None; high = None; default = node_id 0; mappable = false; name = None; line = 25 })
-node_id_alone = refl
+node_id_alone : SaysRow (codes "DataType=7" ∷ codes "AccessType=rw" ∷ codes "DefaultValue=$nodeid" ∷ []) (record { key = record { index = 0x2000; sub = 0 }; data_type = Unsigned32; access = Rw; low = None; high = None; default = node_id 0; mappable = false; name = None; line = 25 })
+node_id_alone = (refl, refl)
 
-node_id_plus : row_with_lines (codes "DataType=7" ∷ codes "AccessType=rw" ∷ codes "DefaultValue=$NODEID + 0x180" ∷ []) ≡ Some (record { key = record { index = 0x2000; sub = 0 }; data_type = Unsigned32; access = Rw; low = None; high = None; default = node_id 0x180; mappable = false; name = None; line = 25 })
-node_id_plus = refl
+node_id_plus : SaysRow (codes "DataType=7" ∷ codes "AccessType=rw" ∷ codes "DefaultValue=$NODEID + 0x180" ∷ []) (record { key = record { index = 0x2000; sub = 0 }; data_type = Unsigned32; access = Rw; low = None; high = None; default = node_id 0x180; mappable = false; name = None; line = 25 })
+node_id_plus = (refl, refl)
 
-plus_node_id : row_with_lines (codes "DataType=2" ∷ codes "AccessType=rw" ∷ codes "DefaultValue=0XfF\t+ $NodeID" ∷ []) ≡ Some (record { key = record { index = 0x2000; sub = 0 }; data_type = Integer8; access = Rw; low = None; high = None; default = node_id 255; mappable = false; name = None; line = 25 })
-plus_node_id = refl
+plus_node_id : SaysRow (codes "DataType=2" ∷ codes "AccessType=rw" ∷ codes "DefaultValue=0XfF\t+ $NodeID" ∷ []) (record { key = record { index = 0x2000; sub = 0 }; data_type = Integer8; access = Rw; low = None; high = None; default = node_id 255; mappable = false; name = None; line = 25 })
+plus_node_id = (refl, refl)
 
 node_id_ambiguous : fault_of (with_entry (codes "DataType=7" ∷ codes "AccessType=rw" ∷ codes "DefaultValue=$NODEID+010" ∷ [])) ≡ Some (fault_at 28 AmbiguousNumber)
 node_id_ambiguous = refl
@@ -326,6 +326,98 @@ no_sum_6 = refl
 
 no_sum_7 : fault_of (with_entry (codes "DataType=7" ∷ codes "AccessType=rw" ∷ codes "DefaultValue=$NODEID 5" ∷ [])) ≡ Some (fault_at 28 BadNumber)
 no_sum_7 = refl
+
+-- a sum with the node-ID is no number yet, so no limit refuses it
+node_id_above_high : SaysRow (codes "DataType=7" ∷ codes "AccessType=rw" ∷ codes "HighLimit=10" ∷ codes "DefaultValue=$NODEID+999" ∷ []) (record { key = record { index = 0x2000; sub = 0 }; data_type = Unsigned32; access = Rw; low = None; high = Some (pos 10); default = node_id 999; mappable = false; name = None; line = 25 })
+node_id_above_high = (refl, refl)
+
+-- the ends of the widest types
+least_of_64_bits : SaysRow (codes "DataType=0x15" ∷ codes "AccessType=rw" ∷ codes "LowLimit=0x8000000000000000" ∷ codes "HighLimit=0x7FFFFFFFFFFFFFFF" ∷ []) (record { key = record { index = 0x2000; sub = 0 }; data_type = Integer64; access = Rw; low = Some (neg_ℤ (pos 0x8000000000000000)); high = Some (pos 0x7FFFFFFFFFFFFFFF); default = absent; mappable = false; name = None; line = 25 })
+least_of_64_bits = (refl, refl)
+
+greatest_of_64_bits : SaysRow (codes "DataType=0x1B" ∷ codes "AccessType=rw" ∷ codes "HighLimit=18446744073709551615" ∷ codes "DefaultValue=0xFFFFFFFFFFFFFFFF" ∷ []) (record { key = record { index = 0x2000; sub = 0 }; data_type = Unsigned64; access = Rw; low = None; high = Some (pos 0xFFFFFFFFFFFFFFFF); default = number (pos 0xFFFFFFFFFFFFFFFF); mappable = false; name = None; line = 25 })
+greatest_of_64_bits = (refl, refl)
+
+-- a LowLimit alone is compared with the type
+low_above_type : fault_of (with_entry (codes "DataType=5" ∷ codes "AccessType=rw" ∷ codes "LowLimit=256" ∷ [])) ≡ Some (fault_at 28 BadLimits)
+low_above_type = refl
+
+boolean_high : fault_of (with_entry (codes "DataType=1" ∷ codes "AccessType=rw" ∷ codes "HighLimit=2" ∷ [])) ≡ Some (fault_at 28 BadLimits)
+boolean_high = refl
+
+boolean_negative : fault_of (with_entry (codes "DataType=1" ∷ codes "AccessType=rw" ∷ codes "HighLimit=-1" ∷ [])) ≡ Some (fault_at 28 BadLimits)
+boolean_negative = refl
+
+-- a sub-index may be a DOMAIN too
+sub_index_domain : slice_get (rows_of (joined (with_lines 21 (codes "[1018sub2]" ∷ codes "ObjectType=2" ∷ [])))) 4 ≡ Some (record { key = record { index = 0x1018; sub = 2 }; data_type = DomainType; access = Rw; low = None; high = None; default = absent; mappable = false; name = None; line = 22 })
+sub_index_domain = refl
+
+sub_index_domain_accepted : fault_of (with_lines 21 (codes "[1018sub2]" ∷ codes "ObjectType=2" ∷ [])) ≡ None
+sub_index_domain_accepted = refl
+
+-- what an ARRAY says of its type and access itself is passed over
+array_itself : fault_of (with_entry (codes "ObjectType=8" ∷ codes "DataType=x" ∷ codes "AccessType=x" ∷ codes "LowLimit=x" ∷ codes "DefaultValue=x" ∷ codes "PDOMapping=x" ∷ codes "[2000sub0]" ∷ codes "DataType=5" ∷ codes "AccessType=ro" ∷ [])) ≡ None
+array_itself = refl
+
+object_type_ambiguous : fault_of (with_entry (codes "ObjectType=010" ∷ [])) ≡ Some (fault_at 26 AmbiguousNumber)
+object_type_ambiguous = refl
+
+-- ---- the order of the checks: of two faults that of the earlier check is named, also where it stands on a later line
+
+-- the faults of lines come before the checks
+order_lines_1 : fault_of (codes "[1000]" ∷ codes "DataType=7" ∷ codes "datatype=7" ∷ []) ≡ Some (fault_at 3 DuplicateKey)
+order_lines_1 = refl
+
+order_1_2 : fault_of (codes "[DummyUsage]" ∷ codes "Dummy0002=x" ∷ []) ≡ Some (fault_at 0 MissingSection)
+order_1_2 = refl
+
+order_2_3 : fault_of ((codes "[OptionalObjects]" ∷ []) ++ with_lines 5 (codes "4=x" ∷ [])) ≡ Some (fault_at 7 BadNumber)
+order_2_3 = refl
+
+order_3_4 : fault_of (replaced 4 (codes "2=0x1000") ++ (codes "[OptionalObjects]" ∷ [])) ≡ Some (fault_at 22 BadList)
+order_3_4 = refl
+
+order_4_5 : fault_of (take 2 small ++ (codes "1=0x1234" ∷ codes "2=0x1001" ∷ codes "3=0x1001" ∷ []) ++ drop 5 small) ≡ Some (fault_at 5 ListedTwice)
+order_4_5 = refl
+
+order_5_6 : fault_of ((codes "[1000]" ∷ codes "ObjectType=x" ∷ []) ++ take 5 (replaced 5 (codes "3=0x1019")) ++ drop 9 small) ≡ Some (fault_at 7 MissingSection)
+order_5_6 = refl
+
+order_6_7 : fault_of (take 6 small ++ (codes "ObjectType=5" ∷ []) ++ drop 6 (take 14 small) ++ (codes "CompactSubObj=x" ∷ []) ++ drop 14 small) ≡ Some (fault_at 16 BadNumber)
+order_6_7 = refl
+
+order_7_8 : fault_of (take 6 small ++ (codes "CompactSubObj=2" ∷ []) ++ drop 6 (replaced 14 (codes "ObjectType=5"))) ≡ Some (fault_at 15 BadType)
+order_7_8 = refl
+
+order_8_9 : fault_of (take 14 small ++ (codes "[DeviceInfo]" ∷ codes "CompactPDO=1" ∷ [])) ≡ Some (fault_at 16 CompactForm)
+order_8_9 = refl
+
+order_9_10 : fault_of (take 7 small ++ drop 8 (take 14 small)) ≡ Some (fault_at 12 MissingSub0)
+order_9_10 = refl
+
+order_10_11 : fault_of (take 8 small ++ (codes "PDOMapping=x" ∷ []) ++ drop 9 (take 20 small)) ≡ Some (fault_at 19 MissingKey)
+order_10_11 = refl
+
+order_11_12 : fault_of (replaced 7 (codes "DataType=6") ++ (codes "PDOMapping=x" ∷ [])) ≡ Some (fault_at 22 BadNumber)
+order_11_12 = refl
+
+order_12_13 : fault_of (take 15 small ++ (codes "DataType=8" ∷ []) ++ drop 16 (replaced 20 (codes "DataType=0x40"))) ≡ Some (fault_at 20 BadType)
+order_12_13 = refl
+
+order_13_14 : fault_of (take 7 small ++ (codes "AccessType=rx" ∷ []) ++ drop 8 (replaced 20 (codes "DataType=8"))) ≡ Some (fault_at 20 LeftOutType)
+order_13_14 = refl
+
+order_14_15 : fault_of (take 8 small ++ (codes "DefaultValue=x" ∷ []) ++ drop 9 (replaced 21 (codes "AccessType=rx"))) ≡ Some (fault_at 21 BadAccess)
+order_14_15 = refl
+
+order_15_16 : fault_of (with_lines 9 (codes "LowLimit=2" ∷ codes "HighLimit=1" ∷ []) ++ (codes "DefaultValue=x" ∷ [])) ≡ Some (fault_at 24 BadNumber)
+order_15_16 = refl
+
+order_16_17 : fault_of (replaced 9 (codes "DefaultValue=-1") ++ (codes "LowLimit=2" ∷ codes "HighLimit=1" ∷ [])) ≡ Some (fault_at 23 BadLimits)
+order_16_17 = refl
+
+order_17_18 : fault_of (take 1 small ++ (codes "SupportedObjects=2" ∷ []) ++ drop 2 (replaced 9 (codes "DefaultValue=-1"))) ≡ Some (fault_at 9 BadDefault)
+order_17_18 = refl
 
 -- ---- numerals
 

@@ -18,3 +18,4 @@ mod DefaultLemmas
 mod OrderLemmas
 mod FirstLemmas
 mod ContentLemmas
+mod AcceptedLemmas

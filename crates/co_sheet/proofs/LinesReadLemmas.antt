@@ -3,10 +3,11 @@ use Rattle.std.proofs.Common.{◌≡◌, ℕ, List, [], ◌∷◌, ◌++◌, if�
 use Rattle.std.specs.Prelude.{option_map, filter_map, map}
 use Rattle.std.specs.List.{cons_option, enumerate_from}
 use Rattle.std.proofs.lemmas.List.{append_assoc, append-nil}
+use Rattle.std.specs.Option.{option_or}
 use Rattle.co_sheet.specs.declared.section.SectionKind.{SectionKind}
 use Rattle.co_sheet.specs.declared.fault.SheetFault.{SheetFault}
 use Rattle.co_sheet.specs.Text.{Line}
-use Rattle.co_sheet.specs.Sections.{LineForm, skipped, section_line, unclosed, key_value, malformed, is_section_line, KeyValue, SheetSection, key_given, body_of, section_begun, sections_of, line_form, line_fault, fault_at, or_else, first_line_fault}
+use Rattle.co_sheet.specs.Sections.{LineForm, skipped, section_line, unclosed, key_value, malformed, is_section_line, KeyValue, SheetSection, key_given, body_of, section_begun, sections_of, line_form, line_fault, fault_at, first_line_fault}
 use Rattle.co_sheet.specs.LinesRead.{with_key, with_last, empty_section, with_form, with_line}
 
 -- lines, numbered from here
@@ -22,7 +23,7 @@ with_lines sections (line ∷ lines) = with_lines (with_line sections line) line
 abbrev pub fault_behind : List SheetSection → List Line → Option SheetFault
 fault_behind sections [] = None
 fault_behind sections (line ∷ lines) =
-    or_else (option_map (fault_at line.number) (line_fault sections line)) (fault_behind (with_line sections line) lines)
+    option_or (option_map (fault_at line.number) (line_fault sections line)) (fault_behind (with_line sections line) lines)
 
 -- the key that a line gives a section of this kind
 abbrev pub given_by : SectionKind → Line → Option KeyValue
@@ -124,5 +125,5 @@ sections_of-append ls l =
 pub first_line_fault-behind : (before ls : List Line) → first_line_fault before ls ≡ fault_behind (sections_of before) ls
 first_line_fault-behind before [] = refl
 first_line_fault-behind before (l ∷ ls) =
-    ap (or_else (option_map (fault_at l.number) (line_fault (sections_of before) l)))
+    ap (option_or (option_map (fault_at l.number) (line_fault (sections_of before) l)))
     (first_line_fault-behind (before ++ l ∷ []) ls ∙ ap (λ (ss : List SheetSection). fault_behind ss ls) (sections_of-append before l))

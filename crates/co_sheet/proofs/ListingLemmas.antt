@@ -1,15 +1,15 @@
 -- What the object lists name, key by key.
-use Rattle.std.proofs.Common.{◌≡◌, ℕ, Bool, true, false, cond, List, [], ◌∷◌, ◌++◌, Option, Some, None, refl, sym, ap, ◌∙◌, arith, leb, ltb, eqb, eqb-true, min, map, ◌&&◌, ◌||◌}
+use Rattle.std.proofs.Common.{◌≡◌, ℕ, Bool, true, false, cond, List, [], ◌∷◌, ◌++◌, Option, Some, None, refl, ap, ◌∙◌, arith, leb, ltb, eqb, eqb-true, min, ◌&&◌, ◌||◌}
 use Rattle.std.proofs.lemmas.Bool.Decides.{nat_tests}
 use Rattle.std.specs.Ordering.{nat_cmp}
 use Rattle.std.specs.declared.cmp.Ordering.TheVariants.{Less, Equal, Greater}
 use Rattle.std.specs.BTreeMap.{is_at}
 use Rattle.std.specs.Option.{option_map_or, is_some}
-use Rattle.std.specs.Prelude.{codes, option_map, option_and_then, nat_le}
+use Rattle.std.specs.Prelude.{option_map, option_and_then}
 use Rattle.std.specs.List.{filter, filter_map, flat_map}
 use Rattle.co_sheet.specs.Names.{is_list}
 use Rattle.co_sheet.specs.Sections.{KeyValue, SheetSection}
-use Rattle.co_sheet.specs.ObjectLists.{Listing, number_of_key, count_of, keys_to, listings_in, listings, object_lists}
+use Rattle.co_sheet.specs.ObjectLists.{Listing, number_of_key, count_of, listings_in, listings}
 use Rattle.co_sheet.specs.ListingViews.{is_key_to, listing_at, has_before}
 use Rattle.co_sheet.proofs.ListLemmas.{flat_map-filter, filter-flat_map}
 

@@ -2,10 +2,11 @@
 use Rattle.std.proofs.Common.{◌≡◌, ℕ, ◌+◌, List, [], ◌∷◌, Option, Some, None, sym, ◌∙◌, ap}
 use Rattle.std.specs.Prelude.{option_map}
 use Rattle.std.specs.Str.Lines.{lines}
+use Rattle.std.specs.Option.{option_or}
 use Rattle.co_sheet.specs.declared.fault.FaultKind.{FaultKind}
 use Rattle.co_sheet.specs.declared.fault.SheetFault.{SheetFault}
 use Rattle.co_sheet.specs.Text.{Line, lines_of, without_mark}
-use Rattle.co_sheet.specs.Sections.{SheetSection, sections_of, first_line_fault, line_fault, fault_at, or_else}
+use Rattle.co_sheet.specs.Sections.{SheetSection, sections_of, first_line_fault, line_fault, fault_at}
 use Rattle.co_sheet.specs.LinesRead.{with_line}
 use Rattle.co_sheet.proofs.LinesReadLemmas.{numbered, with_lines, fault_behind, sections_of-with_lines, first_line_fault-behind}
 
@@ -34,7 +35,7 @@ reads_more text rest tail bytes number sections more reads first good next =
     let others : List Line = numbered (number + 1) (lines tail) in
     record {
       faults = ap (λ (ss : List SheetSection). fault_behind ss others) next
-          ∙ sym (ap (λ (o : Option FaultKind). or_else (option_map (fault_at number) o) (fault_behind (with_line sections line) others)) good)
+          ∙ sym (ap (λ (o : Option FaultKind). option_or (option_map (fault_at number) o) (fault_behind (with_line sections line) others)) good)
           ∙ sym (ap (λ (ls : List (List ℕ)). fault_behind sections (numbered number ls)) first)
           ∙ reads.faults;
       whole = ap (λ (ss : List SheetSection). with_lines ss others) next
@@ -50,7 +51,7 @@ reads_fault text rest tail bytes number sections fault reads first bad =
     let line : Line = record { number = number; bytes = bytes } in
     sym reads.faults
     ∙ ap (λ (ls : List (List ℕ)). fault_behind sections (numbered number ls)) first
-    ∙ ap (λ (o : Option SheetFault). or_else o (fault_behind (with_line sections line) (numbered (number + 1) (lines tail)))) bad
+    ∙ ap (λ (o : Option SheetFault). option_or o (fault_behind (with_line sections line) (numbered (number + 1) (lines tail)))) bad
 
 -- no line is left
 pub reads_end : (text rest : List ℕ) (number : ℕ) (sections : List SheetSection) → Reads text sections number rest → lines rest ≡ [] →

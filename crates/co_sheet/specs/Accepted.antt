@@ -1,9 +1,10 @@
 -- Which texts are data sheets, and what the others have wrong with them (CiA 306).
 use Rattle.std.specs.Prelude.{◌≡◌, ℕ, nat_lt, nat_le, if◌then◌else◌, List, [], ◌∷◌, length, fold, Option, Some, None}
+use Rattle.std.specs.Option.{option_or}
 use Rattle.co_sheet.specs.declared.fault.FaultKind.TheVariants.{TooLarge}
 use Rattle.co_sheet.specs.declared.fault.SheetFault.{SheetFault}
 use Rattle.co_sheet.specs.Text.{lines_of}
-use Rattle.co_sheet.specs.Sections.{SheetSection, sections_of, fault_at, or_else, first_line_fault}
+use Rattle.co_sheet.specs.Sections.{SheetSection, sections_of, fault_at, first_line_fault}
 use Rattle.co_sheet.specs.Checks.{checks}
 
 -- the sections of a text
@@ -18,13 +19,13 @@ least_fault (f ∷ faults) = Some (fold (λ f g. if nat_le f.line g.line then f 
 -- of the first check that finds any fault, the one that stands highest in the text
 abbrev pub first_found : List (List SheetSection → List SheetFault) → List SheetSection → Option SheetFault
 first_found [] sections = None
-first_found (check ∷ more) sections = or_else (least_fault (check sections)) (first_found more sections)
+first_found (check ∷ more) sections = option_or (least_fault (check sections)) (first_found more sections)
 
 -- What is wrong with a text: its size, or else a line by itself, or else what the checks find.
 abbrev pub first_fault : List ℕ → Option SheetFault
 first_fault text =
     if nat_lt 1048576 (length text) then Some (fault_at 0 TooLarge)
-    else or_else (first_line_fault [] (lines_of text)) (first_found checks (sections_in text))
+    else option_or (first_line_fault [] (lines_of text)) (first_found checks (sections_in text))
 
 -- a text is a data sheet
 abbrev pub IsAccepted : List ℕ → Type 0

@@ -1,7 +1,7 @@
 -- What makes a text no data sheet, beside its lines: each check finds the lines at fault (CiA 306, object lists, object description).
 use Rattle.std.specs.Prelude.{ℕ, Bool, true, false, ◌&&◌, ◌||◌, not, ◌==◌, nat_lt, if◌then◌else◌, List, [], ◌∷◌, ◌++◌, length, filter, flat_map, codes, Option, Some, is_none, Result, Ok, Err, ℤ}
 use Rattle.std.specs.List.{list_any, list_all}
-use Rattle.std.specs.Option.{option_map_or}
+use Rattle.std.specs.Option.{option_map_or, option_or}
 use Rattle.co_value.specs.declared.data_type.DataType.{DataType}
 use Rattle.co_value.specs.declared.data_type.DataType.TheVariants.{Domain}
 use Rattle.co_value.specs.Types.{code_of, least_of, greatest_of}
@@ -12,7 +12,7 @@ use Rattle.co_sheet.specs.declared.fault.SheetFault.{SheetFault}
 use Rattle.co_sheet.specs.declared.numeral.NumeralFault.{NumeralFault}
 use Rattle.co_sheet.specs.declared.numeral.NumeralFault.TheVariants.{Malformed, Ambiguous}
 use Rattle.co_sheet.specs.Names.{same_kind, is_list}
-use Rattle.co_sheet.specs.Sections.{KeyValue, SheetSection, key_at, section_at, fault_at, or_else}
+use Rattle.co_sheet.specs.Sections.{KeyValue, SheetSection, key_at, section_at, fault_at}
 use Rattle.co_sheet.specs.Numerals.{unsigned_number}
 use Rattle.co_sheet.specs.ObjectLists.{number_of_key, is_one_of, object_lists, count_of, keys_to, Listing, listings, is_listed}
 use Rattle.co_sheet.specs.FixedTypes.{fixed_type_of}
@@ -63,21 +63,21 @@ abbrev pub missing_section : List SheetSection → Listing → List SheetFault
 missing_section sections l = fault_if (is_none (section_at (Object l.index) sections)) MissingSection l.line
 
 -- the sub-index sections that are looked at: those of a VAR or a DOMAIN are passed over
-abbrev pub parts_of : List SheetSection → ListedObject → List Entry
-parts_of sections o = if is_one_of single_codes (object_code o.section) then [] else sub_indices sections o.index
+abbrev pub sub_indices_checked : List SheetSection → ListedObject → List Entry
+sub_indices_checked sections o = if is_one_of single_codes (object_code o.section) then [] else sub_indices sections o.index
 
 -- check 6: the numbers that say what an object is
 abbrev pub unread_object_numbers : List SheetSection → ListedObject → List SheetFault
 unread_object_numbers sections o =
     at_key unread_number (codes "ObjectType") o.section ++ at_key unread_number (codes "CompactSubObj") o.section
-    ++ flat_map (λ e. at_key unread_number (codes "ObjectType") e.section) (parts_of sections o)
+    ++ flat_map (λ e. at_key unread_number (codes "ObjectType") e.section) (sub_indices_checked sections o)
 
 -- check 7: an object type that is none; a sub-index is a VAR or a DOMAIN
 abbrev pub other_object_type : List ℕ → SheetSection → List SheetFault
 other_object_type allowed section = at_key (λ k. fault_if (not (is_one_of allowed (number_of_key k))) BadType k.line) (codes "ObjectType") section
 
 abbrev pub bad_object_types : List SheetSection → ListedObject → List SheetFault
-bad_object_types sections o = other_object_type (single_codes ++ compound_codes) o.section ++ flat_map (λ e. other_object_type single_codes e.section) (parts_of sections o)
+bad_object_types sections o = other_object_type (single_codes ++ compound_codes) o.section ++ flat_map (λ e. other_object_type single_codes e.section) (sub_indices_checked sections o)
 
 -- check 8: a compact form
 abbrev pub compact_form : KeyValue → List SheetFault
@@ -139,11 +139,11 @@ abbrev pub limit_outside : DataType → Option ℤ → KeyValue → List SheetFa
 limit_outside t limit k = fault_if (not (option_map_or (is_in_type t) limit true)) BadLimits k.line
 
 abbrev pub limits_crossed : DataType → Entry → KeyValue → List SheetFault
-limits_crossed t e k = fault_if (not (at_most (or_else (low_limit t e) (least_of t)) (or_else (high_limit t e) (greatest_of t)))) BadLimits k.line
+limits_crossed t e k = fault_if (not (at_most (option_or (low_limit t e) (least_of t)) (option_or (high_limit t e) (greatest_of t)))) BadLimits k.line
 
 abbrev pub bad_limits : DataType → Entry → List SheetFault
 bad_limits t e = at_key (limit_outside t (low_limit t e)) (codes "LowLimit") e.section ++ at_key (limit_outside t (high_limit t e)) (codes "HighLimit") e.section
-    ++ option_map_or (limits_crossed t e) (or_else (key_at (codes "HighLimit") e.section) (key_at (codes "LowLimit") e.section)) []
+    ++ option_map_or (limits_crossed t e) (option_or (key_at (codes "HighLimit") e.section) (key_at (codes "LowLimit") e.section)) []
 
 -- check 17: a number outside the type or the limits; an OCTET_STRING's default that isn't pairs of digits
 abbrev pub is_bad_default : DataType → Entry → Default → Bool

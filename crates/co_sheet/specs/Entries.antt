@@ -66,6 +66,7 @@ entries_of sections = flat_map (entries_in sections) (listed_objects sections)
 abbrev pub is_domain : Entry → Bool
 is_domain e = is_one_of (2 ∷ []) (object_code e.section)
 
+-- the types that are supported
 abbrev pub data_types : List DataType
 data_types = Boolean ∷ Integer8 ∷ Integer16 ∷ Integer24 ∷ Integer32 ∷ Integer40 ∷ Integer48 ∷ Integer56 ∷ Integer64
     ∷ Unsigned8 ∷ Unsigned16 ∷ Unsigned24 ∷ Unsigned32 ∷ Unsigned40 ∷ Unsigned48 ∷ Unsigned56 ∷ Unsigned64 ∷ VisibleString ∷ OctetString ∷ DomainType ∷ []
@@ -78,6 +79,7 @@ data_type_with code = find (λ t. code_of t == code) data_types
 abbrev pub type_code : Entry → Option ℕ
 type_code e = option_map_or number_of_key (key_at (codes "DataType") e.section) (if is_domain e then Some (code_of DomainType) else None)
 
+-- the type of an entry, where its code is one of these
 abbrev pub data_type_of : Entry → Option DataType
 data_type_of e = option_and_then data_type_with (type_code e)
 
@@ -104,5 +106,6 @@ is_other_than_zero number = is_some number && not (is_one_of (0 ∷ []) number)
 abbrev pub is_mappable : Entry → Bool
 is_mappable e = is_other_than_zero (number_at (codes "PDOMapping") e.section)
 
+-- ParameterName, where it is given
 abbrev pub name_of : SheetSection → Option (List ℕ)
 name_of section = option_map (λ k. k.value) (key_at (codes "ParameterName") section)

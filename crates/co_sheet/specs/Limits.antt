@@ -25,9 +25,11 @@ pub data Default : Type 0 where
 abbrev pub number_at_type : DataType → List ℕ → Result ℤ NumeralFault
 number_at_type t value = result_map (value_at t) (signed_numeral value)
 
+-- `$NODEID`, in either case
 abbrev pub is_node_id : List ℕ → Bool
 is_node_id value = same_name value (codes "$NODEID")
 
+-- `+`, between the two parts of a sum
 abbrev pub is_plus : ℕ → Bool
 is_plus b = b == 43
 
@@ -57,6 +59,7 @@ is_numeric t = is_some (width_of t)
 abbrev pub limit_at : List ℕ → DataType → Entry → Option ℤ
 limit_at name t e = if is_numeric t then option_and_then (λ k. result_ok (number_at_type t k.value)) (key_at name e.section) else None
 
+-- LowLimit, and HighLimit
 abbrev pub low_limit : DataType → Entry → Option ℤ
 low_limit t e = limit_at (codes "LowLimit") t e
 
@@ -81,5 +84,6 @@ default_with VisibleString value = Some (text value)
 default_with OctetString value = Some (pairs value)
 default_with t value = if is_numeric t then result_ok (numeric_default t value) else None
 
+-- the default of an entry, absent where it states none
 abbrev pub default_of : DataType → Entry → Default
 default_of t e = unwrap_or (option_and_then (λ k. default_with t k.value) (key_at (codes "DefaultValue") e.section)) absent

@@ -7,6 +7,7 @@ use Rattle.co_sheet.specs.Names.{is_position, number_in}
 use Rattle.co_sheet.specs.Sections.{KeyValue}
 use Rattle.co_sheet.specs.ObjectLists.{Listing, number_of_key}
 
+-- a listing of the code, as the definitions have it
 abbrev pub listing_view : ListingOfCode → Listing
 listing_view l = record { index = l.index; line = l.line }
 

@@ -10,6 +10,7 @@ use Rattle.co_sheet.specs.Text.{same_name, is_empty}
 abbrev pub number_in : ℕ → List ℕ → ℕ
 number_in base digits = fold (λ n digit. base * n + digit_value digit) 0 digits
 
+-- a digit, or a letter up to F in either case
 abbrev pub is_hexadecimal_digit : ℕ → Bool
 is_hexadecimal_digit c = is_digit c 16
 

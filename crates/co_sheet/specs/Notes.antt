@@ -10,6 +10,7 @@ use Rattle.co_sheet.specs.Sections.{SheetSection, key_at}
 use Rattle.co_sheet.specs.ObjectLists.{number_of_key, is_one_of, is_listed}
 use Rattle.co_sheet.specs.Entries.{sub_indices}
 
+-- a note of a kind, at a line
 abbrev pub note_at : ℕ → NoteKind → Note
 note_at line kind = record { kind = kind; line = line }
 
@@ -20,6 +21,7 @@ unlisted_note sections section index = if nat_le 0x1000 index && not (is_listed 
 abbrev pub sub_number_note : SheetSection → ℕ → List Note
 sub_number_note section count = option_map_or (λ k. if is_one_of (count ∷ []) (number_of_key k) then [] else note_at k.line SubNumber ∷ []) (key_at (codes "SubNumber") section) []
 
+-- the notes of a section; only an object section has any
 abbrev pub notes_at : List SheetSection → SheetSection → SectionKind → List Note
 notes_at sections section (Object index) = unlisted_note sections section index ++ sub_number_note section (length (sub_indices sections index))
 notes_at sections section kind = []

@@ -20,6 +20,7 @@ abbrev pub is_ambiguous : List ℕ → Bool
 is_ambiguous [] = false
 is_ambiguous (digit ∷ digits) = (digit == 48) && nat_lt 7 (number_in 10 digits)
 
+-- the number of decimal digits, where they are not ambiguous
 abbrev pub decimal_number : List ℕ → Result ℕ NumeralFault
 decimal_number text =
     if not (is_number_in 10 text) then Err Malformed
@@ -30,6 +31,7 @@ decimal_number text =
 abbrev pub hexadecimal_number : List ℕ → Result ℕ NumeralFault
 hexadecimal_number text = if is_number_in 16 text then Ok (number_in 16 text) else Err Malformed
 
+-- a result with what is read changed, and the fault kept
 abbrev pub result_map : {X Y : Type 0} → (X → Y) → Result X NumeralFault → Result Y NumeralFault
 result_map f (Ok x) = Ok (f x)
 result_map f (Err e) = Err e
@@ -49,6 +51,7 @@ abbrev pub magnitude : Numeral → ℕ
 magnitude (Decimal z) = nat_abs z
 magnitude (Hexadecimal n) = n
 
+-- the number that an unsigned numeral writes
 abbrev pub unsigned_number : List ℕ → Result ℕ NumeralFault
 unsigned_number text = result_map magnitude (unsigned_numeral text)
 

@@ -18,6 +18,7 @@ number_at name section = option_and_then number_of_key (key_at name section)
 abbrev pub is_one_of : List ℕ → Option ℕ → Bool
 is_one_of numbers number = option_map_or (λ n. list_any (λ m. m == n) numbers) number false
 
+-- the sections that are object lists
 abbrev pub object_lists : List SheetSection → List SheetSection
 object_lists sections = filter (λ s. is_list s.kind) sections
 
@@ -34,6 +35,7 @@ pub record Listing : Type 0 where
   pub index : ℕ
   pub line : ℕ
 
+-- what one list names, key by key; a list without a count names nothing
 abbrev pub listings_in : SheetSection → List Listing
 listings_in list = filter_map (λ k. option_map (λ n. record { index = n; line = k.line }) (number_of_key k)) (option_map_or (keys_to list) (count_of list) [])
 
@@ -41,5 +43,6 @@ listings_in list = filter_map (λ k. option_map (λ n. record { index = n; line 
 abbrev pub listings : List SheetSection → List Listing
 listings sections = filter (λ l. nat_le 0x1000 l.index) (flat_map listings_in (object_lists sections))
 
+-- whether the lists name an index
 abbrev pub is_listed : List SheetSection → ℕ → Bool
 is_listed sections index = list_any (λ l. l.index == index) (listings sections)

@@ -11,9 +11,11 @@ use Rattle.co_sheet.specs.Sections.{SheetSection, section_at}
 use Rattle.co_sheet.specs.Entries.{ListedObject, Entry, sub_indices}
 use Rattle.co_sheet.specs.ParsedSections.{section_view}
 
+-- a listed object with its section
 abbrev pub object_view : ListedSection → ListedObject
 object_view o = record { index = o.index; section = section_view o.section.now }
 
+-- an entry with its section
 abbrev pub entry_view : EntrySection → Entry
 entry_view e = record { key = e.key; section = section_view e.section.now }
 

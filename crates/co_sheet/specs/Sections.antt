@@ -1,6 +1,7 @@
 -- The parsed text: sections, each with the keys that it gives, and the faults of lines (CiA 306, structure of an EDS).
 use Rattle.std.specs.Prelude.{ℕ, Bool, true, false, ◌&&◌, not, ◌==◌, nat_lt, if◌then◌else◌, List, [], ◌∷◌, ◌++◌, length, find, filter_map, Option, Some, None, is_some, option_map}
 use Rattle.std.specs.List.{list_any, before_first, after_first, last_or}
+use Rattle.std.specs.Option.{option_or}
 use Rattle.co_sheet.specs.declared.section.SectionKind.{SectionKind}
 use Rattle.co_sheet.specs.declared.fault.FaultKind.{FaultKind}
 use Rattle.co_sheet.specs.declared.fault.FaultKind.TheVariants.{TooLarge, BadLine, KeyOutsideSection, DuplicateSection, DuplicateKey}
@@ -16,9 +17,11 @@ pub data LineForm : Type 0 where
   key_value : List ℕ → List ℕ → LineForm
   malformed : LineForm
 
+-- `]`, the end of a name
 abbrev pub is_bracket : ℕ → Bool
 is_bracket b = b == 93
 
+-- `=`, the end of a key
 abbrev pub is_equals : ℕ → Bool
 is_equals b = b == 61
 
@@ -35,6 +38,7 @@ abbrev pub form_of : List ℕ → LineForm
 form_of [] = skipped
 form_of (b ∷ bs) = if b == 59 then skipped else if b == 91 then section_form bs else key_form (b ∷ bs) (trim (before_first is_equals (b ∷ bs)))
 
+-- what a line is, without the blanks at its ends
 abbrev pub line_form : Line → LineForm
 line_form line = form_of (trim line.bytes)
 
@@ -105,16 +109,12 @@ form_fault before form = fault_within (last_or None before) form
 abbrev pub line_fault : List SheetSection → Line → Option FaultKind
 line_fault before line = if nat_lt 512 (length line.bytes) then Some TooLarge else form_fault before (line_form line)
 
+-- a fault of a kind, at a line
 abbrev pub fault_at : ℕ → FaultKind → SheetFault
 fault_at line kind = record { kind = kind; line = line }
-
--- the first of two that there is
-abbrev pub or_else : {X : Type 0} → Option X → Option X → Option X
-or_else (Some x) o = Some x
-or_else None o = o
 
 -- the first line at fault, of lines that stand behind the lines before
 abbrev pub first_line_fault : List Line → List Line → Option SheetFault
 first_line_fault before [] = None
 first_line_fault before (line ∷ lines) =
-    or_else (option_map (fault_at line.number) (line_fault (sections_of before) line)) (first_line_fault (before ++ line ∷ []) lines)
+    option_or (option_map (fault_at line.number) (line_fault (sections_of before) line)) (first_line_fault (before ++ line ∷ []) lines)

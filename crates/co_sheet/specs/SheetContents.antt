@@ -1,5 +1,5 @@
 -- What the sections of a text say, and what a sheet holds of it (CiA 306).
-use Rattle.std.specs.Prelude.{◌≡◌, ℕ, ◌-◌, Bool, false, ◌&&◌, nat_le, nat_lt, List, [], ◌∷◌, ◌++◌, map, filter_map, codes, Option, Some, option_map, option_and_then, slice_get, unwrap_or, ◌⊎◌}
+use Rattle.std.specs.Prelude.{◌≡◌, ℕ, ◌-◌, Bool, false, ◌&&◌, nat_le, nat_lt, List, [], ◌∷◌, map, filter_map, codes, Option, Some, option_and_then, slice_get, unwrap_or, ◌⊎◌}
 use Rattle.std.specs.Option.{option_copied}
 use Rattle.co_sheet.specs.declared.section.SectionKind.TheVariants.{DummyUsage}
 use Rattle.co_sheet.specs.declared.section.Section.{Section}
@@ -15,6 +15,7 @@ use Rattle.co_sheet.specs.Notes.{notes_of}
 use Rattle.co_sheet.specs.Views.{default_view}
 use Rattle.co_sheet.specs.Content.{Row, row_of, in_order, is_key_before, ObjectRow, object_row_of, SectionName}
 
+-- an entry, an object and a section line, as a text has them
 abbrev pub row_view : EntryRow → Row
 row_view r = record {
   key = r.key;
@@ -50,6 +51,7 @@ abbrev pub dummies_in : List SheetSection → List Bool
 dummies_in sections = is_dummy_key sections (codes "Dummy0002") ∷ is_dummy_key sections (codes "Dummy0003") ∷ is_dummy_key sections (codes "Dummy0004")
     ∷ is_dummy_key sections (codes "Dummy0005") ∷ is_dummy_key sections (codes "Dummy0006") ∷ is_dummy_key sections (codes "Dummy0007") ∷ []
 
+-- whether an index is a dummy entry that may be mapped
 abbrev pub is_dummy : List Bool → ℕ → Bool
 is_dummy dummies index = nat_le 2 index && unwrap_or (slice_get dummies (index - 2)) false
 
@@ -61,6 +63,7 @@ pub record SheetContent : Type 0 where
   pub notes : List Note
   pub dummies : List Bool
 
+-- what a sheet holds, by the sections of its text
 abbrev pub content_of : List SheetSection → SheetContent
 content_of sections = record {
   objects = objects_in_order (filter_map object_row_of (listed_objects sections));

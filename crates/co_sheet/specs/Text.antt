@@ -16,6 +16,7 @@ trim_front (b ∷ bs) = if is_blank b then trim_front bs else b ∷ bs
 abbrev pub trim : List ℕ → List ℕ
 trim text = reverse (trim_front (reverse (trim_front text)))
 
+-- a text of no bytes
 abbrev pub is_empty : List ℕ → Bool
 is_empty text = length text == 0
 

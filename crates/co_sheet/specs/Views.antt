@@ -6,6 +6,7 @@ use Rattle.co_sheet.specs.declared.line.LineForm.TheVariants.{Skipped, Section, 
 use Rattle.co_sheet.specs.Sections.{LineForm, skipped, section_line, unclosed, key_value, malformed}
 use Rattle.co_sheet.specs.Limits.{Default, absent, number, node_id, text, pairs}
 
+-- a default
 abbrev pub default_view : Preset → Default
 default_view Absent = absent
 default_view (Number value) = number value
@@ -13,6 +14,7 @@ default_view (NodeId n) = node_id n
 default_view (Text bytes) = text bytes.now
 default_view (Pairs digits) = pairs digits.now
 
+-- the form of a line
 abbrev pub form_view : LineFormOfCode → LineForm
 form_view Skipped = skipped
 form_view (Section name) = section_line name.now

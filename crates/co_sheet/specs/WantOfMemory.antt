@@ -2,5 +2,6 @@
 use Rattle.co_sheet.specs.declared.fault.FaultKind.TheVariants.{Memory}
 use Rattle.co_sheet.specs.declared.fault.SheetFault.{SheetFault}
 
+-- it has no line
 abbrev pub want_of_memory : SheetFault
 want_of_memory = record { kind = Memory; line = 0 }

@@ -1,9 +1,9 @@
 //! What is checked of the entries.
 
 ghost use Rattle.std.specs.Prelude.{◌≡◌, ◌==◌, not, false, codes, option_map, []};
-ghost use Rattle.std.specs.Option.{option_map_or};
+ghost use Rattle.std.specs.Option.{option_map_or, option_or};
 ghost use Rattle.co_value.specs.Types.{code_of};
-ghost use Rattle.co_sheet.specs.Sections.{key_at, or_else};
+ghost use Rattle.co_sheet.specs.Sections.{key_at};
 ghost use Rattle.co_sheet.specs.FixedTypes.{fixed_type_of};
 ghost use Rattle.co_sheet.specs.Checks.{unread, missing_key, unread_entry_numbers, type_line, is_bad_type, bad_type, left_out_type, bad_access, at_key, in_numeric, unread_limits, limit_outside, limits_crossed, bad_limits, is_bad_default, bad_default};
 ghost use Rattle.co_sheet.specs.Limits.{number_at_type, numeric_default, limit_at, default_of};
@@ -158,7 +158,7 @@ fn limit_outside(data_type: DataType, entry: &EntrySection, name: &[u8]) -> Opti
 
 // HighLimit, or LowLimit where that is alone
 fn last_limit<'a>(entry: &EntrySection<'_, 'a>) -> Option<GivenKey<'a>>
-    ensures { option_map key_view result ≡ or_else (key_at (codes "HighLimit") (entry_view entry.now).section) (key_at (codes "LowLimit") (entry_view entry.now).section) }
+    ensures { option_map key_view result ≡ option_or (key_at (codes "HighLimit") (entry_view entry.now).section) (key_at (codes "LowLimit") (entry_view entry.now).section) }
 {
     match key_at(entry.section, b"HighLimit") {
         Some(given) => Some(given),
@@ -167,7 +167,7 @@ fn last_limit<'a>(entry: &EntrySection<'_, 'a>) -> Option<GivenKey<'a>>
 }
 
 fn first_of(limit: Option<i128>, other: Option<i128>) -> Option<i128>
-    ensures { result ≡ or_else limit other }
+    ensures { result ≡ option_or limit other }
 {
     match limit {
         Some(limit) => Some(limit),
@@ -176,7 +176,7 @@ fn first_of(limit: Option<i128>, other: Option<i128>) -> Option<i128>
 }
 
 fn limits_crossed(data_type: DataType, entry: &EntrySection) -> Option<SheetFault>
-    ensures { result ≡ least_fault (option_map_or (limits_crossed data_type (entry_view entry.now)) (or_else (key_at (codes "HighLimit") (entry_view entry.now).section) (key_at (codes "LowLimit") (entry_view entry.now).section)) []) }
+    ensures { result ≡ least_fault (option_map_or (limits_crossed data_type (entry_view entry.now)) (option_or (key_at (codes "HighLimit") (entry_view entry.now).section) (key_at (codes "LowLimit") (entry_view entry.now).section)) []) }
 {
     let given = last_limit(entry)?;
     let low = first_of(limit_at(b"LowLimit", data_type, entry), data_type.least());

@@ -7,7 +7,7 @@ ghost use Rattle.co_sheet.specs.Sections.{section_at};
 ghost use Rattle.co_sheet.specs.declared.section.SectionKind.TheVariants.{DeviceInfo as Device};
 ghost use Rattle.co_sheet.specs.ObjectLists.{is_one_of};
 ghost use Rattle.co_sheet.specs.Entries.{single_codes, compound_codes, sub_indices, is_other_than_zero};
-ghost use Rattle.co_sheet.specs.Checks.{at_key, unread_number, parts_of, unread_object_numbers, other_object_type, bad_object_types, compact_form, missing_sub_index_0};
+ghost use Rattle.co_sheet.specs.Checks.{at_key, unread_number, sub_indices_checked, unread_object_numbers, other_object_type, bad_object_types, compact_form, missing_sub_index_0};
 ghost use Rattle.co_sheet.specs.Accepted.{least_fault};
 ghost use Rattle.co_sheet.specs.ParsedSections.{section_view};
 ghost use Rattle.co_sheet.specs.SectionViews.{object_view, entry_view};
@@ -49,7 +49,7 @@ fn unread_part_types(parts: &[EntrySection]) -> Option<SheetFault>
 }
 
 fn unread_types_of_parts(tables: &Tables, object: &ListedSection) -> Option<SheetFault>
-    ensures { result ≡ least_fault (flat_map (λ e. at_key unread_number (codes "ObjectType") e.section) (parts_of tables.now (object_view object.now))) }
+    ensures { result ≡ least_fault (flat_map (λ e. at_key unread_number (codes "ObjectType") e.section) (sub_indices_checked tables.now (object_view object.now))) }
 {
     match parts_of(tables, object.index, object_code(object.section)) {
         Some(parts) => unread_part_types(parts.as_slice()),
@@ -94,7 +94,7 @@ fn bad_part_types(parts: &[EntrySection]) -> Option<SheetFault>
 }
 
 fn bad_types_of_parts(tables: &Tables, object: &ListedSection) -> Option<SheetFault>
-    ensures { result ≡ least_fault (flat_map (λ e. other_object_type single_codes e.section) (parts_of tables.now (object_view object.now))) }
+    ensures { result ≡ least_fault (flat_map (λ e. other_object_type single_codes e.section) (sub_indices_checked tables.now (object_view object.now))) }
 {
     match parts_of(tables, object.index, object_code(object.section)) {
         Some(parts) => bad_part_types(parts.as_slice()),

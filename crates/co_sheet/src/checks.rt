@@ -3,7 +3,7 @@
 ghost use Rattle.std.specs.Prelude.{◌≡◌, ℕ, ◌∷◌, [], map, flat_map, is_some};
 ghost use Rattle.std.specs.Ordering.{nat_cmp};
 ghost use Rattle.std.specs.BTreeMap.{get};
-ghost use Rattle.co_sheet.specs.Sections.{or_else};
+ghost use Rattle.std.specs.Option.{option_or};
 ghost use Rattle.co_sheet.specs.ObjectLists.{listings, is_listed};
 ghost use Rattle.co_sheet.specs.Entries.{listed_objects, entries_of};
 ghost use Rattle.co_sheet.specs.Checks.{missing_lists, unread_list_numbers, bad_lists, listed_twice, missing_section, unread_object_numbers, bad_object_types, compact_forms, missing_sub_index_0, missing_key, unread_entry_numbers, bad_type, left_out_type, bad_access, in_numeric, unread_limits, bad_limits, bad_default, missing_mandatory, of_listings, of_objects, of_entries};
@@ -31,7 +31,7 @@ use std::collections::BTreeMap;
 
 // the first of two faults that there is
 fn first_of(fault: Option<SheetFault>, other: Option<SheetFault>) -> Option<SheetFault>
-    ensures { result ≡ or_else fault other }
+    ensures { result ≡ option_or fault other }
 {
     match fault {
         Some(fault) => Some(fault),

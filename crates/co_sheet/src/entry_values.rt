@@ -1,7 +1,6 @@
 //! What the section of an entry says of it.
 
 ghost use Rattle.std.specs.Prelude.{◌≡◌, unwrap_or};
-ghost use Rattle.co_sheet.specs.Sections.{or_else};
 ghost use Rattle.co_sheet.specs.Entries.{is_domain, type_code, data_type_of, access_of, is_mappable};
 ghost use Rattle.co_sheet.specs.Limits.{limit_at, at_most, is_in_type, is_in_limits, absent, default_with, default_of};
 ghost use Rattle.co_sheet.specs.Views.{default_view};

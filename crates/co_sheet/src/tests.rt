@@ -1,6 +1,11 @@
 //! Whole data sheets.
 
-use crate::{FaultKind, SheetFault, read};
+mod contents;
+mod edges;
+mod large_sheet;
+mod want_of_memory;
+
+use crate::{FaultKind, read};
 use std::alloc::{AllocError, Global};
 use std::test::Fail;
 
@@ -29,31 +34,11 @@ const LINES: [&str; 21] = [
     "AccessType=ro",
 ];
 
-/// In place of so many lines from a place on, others; and the fault that the sheet then has.
-#[derive(Clone, Copy)]
-struct Change {
-    place: usize,
-    removed: usize,
-    added: &'static [&'static str],
-    fault: FaultKind,
-    line: usize,
-}
+/// In the small sheet, from a place on, in place of so many lines others.
+type Change = (usize, usize, &'static str);
 
-const fn in_place(
-    place: usize,
-    removed: usize,
-    added: &'static [&'static str],
-    fault: FaultKind,
-    line: usize,
-) -> Change {
-    Change {
-        place,
-        removed,
-        added,
-        fault,
-        line,
-    }
-}
+/// A fault's kind and its line, or none.
+type Answer = Option<(FaultKind, usize)>;
 
 fn push_lines(text: &mut String, lines: &[&str]) -> Result<(), AllocError> {
     for line in lines {
@@ -63,13 +48,37 @@ fn push_lines(text: &mut String, lines: &[&str]) -> Result<(), AllocError> {
     Ok(())
 }
 
-fn text_with(alloc: Global, change: &Change) -> Result<String, AllocError> {
+fn push_added(text: &mut String, lines: &str) -> Result<(), AllocError> {
+    text.push_str(lines)?;
+    if !lines.is_empty() {
+        text.push('\n')?;
+    }
+    Ok(())
+}
+
+fn changed(alloc: Global, (place, removed, added): Change) -> Result<String, AllocError> {
     let mut text = String::new(alloc);
-    let (front, rest) = LINES.split_at(change.place.min(21));
+    let (front, rest) = LINES.split_at(place.min(LINES.len()));
     push_lines(&mut text, front)?;
-    push_lines(&mut text, change.added)?;
-    push_lines(&mut text, &rest[change.removed.min(rest.len())..])?;
+    push_added(&mut text, added)?;
+    push_lines(&mut text, &rest[removed.min(rest.len())..])?;
     Ok(text)
+}
+
+/// The small sheet with one more object, 2000h, whose section has these lines from 26 on.
+fn with_object(alloc: Global, lines: &str) -> Result<String, AllocError> {
+    let mut text = String::new(alloc);
+    push_lines(&mut text, &LINES)?;
+    text.push_str("[ManufacturerObjects]\nSupportedObjects=1\n1=0x2000\n[2000]\n")?;
+    push_added(&mut text, lines)?;
+    Ok(text)
+}
+
+fn answer_of(alloc: Global, text: &[u8]) -> Answer {
+    match read(alloc, text) {
+        Ok(_) => None,
+        Err(fault) => Some((fault.kind, fault.line)),
+    }
 }
 
 #[test]
@@ -85,57 +94,49 @@ fn small_sheet(rt: HostRuntime) -> Result<(), Fail> {
     Ok(())
 }
 
+/// Each fault but `TooLarge` and `Memory`, by one change.
+const ONE_CHANGE: &[(Change, Answer)] = &[
+    ((5, 1, "[1000"), Some((FaultKind::BadLine, 6))),
+    ((0, 0, "x=1"), Some((FaultKind::KeyOutsideSection, 1))),
+    ((21, 0, "[1001]"), Some((FaultKind::DuplicateSection, 22))),
+    ((7, 0, "datatype=7"), Some((FaultKind::DuplicateKey, 8))),
+    ((4, 1, "3=0x1019"), Some((FaultKind::MissingSection, 5))),
+    ((2, 1, "1=4096x"), Some((FaultKind::BadNumber, 3))),
+    (
+        (8, 1, "DefaultValue=010"),
+        Some((FaultKind::AmbiguousNumber, 9)),
+    ),
+    ((3, 1, "2=0x1000"), Some((FaultKind::ListedTwice, 4))),
+    ((19, 1, ""), Some((FaultKind::MissingKey, 19))),
+    ((19, 1, "DataType=0x40"), Some((FaultKind::BadType, 20))),
+    ((19, 1, "DataType=8"), Some((FaultKind::LeftOutType, 20))),
+    ((20, 1, "AccessType=rx"), Some((FaultKind::BadAccess, 21))),
+    (
+        (21, 0, "LowLimit=2\nHighLimit=1"),
+        Some((FaultKind::BadLimits, 23)),
+    ),
+    (
+        (21, 0, "HighLimit=1\nDefaultValue=2"),
+        Some((FaultKind::BadDefault, 23)),
+    ),
+    ((14, 4, ""), Some((FaultKind::MissingSub0, 13))),
+    (
+        (14, 0, "CompactSubObj=2"),
+        Some((FaultKind::CompactForm, 15)),
+    ),
+    (
+        (1, 1, "SupportedObjects=2"),
+        Some((FaultKind::MissingMandatory, 0)),
+    ),
+    ((3, 18, ""), Some((FaultKind::BadList, 1))),
+    ((0, 21, ""), Some((FaultKind::MissingSection, 0))),
+];
+
 #[test]
 fn one_change(rt: HostRuntime) -> Result<(), Fail> {
-    let changes = [
-        in_place(5, 1, &["[1000"], FaultKind::BadLine, 6),
-        in_place(0, 0, &["x=1"], FaultKind::KeyOutsideSection, 1),
-        in_place(21, 0, &["[1001]"], FaultKind::DuplicateSection, 22),
-        in_place(7, 0, &["datatype=7"], FaultKind::DuplicateKey, 8),
-        in_place(4, 1, &["3=0x1019"], FaultKind::MissingSection, 5),
-        in_place(2, 1, &["1=4096x"], FaultKind::BadNumber, 3),
-        in_place(8, 1, &["DefaultValue=010"], FaultKind::AmbiguousNumber, 9),
-        in_place(3, 1, &["2=0x1000"], FaultKind::ListedTwice, 4),
-        in_place(19, 1, &[], FaultKind::MissingKey, 19),
-        in_place(19, 1, &["DataType=0x40"], FaultKind::BadType, 20),
-        in_place(19, 1, &["DataType=8"], FaultKind::LeftOutType, 20),
-        in_place(20, 1, &["AccessType=rx"], FaultKind::BadAccess, 21),
-        in_place(
-            21,
-            0,
-            &["LowLimit=2", "HighLimit=1"],
-            FaultKind::BadLimits,
-            23,
-        ),
-        in_place(
-            21,
-            0,
-            &["HighLimit=1", "DefaultValue=2"],
-            FaultKind::BadDefault,
-            23,
-        ),
-        in_place(14, 4, &[], FaultKind::MissingSub0, 13),
-        in_place(14, 0, &["CompactSubObj=2"], FaultKind::CompactForm, 15),
-        in_place(
-            1,
-            1,
-            &["SupportedObjects=2"],
-            FaultKind::MissingMandatory,
-            0,
-        ),
-        in_place(3, 18, &[], FaultKind::BadList, 1),
-        in_place(0, 21, &[], FaultKind::MissingSection, 0),
-    ];
-    for change in &changes {
-        let text = text_with(rt.alloc(), change)?;
-        let fault = read(rt.alloc(), text.as_bytes()).err();
-        assert_eq!(rt;
-            fault,
-            Some(SheetFault {
-                kind: change.fault,
-                line: change.line
-            })
-        );
+    for (change, want) in ONE_CHANGE {
+        let text = changed(rt.alloc(), *change)?;
+        assert_eq!(rt; answer_of(rt.alloc(), text.as_bytes()), *want, "{text}");
     }
     Ok(())
 }
@@ -143,13 +144,7 @@ fn one_change(rt: HostRuntime) -> Result<(), Fail> {
 #[test]
 fn too_large(rt: HostRuntime) -> Result<(), Fail> {
     let text = vec![in rt.alloc(); b'\n'; 1_048_577]?;
-    let fault = read(rt.alloc(), text.as_slice()).err();
-    assert_eq!(rt;
-        fault,
-        Some(SheetFault {
-            kind: FaultKind::TooLarge,
-            line: 0
-        })
-    );
+    let want = Some((FaultKind::TooLarge, 0));
+    assert_eq!(rt; answer_of(rt.alloc(), text.as_slice()), want);
     Ok(())
 }

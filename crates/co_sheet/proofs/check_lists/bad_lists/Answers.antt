@@ -1,5 +1,4 @@
 use Rattle.std.proofs.Common.{rules, sym, ap, ◌∙◌, cond, map, true, []}
-use Rattle.std.proofs.lemmas.List.Folds.{flat_map-map}
 use Rattle.std.specs.Option.{option_map_or}
 use Rattle.co_sheet.specs.declared.fault.FaultKind.TheVariants.{BadList}
 use Rattle.co_sheet.specs.Names.{is_list}

@@ -1,5 +1,5 @@
-use Rattle.std.proofs.Common.{◌≡◌, ◌++◌, map, sym, ap, ◌∙◌, Some, None}
-use Rattle.std.specs.List.{filter, filter_map}
+use Rattle.std.proofs.Common.{◌≡◌, ◌++◌, map, sym, ap, ◌∙◌, Some}
+use Rattle.std.specs.List.{filter_map}
 use Rattle.co_sheet.specs.ObjectLists.{count_of}
 use Rattle.co_sheet.specs.ParsedSections.{key_view, section_view}
 use Rattle.co_sheet.specs.ListingViews.{listing_view, listing_at}

@@ -1,9 +1,9 @@
-use Rattle.std.proofs.Common.{◌≡◌, ◌+◌, ◌++◌, ◌≤◌, drop, map, length, false, nat_lt}
-use Rattle.std.specs.List.{list_any, filter, filter_map, flat_map}
+use Rattle.std.proofs.Common.{◌≡◌, drop, map, false, nat_lt}
+use Rattle.std.specs.List.{list_any, filter}
 use Rattle.std.specs.Option.{option_map_or}
 use Rattle.co_sheet.specs.ObjectLists.{number_of_key}
-use Rattle.co_sheet.specs.ParsedSections.{key_view, section_view}
-use Rattle.co_sheet.specs.ListingViews.{listing_view, is_key_to, listing_at}
+use Rattle.co_sheet.specs.ParsedSections.{key_view}
+use Rattle.co_sheet.specs.ListingViews.{is_key_to}
 use Rattle.co_sheet.proofs.listing.has_large_index.Given as goal
 
 -- what the rest has is what all have

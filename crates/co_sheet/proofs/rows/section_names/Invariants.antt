@@ -1,5 +1,4 @@
 use Rattle.std.proofs.Common.{◌≡◌, ◌++◌, drop, map}
-use Rattle.std.specs.List.{filter_map}
 use Rattle.co_sheet.specs.ParsedSections.{section_view}
 use Rattle.co_sheet.specs.SheetContents.{section_name_view}
 use Rattle.co_sheet.proofs.rows.section_names.Given as goal

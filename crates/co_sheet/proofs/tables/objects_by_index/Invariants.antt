@@ -2,7 +2,7 @@ use Rattle.std.proofs.Common.{◌≡◌, ℕ, drop, map}
 use Rattle.std.specs.Prelude.{option_map}
 use Rattle.std.specs.Ordering.{nat_cmp}
 use Rattle.std.specs.BTreeMap.{get}
-use Rattle.co_sheet.specs.Sections.{or_else}
+use Rattle.std.specs.Option.{option_or}
 use Rattle.co_sheet.specs.ParsedSections.{section_view}
 use Rattle.co_sheet.specs.SectionViews.{object_view, object_at}
 use Rattle.co_sheet.proofs.tables.objects_by_index.Given as goal
@@ -10,4 +10,4 @@ use Rattle.co_sheet.proofs.tables.objects_by_index.Given as goal
 -- what is found so far, else what the rest has
 abbrev pub invariant-loop-section : goal.invariant-loop-section
 invariant-loop-section l =
-    (i : ℕ) → or_else (option_map object_view (get nat_cmp l.objects i)) (object_at i (map section_view (drop l.section-index l.sections))) ≡ object_at i (map section_view l.sections)
+    (i : ℕ) → option_or (option_map object_view (get nat_cmp l.objects i)) (object_at i (map section_view (drop l.section-index l.sections))) ≡ object_at i (map section_view l.sections)
