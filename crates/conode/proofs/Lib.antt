@@ -8,3 +8,6 @@ pub mod Numbers
 pub mod Pairs
 pub mod Places
 pub mod Reached
+pub mod TaskExamples
+pub mod TaskLemmas
+pub mod WriteLemmas

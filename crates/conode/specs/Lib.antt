@@ -5,4 +5,6 @@ pub mod Grammar
 pub mod Lines
 pub mod Printed
 pub mod Runs
+pub mod SheetTexts
+pub mod Tasks
 pub mod Texts

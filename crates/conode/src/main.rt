@@ -1,77 +1,56 @@
-//! Answers the SDO requests of a CAN trace, as `candump -L` writes it.
+//! A CANopen device node on the command line: checks data sheets, and answers the SDO requests of a CAN trace, as
+//! `candump -L` writes it.
 #![tactic(auto)]
 
 mod answer;
+mod check;
 mod clock;
+mod command_line;
 mod fault;
 mod frame_fields;
 mod frame_text;
 mod input;
 mod lines;
 mod list_entry;
+mod output;
 mod run;
+mod sheet_file;
+mod sheet_text;
+mod stored_run;
+mod tasks;
 #[cfg(test)]
 mod tests;
 mod trace_line;
 
-ghost use Rattle.std.specs.Prelude.{All, IsTrue};
-ghost use Rattle.conode.specs.Answers.{IsEntry, keys_differ};
-
-use arrayvec::ArrayVec;
-use co_value::{DataType, Key};
-use fault::CmdFault;
-use list_entry::ListEntry;
-use run::first_run;
-use std::io;
-use std::io::{BufWriter, Write};
+use command_line::task;
+use output::stopped;
+use sheet_file::check_file;
 use std::process::ExitCode;
+use std::{env, io};
+use stored_run::answer_standard_input;
+use tasks::Task;
 
-/// The device type of a device without a profile, and a value that a client may change.
-fn stored_list() -> [ListEntry; 2]
-    ensures valid { All IsEntry result }
-    ensures differ { IsTrue (keys_differ result) }
-{
-    [
-        ListEntry {
-            key: Key {
-                index: 0x1000,
-                sub: 0,
-            },
-            data_type: DataType::Unsigned32,
-            writable: false,
-            bytes: ArrayVec::from([0x91, 0x01, 0x00, 0x00]),
+/// Does what the words ask for; without a subcommand it answers standard input.
+fn carry_out(rt: &HostRuntime, words: &[&str]) -> ExitCode {
+    match task(rt.alloc(), words) {
+        Ok(Some(Task::Check { sheet })) => check_file(rt, sheet),
+        Ok(None) => match answer_standard_input(rt) {
+            Ok(()) => ExitCode::SUCCESS,
+            Err(fault) => stopped(rt, fault),
         },
-        ListEntry {
-            key: Key {
-                index: 0x2002,
-                sub: 0,
-            },
-            data_type: DataType::Unsigned32,
-            writable: true,
-            bytes: ArrayVec::from([0; 4]),
-        },
-    ]
-}
-
-/// Answers standard input, a trace, on standard output. What was answered before a fault is written all the same.
-fn answer_standard_input(rt: &(impl Input + Print + AllocGlobal)) -> Result<(), CmdFault> {
-    let mut list = stored_list();
-    let Ok(mut writer) = BufWriter::new(rt.alloc(), io::writer(rt)) else {
-        return Err(CmdFault::Memory);
-    };
-    let outcome = first_run(rt.alloc(), &mut list, &mut rt.reader(), &mut writer);
-    if writer.flush().is_err() {
-        return outcome.and(Err(CmdFault::Write));
-    }
-    outcome
-}
-
-fn main(rt: HostRuntime) -> ExitCode {
-    match answer_standard_input(&rt) {
-        Ok(()) => ExitCode::SUCCESS,
-        Err(fault) => {
-            let _ = eprintln!(rt; "stopped: {fault}");
-            ExitCode::FAILURE
+        Err(error) => {
+            let _ = error.print(rt);
+            ExitCode::from(error.exit_code() as u8)
         }
     }
+}
+
+fn main(rt: HostRuntime) -> io::Result<ExitCode> {
+    let alloc = rt.alloc();
+    let given: Vec<String> = env::args(&rt)?.collect(alloc)?;
+    let mut words = Vec::new(alloc);
+    for word in &given {
+        words.push(word.as_str())?;
+    }
+    Ok(carry_out(&rt, words.as_slice()))
 }

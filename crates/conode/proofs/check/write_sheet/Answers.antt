@@ -1,0 +1,17 @@
+use Rattle.std.proofs.Common.{◌≡◌, List, ℕ, length, map, subst, rules, string_bytes}
+use Rattle.std.specs.Io.KnownBytes.{Appends}
+use Rattle.co_sheet.specs.declared.note.Note.{Note}
+use Rattle.conode.specs.SheetTexts.{note_line, summary_line, WritesSome}
+use Rattle.conode.proofs.WriteLemmas.{first_lines}
+use Rattle.conode.proofs.check.write_sheet.Goals as goal
+
+pub returns-clause-memory : goal.returns-clause-memory
+returns-clause-memory g c said =
+    let sheet = c.args.sheet.now in
+    let summary = summary_line (length sheet.objects) (length sheet.rows) (length sheet.notes) in
+    let made : string_bytes c.set_summary_line.new.text ≡ summary = search rules in
+    let old = g.W.Write.contents c.args.writer.now in
+    let mid = g.W.Write.contents c.hand_over.new.writer in
+    let new = g.W.Write.contents c.write_notes.new.writer in
+    first_lines old mid new summary (map note_line sheet.notes) (subst (Appends old mid) made c.in_ok-hand_over.ensures.ok)
+    (subst (λ (notes : List Note). WritesSome mid new (map note_line notes)) c.notes.ensures (c.write_notes.ensures.memory said))

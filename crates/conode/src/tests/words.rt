@@ -1,0 +1,65 @@
+//! Command lines.
+
+use crate::command_line::task;
+use crate::tasks::Task;
+use clap::error::ErrorKind;
+use std::test::Fail;
+
+#[test]
+fn check_of_a_sheet(rt: HostRuntime) -> Result<(), Fail> {
+    assert_eq!(rt;
+        task(rt.alloc(), &["conode", "check", "a"])?,
+        Some(Task::Check { sheet: "a" })
+    );
+    Ok(())
+}
+
+#[test]
+fn no_subcommand(rt: HostRuntime) -> Result<(), Fail> {
+    assert_eq!(rt; task(rt.alloc(), &["conode"])?, None);
+    Ok(())
+}
+
+/// Words that are refused, the kind of mistake and the exit status.
+#[derive(Clone, Copy)]
+struct Refused {
+    words: &'static [&'static str],
+    kind: ErrorKind,
+    status: i32,
+}
+
+const fn case_of(words: &'static [&'static str], kind: ErrorKind, status: i32) -> Refused {
+    Refused {
+        words,
+        kind,
+        status,
+    }
+}
+
+#[test]
+fn refused_words(rt: HostRuntime) -> Result<(), Fail> {
+    let cases = [
+        case_of(&["conode", "check"], ErrorKind::MissingRequiredArgument, 2),
+        case_of(
+            &["conode", "check", "a", "b"],
+            ErrorKind::UnknownArgument,
+            2,
+        ),
+        case_of(
+            &["conode", "check", "a", "--nodes", "5"],
+            ErrorKind::UnknownArgument,
+            2,
+        ),
+        case_of(&["conode", "chek"], ErrorKind::InvalidSubcommand, 2),
+        case_of(&["conode", "--all"], ErrorKind::UnknownArgument, 2),
+        case_of(&["conode", "--help"], ErrorKind::DisplayHelp, 0),
+        case_of(&["conode", "check", "--help"], ErrorKind::DisplayHelp, 0),
+        case_of(&["conode", "help", "check"], ErrorKind::DisplayHelp, 0),
+    ];
+    for case in &cases {
+        let error = task(rt.alloc(), case.words).err().ok_or("taken")?;
+        assert_eq!(rt; error.kind(), case.kind);
+        assert_eq!(rt; error.exit_code(), case.status);
+    }
+    Ok(())
+}
