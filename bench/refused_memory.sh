@@ -1,0 +1,139 @@
+#!/bin/sh
+# Refuses one allocation after the other while two data sheets are read, one accepted and one at fault. Each sheet is read
+# three times: a reading has to be right or to answer want of memory, and only one of them may answer that.
+set -eu
+root=$(CDPATH='' cd -- "$(dirname -- "$(readlink -f -- "$0")")/.." && pwd)
+folder=$(mktemp -d)
+trap 'rm -rf "$folder"' EXIT
+
+mkdir -p "$folder/crates/refused/src"
+cp "$root/HANDLES" "$root/crates.txt" "$folder"
+echo 'refused: co_sheet' >> "$folder/crates.txt"
+cp -R "$root/crates/co_value" "$root/crates/co_sheet" "$folder/crates"
+{
+    cat << 'END'
+//! Reads two data sheets, three times each. The status is 0 where all readings are right, 2 where one was refused memory.
+#![tactic(auto)]
+
+use co_sheet::{FaultKind, SheetFault, read};
+use std::alloc::Global;
+use std::process::ExitCode;
+
+END
+    for sheet in large_sheet:LARGE want_of_memory:LATE; do
+        sed -n "/const ${sheet#*:}: /,/^\";\$/p" "$root/crates/co_sheet/src/tests/${sheet%:*}.rt" | sed 's/^pub(crate) //'
+    done
+    cat << 'END'
+
+#[derive(Clone, Copy)]
+enum Reading {
+    Right,
+    Wrong,
+    Refused,
+}
+
+fn of_fault(fault: SheetFault, want: Option<SheetFault>) -> Reading {
+    if Some(fault) == want {
+        Reading::Right
+    } else if fault.kind == FaultKind::Memory && fault.line == 0 {
+        Reading::Refused
+    } else {
+        Reading::Wrong
+    }
+}
+
+fn accepted(alloc: Global) -> Reading {
+    match read(alloc, LARGE.as_bytes()) {
+        Ok(sheet) => {
+            let counts = (sheet.objects().len(), sheet.entries().len(), sheet.sections().len(), sheet.notes().len());
+            if counts == (22, 46, 60, 0) { Reading::Right } else { Reading::Wrong }
+        }
+        Err(fault) => of_fault(fault, None),
+    }
+}
+
+fn at_fault(alloc: Global) -> Reading {
+    let missing = SheetFault { kind: FaultKind::MissingMandatory, line: 0 };
+    match read(alloc, LATE.as_bytes()) {
+        Ok(_) => Reading::Wrong,
+        Err(fault) => of_fault(fault, Some(missing)),
+    }
+}
+
+fn main(rt: HostRuntime) -> ExitCode {
+    let readings = [
+        accepted(rt.alloc()),
+        accepted(rt.alloc()),
+        accepted(rt.alloc()),
+        at_fault(rt.alloc()),
+        at_fault(rt.alloc()),
+        at_fault(rt.alloc()),
+    ];
+    let mut status = 0;
+    for reading in readings {
+        match reading {
+            Reading::Right => {}
+            Reading::Refused if status == 0 => status = 2,
+            Reading::Refused | Reading::Wrong => return ExitCode::from(1),
+        }
+    }
+    ExitCode::from(status)
+}
+END
+} > "$folder/crates/refused/src/main.rt"
+cat > "$folder/refuse.c" << 'END'
+/* Refuses the allocation whose number REFUSE gives, from 1. */
+#define _GNU_SOURCE
+#include <dlfcn.h>
+#include <errno.h>
+#include <stdlib.h>
+
+static int is_refused(void) {
+    static long count, refused = -1;
+    if (refused < 0) {
+        const char *given = getenv("REFUSE");
+        refused = given ? atol(given) : 0;
+    }
+    return ++count == refused;
+}
+
+void *malloc(size_t size) {
+    void *(*next)(size_t) = dlsym(RTLD_NEXT, "malloc");
+    if (is_refused()) { errno = ENOMEM; return NULL; }
+    return next(size);
+}
+
+void *realloc(void *pointer, size_t size) {
+    void *(*next)(void *, size_t) = dlsym(RTLD_NEXT, "realloc");
+    if (is_refused()) { errno = ENOMEM; return NULL; }
+    return next(pointer, size);
+}
+
+void *aligned_alloc(size_t alignment, size_t size) {
+    void *(*next)(size_t, size_t) = dlsym(RTLD_NEXT, "aligned_alloc");
+    if (is_refused()) { errno = ENOMEM; return NULL; }
+    return next(alignment, size);
+}
+
+int posix_memalign(void **pointer, size_t alignment, size_t size) {
+    int (*next)(void **, size_t, size_t) = dlsym(RTLD_NEXT, "posix_memalign");
+    if (is_refused()) return ENOMEM;
+    return next(pointer, alignment, size);
+}
+END
+cc -O1 -shared -fPIC -o "$folder/refuse.so" "$folder/refuse.c" -ldl
+(cd "$folder/crates/refused" && rt run > "$folder/log" 2>&1) || { cat "$folder/log" >&2; exit 1; }
+
+number=0
+while :; do
+    number=$((number + 1))
+    status=0
+    REFUSE=$number LD_PRELOAD=$folder/refuse.so "$folder/crates/refused/out/refused" || status=$?
+    case $status in
+        2) ;;
+        0) break ;;
+        *) echo "allocation $number refused: a wrong answer, status $status" >&2; exit 1 ;;
+    esac
+done
+[ "$number" -gt 1 ] || { echo "no allocation was refused" >&2; exit 1; }
+echo "$((number - 1)) allocations refused in turn: each answered with want of memory, each later reading right"
