@@ -7,8 +7,8 @@ folder=$(mktemp -d)
 trap 'rm -rf "$folder"' EXIT
 
 mkdir -p "$folder/crates/refused/src"
-cp "$root/HANDLES" "$root/crates.txt" "$folder"
-echo 'refused: co_sheet' >> "$folder/crates.txt"
+cp "$root/HANDLES" "$folder"
+{ grep -E '^co_(value|sheet):' "$root/crates.txt"; echo 'refused: co_sheet'; } > "$folder/crates.txt"
 cp -R "$root/crates/co_value" "$root/crates/co_sheet" "$folder/crates"
 {
     cat << 'END'

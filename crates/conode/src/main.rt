@@ -23,6 +23,7 @@ mod tests;
 mod trace_line;
 
 use command_line::task;
+use fault::CmdFault;
 use output::stopped;
 use sheet_file::check_file;
 use std::process::ExitCode;
@@ -45,12 +46,24 @@ fn carry_out(rt: &HostRuntime, words: &[&str]) -> ExitCode {
     }
 }
 
-fn main(rt: HostRuntime) -> io::Result<ExitCode> {
+/// Takes the words of the command line and does what they ask for.
+fn run_words(rt: &HostRuntime) -> io::Result<ExitCode> {
     let alloc = rt.alloc();
-    let given: Vec<String> = env::args(&rt)?.collect(alloc)?;
+    let given: Vec<String> = env::args(rt)?.collect(alloc)?;
     let mut words = Vec::new(alloc);
     for word in &given {
         words.push(word.as_str())?;
     }
-    Ok(carry_out(&rt, words.as_slice()))
+    Ok(carry_out(rt, words.as_slice()))
+}
+
+fn main(rt: HostRuntime) -> ExitCode {
+    match run_words(&rt) {
+        Ok(status) => status,
+        Err(fault) if fault.kind() == io::ErrorKind::OutOfMemory => stopped(&rt, CmdFault::Memory),
+        Err(_) => {
+            let _ = eprintln!(rt; "error: a word of the command line isn't UTF-8");
+            ExitCode::from(2)
+        }
+    }
 }
