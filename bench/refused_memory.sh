@@ -21,7 +21,7 @@ use std::process::ExitCode;
 
 END
     for sheet in large_sheet:LARGE want_of_memory:LATE; do
-        sed -n "/const ${sheet#*:}: /,/^\";\$/p" "$root/crates/co_sheet/src/tests/${sheet%:*}.rt" | sed 's/^pub(crate) //'
+        sed -n "/const ${sheet#*:}: /,/^\";\$/p" "$root/crates/cases/src/sheets/${sheet%:*}.rt" | sed 's/^pub(crate) //'
     done
     cat << 'END'
 

@@ -13,8 +13,6 @@ mod sdo_fields;
 mod sdo_request;
 mod sdo_response;
 mod sync;
-#[cfg(test)]
-mod tests;
 
 pub use abort_code::AbortCode;
 pub use block_segment::BlockSegment;

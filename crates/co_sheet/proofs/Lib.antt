@@ -4,6 +4,7 @@ mod LargeSheet
 mod TextLemmas
 mod NumeralLemmas
 mod TypeLemmas
+pub mod Words
 mod LinesReadLemmas
 mod LineLemmas
 mod GivenKeyLemmas

@@ -80,37 +80,3 @@ fn is_covered(fixed: &FixedType, key: Key) -> bool
     let FixedType(_, first, last, low, high) = *fixed;
     first <= key.index && key.index <= last && low <= key.sub && key.sub <= high
 }
-
-#[cfg(test)]
-mod tests {
-    use super::*;
-
-    #[test]
-    fn tells_data_types(rt: HostRuntime) {
-        assert_eq!(rt; data_type_with(0x1B), Some(DataType::Unsigned64));
-        assert_eq!(rt; data_type_with(0x08), None);
-        assert_eq!(rt; data_type_with(0x1_0005), None);
-        assert!(rt; is_left_out(0x08) && is_left_out(0x11) && !is_left_out(0x09));
-        assert_eq!(rt;
-            fixed_type(Key {
-                index: 0x1A7F,
-                sub: 64
-            }),
-            Some(DataType::Unsigned32)
-        );
-        assert_eq!(rt;
-            fixed_type(Key {
-                index: 0x1A7F,
-                sub: 65
-            }),
-            None
-        );
-        assert_eq!(rt;
-            fixed_type(Key {
-                index: 0x1018,
-                sub: 1
-            }),
-            None
-        );
-    }
-}

@@ -122,33 +122,3 @@ pub fn is_pairs(text: &[u8]) -> bool
 {
     text.len() % 2 == 0 && all_digits(text, 16)
 }
-
-#[cfg(test)]
-mod tests {
-    use super::*;
-
-    #[test]
-    fn reads_access_words(rt: HostRuntime) {
-        assert_eq!(rt; Access::of_word(b"RWW"), Some(Access::Rww));
-        assert_eq!(rt; Access::of_word(b"const"), Some(Access::Constant));
-        assert_eq!(rt; Access::of_word(b"rx"), None);
-    }
-
-    #[test]
-    fn reads_defaults(rt: HostRuntime) {
-        let cases: [(&[u8], Result<Preset, NumeralFault>); 8] = [
-            (b"0xFF", Ok(Preset::Number(-1))),
-            (b"$nodeid", Ok(Preset::NodeId(0))),
-            (b"$NODEID \t+ 0x180", Ok(Preset::NodeId(0x180))),
-            (b"0xFF+$NODEID", Ok(Preset::NodeId(0xFF))),
-            (b"$NODEID+010", Err(NumeralFault::Ambiguous)),
-            (b"$NODEID+-0", Err(NumeralFault::Malformed)),
-            (b"$NODEID+$NODEID", Err(NumeralFault::Malformed)),
-            (b"+$NODEID", Err(NumeralFault::Malformed)),
-        ];
-        for (text, want) in cases {
-            assert_eq!(rt; numeric_default(DataType::Integer8, text), want);
-        }
-        assert!(rt; is_pairs(b"0aFF") && !is_pairs(b"0aF") && !is_pairs(b"0a F"));
-    }
-}

@@ -28,8 +28,6 @@ mod section;
 mod sections_read;
 mod sheet;
 mod tables;
-#[cfg(test)]
-mod tests;
 mod text;
 mod want_of_memory;
 

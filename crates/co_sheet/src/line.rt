@@ -50,29 +50,3 @@ fn key_form(text: &[u8]) -> LineForm<'_>
     }
     LineForm::KeyValue(key, trim(value))
 }
-
-#[cfg(test)]
-mod tests {
-    use super::*;
-
-    #[test]
-    fn tells_lines(rt: HostRuntime) {
-        let cases: [(&[u8], LineForm); 8] = [
-            (b" \t", LineForm::Skipped),
-            (b" ; x = 1", LineForm::Skipped),
-            (b"\t[ 1000 ] ; x", LineForm::Section(b"1000")),
-            (b"[]", LineForm::Section(b"")),
-            (b"[1000", LineForm::Unclosed),
-            (
-                b" DataType\t= 7 = 8 ",
-                LineForm::KeyValue(b"DataType", b"7 = 8"),
-            ),
-            (b"DataType=", LineForm::KeyValue(b"DataType", b"")),
-            (b" = 5", LineForm::Malformed),
-        ];
-        for (line, want) in cases {
-            assert_eq!(rt; form_of(line), want);
-        }
-        assert_eq!(rt; form_of(b"x"), LineForm::Malformed);
-    }
-}

@@ -41,15 +41,3 @@ pub struct Object<'a> {
     /// The line of the object's section, from 1.
     pub line: usize,
 }
-
-#[cfg(test)]
-mod tests {
-    use super::*;
-
-    #[test]
-    fn tells_object_types(rt: HostRuntime) {
-        assert_eq!(rt; ObjectType::of_code(9), Some(ObjectType::Record));
-        assert_eq!(rt; ObjectType::of_code(5), None);
-        assert_eq!(rt; ObjectType::of_code(1 << 32 | 7), None);
-    }
-}

@@ -70,30 +70,3 @@ pub fn split_at_first(text: &[u8], byte: u8) -> Option<(&[u8], &[u8])>
     }
     Some((&text[..place], &text[place + 1..]))
 }
-
-#[cfg(test)]
-mod tests {
-    use super::*;
-
-    #[test]
-    fn cuts_texts(rt: HostRuntime) {
-        let cases: [(&[u8], &[u8]); 4] = [
-            (b" \ta b\t ", b"a b"),
-            (b" \t", b""),
-            (b"", b""),
-            (b"\ra\r", b"\ra\r"),
-        ];
-        for (text, want) in cases {
-            assert_eq!(rt; trim(text), want);
-        }
-        assert!(rt;
-            same_name(b"NodeId", b"nODEiD") && !same_name(b"x", b"xx") && !same_name(b"[", b"{")
-        );
-        assert!(rt; split_at_first(b"abc", b'=').is_none());
-        let cut = split_at_first(b"a==b", b'=');
-        assert!(rt;
-            cut.is_some_and(|(before, after)| before == b"a".as_slice()
-                && after == b"=b".as_slice())
-        );
-    }
-}

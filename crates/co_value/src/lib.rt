@@ -3,8 +3,6 @@
 
 mod data_type;
 mod key;
-#[cfg(test)]
-mod tests;
 mod value;
 
 pub use data_type::DataType;

@@ -2,7 +2,7 @@
 //! one of the reader's.
 
 use super::large_sheet::LARGE;
-use crate::{FaultKind, SheetFault, read};
+use co_sheet::{FaultKind, SheetFault, read};
 use std::test::Fail;
 
 /// A list whose last check alone finds a fault.

@@ -1,6 +1,6 @@
 //! NMT, heartbeat, SYNC, EMCY and block segments, with bytes as CiA 301 has them.
 
-use crate::{BlockSegment, Emergency, Frame, Heartbeat, NmtCommand, NmtService, Sync};
+use co_frame::{BlockSegment, Emergency, Frame, Heartbeat, NmtCommand, NmtService, Sync};
 use std::test::Fail;
 
 #[test]

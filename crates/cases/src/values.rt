@@ -1,4 +1,4 @@
-use crate::{DataType, Key, ValueFault, from_bytes, one_spelling, to_bytes};
+use co_value::{DataType, Key, ValueFault, from_bytes, one_spelling, to_bytes};
 use std::test::Fail;
 
 // Each type with its code, its least and its greatest number, and the bytes of both.

@@ -5,7 +5,7 @@ mod edges;
 mod large_sheet;
 mod want_of_memory;
 
-use crate::{FaultKind, read};
+use co_sheet::{FaultKind, read};
 use std::alloc::{AllocError, Global};
 use std::test::Fail;
 

@@ -1,7 +1,7 @@
 //! The tables of SDO requests and answers, with bytes as CiA 301 has them.
 
-use crate::{AbortCode, ExpeditedData, Frame, FrameFault, Outbox, SdoRequest, SdoResponse};
 use arrayvec::ArrayVec;
+use co_frame::{AbortCode, ExpeditedData, Frame, FrameFault, Outbox, SdoRequest, SdoResponse};
 use co_value::Key;
 
 const KEY: Key = Key {

@@ -1,7 +1,7 @@
 //! What a sheet says: its entries, its notes, its dummies, its sections, and their order.
 
 use super::{LINES, changed, push_lines, with_object};
-use crate::{Access, Note, NoteKind, Preset, read};
+use co_sheet::{Access, Note, NoteKind, Preset, read};
 use co_value::DataType;
 use std::test::Fail;
 

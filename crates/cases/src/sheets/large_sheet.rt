@@ -1,6 +1,6 @@
 //! A larger data sheet, with PDOs: 22 objects and 46 entries.
 
-use crate::{Access, EntryRow, Object, ObjectType, Preset, read};
+use co_sheet::{Access, EntryRow, Object, ObjectType, Preset, read};
 use co_value::{DataType, Key};
 use std::test::Fail;
 

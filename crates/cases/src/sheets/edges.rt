@@ -1,7 +1,7 @@
 //! Cases at the edges of what a data sheet is: a small sheet with a change.
 
 use super::{Answer, Change, LINES, answer_of, changed, push_lines, with_object};
-use crate::FaultKind::{
+use co_sheet::FaultKind::{
     AmbiguousNumber, BadAccess, BadDefault, BadLimits, BadLine, BadList, BadNumber, BadType,
     CompactForm, DuplicateKey, DuplicateSection, KeyOutsideSection, LeftOutType, ListedTwice,
     MissingKey, MissingSection, MissingSub0, TooLarge,

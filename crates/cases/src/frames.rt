@@ -1,0 +1,4 @@
+//! CAN frames and the services that they spell.
+
+mod sdo;
+mod services;

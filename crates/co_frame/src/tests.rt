@@ -1,2 +1,0 @@
-mod sdo;
-mod services;

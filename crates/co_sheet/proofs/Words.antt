@@ -1,0 +1,219 @@
+-- Words, lines and tables, computed from their definitions.
+use Rattle.std.proofs.Common.{◌≡◌, [], codes, refl, Some, None, Ok, Err, true, false}
+use Rattle.std.specs.Prelude.{pos, neg_ℤ}
+use Rattle.co_value.specs.declared.data_type.DataType.TheVariants.{Integer8, Integer16, Integer64, Unsigned16, Unsigned32, Unsigned64}
+use Rattle.co_sheet.specs.declared.section.SectionKind.TheVariants.{MandatoryObjects, OptionalObjects, DummyUsage, DeviceInfo, Object, SubIndex, PassedOver}
+use Rattle.co_sheet.specs.declared.object.ObjectType.TheVariants.{Record}
+use Rattle.co_sheet.specs.declared.entry.Access.TheVariants.{Rww, Constant}
+use Rattle.co_sheet.specs.declared.numeral.Numeral.TheVariants.{Hexadecimal}
+use Rattle.co_sheet.specs.declared.numeral.NumeralFault.TheVariants.{Malformed, Ambiguous}
+use Rattle.co_sheet.specs.Text.{trim, same_name}
+use Rattle.co_sheet.specs.Names.{kind_of, is_read_key}
+use Rattle.co_sheet.specs.Sections.{form_of, skipped, section_line, unclosed, key_value, malformed}
+use Rattle.co_sheet.specs.Numerals.{value_at}
+use Rattle.co_sheet.specs.Entries.{data_type_with, object_type_with, access_with}
+use Rattle.co_sheet.specs.FixedTypes.{fixed_type_of}
+use Rattle.co_sheet.specs.Limits.{numeric_default, is_pairs, number, node_id}
+
+-- ---- blanks and cuts
+
+blanks_at_both_ends : trim (codes " \ta b\t ") ≡ codes "a b"
+blanks_at_both_ends = refl
+
+blanks_alone : trim (codes " \t") ≡ []
+blanks_alone = refl
+
+carriage_return_is_no_blank : trim (codes "\ra\r") ≡ codes "\ra\r"
+carriage_return_is_no_blank = refl
+
+names_in_any_case : same_name (codes "NodeId") (codes "nODEiD") ≡ true
+names_in_any_case = refl
+
+names_of_other_lengths : same_name (codes "x") (codes "xx") ≡ false
+names_of_other_lengths = refl
+
+letters_alone_have_case : same_name (codes "[") (codes "{") ≡ false
+letters_alone_have_case = refl
+
+-- ---- lines
+
+blank_line : form_of (trim (codes " \t")) ≡ skipped
+blank_line = refl
+
+comment : form_of (trim (codes " ; x = 1")) ≡ skipped
+comment = refl
+
+section : form_of (trim (codes "\t[ 1000 ] ; x")) ≡ section_line (codes "1000")
+section = refl
+
+section_without_name : form_of (trim (codes "[]")) ≡ section_line []
+section_without_name = refl
+
+section_without_bracket : form_of (trim (codes "[1000")) ≡ unclosed
+section_without_bracket = refl
+
+first_equals_cuts : form_of (trim (codes " DataType\t= 7 = 8 ")) ≡ key_value (codes "DataType") (codes "7 = 8")
+first_equals_cuts = refl
+
+empty_value : form_of (trim (codes "DataType=")) ≡ key_value (codes "DataType") []
+empty_value = refl
+
+empty_key : form_of (trim (codes " = 5")) ≡ malformed
+empty_key = refl
+
+no_equals : form_of (trim (codes "x")) ≡ malformed
+no_equals = refl
+
+-- ---- section names
+
+list_in_any_case : kind_of (codes "mandatoryOBJECTS") ≡ MandatoryObjects
+list_in_any_case = refl
+
+dummy_usage : kind_of (codes "DummyUsage") ≡ DummyUsage
+dummy_usage = refl
+
+object : kind_of (codes "1000") ≡ Object 0x1000
+object = refl
+
+three_digits : kind_of (codes "fFf") ≡ Object 0xFFF
+three_digits = refl
+
+five_digits : kind_of (codes "01000") ≡ PassedOver
+five_digits = refl
+
+prefix : kind_of (codes "0x1000") ≡ PassedOver
+prefix = refl
+
+sub_index : kind_of (codes "1018Sub0A") ≡ SubIndex (record { index = 0x1018; sub = 10 })
+sub_index = refl
+
+three_digits_of_sub_index : kind_of (codes "1018sub001") ≡ PassedOver
+three_digits_of_sub_index = refl
+
+blank_in_name : kind_of (codes "1018 sub1") ≡ PassedOver
+blank_in_name = refl
+
+no_name : kind_of [] ≡ PassedOver
+no_name = refl
+
+-- ---- keys that are read
+
+count_of_list : is_read_key OptionalObjects (codes "supportedobjects") ≡ true
+count_of_list = refl
+
+place_of_list : is_read_key OptionalObjects (codes "10") ≡ true
+place_of_list = refl
+
+place_with_zero : is_read_key OptionalObjects (codes "01") ≡ false
+place_with_zero = refl
+
+place_zero : is_read_key OptionalObjects (codes "0") ≡ false
+place_zero = refl
+
+key_of_object : is_read_key (Object 5) (codes "PARAMETERNAME") ≡ true
+key_of_object = refl
+
+place_in_object : is_read_key (Object 5) (codes "1") ≡ false
+place_in_object = refl
+
+last_dummy : is_read_key DummyUsage (codes "dummy0007") ≡ true
+last_dummy = refl
+
+dummy_1 : is_read_key DummyUsage (codes "Dummy0001") ≡ false
+dummy_1 = refl
+
+compact_pdo : is_read_key DeviceInfo (codes "CompactPDO") ≡ true
+compact_pdo = refl
+
+key_of_section_passed_over : is_read_key PassedOver (codes "DataType") ≡ false
+key_of_section_passed_over = refl
+
+-- ---- types, objects and access
+
+type_1b : data_type_with 0x1B ≡ Some Unsigned64
+type_1b = refl
+
+type_left_out : data_type_with 8 ≡ None
+type_left_out = refl
+
+type_of_three_bytes : data_type_with 0x10005 ≡ None
+type_of_three_bytes = refl
+
+fixed_mapping : fixed_type_of (record { index = 0x1A7F; sub = 64 }) ≡ Some Unsigned32
+fixed_mapping = refl
+
+past_the_mapping : fixed_type_of (record { index = 0x1A7F; sub = 65 }) ≡ None
+past_the_mapping = refl
+
+not_fixed : fixed_type_of (record { index = 0x1018; sub = 1 }) ≡ None
+not_fixed = refl
+
+object_type_9 : object_type_with 9 ≡ Some Record
+object_type_9 = refl
+
+object_type_5 : object_type_with 5 ≡ None
+object_type_5 = refl
+
+object_type_of_five_bytes : object_type_with 0x100000007 ≡ None
+object_type_of_five_bytes = refl
+
+access_in_capitals : access_with (codes "RWW") ≡ Some Rww
+access_in_capitals = refl
+
+access_of_constant : access_with (codes "const") ≡ Some Constant
+access_of_constant = refl
+
+no_access : access_with (codes "rx") ≡ None
+no_access = refl
+
+-- ---- defaults
+
+default_of_two_s_complement : numeric_default Integer8 (codes "0xFF") ≡ Ok (number (neg_ℤ (pos 1)))
+default_of_two_s_complement = refl
+
+default_of_node_id : numeric_default Integer8 (codes "$nodeid") ≡ Ok (node_id 0)
+default_of_node_id = refl
+
+blanks_round_plus : numeric_default Integer8 (codes "$NODEID \t+ 0x180") ≡ Ok (node_id 0x180)
+blanks_round_plus = refl
+
+number_first : numeric_default Integer8 (codes "0xFF+$NODEID") ≡ Ok (node_id 0xFF)
+number_first = refl
+
+ambiguous_sum : numeric_default Integer8 (codes "$NODEID+010") ≡ Err Ambiguous
+ambiguous_sum = refl
+
+sum_with_sign : numeric_default Integer8 (codes "$NODEID+-0") ≡ Err Malformed
+sum_with_sign = refl
+
+node_id_twice : numeric_default Integer8 (codes "$NODEID+$NODEID") ≡ Err Malformed
+node_id_twice = refl
+
+nothing_before_plus : numeric_default Integer8 (codes "+$NODEID") ≡ Err Malformed
+nothing_before_plus = refl
+
+pairs_in_any_case : is_pairs (codes "0aFF") ≡ true
+pairs_in_any_case = refl
+
+odd_digits : is_pairs (codes "0aF") ≡ false
+odd_digits = refl
+
+pairs_with_blank : is_pairs (codes "0a F") ≡ false
+pairs_with_blank = refl
+
+-- ---- numbers at a type
+
+greatest_of_16_bits : value_at Integer16 (Hexadecimal 0x7FFF) ≡ pos 32767
+greatest_of_16_bits = refl
+
+least_of_16_bits : value_at Integer16 (Hexadecimal 0x8000) ≡ neg_ℤ (pos 32768)
+least_of_16_bits = refl
+
+seventeen_bits : value_at Integer16 (Hexadecimal 0x10000) ≡ pos 65536
+seventeen_bits = refl
+
+unsigned_16_bits : value_at Unsigned16 (Hexadecimal 0x8000) ≡ pos 32768
+unsigned_16_bits = refl
+
+all_ones : value_at Integer64 (Hexadecimal 0xFFFFFFFFFFFFFFFF) ≡ neg_ℤ (pos 1)
+all_ones = refl
