@@ -1,5 +1,7 @@
 //! What goes to standard output and standard error at the end of a command.
 
+ghost use Rattle.std.specs.Prelude.{◌≡◌, ◌⊎◌, IfOk, IfErr, Ok, Err};
+
 use crate::fault::CmdFault;
 use std::io::Write;
 use std::process::ExitCode;
@@ -8,7 +10,12 @@ use std::process::ExitCode;
 pub fn flushed<W: Write, T: Drop>(
     writer: &mut W,
     outcome: Result<T, CmdFault>,
-) -> Result<T, CmdFault> {
+) -> Result<T, CmdFault>
+    ensures ok { IfOk result (λ value. outcome ≡ Ok value) }
+    // A fault that the command had already stays.
+    ensures kept { IfErr outcome (λ fault. result ≡ Err fault) }
+    ensures err { IfErr result (λ fault. (outcome ≡ Err fault) ⊎ (fault ≡ CmdFault.Write)) }
+{
     if writer.flush().is_err() {
         return outcome.and(Err(CmdFault::Write));
     }
