@@ -1,4 +1,7 @@
+pub mod AbortByte
 mod Branches
 mod Parts
 mod Requests
 mod Responses
+mod Spellable
+mod Examples

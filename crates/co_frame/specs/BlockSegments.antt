@@ -1,5 +1,5 @@
 -- The segments of an SDO block transfer (CiA 301, 7.2.4.3.10 and 7.2.4.3.14).
-use Rattle.std.specs.Prelude.{◌≡◌, ◌==◌, ◌&&◌, ◌≤◌, ◌<◌, ◌+◌, ◌/◌, ◌%◌, nat_le, ℕ, if◌then◌else◌, Option, Some, None, List, ◌∷◌, length, slice_index, drop}
+use Rattle.std.specs.Prelude.{◌≡◌, ◌==◌, ◌&&◌, ◌≤◌, ◌<◌, ◌+◌, ◌/◌, ◌%◌, nat_le, ℕ, Bool, if◌then◌else◌, Option, Some, None, List, ◌∷◌, length, slice_index, drop}
 use Rattle.co_frame.specs.declared.block_segment.BlockSegment.{BlockSegment}
 
 -- a segment that can be spelled: its sequence number goes from 1 to 127
@@ -25,3 +25,7 @@ block_segment_in bytes =
     if length bytes == 8 && nat_le 1 (first % 128)
     then Some (record { last = first / 128 == 1; sequence = first % 128; bytes = drop 1 bytes })
     else None
+
+-- an abort inside a sub-block: eight bytes of which the first is 80h (81h to 9Fh, which otherwise read as an abort, are segments there)
+abbrev pub is_abort_in_sub_block : List ℕ → Bool
+is_abort_in_sub_block bytes = (length bytes == 8) && (slice_index bytes 0 == 0x80)

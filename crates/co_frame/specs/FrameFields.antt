@@ -8,7 +8,7 @@ use Rattle.co_frame.specs.FrameContent.{FrameContent}
 abbrev pub content_of : Inside → FrameContent
 content_of a = record { id = a.id; bytes = take a.len a.cells }
 
--- the data behind the length is zeros
+-- the cells past the length are 0
 pub record IsPadded (a : Inside) : Type 0 where
   pub id : a.id < 2048
   pub len : a.len ≤ 8

@@ -1,5 +1,5 @@
 -- Network management: how the state of a node is controlled (CiA 301, 7.2.8.3.1).
-use Rattle.std.specs.Prelude.{◌≡◌, ◌<◌, ◌==◌, ◌&&◌, nat_lt, ℕ, if◌then◌else◌, Option, Some, None, option_map, List, [], ◌∷◌, length, slice_index}
+use Rattle.std.specs.Prelude.{◌≡◌, ◌<◌, ◌==◌, ◌&&◌, nat_lt, ℕ, if◌then◌else◌, Option, None, option_map, List, [], ◌∷◌, length, slice_index, find}
 use Rattle.co_frame.specs.declared.nmt.NmtService.{NmtService}
 use Rattle.co_frame.specs.declared.nmt.NmtService.TheVariants.{Start, Stop, EnterPreOperational, ResetNode, ResetCommunication}
 use Rattle.co_frame.specs.declared.nmt.NmtCommand.{NmtCommand}
@@ -17,25 +17,23 @@ specifier_of ResetCommunication = 130
 abbrev pub IsNmtCommand : NmtCommand → Type 0
 IsNmtCommand command = command.node < 128
 
--- on identifier 0 the command specifier and the node-ID, and no byte more
-pub record SpellsNmtCommand (command : NmtCommand) (frame : FrameContent) : Type 0 where
-  pub id : frame.id ≡ 0
-  pub bytes : frame.bytes ≡ specifier_of command.service ∷ command.node ∷ []
-  pub node : IsNmtCommand command
-
--- the data bytes of a command
+-- the data bytes of a command: the command specifier and the node-ID
 abbrev pub nmt_command_bytes : NmtCommand → List ℕ
 nmt_command_bytes command = specifier_of command.service ∷ command.node ∷ []
 
+-- a command's bytes on identifier 0
+pub record SpellsNmtCommand (command : NmtCommand) (frame : FrameContent) : Type 0 where
+  pub id : frame.id ≡ 0
+  pub bytes : frame.bytes ≡ nmt_command_bytes command
+  pub node : IsNmtCommand command
+
+-- the services that there are
+abbrev pub services : List NmtService
+services = Start ∷ Stop ∷ EnterPreOperational ∷ ResetNode ∷ ResetCommunication ∷ []
+
 -- the service with a command specifier
 abbrev pub service_with : ℕ → Option NmtService
-service_with specifier =
-    if specifier == 1 then Some Start
-    else if specifier == 2 then Some Stop
-    else if specifier == 128 then Some EnterPreOperational
-    else if specifier == 129 then Some ResetNode
-    else if specifier == 130 then Some ResetCommunication
-    else None
+service_with specifier = find (λ service. specifier_of service == specifier) services
 
 -- what a frame says
 abbrev pub nmt_command_in : FrameContent → Option NmtCommand

@@ -1,7 +1,7 @@
 -- The fields of an SDO frame's eight bytes (CiA 301, 7.2.4.3). Bit 0 is the lowest.
-use Rattle.std.specs.Prelude.{ℕ, ◌+◌, ◌-◌, ◌*◌, ◌/◌, ◌%◌, ◌^◌, ◌==◌, Bool, if◌then◌else◌, List, [], ◌∷◌, ◌++◌, length, slice_index, replicate}
+use Rattle.std.specs.Prelude.{ℕ, ◌+◌, ◌-◌, ◌*◌, ◌/◌, ◌%◌, ◌^◌, ◌==◌, Bool, if◌then◌else◌, List, [], ◌∷◌, ◌++◌, length, slice_index, take, drop, replicate}
 use Rattle.co_value.specs.declared.key.Key.{Key}
-use Rattle.co_value.specs.Numbers.{low_bytes}
+use Rattle.co_value.specs.Numbers.{unsigned_of, low_bytes}
 
 -- the command byte, which says what the frame is
 abbrev pub command : List ℕ → ℕ
@@ -10,6 +10,10 @@ command bytes = slice_index bytes 0
 -- its bits 7 to 5, the command specifier
 abbrev pub specifier : List ℕ → ℕ
 specifier bytes = command bytes / 32
+
+-- the command byte of a specifier, with what bits 4 to 0 are
+abbrev pub command_with : ℕ → ℕ → ℕ
+command_with specifier bits = 32 * specifier + bits
 
 -- its bits 1 to 0, the subcommand of a block transfer
 abbrev pub subcommand : List ℕ → ℕ
@@ -31,13 +35,13 @@ unused_of_expedited bytes = command bytes / 4 % 4
 abbrev pub unused_of_end : List ℕ → ℕ
 unused_of_end bytes = command bytes / 4 % 8
 
--- bytes 1 and 2 are the index, byte 3 the sub-index
+-- bytes 1 and 2 are the index, the low byte first, byte 3 is the sub-index
 abbrev pub key_in : List ℕ → Key
-key_in bytes = record { index = slice_index bytes 1 + 256 * slice_index bytes 2; sub = slice_index bytes 3 }
+key_in bytes = record { index = unsigned_of (take 2 (drop 1 bytes)); sub = slice_index bytes 3 }
 
--- bytes 4 to 7 as one number: a size, or an abort code
+-- bytes 4 to 7 as one number, the lowest byte first: a size, or an abort code
 abbrev pub number_in : List ℕ → ℕ
-number_in bytes = slice_index bytes 4 + 256 * (slice_index bytes 5 + 256 * (slice_index bytes 6 + 256 * slice_index bytes 7))
+number_in bytes = unsigned_of (drop 4 bytes)
 
 -- bytes 1 to 3 of a key
 abbrev pub key_bytes : Key → List ℕ

@@ -24,6 +24,7 @@ impl BlockSegment {
         ensures found { IfSome result (λ segment. SpellsBlockSegment segment frame.now.bytes) }
         ensures only { (segment : BlockSegment)
             → SpellsBlockSegment segment frame.now.bytes → result ≡ Some segment }
+        ensures spellable { IfSome result IsBlockSegment }
     {
         let all = frame.bytes();
         if all.len() != 8 || all[0] & 0x7F == 0 {
@@ -52,7 +53,7 @@ impl BlockSegment {
             self.sequence
         };
         all[1..].copy_from_slice(&self.bytes);
-        Frame::new(id, &all).unwrap()
+        Frame::of_eight(id, all)
     }
 
     /// Whether a frame can spell the segment: its sequence number is 1 to 127.

@@ -54,7 +54,7 @@ impl Emergency {
         LittleEndian::write_u16(&mut bytes, code);
         bytes[2] = register;
         bytes[3..].copy_from_slice(&manufacturer);
-        Frame::new(id, &bytes).unwrap()
+        Frame::of_eight(id, bytes)
     }
 
     /// Writing and then reading gives the same value. This is a law: a call of it changes nothing.

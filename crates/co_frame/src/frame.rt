@@ -3,16 +3,45 @@
 ghost use Rattle.std.specs.Prelude.{◌≡◌, ◌↔◌, ◌<◌, ◌≤◌, [], length, IsOk, IfOk, IsErrOf};
 ghost use Rattle.co_frame.specs.FrameContent.{FrameContent, IsFrame};
 
+use std::error::Error;
+use std::fmt;
 use std::marker::Model;
 
 /// Why a frame can't be made.
 #[derive(Clone, Copy, Debug, PartialEq, Eq, Hash)]
 pub enum FrameFault {
     /// The identifier is above 7FFh.
-    BadId,
+    BadId = 1,
     /// There are more than 8 data bytes.
-    TooLong,
+    TooLong = 2,
 }
+
+impl FrameFault {
+    ghost use Rattle.co_frame.specs.FrameFaults.{fault_number};
+
+    /// The fault's number: 1 `BadId`, 2 `TooLong`.
+    pub fn number(self) -> u8
+        ensures { result ≡ fault_number self }
+    {
+        self as u8
+    }
+}
+
+impl fmt::Display for FrameFault {
+    ghost use Rattle.std.specs.Prelude.{Some};
+    ghost use Rattle.co_frame.specs.FrameFaults.{fault_name};
+
+    ghost output = { λ fault. Some (fault_name fault) };
+
+    fn fmt<W: fmt::Write>(&self, f: &mut fmt::Formatter<W>) -> fmt::Result {
+        match self {
+            FrameFault::BadId => write!(f, "BadId"),
+            FrameFault::TooLong => write!(f, "TooLong"),
+        }
+    }
+}
+
+impl Error for FrameFault {}
 
 /// A CAN data frame with an identifier of 11 bits, up to 7FFh, and up to 8 bytes of data (CiA 301, 6.2).
 /// Contracts see it as the record of both. The default is identifier 0 without data.
@@ -47,7 +76,8 @@ impl Frame {
         ensures ok { IsOk result ↔ IsFrame (record { id = id; bytes = bytes.now }) }
         ensures frame { IfOk result (λ frame. frame ≡ record { id = id; bytes = bytes.now }) }
         ensures bad_id { IsErrOf result FrameFault.BadId ↔ (2048 ≤ id) }
-        ensures too_long { IsErrOf result FrameFault.TooLong ↔ ((id < 2048) × (8 < length bytes.now)) }
+        ensures too_long { IsErrOf result FrameFault.TooLong
+            ↔ ((id < 2048) × (8 < length bytes.now)) }
     {
         if id > 0x7FF {
             return Err(FrameFault::BadId);

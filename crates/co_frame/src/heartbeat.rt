@@ -5,13 +5,17 @@ ghost use Rattle.co_frame.specs.Heartbeats.{SpellsHeartbeat, heartbeat_bytes, he
 
 use crate::frame::Frame;
 
-/// What a node says of its state, with the byte that says so (CiA 301, 7.2.8.3.2 and 7.2.8.3.3).
+/// An error control message of a node: boot-up, or a heartbeat with the node's state
+/// (CiA 301, 7.2.8.3.2 and 7.2.8.3.3).
 #[derive(Clone, Copy, Debug, PartialEq, Eq, Hash)]
 pub enum Heartbeat {
-    /// The node has booted and is pre-operational.
+    /// Boot-up, 0: the node has booted and is pre-operational.
     BootUp = 0,
+    /// Heartbeat, s = 4.
     Stopped = 4,
+    /// Heartbeat, s = 5.
     Operational = 5,
+    /// Heartbeat, s = 127.
     PreOperational = 127,
 }
 

@@ -2,25 +2,30 @@
 #![tactic(auto)]
 
 mod abort_code;
+mod aborts;
 mod block_segment;
+mod ccs;
 mod emergency;
 mod frame;
 mod heartbeat;
 mod nmt;
 mod outbox;
+mod scs;
 mod sdo_bytes;
 mod sdo_fields;
 mod sdo_request;
 mod sdo_response;
+mod subcommands;
 mod sync;
 
 pub use abort_code::AbortCode;
+pub use aborts::abort_byte;
 pub use block_segment::BlockSegment;
 pub use emergency::Emergency;
 pub use frame::{Frame, FrameFault};
 pub use heartbeat::Heartbeat;
 pub use nmt::{NmtCommand, NmtService};
-pub use outbox::Outbox;
+pub use outbox::{Outbox, outbox_room};
 pub use sdo_request::{ExpeditedData, SdoRequest};
 pub use sdo_response::SdoResponse;
 pub use sync::Sync;

@@ -5,13 +5,18 @@ ghost use Rattle.co_frame.specs.Nmt.{IsNmtCommand, SpellsNmtCommand, nmt_command
 
 use crate::frame::Frame;
 
-/// What a node is told to do, with its command specifier (CiA 301, 7.2.8.3.1).
+/// An NMT service of node control, with its command specifier cs (CiA 301, 7.2.8.3.1).
 #[derive(Clone, Copy, Debug, PartialEq, Eq, Hash)]
 pub enum NmtService {
+    /// Start remote node, cs = 1.
     Start = 1,
+    /// Stop remote node, cs = 2.
     Stop = 2,
+    /// Enter pre-operational, cs = 128.
     EnterPreOperational = 128,
+    /// Reset node, cs = 129.
     ResetNode = 129,
+    /// Reset communication, cs = 130.
     ResetCommunication = 130,
 }
 
@@ -39,6 +44,7 @@ impl NmtService {
 /// A command to one node or to all of them (CiA 301, 7.2.8.3.1).
 #[derive(Clone, Copy, Debug, PartialEq, Eq, Hash)]
 pub struct NmtCommand {
+    /// What the node is to do.
     pub service: NmtService,
     /// The node-ID, 1 to 127, or 0 for all nodes.
     pub node: u8,
@@ -52,6 +58,7 @@ impl NmtCommand {
         ensures found { IfSome result (λ command. SpellsNmtCommand command frame.now) }
         ensures only { (command : NmtCommand)
             → SpellsNmtCommand command frame.now → result ≡ Some command }
+        ensures spellable { IfSome result IsNmtCommand }
     {
         let bytes = frame.bytes();
         if frame.id() != 0 || bytes.len() != 2 || bytes[1] > 127 {

@@ -3,14 +3,24 @@
 ghost use Rattle.std.specs.Prelude.{◌≡◌, ℕ, ◌<◌, ◌≤◌, length};
 ghost use Rattle.co_value.specs.declared.key.Key.{Key};
 ghost use Rattle.co_value.specs.Numbers.{low_bytes};
-ghost use Rattle.co_frame.specs.SdoFields.{weight, padded, key_in, number_in, specifier as specifier_of};
+ghost use Rattle.co_frame.specs.SdoFields.{command_with, weight, padded, key_in, number_in, specifier as specifier_of};
 ghost use Rattle.co_frame.specs.SdoParts.{SpellsExpedited, SpellsBegin, SpellsSegment, SpellsAbort, SpellsBlockBegin, SpellsBlockEnd, IsExpeditedData, keyed_bytes, bare_bytes, expedited_bytes, begin_bytes, segment_bytes, abort_bytes, block_begin_bytes, block_end_bytes, acknowledge_bytes};
 
 use crate::abort_code::AbortCode;
 use crate::sdo_request::ExpeditedData;
+use crate::{ccs, subcommands};
 use arrayvec::ArrayVec;
 use byteorder::{ByteOrder, LittleEndian};
 use co_value::Key;
+
+// the command byte of a specifier, with bits 4 to 0
+pub(crate) fn command(specifier: u8, bits: u8) -> u8
+    requires specifier { specifier < 8 }
+    requires bits { bits < 32 }
+    ensures { result ≡ command_with specifier bits }
+{
+    32 * specifier + bits
+}
 
 // the weight of a bit of the command byte
 pub(crate) fn weight(bit: u8, set: bool) -> u8
@@ -39,7 +49,8 @@ pub(crate) fn bare(command: u8) -> [u8; 8]
 
 fn four_of(number: u32) -> [u8; 4]
     ensures bytes { result ≡ low_bytes 4 number }
-    ensures number { (command : ℕ) (key : Key) → number ≡ number_in (keyed_bytes command key result) }
+    ensures number { (command : ℕ) (key : Key)
+        → number ≡ number_in (keyed_bytes command key result) }
 {
     let mut four = [0; 4];
     LittleEndian::write_u32(&mut four, number);
@@ -64,9 +75,13 @@ pub(crate) fn expedited(specifier: u8, key: Key, data: &ExpeditedData) -> [u8; 8
     match data {
         ExpeditedData::Indicated(counted) => {
             let unused = 4 - counted.len() as u8;
-            keyed(32 * specifier + 4 * unused + 3, key, padded_four(counted))
+            keyed(
+                command(specifier, 4 * unused + 3),
+                key,
+                padded_four(counted),
+            )
         }
-        ExpeditedData::NotIndicated(four) => keyed(32 * specifier + 2, key, *four),
+        ExpeditedData::NotIndicated(four) => keyed(command(specifier, 2), key, *four),
     }
 }
 
@@ -77,8 +92,8 @@ pub(crate) fn begin(specifier: u8, key: Key, size: Option<u32>) -> [u8; 8]
     ensures spelled { SpellsBegin key size result }
 {
     match size {
-        Some(size) => keyed(32 * specifier + 1, key, four_of(size)),
-        None => keyed(32 * specifier, key, [0; 4]),
+        Some(size) => keyed(command(specifier, 1), key, four_of(size)),
+        None => keyed(command(specifier, 0), key, [0; 4]),
     }
 }
 
@@ -97,30 +112,37 @@ pub(crate) fn abort(key: Key, code: AbortCode) -> [u8; 8]
     ensures bytes { result ≡ abort_bytes key code }
     ensures spelled { SpellsAbort key code result }
 {
-    keyed(0x80, key, four_of(code.0))
+    keyed(command(ccs::ABORT, 0), key, four_of(code.0))
 }
 
-pub(crate) fn block_begin(key: Key, size: Option<u32>) -> [u8; 8]
-    ensures bytes { result ≡ block_begin_bytes key size }
+pub(crate) fn block_begin(specifier: u8, key: Key, size: Option<u32>) -> [u8; 8]
+    requires { specifier < 8 }
+    ensures bytes { result ≡ block_begin_bytes specifier key size }
+    ensures specifier { specifier ≡ specifier_of result }
     ensures spelled { SpellsBlockBegin key size result }
 {
     match size {
-        Some(size) => keyed(0xC2, key, four_of(size)),
-        None => keyed(0xC0, key, [0; 4]),
+        Some(size) => keyed(command(specifier, 2), key, four_of(size)),
+        None => keyed(command(specifier, 0), key, [0; 4]),
     }
 }
 
-pub(crate) fn block_end(unused: u8) -> [u8; 8]
-    requires { unused ≤ 7 }
-    ensures bytes { result ≡ block_end_bytes unused }
-    ensures specifier { specifier_of result ≡ 6 }
+pub(crate) fn block_end(specifier: u8, unused: u8) -> [u8; 8]
+    requires small { specifier < 8 }
+    requires spellable { unused ≤ 7 }
+    ensures bytes { result ≡ block_end_bytes specifier unused }
+    ensures specifier { specifier ≡ specifier_of result }
     ensures spelled { SpellsBlockEnd unused result }
 {
-    bare(0xC1 + 4 * unused)
+    bare(command(specifier, 4 * unused + 1))
 }
 
-pub(crate) fn acknowledge(sequence: u8, block_size: u8) -> [u8; 8]
-    ensures { result ≡ acknowledge_bytes sequence block_size }
+pub(crate) fn acknowledge(specifier: u8, sequence: u8, block_size: u8) -> [u8; 8]
+    requires { specifier < 8 }
+    ensures { result ≡ acknowledge_bytes specifier sequence block_size }
 {
-    [0xA2, sequence, block_size, 0, 0, 0, 0, 0]
+    let mut bytes = bare(command(specifier, subcommands::ACKNOWLEDGE));
+    bytes[1] = sequence;
+    bytes[2] = block_size;
+    bytes
 }

@@ -1,8 +1,8 @@
 //! The fields of an SDO frame's eight bytes.
 
-ghost use Rattle.std.specs.Prelude.{◌≡◌, ◌<◌, ◌-◌, ◌≤◌, length, take, drop, if◌then◌else◌, Some, None};
-ghost use Rattle.co_frame.specs.declared.sdo_request.ExpeditedData.TheVariants.{Indicated, NotIndicated};
-ghost use Rattle.co_frame.specs.SdoFields.{specifier, subcommand, has_bit, unused_of_segment, unused_of_expedited, unused_of_end, key_in, number_in};
+ghost use Rattle.std.specs.Prelude.{◌≡◌, ◌<◌, length};
+ghost use Rattle.co_frame.specs.SdoFields.{specifier, subcommand, has_bit, unused_of_end, key_in, number_in};
+ghost use Rattle.co_frame.specs.SdoParts.{expedited_in, segment_in, size_in, code_in};
 
 use crate::abort_code::AbortCode;
 use crate::sdo_request::ExpeditedData;
@@ -62,18 +62,22 @@ pub(crate) fn number_in(bytes: &[u8]) -> u32
     LittleEndian::read_u32(&bytes[4..])
 }
 
-// the number in bytes 4 to 7, where it is told
-pub(crate) fn size_in(bytes: &[u8], told: bool) -> Option<u32>
+// the number in bytes 4 to 7, where it is indicated
+pub(crate) fn size_in(bytes: &[u8], indicated: bool) -> Option<u32>
     requires { length bytes.now ≡ 8 }
-    ensures { result ≡ (if told then Some (number_in bytes.now) else None) }
+    ensures { result ≡ size_in indicated bytes.now }
 {
-    if told { Some(number_in(bytes)) } else { None }
+    if indicated {
+        Some(number_in(bytes))
+    } else {
+        None
+    }
 }
 
 // the code of an abort
 pub(crate) fn code_in(bytes: &[u8]) -> AbortCode
     requires { length bytes.now ≡ 8 }
-    ensures { result.0 ≡ number_in bytes.now }
+    ensures { result ≡ code_in bytes.now }
 {
     AbortCode(number_in(bytes))
 }
@@ -81,7 +85,7 @@ pub(crate) fn code_in(bytes: &[u8]) -> AbortCode
 // the data of a segment
 pub(crate) fn segment_in(bytes: &[u8]) -> ArrayVec<u8, 7>
     requires { length bytes.now ≡ 8 }
-    ensures { result.items ≡ take (7 - unused_of_segment bytes.now) (drop 1 bytes.now) }
+    ensures { result ≡ segment_in bytes.now }
 {
     let unused = (bytes[0] / 2 % 8) as usize;
     let mut part = ArrayVec::from([
@@ -94,7 +98,7 @@ pub(crate) fn segment_in(bytes: &[u8]) -> ArrayVec<u8, 7>
 // the data of an expedited transfer
 pub(crate) fn expedited_in(bytes: &[u8]) -> ExpeditedData
     requires { length bytes.now ≡ 8 }
-    ensures { result ≡ (if has_bit 0 bytes.now then Indicated (record { items = take (4 - unused_of_expedited bytes.now) (drop 4 bytes.now) }) else NotIndicated (drop 4 bytes.now)) }
+    ensures { result ≡ expedited_in bytes.now }
 {
     let four = [bytes[4], bytes[5], bytes[6], bytes[7]];
     if has_bit(bytes, 0) {

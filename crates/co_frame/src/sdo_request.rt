@@ -8,21 +8,23 @@ ghost use Rattle.co_frame.specs.SdoParts.{IsExpeditedData};
 use crate::abort_code::AbortCode;
 use crate::frame::Frame;
 use crate::sdo_bytes::{
-    abort, acknowledge, bare, begin, block_begin, block_end, expedited, keyed, segment, weight,
+    abort, acknowledge, bare, begin, block_begin, block_end, command, expedited, keyed, segment,
+    weight,
 };
 use crate::sdo_fields::{
     code_in, expedited_in, has_bit, key_in, segment_in, size_in, specifier, subcommand,
     unused_of_end,
 };
+use crate::{ccs, subcommands};
 use arrayvec::ArrayVec;
 use co_value::Key;
 
-/// The data of an expedited transfer.
+/// The data of an expedited transfer (CiA 301, 7.2.4.3.3 and 7.2.4.3.6).
 #[derive(Clone, Debug, PartialEq, Eq, Drop)]
 pub enum ExpeditedData {
-    /// The frame tells how many bytes count: 1 to 4.
+    /// The number of bytes is indicated (s = 1): 1 to 4 bytes.
     Indicated(ArrayVec<u8, 4>),
-    /// It doesn't: of the four bytes as many count as the entry has.
+    /// It isn't (s = 0): of the four bytes as many count as the entry has.
     NotIndicated([u8; 4]),
 }
 
@@ -41,57 +43,60 @@ impl ExpeditedData {
 /// A request of an SDO client (CiA 301, 7.2.4.3).
 #[derive(Clone, Debug, PartialEq, Eq, Drop)]
 pub enum SdoRequest {
-    /// A whole download of 1 to 4 bytes.
+    /// Initiate SDO download, ccs = 1, e = 1: a whole download of 1 to 4 bytes (CiA 301, 7.2.4.3.3).
     DownloadExpedited {
         key: Key,
         data: ExpeditedData,
     },
-    /// The begin of a segmented download, with the number of bytes where it is indicated.
+    /// Initiate SDO download, ccs = 1, e = 0: a segmented download begins, of as many bytes where s = 1
+    /// (CiA 301, 7.2.4.3.3).
     DownloadBegin {
         key: Key,
         size: Option<u32>,
     },
-    /// A segment of 0 to 7 bytes.
+    /// Download SDO segment, ccs = 0: 0 to 7 bytes, the last ones where c = 1 (CiA 301, 7.2.4.3.4).
     DownloadSegment {
         toggle: bool,
         data: ArrayVec<u8, 7>,
         last: bool,
     },
-    /// The begin of an upload.
+    /// Initiate SDO upload, ccs = 2 (CiA 301, 7.2.4.3.6).
     Upload {
         key: Key,
     },
-    /// The next segment of an upload is asked for.
+    /// Upload SDO segment, ccs = 3: the next segment is asked for (CiA 301, 7.2.4.3.7).
     UploadSegment {
         toggle: bool,
     },
-    /// The transfer is given up.
+    /// Abort SDO transfer, cs = 4 (CiA 301, 7.2.4.3.17).
     Abort {
         key: Key,
         code: AbortCode,
     },
-    /// The begin of a block upload, with the number of segments in a sub-block, and the
-    /// number of bytes up to which the server may take another protocol (the protocol switch threshold).
+    /// Initiate SDO block upload, ccs = 5, cs = 0: with the number of segments in a sub-block (blksize), and the
+    /// number of bytes up to which the server may switch to another protocol (pst) (CiA 301, 7.2.4.3.13).
     BlockUploadBegin {
         key: Key,
         block_size: u8,
         threshold: u8,
     },
-    /// The end of a block upload.
+    /// End SDO block upload, ccs = 5, cs = 1 (CiA 301, 7.2.4.3.15).
     BlockUploadEnd,
-    /// A sub-block came up to this segment; the next one has this many.
+    /// SDO block upload, ccs = 5, cs = 2: the last segment that was taken (ackseq), and the number of segments in
+    /// the next sub-block (blksize) (CiA 301, 7.2.4.3.14).
     BlockUploadAcknowledge {
         sequence: u8,
         block_size: u8,
     },
-    /// The segments of a block upload may be sent.
+    /// Start SDO block upload, ccs = 5, cs = 3: the segments may be sent (CiA 301, 7.2.4.3.13).
     BlockUploadStart,
-    /// The begin of a block download, with the number of bytes where it is indicated.
+    /// Initiate SDO block download, ccs = 6, cs = 0: of as many bytes where s = 1 (CiA 301, 7.2.4.3.9).
     BlockDownloadBegin {
         key: Key,
         size: Option<u32>,
     },
-    /// The end of a block download, with the number of bytes that the last segment leaves unused, 0 to 7.
+    /// End SDO block download, ccs = 6, cs = 1: the last segment leaves n bytes unused, 0 to 7
+    /// (CiA 301, 7.2.4.3.11).
     BlockDownloadEnd {
         unused: u8,
     },
@@ -102,9 +107,11 @@ impl SdoRequest {
     /// `None` for a frame that hasn't eight bytes, and for a command specifier that no request has.
     pub fn read(frame: &Frame) -> Option<SdoRequest>
         ensures exact { result ≡ request_in frame.now.bytes }
-        // What is read is spelled by the frame, and what the frame spells is read, so it spells one request at most.
+        // What is read is spelled by the frame, and what the frame spells is read: one request at most.
         ensures found { IfSome result (λ request. SpellsSdoRequest request frame.now.bytes) }
-        ensures only { (request : SdoRequest) → SpellsSdoRequest request frame.now.bytes → result ≡ Some request }
+        ensures only { (request : SdoRequest)
+            → SpellsSdoRequest request frame.now.bytes → result ≡ Some request }
+        ensures spellable { IfSome result IsSdoRequest }
     {
         request_of(frame.bytes())
     }
@@ -145,25 +152,40 @@ impl SdoRequest {
         ensures row { SpellsRequestRow self.now result }
     {
         match self {
-            SdoRequest::DownloadExpedited { key, data } => expedited(1, *key, data),
-            SdoRequest::DownloadBegin { key, size } => begin(1, *key, *size),
+            SdoRequest::DownloadExpedited { key, data } => expedited(
+                ccs::INITIATE_DOWNLOAD,
+                *key,
+                data,
+            ),
+            SdoRequest::DownloadBegin { key, size } => begin(ccs::INITIATE_DOWNLOAD, *key, *size),
             SdoRequest::DownloadSegment { toggle, data, last } => segment(*toggle, data, *last),
-            SdoRequest::Upload { key } => keyed(0x40, *key, [0; 4]),
-            SdoRequest::UploadSegment { toggle } => bare(0x60 + weight(4, *toggle)),
+            SdoRequest::Upload { key } => keyed(command(ccs::INITIATE_UPLOAD, 0), *key, [0; 4]),
+            SdoRequest::UploadSegment { toggle } => bare(command(
+                ccs::UPLOAD_SEGMENT,
+                weight(4, *toggle),
+            )),
             SdoRequest::Abort { key, code } => abort(*key, *code),
             SdoRequest::BlockUploadBegin {
                 key,
                 block_size,
                 threshold,
-            } => keyed(0xA0, *key, [*block_size, *threshold, 0, 0]),
-            SdoRequest::BlockUploadEnd => bare(0xA1),
+            } => keyed(
+                command(ccs::BLOCK_UPLOAD, subcommands::INITIATE),
+                *key,
+                [*block_size, *threshold, 0, 0],
+            ),
+            SdoRequest::BlockUploadEnd => bare(command(ccs::BLOCK_UPLOAD, subcommands::END)),
             SdoRequest::BlockUploadAcknowledge {
                 sequence,
                 block_size,
-            } => acknowledge(*sequence, *block_size),
-            SdoRequest::BlockUploadStart => bare(0xA3),
-            SdoRequest::BlockDownloadBegin { key, size } => block_begin(*key, *size),
-            SdoRequest::BlockDownloadEnd { unused } => block_end(*unused),
+            } => acknowledge(ccs::BLOCK_UPLOAD, *sequence, *block_size),
+            SdoRequest::BlockUploadStart => bare(command(ccs::BLOCK_UPLOAD, subcommands::START)),
+            SdoRequest::BlockDownloadBegin { key, size } => block_begin(
+                ccs::BLOCK_DOWNLOAD,
+                *key,
+                *size,
+            ),
+            SdoRequest::BlockDownloadEnd { unused } => block_end(ccs::BLOCK_DOWNLOAD, *unused),
         }
     }
 }
@@ -183,22 +205,22 @@ fn request_row(bytes: &[u8]) -> Option<SdoRequest>
     ensures { result ≡ request_row_in bytes.now }
 {
     match specifier(bytes) {
-        0 => Some(SdoRequest::DownloadSegment {
+        ccs::DOWNLOAD_SEGMENT => Some(SdoRequest::DownloadSegment {
             toggle: has_bit(bytes, 4),
             data: segment_in(bytes),
             last: has_bit(bytes, 0),
         }),
-        1 => Some(download(bytes)),
-        2 => Some(SdoRequest::Upload { key: key_in(bytes) }),
-        3 => Some(SdoRequest::UploadSegment {
+        ccs::INITIATE_DOWNLOAD => Some(download(bytes)),
+        ccs::INITIATE_UPLOAD => Some(SdoRequest::Upload { key: key_in(bytes) }),
+        ccs::UPLOAD_SEGMENT => Some(SdoRequest::UploadSegment {
             toggle: has_bit(bytes, 4),
         }),
-        4 => Some(SdoRequest::Abort {
+        ccs::ABORT => Some(SdoRequest::Abort {
             key: key_in(bytes),
             code: code_in(bytes),
         }),
-        5 => Some(block_upload(bytes)),
-        6 => Some(block_download(bytes)),
+        ccs::BLOCK_UPLOAD => Some(block_upload(bytes)),
+        ccs::BLOCK_DOWNLOAD => Some(block_download(bytes)),
         _ => None,
     }
 }
@@ -226,13 +248,13 @@ fn block_upload(bytes: &[u8]) -> SdoRequest
     ensures { result ≡ block_upload_in bytes.now }
 {
     match subcommand(bytes) {
-        0 => SdoRequest::BlockUploadBegin {
+        subcommands::INITIATE => SdoRequest::BlockUploadBegin {
             key: key_in(bytes),
             block_size: bytes[4],
             threshold: bytes[5],
         },
-        1 => SdoRequest::BlockUploadEnd,
-        2 => SdoRequest::BlockUploadAcknowledge {
+        subcommands::END => SdoRequest::BlockUploadEnd,
+        subcommands::ACKNOWLEDGE => SdoRequest::BlockUploadAcknowledge {
             sequence: bytes[1],
             block_size: bytes[2],
         },

@@ -7,66 +7,73 @@ ghost use Rattle.co_frame.specs.SdoResponses.{response_in, response_row_in, uplo
 use crate::abort_code::AbortCode;
 use crate::frame::Frame;
 use crate::sdo_bytes::{
-    abort, acknowledge, bare, begin, block_begin, block_end, expedited, keyed, segment, weight,
+    abort, acknowledge, bare, begin, block_begin, block_end, command, expedited, keyed, segment,
+    weight,
 };
 use crate::sdo_fields::{
     code_in, expedited_in, has_bit, key_in, segment_in, size_in, specifier, subcommand,
     unused_of_end,
 };
 use crate::sdo_request::ExpeditedData;
+use crate::{scs, subcommands};
 use arrayvec::ArrayVec;
 use co_value::Key;
 
 /// An answer of an SDO server (CiA 301, 7.2.4.3).
 #[derive(Clone, Debug, PartialEq, Eq, Drop)]
 pub enum SdoResponse {
-    /// A download was begun, or an expedited one is done: the response to the initiation of a download.
+    /// Initiate SDO download, scs = 3: a segmented download may go on, or an expedited one is done
+    /// (CiA 301, 7.2.4.3.3).
     DownloadDone {
         key: Key,
     },
-    /// A segment of a download was taken.
+    /// Download SDO segment, scs = 1: the segment was taken (CiA 301, 7.2.4.3.4).
     DownloadSegmentDone {
         toggle: bool,
     },
-    /// A whole upload of 1 to 4 bytes.
+    /// Initiate SDO upload, scs = 2, e = 1: a whole upload of 1 to 4 bytes (CiA 301, 7.2.4.3.6).
     UploadExpedited {
         key: Key,
         data: ExpeditedData,
     },
-    /// A segmented upload was begun, with the number of bytes where it is indicated.
+    /// Initiate SDO upload, scs = 2, e = 0: a segmented upload begins, of as many bytes where s = 1
+    /// (CiA 301, 7.2.4.3.6).
     UploadBegun {
         key: Key,
         size: Option<u32>,
     },
-    /// A segment of 0 to 7 bytes.
+    /// Upload SDO segment, scs = 0: 0 to 7 bytes, the last ones where c = 1 (CiA 301, 7.2.4.3.7).
     UploadSegment {
         toggle: bool,
         data: ArrayVec<u8, 7>,
         last: bool,
     },
-    /// The transfer is given up.
+    /// Abort SDO transfer, cs = 4 (CiA 301, 7.2.4.3.17).
     Abort {
         key: Key,
         code: AbortCode,
     },
-    /// A block download was begun, with the number of segments in a sub-block.
+    /// Initiate SDO block download, scs = 5, ss = 0: with the number of segments in a sub-block (blksize)
+    /// (CiA 301, 7.2.4.3.9).
     BlockDownloadBegun {
         key: Key,
         block_size: u8,
     },
-    /// A block download was done.
+    /// End SDO block download, scs = 5, ss = 1 (CiA 301, 7.2.4.3.11).
     BlockDownloadDone,
-    /// A sub-block came up to this segment; the next one has this many.
+    /// SDO block download, scs = 5, ss = 2: the last segment that was taken (ackseq), and the number of segments
+    /// in the next sub-block (blksize) (CiA 301, 7.2.4.3.10).
     BlockDownloadAcknowledge {
         sequence: u8,
         block_size: u8,
     },
-    /// A block upload was begun, with the number of bytes where it is indicated.
+    /// Initiate SDO block upload, scs = 6, ss = 0: of as many bytes where s = 1 (CiA 301, 7.2.4.3.13).
     BlockUploadBegun {
         key: Key,
         size: Option<u32>,
     },
-    /// The end of a block upload, with the number of bytes that the last segment leaves unused, 0 to 7.
+    /// End SDO block upload, scs = 6, ss = 1: the last segment leaves n bytes unused, 0 to 7
+    /// (CiA 301, 7.2.4.3.15).
     BlockUploadEnd {
         unused: u8,
     },
@@ -77,9 +84,11 @@ impl SdoResponse {
     /// `None` for a frame that hasn't eight bytes, and for a command specifier or subcommand that no answer has.
     pub fn read(frame: &Frame) -> Option<SdoResponse>
         ensures exact { result ≡ response_in frame.now.bytes }
-        // What is read is spelled by the frame, and what the frame spells is read, so it spells one answer at most.
+        // What is read is spelled by the frame, and what the frame spells is read: one answer at most.
         ensures found { IfSome result (λ response. SpellsSdoResponse response frame.now.bytes) }
-        ensures only { (response : SdoResponse) → SpellsSdoResponse response frame.now.bytes → result ≡ Some response }
+        ensures only { (response : SdoResponse)
+            → SpellsSdoResponse response frame.now.bytes → result ≡ Some response }
+        ensures spellable { IfSome result IsSdoResponse }
     {
         response_of(frame.bytes())
     }
@@ -120,22 +129,41 @@ impl SdoResponse {
         ensures row { SpellsResponseRow self.now result }
     {
         match self {
-            SdoResponse::DownloadDone { key } => keyed(0x60, *key, [0; 4]),
-            SdoResponse::DownloadSegmentDone { toggle } => bare(0x20 + weight(4, *toggle)),
-            SdoResponse::UploadExpedited { key, data } => expedited(2, *key, data),
-            SdoResponse::UploadBegun { key, size } => begin(2, *key, *size),
+            SdoResponse::DownloadDone { key } => keyed(
+                command(scs::INITIATE_DOWNLOAD, 0),
+                *key,
+                [0; 4],
+            ),
+            SdoResponse::DownloadSegmentDone { toggle } => bare(command(
+                scs::DOWNLOAD_SEGMENT,
+                weight(4, *toggle),
+            )),
+            SdoResponse::UploadExpedited { key, data } => expedited(
+                scs::INITIATE_UPLOAD,
+                *key,
+                data,
+            ),
+            SdoResponse::UploadBegun { key, size } => begin(scs::INITIATE_UPLOAD, *key, *size),
             SdoResponse::UploadSegment { toggle, data, last } => segment(*toggle, data, *last),
             SdoResponse::Abort { key, code } => abort(*key, *code),
             SdoResponse::BlockDownloadBegun { key, block_size } => {
-                keyed(0xA0, *key, [*block_size, 0, 0, 0])
+                keyed(
+                    command(scs::BLOCK_DOWNLOAD, subcommands::INITIATE),
+                    *key,
+                    [*block_size, 0, 0, 0],
+                )
             }
-            SdoResponse::BlockDownloadDone => bare(0xA1),
+            SdoResponse::BlockDownloadDone => bare(command(scs::BLOCK_DOWNLOAD, subcommands::END)),
             SdoResponse::BlockDownloadAcknowledge {
                 sequence,
                 block_size,
-            } => acknowledge(*sequence, *block_size),
-            SdoResponse::BlockUploadBegun { key, size } => block_begin(*key, *size),
-            SdoResponse::BlockUploadEnd { unused } => block_end(*unused),
+            } => acknowledge(scs::BLOCK_DOWNLOAD, *sequence, *block_size),
+            SdoResponse::BlockUploadBegun { key, size } => block_begin(
+                scs::BLOCK_UPLOAD,
+                *key,
+                *size,
+            ),
+            SdoResponse::BlockUploadEnd { unused } => block_end(scs::BLOCK_UPLOAD, *unused),
         }
     }
 }
@@ -155,22 +183,22 @@ fn response_row(bytes: &[u8]) -> Option<SdoResponse>
     ensures { result ≡ response_row_in bytes.now }
 {
     match specifier(bytes) {
-        0 => Some(SdoResponse::UploadSegment {
+        scs::UPLOAD_SEGMENT => Some(SdoResponse::UploadSegment {
             toggle: has_bit(bytes, 4),
             data: segment_in(bytes),
             last: has_bit(bytes, 0),
         }),
-        1 => Some(SdoResponse::DownloadSegmentDone {
+        scs::DOWNLOAD_SEGMENT => Some(SdoResponse::DownloadSegmentDone {
             toggle: has_bit(bytes, 4),
         }),
-        2 => Some(upload(bytes)),
-        3 => Some(SdoResponse::DownloadDone { key: key_in(bytes) }),
-        4 => Some(SdoResponse::Abort {
+        scs::INITIATE_UPLOAD => Some(upload(bytes)),
+        scs::INITIATE_DOWNLOAD => Some(SdoResponse::DownloadDone { key: key_in(bytes) }),
+        scs::ABORT => Some(SdoResponse::Abort {
             key: key_in(bytes),
             code: code_in(bytes),
         }),
-        5 => block_download(bytes),
-        6 => Some(block_upload(bytes)),
+        scs::BLOCK_DOWNLOAD => block_download(bytes),
+        scs::BLOCK_UPLOAD => Some(block_upload(bytes)),
         _ => None,
     }
 }
@@ -198,12 +226,12 @@ fn block_download(bytes: &[u8]) -> Option<SdoResponse>
     ensures { result ≡ block_download_in bytes.now }
 {
     match subcommand(bytes) {
-        0 => Some(SdoResponse::BlockDownloadBegun {
+        subcommands::INITIATE => Some(SdoResponse::BlockDownloadBegun {
             key: key_in(bytes),
             block_size: bytes[4],
         }),
-        1 => Some(SdoResponse::BlockDownloadDone),
-        2 => Some(SdoResponse::BlockDownloadAcknowledge {
+        subcommands::END => Some(SdoResponse::BlockDownloadDone),
+        subcommands::ACKNOWLEDGE => Some(SdoResponse::BlockDownloadAcknowledge {
             sequence: bytes[1],
             block_size: bytes[2],
         }),

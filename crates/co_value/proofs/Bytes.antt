@@ -1,5 +1,5 @@
 -- Numbers and their bytes determine each other.
-use Rattle.std.proofs.Common.{◌+ℤ◌, ◌+◌, List, [], ◌∷◌, ◌≡◌, ℕ, zero, suc, ◌-◌, ◌*◌, ◌/◌, ◌%◌, ◌^◌, ◌<◌, ◌≤ℤ◌, ℤ, pos, negsuc, neg_ℤ, length, refl, sym, ap, ◌∙◌, arith, true, false, Bool, cond, leb, lit<}
+use Rattle.std.proofs.Common.{◌+ℤ◌, ◌+◌, List, [], ◌∷◌, ◌≡◌, ℕ, zero, suc, ◌-◌, ◌*◌, ◌/◌, ◌%◌, ◌^◌, ◌<◌, ◌≤ℤ◌, ℤ, pos, negsuc, neg_ℤ, length, get_or, Option, Some, IfSome, refl, sym, subst, lit≤, ◌≤◌, ap, ◌∙◌, arith, true, false, Bool, cond, leb, lit<}
 use Rattle.std.proofs.lemmas.Int.{ints}
 use Rattle.std.proofs.lemmas.Bool.Decides.{nat_tests}
 use Rattle.std.proofs.Math.Nat.{pow-suc, div-div-eq-div-mul, div-one}
@@ -8,8 +8,8 @@ use Rattle.std.specs.Int.{byte_at, bytes_low_first}
 use Rattle.byteorder.specs.Numbers.{length-bytes_low_first}
 use Rattle.co_value.specs.declared.data_type.DataType.{DataType}
 use Rattle.co_value.specs.declared.data_type.DataType.TheVariants.{Boolean, Integer8, Integer16, Integer24, Integer32, Integer40, Integer48, Integer56, Integer64, Unsigned8, Unsigned16, Unsigned24, Unsigned32, Unsigned40, Unsigned48, Unsigned56, Unsigned64, VisibleString, OctetString, Domain}
-use Rattle.co_value.specs.Types.{is_signed, InRange}
-use Rattle.co_value.specs.Numbers.{unsigned_of, signed_of, low_bytes, bits_of, bytes_of, number_of, AreBytes, HasOneSpelling, IsNumber}
+use Rattle.co_value.specs.Types.{width_of, is_signed, least_at, greatest_at, FitsWidth, InRange}
+use Rattle.co_value.specs.Numbers.{unsigned_of, signed_of, low_bytes, bits_of, bytes_of, number_of, AreBytes, HasOneSpelling, HasWayBack, HasBytes, IsNumber}
 
 -- the same bytes by a recursion on the number
 quotient_bytes : ℕ → ℕ → List ℕ
@@ -66,9 +66,9 @@ signed_bytes width half value some p q r low high =
     let fits : bits_of (8 * width) value < 256 ^ width = bits_below (8 * width) half value some q r low high in
     rw (length-bytes_low_first 0 width (bits_of (8 * width) value), unsigned_of-low_bytes width (bits_of (8 * width) value) fits) (signed_of-bits_of (8 * width) half value some p q low high)
 
--- the bytes of a number in a type's range are those of the number
-pub IsNumber-bytes_of : (t : DataType) (value : ℤ) → InRange t value → IsNumber t (bytes_of t value) value
-IsNumber-bytes_of Boolean value range = record { width = refl; number = unsigned_bytes 1 value range.0 (omega (arith, ints, range.1)) (lit< tt) }
+-- the bytes of a number that fits are those of the number
+pub IsNumber-bytes_of : (t : DataType) (value : ℤ) → FitsWidth t value → IsNumber t (bytes_of t value) value
+IsNumber-bytes_of Boolean value range = record { width = refl; number = unsigned_bytes 1 value range.0 range.1 (lit< tt) }
 IsNumber-bytes_of Integer8 value range = record { width = refl; number = signed_bytes 1 (2 ^ 7) value (lit< tt) refl refl refl range.0 range.1 }
 IsNumber-bytes_of Integer16 value range = record { width = refl; number = signed_bytes 2 (2 ^ 15) value (lit< tt) refl refl refl range.0 range.1 }
 IsNumber-bytes_of Integer24 value range = record { width = refl; number = signed_bytes 3 (2 ^ 23) value (lit< tt) refl refl refl range.0 range.1 }
@@ -85,9 +85,17 @@ IsNumber-bytes_of Unsigned40 value range = record { width = refl; number = unsig
 IsNumber-bytes_of Unsigned48 value range = record { width = refl; number = unsigned_bytes 6 value range.0 range.1 (lit< tt) }
 IsNumber-bytes_of Unsigned56 value range = record { width = refl; number = unsigned_bytes 7 value range.0 range.1 (lit< tt) }
 IsNumber-bytes_of Unsigned64 value range = record { width = refl; number = unsigned_bytes 8 value range.0 range.1 (lit< tt) }
-IsNumber-bytes_of VisibleString value range = absurd range.0
-IsNumber-bytes_of OctetString value range = absurd range.0
-IsNumber-bytes_of Domain value range = absurd range.0
+IsNumber-bytes_of VisibleString value range = absurd range
+IsNumber-bytes_of OctetString value range = absurd range
+IsNumber-bytes_of Domain value range = absurd range
+
+-- a number in a type's range fits its width
+pub fits_width : (t : DataType) (value : ℤ) → InRange t value → FitsWidth t value
+fits_width Boolean value range = (range.0, omega (arith, ints, range.1))
+fits_width VisibleString value range = absurd range.0
+fits_width OctetString value range = absurd range.0
+fits_width Domain value range = absurd range.0
+fits_width t value range = range
 
 -- ---- as many bytes with the same number are the same bytes
 
@@ -136,3 +144,62 @@ same_unsigned true a b p q n e =
 
 pub has_one_spelling : (t : DataType) → HasOneSpelling t
 has_one_spelling t a b p q n e = unsigned_of-exact a b p q n (same_unsigned (is_signed t) a b p q n e)
+
+-- ---- a number of bytes as many as the type is wide fits, and has these bytes
+
+-- each element of a slice of bytes is a byte
+pub bytes_by_index : (bytes : List ℕ) → ((k : ℕ) → k < length bytes → get_or bytes k 0 < 256) → AreBytes bytes
+bytes_by_index [] h = tt
+bytes_by_index (x ∷ xs) h = (h 0 (omega arith), bytes_by_index xs (λ k below. h (suc k) (omega arith)))
+
+quotient_bytes-AreBytes : (k x : ℕ) → AreBytes (quotient_bytes k x)
+unfolding quotient_bytes
+quotient_bytes-AreBytes zero x = tt
+quotient_bytes-AreBytes (suc k) x = (omega arith, quotient_bytes-AreBytes k (x / 256))
+
+low_bytes-AreBytes : (k x : ℕ) → AreBytes (low_bytes k x)
+low_bytes-AreBytes k x = subst AreBytes (sym (bytes_low_first-is 0 k x)) (quotient_bytes-AreBytes k (x / 256 ^ 0))
+
+-- a type's width is at least one byte
+width_some : (t : DataType) → IfSome (width_of t) (λ width. 1 ≤ width)
+width_some VisibleString = tt
+width_some OctetString = tt
+width_some Domain = tt
+width_some t = lit≤ tt
+
+halves : (bits : ℕ) → 1 ≤ bits → 2 ^ bits ≡ 2 * 2 ^ (bits - 1)
+halves zero some = absurd (omega arith)
+halves (suc bits) some =
+    let one : suc bits - 1 ≡ bits = omega arith in
+    rw (pow-suc 2 bits, one) (omega arith)
+
+signed_fits : (b : Bool) (half n : ℕ) → (b ≡ leb half n) → n < 2 * half → (neg_ℤ (pos half) ≤ℤ cond b (pos n +ℤ neg_ℤ (pos (2 * half))) (pos n)) × (cond b (pos n +ℤ neg_ℤ (pos (2 * half))) (pos n) ≤ℤ pos (half - 1))
+signed_fits true half n test below = let large : half ≤ n = grind (arith, nat_tests) in (omega (arith, ints), omega (arith, ints))
+signed_fits false half n test below = let small : n < half = grind (arith, nat_tests) in (omega (arith, ints), omega (arith, ints))
+
+by_sign : (signed : Bool) (bytes : List ℕ) → AreBytes bytes → 1 ≤ length bytes → (least_at signed (length bytes) ≤ℤ cond signed (signed_of (8 * length bytes) (unsigned_of bytes)) (pos (unsigned_of bytes))) × (cond signed (signed_of (8 * length bytes) (unsigned_of bytes)) (pos (unsigned_of bytes)) ≤ℤ greatest_at signed (length bytes))
+by_sign false bytes p some =
+    let below : unsigned_of bytes < 2 ^ (8 * length bytes) = rw (power_of_bytes (length bytes)) (unsigned_of-below bytes p) in
+    (omega (arith, ints), omega (arith, ints))
+by_sign true bytes p some =
+    let below : unsigned_of bytes < 2 ^ (8 * length bytes) = rw (power_of_bytes (length bytes)) (unsigned_of-below bytes p) in
+    let twice : 2 ^ (8 * length bytes) ≡ 2 * 2 ^ (8 * length bytes - 1) = halves (8 * length bytes) (omega arith) in
+    rw twice (signed_fits (leb (2 ^ (8 * length bytes - 1)) (unsigned_of bytes)) (2 ^ (8 * length bytes - 1)) (unsigned_of bytes) refl (rw twice at below))
+
+pub number_of-FitsWidth : (t : DataType) (bytes : List ℕ) → AreBytes bytes → width_of t ≡ Some (length bytes) → FitsWidth t (number_of t bytes)
+number_of-FitsWidth t bytes p e =
+    let some : 1 ≤ length bytes = subst (λ (o : Option ℕ). IfSome o (λ width. 1 ≤ width)) e (width_some t) in
+    rw e (by_sign (is_signed t) bytes p some)
+
+pub has_bytes : (t : DataType) → HasBytes t
+has_bytes t value fits = (low_bytes-AreBytes _ _, (IsNumber-bytes_of t value fits).width)
+
+some_exact : (m n : ℕ) → Some m ≡ Some n → m ≡ n
+some_exact m n e = cc
+
+pub has_way_back : (t : DataType) → HasWayBack t
+has_way_back t bytes p e =
+    let fits = number_of-FitsWidth t bytes p e in
+    let value = number_of t bytes in
+    let spelled = IsNumber-bytes_of t value fits in
+    has_one_spelling t (bytes_of t value) bytes (has_bytes t value fits).0 p (some_exact _ _ (sym spelled.width ∙ e)) spelled.number

@@ -1,1 +1,3 @@
-mod Bytes
+pub mod Bytes
+mod Reading
+mod Examples

@@ -1,2 +1,4 @@
+pub mod Keys
 pub mod Types
 pub mod Numbers
+pub mod ValueFaults

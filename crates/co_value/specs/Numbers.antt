@@ -3,7 +3,7 @@ use Rattle.std.specs.Prelude.{◌≡◌, ℕ, suc, ◌+◌, ◌-◌, ◌*◌, �
 use Rattle.std.specs.List.{AllByRecursion}
 use Rattle.std.specs.Int.{bytes_low_first}
 use Rattle.co_value.specs.declared.data_type.DataType.{DataType}
-use Rattle.co_value.specs.Types.{width_of, is_signed}
+use Rattle.co_value.specs.Types.{width_of, is_signed, FitsWidth}
 
 -- the bytes as an unsigned number, the lowest byte first
 abbrev pub unsigned_of : List ℕ → ℕ
@@ -43,3 +43,11 @@ AreBytes bytes = AllByRecursion (λ byte. byte < 256) bytes
 -- as many bytes with the same number are the same bytes
 abbrev pub HasOneSpelling : DataType → Type 0
 HasOneSpelling t = (a b : List ℕ) → AreBytes a → AreBytes b → length a ≡ length b → number_of t a ≡ number_of t b → a ≡ b
+
+-- bytes as many as the type is wide are the bytes of their number
+abbrev pub HasWayBack : DataType → Type 0
+HasWayBack t = (bytes : List ℕ) → AreBytes bytes → width_of t ≡ Some (length bytes) → bytes_of t (number_of t bytes) ≡ bytes
+
+-- the bytes of each number that fits are bytes, as many as the type is wide
+abbrev pub HasBytes : DataType → Type 0
+HasBytes t = (value : ℤ) → FitsWidth t value → AreBytes (bytes_of t value) × (width_of t ≡ Some (length (bytes_of t value)))

@@ -3,7 +3,7 @@ use Rattle.std.specs.Prelude.{ℕ, ◌-◌, ◌*◌, ◌^◌, ◌≤ℤ◌, ◌=
 use Rattle.co_value.specs.declared.data_type.DataType.{DataType}
 use Rattle.co_value.specs.declared.data_type.DataType.TheVariants.{Boolean, Integer8, Integer16, Integer24, Integer32, Integer40, Integer48, Integer56, Integer64, Unsigned8, Unsigned16, Unsigned24, Unsigned32, Unsigned40, Unsigned48, Unsigned56, Unsigned64, VisibleString, OctetString, Domain}
 
--- the index of the type's definition entry, which stands for the type in a data sheet
+-- the index of the type's definition entry, by which a data sheet names the type
 abbrev pub code_of : DataType → ℕ
 code_of Boolean = 0x01
 code_of Integer8 = 0x02
@@ -76,20 +76,25 @@ is_signed Domain = false
 abbrev pub is_boolean : DataType → Bool
 is_boolean t = code_of t == 0x01
 
--- the least and the greatest number of a width, where the numbers are signed or not
+-- the smallest number of a width, where the numbers are signed or not
 abbrev pub least_at : Bool → ℕ → ℤ
 least_at signed width = if signed then neg_ℤ (pos (2 ^ (8 * width - 1))) else pos 0
 
+-- the greatest number of a width
 abbrev pub greatest_at : Bool → ℕ → ℤ
 greatest_at signed width = if signed then pos (2 ^ (8 * width - 1) - 1) else pos (2 ^ (8 * width) - 1)
 
--- the least number of a numeric type
+-- the smallest number of a numeric type
 abbrev pub least_of : DataType → Option ℤ
 least_of t = option_map (least_at (is_signed t)) (width_of t)
 
 -- the greatest number of a numeric type; BOOLEAN has 0 and 1
 abbrev pub greatest_of : DataType → Option ℤ
 greatest_of t = if is_boolean t then Some (pos 1) else option_map (greatest_at (is_signed t)) (width_of t)
+
+-- the number is one that the type's width has room for; a BOOLEAN's byte may be any
+abbrev pub FitsWidth : DataType → ℤ → Type 0
+FitsWidth t value = IsSomeAnd (width_of t) (λ width. (least_at (is_signed t) width ≤ℤ value) × (value ≤ℤ greatest_at (is_signed t) width))
 
 -- the number is one of the type; no number is one of a string or a domain
 abbrev pub InRange : DataType → ℤ → Type 0

@@ -61,7 +61,7 @@ impl DataType {
         }
     }
 
-    /// The code that stands for the type in a data sheet (CiA 301, 7.4.7.1).
+    /// The code by which a data sheet names the type (CiA 301, 7.4.7.1).
     pub fn code(self) -> u16
         ensures { result ≡ code_of self }
     {
@@ -136,7 +136,7 @@ impl DataType {
         }
     }
 
-    /// The least number of a numeric type; `None` for strings and domains.
+    /// The smallest number of a numeric type; `None` for strings and domains.
     pub fn least(self) -> Option<i128>
         ensures { result ≡ least_of self }
     {

@@ -7,4 +7,4 @@ mod value;
 
 pub use data_type::DataType;
 pub use key::Key;
-pub use value::{ValueFault, from_bytes, one_spelling, to_bytes};
+pub use value::{ValueFault, from_bytes, one_spelling, to_bytes, way_back};

@@ -2,12 +2,14 @@
 
 ghost use Rattle.std.specs.Prelude.{◌≡◌, ◌↔◌, ◌-◌, ◌^◌, ◌<◌, ◌≤◌, ◌≤ℤ◌, pos, neg_ℤ, Some, length, IsOk, IfOk, IfErr};
 ghost use Rattle.co_value.specs.declared.data_type.DataType.{DataType};
-ghost use Rattle.co_value.specs.Types.{width_of, InRange};
-ghost use Rattle.co_value.specs.Numbers.{number_of, bits_of, bytes_of, HasOneSpelling, IsNumber};
+ghost use Rattle.co_value.specs.Types.{width_of, FitsWidth, InRange};
+ghost use Rattle.co_value.specs.Numbers.{number_of, bits_of, bytes_of, HasOneSpelling, HasWayBack, HasBytes, IsNumber};
 
 use crate::data_type::{DataType, power_of_two};
 use arrayvec::ArrayVec;
 use byteorder::{ByteOrder, LittleEndian};
+use std::error::Error;
+use std::fmt;
 
 /// Why a number has no bytes, or bytes no number.
 #[derive(Clone, Copy, Debug, PartialEq, Eq, Hash)]
@@ -17,6 +19,22 @@ pub enum ValueFault {
     /// The length isn't the type's width, or the type has none.
     WrongLength,
 }
+
+impl fmt::Display for ValueFault {
+    ghost use Rattle.std.specs.Prelude.{Some};
+    ghost use Rattle.co_value.specs.ValueFaults.{fault_name};
+
+    ghost output = { λ fault. Some (fault_name fault) };
+
+    fn fmt<W: fmt::Write>(&self, f: &mut fmt::Formatter<W>) -> fmt::Result {
+        match self {
+            ValueFault::OutOfRange => write!(f, "OutOfRange"),
+            ValueFault::WrongLength => write!(f, "WrongLength"),
+        }
+    }
+}
+
+impl Error for ValueFault {}
 
 /// The bytes of a number: little-endian, two's complement at a signed type (CiA 301, 7.1.4).
 /// `OutOfRange` outside the type's range, and at a string or a domain.
@@ -65,20 +83,37 @@ fn unsigned_bits(bits: usize, value: i128) -> u128
 pub fn from_bytes(data_type: DataType, bytes: &[u8]) -> Result<i128, ValueFault>
     ensures ok { IsOk result ↔ (width_of data_type ≡ Some (length bytes.now)) }
     ensures number { IfOk result (λ value. value ≡ number_of data_type bytes.now) }
+    ensures range { IfOk result (λ value. FitsWidth data_type value) }
     ensures err { IfErr result (λ fault. fault ≡ ValueFault.WrongLength) }
 {
     if data_type.width() != Some(bytes.len()) {
         return Err(ValueFault::WrongLength);
     }
+    Ok(number_in(data_type, bytes))
+}
+
+#[tactic(auto, using(crate::proofs::Reading::signed_number, crate::proofs::Reading::unsigned_number))]
+fn number_in(data_type: DataType, bytes: &[u8]) -> i128
+    requires some { 1 ≤ length bytes.now }
+    requires few { length bytes.now ≤ 8 }
+    ensures { result ≡ number_of data_type bytes.now }
+{
     if data_type.is_signed() {
-        Ok(LittleEndian::read_int128(bytes, bytes.len()))
+        LittleEndian::read_int128(bytes, bytes.len())
     } else {
-        Ok(i128::from(LittleEndian::read_uint(bytes, bytes.len())))
+        i128::from(LittleEndian::read_uint(bytes, bytes.len()))
     }
 }
 
-/// A number has one spelling: as many bytes that stand for the same number are the same bytes. A law, which
-/// does nothing when it is called.
+/// A number has one spelling: as many bytes that stand for the same number are the same bytes. This is a law:
+/// a call of it changes nothing.
 pub fn one_spelling()
     ensures { (t : DataType) → HasOneSpelling t }
+{}
+
+/// Bytes and their number determine each other: bytes as many as the type is wide are the bytes of their number,
+/// and the bytes of a number are bytes, as many as the type is wide. This is a law: a call of it changes nothing.
+pub fn way_back()
+    ensures back { (t : DataType) → HasWayBack t }
+    ensures bytes { (t : DataType) → HasBytes t }
 {}

@@ -1,0 +1,15 @@
+//! The client command specifiers, ccs, of requests.
+
+pub(crate) const DOWNLOAD_SEGMENT: u8 = 0;
+
+pub(crate) const INITIATE_DOWNLOAD: u8 = 1;
+
+pub(crate) const INITIATE_UPLOAD: u8 = 2;
+
+pub(crate) const UPLOAD_SEGMENT: u8 = 3;
+
+pub(crate) const ABORT: u8 = 4;
+
+pub(crate) const BLOCK_UPLOAD: u8 = 5;
+
+pub(crate) const BLOCK_DOWNLOAD: u8 = 6;
