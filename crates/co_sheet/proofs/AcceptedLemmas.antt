@@ -24,7 +24,8 @@ use Rattle.co_sheet.specs.ObjectLists.{number_of_key, is_one_of, Listing, listin
 use Rattle.co_sheet.specs.Entries.{ListedObject, listed_objects, object_code, object_type_with, Entry, entries_of, is_domain, data_type_with, type_code, data_type_of, access_with, access_of, name_of}
 use Rattle.co_sheet.specs.Checks.{fault_if, unread, unread_number, missing_section, bad_object_types, missing_key, unread_entry_numbers, bad_type, is_bad_type, left_out_type, left_out_codes, type_line, bad_access, checks}
 use Rattle.co_sheet.specs.Accepted.{least_fault, first_found, sections_in, IsAccepted}
-use Rattle.co_sheet.specs.Content.{row_of, row_with, object_row_of, Row, ObjectRow, in_order, is_key_before, rows_of, keys_of, objects_of, indices_of}
+use Rattle.co_value.specs.Keys.{is_key_before}
+use Rattle.co_sheet.specs.Content.{row_of, row_with, object_row_of, Row, ObjectRow, in_order, rows_of, keys_of, objects_of, indices_of}
 use Rattle.co_sheet.proofs.OrderLemmas.{in_order-map}
 
 -- a text that is not too large, where no line is at fault and no check finds anything
@@ -36,11 +37,11 @@ accepted-from text small lines found =
 -- ---- nothing is found
 
 -- no check finds anything
-abbrev NothingFound : List (List SheetSection → List SheetFault) → List SheetSection → Type 0
+abbrev pub NothingFound : List (List SheetSection → List SheetFault) → List SheetSection → Type 0
 NothingFound [] sections = Unit {0}
 NothingFound (check ∷ more) sections = (check sections ≡ []) × NothingFound more sections
 
-neither : {X : Type 0} (o p : Option X) → option_or o p ≡ None → (o ≡ None) × (p ≡ None)
+pub neither : {X : Type 0} (o p : Option X) → option_or o p ≡ None → (o ≡ None) × (p ≡ None)
 neither None p h = (refl, h)
 neither (Some x) p h = absurd (cc)
 
@@ -48,29 +49,29 @@ least-none : (faults : List SheetFault) → least_fault faults ≡ None → faul
 least-none [] h = refl
 least-none (f ∷ faults) h = absurd (cc)
 
-nothing-found : (cs : List (List SheetSection → List SheetFault)) (sections : List SheetSection) → first_found cs sections ≡ None → NothingFound cs sections
+pub nothing-found : (cs : List (List SheetSection → List SheetFault)) (sections : List SheetSection) → first_found cs sections ≡ None → NothingFound cs sections
 nothing-found [] sections h = tt
 nothing-found (check ∷ more) sections h =
     let none = neither (least_fault (check sections)) (first_found more sections) h in
     (least-none (check sections) none.0, nothing-found more sections none.1)
 
-unless : {X : Type 0} (test : Bool) (x : X) (o : Option X) → cond test (Some x) o ≡ None → o ≡ None
+pub unless : {X : Type 0} (test : Bool) (x : X) (o : Option X) → cond test (Some x) o ≡ None → o ≡ None
 unless true x o h = absurd (cc)
 unless false x o h = h
 
-checks-nothing : (text : List ℕ) → IsAccepted text → NothingFound checks (sections_in text)
+pub checks-nothing : (text : List ℕ) → IsAccepted text → NothingFound checks (sections_in text)
 checks-nothing text accepted =
     nothing-found checks (sections_in text) (neither (first_line_fault [] (lines_of text)) (first_found checks (sections_in text)) (unless (nat_lt 1048576 (length text)) _ _ accepted)).1
 
-no_fault : (test : Bool) (kind : FaultKind) (line : ℕ) → fault_if test kind line ≡ [] → test ≡ false
+pub no_fault : (test : Bool) (kind : FaultKind) (line : ℕ) → fault_if test kind line ≡ [] → test ≡ false
 no_fault true kind line h = absurd (cc)
 no_fault false kind line h = refl
 
-both-empty : {X : Type 0} (xs ys : List X) → xs ++ ys ≡ [] → (xs ≡ []) × (ys ≡ [])
+pub both-empty : {X : Type 0} (xs ys : List X) → xs ++ ys ≡ [] → (xs ≡ []) × (ys ≡ [])
 both-empty [] ys h = (refl, h)
 both-empty (x ∷ xs) ys h = absurd (cc)
 
-two-empty : {X Y : Type 0} (f g : X → List Y) (xs : List X) → flat_map f xs ≡ [] → flat_map g xs ≡ [] → flat_map (λ x. f x ++ g x) xs ≡ []
+pub two-empty : {X Y : Type 0} (f g : X → List Y) (xs : List X) → flat_map f xs ≡ [] → flat_map g xs ≡ [] → flat_map (λ x. f x ++ g x) xs ≡ []
 two-empty f g [] h k = refl
 two-empty f g (x ∷ xs) h k =
     let of_f = both-empty (f x) (flat_map f xs) h in
@@ -117,7 +118,7 @@ type-known None h = absurd (cc)
 type-known (Some n) h =
     type_cases (eqb n 2) (eqb n 7) (eqb n 8) (eqb n 9) (rw (eqb-swap n 2, eqb-swap n 7, eqb-swap n 8, eqb-swap n 9) h)
 
-denied : (b : Bool) → not b ≡ false → b ≡ true
+pub denied : (b : Bool) → not b ≡ false → b ≡ true
 denied true h = refl
 denied false h = absurd (cc)
 
@@ -191,33 +192,35 @@ entry-kept e none =
     (data_type-known e (type_code e) (type_line e) code types.0 last.0)
     (access-known (is_domain e) type_key access_key e.section.line present.0 last.1)
 
--- ---- of an accepted text
+-- ---- of sections in which nothing is found
 
 -- each index that the lists name from 1000h on has an object
-pub objects-all : (text : List ℕ) → IsAccepted text → map (λ o. o.index) (filter_map object_row_of (listed_objects (sections_in text))) ≡ map (λ l. l.index) (listings (sections_in text))
-objects-all text accepted =
-    let sections = sections_in text in
-    let nothing = checks-nothing text accepted in
+pub objects-all : (sections : List SheetSection) → NothingFound checks sections → map (λ o. o.index) (filter_map object_row_of (listed_objects sections)) ≡ map (λ l. l.index) (listings sections)
+objects-all sections nothing =
     kept (bad_object_types sections) object_row_of (λ (o : ObjectRow). o.index) (λ (o : ListedObject). o.index) (object-kept sections) (listed_objects sections) nothing.1.1.1.1.1.1.0
     ∙ objects-listed sections nothing.1.1.1.1.0
 
+-- each listed object has its section
+pub listed-all : (sections : List SheetSection) → NothingFound checks sections → map (λ o. o.index) (listed_objects sections) ≡ map (λ l. l.index) (listings sections)
+listed-all sections nothing = objects-listed sections nothing.1.1.1.1.0
+
 -- each entry has a row
-pub rows-all : (text : List ℕ) → IsAccepted text → map (λ r. r.key) (filter_map row_of (entries_of (sections_in text))) ≡ map (λ e. e.key) (entries_of (sections_in text))
-rows-all text accepted =
-    let entries = entries_of (sections_in text) in
-    let nothing = (checks-nothing text accepted).1.1.1.1.1.1.1.1.1 in
+pub rows-all : (sections : List SheetSection) → NothingFound checks sections → map (λ r. r.key) (filter_map row_of (entries_of sections)) ≡ map (λ e. e.key) (entries_of sections)
+rows-all sections found =
+    let entries = entries_of sections in
+    let nothing = found.1.1.1.1.1.1.1.1.1 in
     let last = two-empty left_out_type bad_access entries nothing.1.1.1.0 nothing.1.1.1.1.0 in
     let types = two-empty bad_type (λ e. left_out_type e ++ bad_access e) entries nothing.1.1.0 last in
     let numbers = two-empty unread_entry_numbers (λ e. bad_type e ++ (left_out_type e ++ bad_access e)) entries nothing.1.0 types in
     kept found_in row_of (λ (r : Row). r.key) (λ (e : Entry). e.key) entry-kept entries (two-empty missing_key (λ e. unread_entry_numbers e ++ (bad_type e ++ (left_out_type e ++ bad_access e))) entries nothing.0 numbers)
 
--- in increasing order, as a sheet has them
+-- in increasing order, as the sheet of an accepted text has them
 pub object_indices : (text : List ℕ) → IsAccepted text → map (λ o. o.index) (objects_of text) ≡ indices_of text
 object_indices text accepted =
     in_order-map (λ (o : ObjectRow). o.index) (λ o p. ltb o.index p.index) ltb (λ o p. refl) (filter_map object_row_of (listed_objects (sections_in text)))
-    ∙ ap (in_order ltb) (objects-all text accepted)
+    ∙ ap (in_order ltb) (objects-all (sections_in text) (checks-nothing text accepted))
 
 pub row_keys : (text : List ℕ) → IsAccepted text → map (λ r. r.key) (rows_of text) ≡ keys_of text
 row_keys text accepted =
     in_order-map (λ (r : Row). r.key) (λ r s. is_key_before r.key s.key) is_key_before (λ r s. refl) (filter_map row_of (entries_of (sections_in text)))
-    ∙ ap (in_order is_key_before) (rows-all text accepted)
+    ∙ ap (in_order is_key_before) (rows-all (sections_in text) (checks-nothing text accepted))

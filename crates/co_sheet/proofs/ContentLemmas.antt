@@ -1,14 +1,8 @@
 -- What a sheet holds, part by part.
-use Rattle.std.proofs.Common.{◌≡◌, ℕ, zero, suc, ◌-◌, ◌≤◌, List, Bool, true, false, ◌&&◌, None, refl, arith, length, leb, lit≤}
-use Rattle.std.specs.Prelude.{slice_get}
-use Rattle.std.proofs.lemmas.Bool.{lt-leb}
-use Rattle.std.proofs.lemmas.Bool.Decides.{nat_tests}
-use Rattle.std.proofs.lemmas.Option.{slice_get_past}
+use Rattle.std.proofs.Common.{◌≡◌, List, Bool}
 use Rattle.co_sheet.specs.declared.note.Note.{Note}
 use Rattle.co_sheet.specs.Sections.{SheetSection}
-use Rattle.co_sheet.specs.Accepted.{sections_in}
-use Rattle.co_sheet.specs.Content.{Row, ObjectRow, SectionName, is_usable_dummy}
-use Rattle.co_sheet.specs.SheetContents.{SheetContent, content_of, dummies_in, is_dummy}
+use Rattle.co_sheet.specs.Content.{Row, ObjectRow, SectionName, SheetContent, content_of}
 
 same-parts : (objects other_objects : List ObjectRow) (rows other_rows : List Row) (names other_names : List SectionName) (notes other_notes : List Note) (dummies other_dummies : List Bool)
     → objects ≡ other_objects → rows ≡ other_rows → names ≡ other_names → notes ≡ other_notes → dummies ≡ other_dummies
@@ -21,22 +15,3 @@ pub content-parts : (sections : List SheetSection) (objects : List ObjectRow) (r
 content-parts sections objects rows names notes dummies =
     let content = content_of sections in
     same-parts objects content.objects rows content.rows names content.sections notes content.notes dummies content.dummies
-
--- past 0007h there is none
-past : (dummies : List Bool) (index : ℕ) (rest : Bool) → length dummies ≤ 6 → 8 ≤ index → is_dummy dummies index ≡ ((leb 2 index && leb index 7) && rest)
-past dummies index rest few h =
-    let none : slice_get dummies (index - 2) ≡ None = slice_get_past dummies (index - 2) (omega arith) in
-    let over : leb index 7 ≡ false = lt-leb index 7 (omega arith) in
-    let above : leb 2 index ≡ true = grind (arith, nat_tests) in
-    rw (none, over, above) refl
-
-pub dummies-of : (text : List ℕ) (index : ℕ) → is_dummy (dummies_in (sections_in text)) index ≡ is_usable_dummy text index
-dummies-of text zero = refl
-dummies-of text (suc zero) = refl
-dummies-of text (suc (suc zero)) = refl
-dummies-of text (suc (suc (suc zero))) = refl
-dummies-of text (suc (suc (suc (suc zero)))) = refl
-dummies-of text (suc (suc (suc (suc (suc zero))))) = refl
-dummies-of text (suc (suc (suc (suc (suc (suc zero)))))) = refl
-dummies-of text (suc (suc (suc (suc (suc (suc (suc zero))))))) = refl
-dummies-of text (suc (suc (suc (suc (suc (suc (suc (suc n)))))))) = past (dummies_in (sections_in text)) (suc (suc (suc (suc (suc (suc (suc (suc n)))))))) _ (lit≤ tt) (omega arith)

@@ -1,7 +1,7 @@
 -- Cases at the edges of the definitions, computed from them.
 use Rattle.std.proofs.Common.{◌≡◌, ◌++◌, List, ℕ, [], ◌∷◌, refl, codes, Some, None, Ok, Err}
 use Rattle.std.specs.Prelude.{map, flat_map, take, drop, replicate, pos, neg_ℤ, true, false, slice_get}
-use Rattle.co_sheet.specs.declared.fault.FaultKind.TheVariants.{TooLarge, BadLine, KeyOutsideSection, DuplicateSection, DuplicateKey, MissingSection, BadNumber, AmbiguousNumber, BadList, ListedTwice, MissingKey, BadType, LeftOutType, BadAccess, BadLimits, BadDefault, MissingSub0, CompactForm}
+use Rattle.co_sheet.specs.declared.fault.FaultKind.TheVariants.{TooLarge, BadLine, KeyOutsideSection, DuplicateSection, DuplicateKey, MissingSection, BadNumber, AmbiguousNumber, BadList, ListedTwice, MissingKey, BadType, LeftOutType, BadAccess, BadLimits, BadDefault, MissingSub0, CompactForm, MissingMandatory}
 use Rattle.co_sheet.specs.declared.note.NoteKind.TheVariants.{SubNumber, Unlisted}
 use Rattle.co_sheet.specs.declared.entry.Access.TheVariants.{Wo, Rw, Rwr, Rww, Constant}
 use Rattle.co_sheet.specs.declared.numeral.Numeral.TheVariants.{Decimal, Hexadecimal}
@@ -14,7 +14,7 @@ use Rattle.co_sheet.specs.Numerals.{signed_numeral, unsigned_numeral}
 use Rattle.co_sheet.specs.Notes.{notes_of, note_at}
 use Rattle.co_sheet.specs.Limits.{absent, number, node_id, text, pairs}
 use Rattle.co_sheet.specs.Accepted.{first_fault, sections_in}
-use Rattle.co_sheet.specs.Content.{rows_of, objects_of, section_names_of, is_usable_dummy, Row}
+use Rattle.co_sheet.specs.Content.{rows_of, objects_of, section_names_in, is_dummy, dummies_in, Row}
 use Rattle.co_sheet.proofs.Examples.{joined, small, fault_of, replaced, with_lines}
 
 -- the small sheet with one more object, 2000h, and lines in its section
@@ -123,7 +123,7 @@ same_index = refl
 same_list : fault_of (with_lines 21 (codes "[mandatoryobjects]" ∷ [])) ≡ Some (fault_at 22 DuplicateSection)
 same_list = refl
 
--- names of another form, and those of sections that are not read, may stand twice
+-- names of another form, and those of sections that are not read, may occur twice
 no_numbers : fault_of (with_lines 21 (codes "[01000]" ∷ codes "[0x1000]" ∷ codes "[1000sub001]" ∷ codes "[1000 sub0]" ∷ codes "[1000sub]" ∷ codes "[]" ∷ codes "[01000]" ∷ codes "[]" ∷ [])) ≡ None
 no_numbers = refl
 
@@ -137,7 +137,7 @@ empty_then_full = refl
 full_then_empty : fault_of (with_lines 7 (codes "DataType= " ∷ [])) ≡ None
 full_then_empty = refl
 
--- each read key may stand once, also where no check looks at it
+-- each read key may occur once, also where no check looks at it
 key_twice_unused : fault_of (with_lines 18 (codes "SubNumber=1" ∷ codes "SUBNUMBER=1" ∷ [])) ≡ Some (fault_at 20 DuplicateKey)
 key_twice_unused = refl
 
@@ -159,6 +159,10 @@ list_without_count = refl
 empty_list : fault_of (with_lines 21 (codes "[OptionalObjects]" ∷ codes "SupportedObjects=0" ∷ codes "1=0x1000" ∷ [])) ≡ None
 empty_list = refl
 
+-- a key of another name is passed over, also twice
+other_key_twice : fault_of (with_lines 5 (codes "Foo=x" ∷ codes "Foo=x" ∷ [])) ≡ None
+other_key_twice = refl
+
 count_too_large : fault_of (replaced 2 (codes "SupportedObjects=65536")) ≡ Some (fault_at 1 BadList)
 count_too_large = refl
 
@@ -168,6 +172,20 @@ index_too_large = refl
 -- an index below 1000h is passed over
 low_indices : fault_of (take 1 small ++ (codes "SupportedObjects=5" ∷ codes "4=5" ∷ codes "5=0x5" ∷ []) ++ drop 2 small) ≡ None
 low_indices = refl
+
+low_index_without_section : fault_of (take 1 small ++ (codes "SupportedObjects=4" ∷ codes "4=0x0FFF" ∷ []) ++ drop 2 small) ≡ None
+low_index_without_section = refl
+
+-- the last index
+last_index : fault_of (small ++ (codes "[ManufacturerObjects]" ∷ codes "SupportedObjects=1" ∷ codes "1=0xFFFF" ∷ codes "[FFFF]" ∷ codes "DataType=7" ∷ codes "AccessType=rw" ∷ [])) ≡ None
+last_index = refl
+
+-- the mandatory objects
+no_1000 : fault_of (take 1 small ++ (codes "SupportedObjects=2" ∷ codes "1=0x1001" ∷ codes "2=0x1018" ∷ []) ++ drop 5 small) ≡ Some (fault_at 0 MissingMandatory)
+no_1000 = refl
+
+no_1001 : fault_of (take 1 small ++ (codes "SupportedObjects=2" ∷ codes "1=0x1000" ∷ codes "2=0x1018" ∷ []) ++ drop 5 small) ≡ Some (fault_at 0 MissingMandatory)
+no_1001 = refl
 
 -- the later line names an index twice, also in another list
 twice_across_lists : fault_of ((codes "[OptionalObjects]" ∷ codes "SupportedObjects=1" ∷ codes "1=0x1001" ∷ []) ++ small) ≡ Some (fault_at 7 ListedTwice)
@@ -186,7 +204,7 @@ unread_compact = refl
 compact_pdo : fault_of (with_lines 21 (codes "[DeviceInfo]" ∷ codes "CompactPDO=1" ∷ [])) ≡ Some (fault_at 23 CompactForm)
 compact_pdo = refl
 
--- ---- objects and entries: with_entry's lines stand from line 26 on, in the section of 2000h
+-- ---- objects and entries: with_entry's lines are from line 26 on, in the section of 2000h
 
 -- the sub-index sections of a VAR are passed over
 sub_indices_of_var : fault_of (with_lines 21 (codes "[1000sub0]" ∷ codes "ObjectType=99" ∷ codes "[1000sub1]" ∷ codes "DataType=x" ∷ [])) ≡ None
@@ -244,6 +262,23 @@ missing_access = refl
 unread_mapping : fault_of (with_entry (codes "AccessType=rw" ∷ codes "PDOMapping=x" ∷ codes "DataType=0x07" ∷ [])) ≡ Some (fault_at 27 BadNumber)
 unread_mapping = refl
 
+unread_type : fault_of (with_entry (codes "DataType=x" ∷ codes "AccessType=rw" ∷ [])) ≡ Some (fault_at 26 BadNumber)
+unread_type = refl
+
+-- each number of a numeric type
+unread_low : fault_of (with_entry (codes "DataType=7" ∷ codes "AccessType=rw" ∷ codes "LowLimit=x" ∷ [])) ≡ Some (fault_at 28 BadNumber)
+unread_low = refl
+
+unread_high : fault_of (with_entry (codes "DataType=7" ∷ codes "AccessType=rw" ∷ codes "HighLimit=x" ∷ [])) ≡ Some (fault_at 28 BadNumber)
+unread_high = refl
+
+unread_default : fault_of (with_entry (codes "DataType=7" ∷ codes "AccessType=rw" ∷ codes "DefaultValue=x" ∷ [])) ≡ Some (fault_at 28 BadNumber)
+unread_default = refl
+
+-- the types that are left out, beside REAL32
+left_out_types : map (λ code. fault_of (with_entry ((codes "DataType=" ++ code) ∷ codes "AccessType=rw" ∷ []))) (codes "0x0B" ∷ codes "12" ∷ codes "0xD" ∷ codes "17" ∷ []) ≡ replicate 4 (Some (fault_at 26 LeftOutType))
+left_out_types = refl
+
 -- the default of a string; its limits are passed over
 string : SaysRow (codes "DataType=9" ∷ codes "AccessType=rwr" ∷ codes "LowLimit=x" ∷ codes "HighLimit=-" ∷ codes "DefaultValue=\t a ; b\t" ∷ codes "ParameterName= name " ∷ codes "PDOMapping=0x0" ∷ []) (record { key = record { index = 0x2000; sub = 0 }; data_type = VisibleString; access = Rwr; low = None; high = None; default = text (codes "a ; b"); mappable = false; name = Some (codes "name"); line = 25 })
 string = (refl, refl)
@@ -271,11 +306,11 @@ limit_above_width = refl
 limit_below_type : fault_of (with_entry (codes "DataType=5" ∷ codes "AccessType=rw" ∷ codes "LowLimit=-1" ∷ [])) ≡ Some (fault_at 28 BadLimits)
 limit_below_type = refl
 
--- a low limit above the high one: the line of HighLimit, also where it stands before LowLimit
+-- a low limit above the high one: the line of HighLimit, also where it is before LowLimit
 limits_crossed_line : fault_of (with_entry (codes "DataType=5" ∷ codes "AccessType=rw" ∷ codes "HighLimit=1" ∷ codes "LowLimit=2" ∷ [])) ≡ Some (fault_at 28 BadLimits)
 limits_crossed_line = refl
 
--- the least line that a check finds
+-- the smallest line that a check finds
 least_line_of_check : fault_of (with_entry (codes "DataType=5" ∷ codes "AccessType=rw" ∷ codes "HighLimit=1" ∷ codes "LowLimit=256" ∷ [])) ≡ Some (fault_at 28 BadLimits)
 least_line_of_check = refl
 
@@ -338,6 +373,12 @@ least_of_64_bits = (refl, refl)
 greatest_of_64_bits : SaysRow (codes "DataType=0x1B" ∷ codes "AccessType=rw" ∷ codes "HighLimit=18446744073709551615" ∷ codes "DefaultValue=0xFFFFFFFFFFFFFFFF" ∷ []) (record { key = record { index = 0x2000; sub = 0 }; data_type = Unsigned64; access = Rw; low = None; high = Some (pos 0xFFFFFFFFFFFFFFFF); default = number (pos 0xFFFFFFFFFFFFFFFF); mappable = false; name = None; line = 25 })
 greatest_of_64_bits = (refl, refl)
 
+below_64_bits : fault_of (with_entry (codes "DataType=0x15" ∷ codes "AccessType=rw" ∷ codes "LowLimit=-9223372036854775809" ∷ [])) ≡ Some (fault_at 28 BadLimits)
+below_64_bits = refl
+
+above_64_bits : fault_of (with_entry (codes "DataType=0x15" ∷ codes "AccessType=rw" ∷ codes "LowLimit=18446744073709551615" ∷ [])) ≡ Some (fault_at 28 BadLimits)
+above_64_bits = refl
+
 -- a LowLimit alone is compared with the type
 low_above_type : fault_of (with_entry (codes "DataType=5" ∷ codes "AccessType=rw" ∷ codes "LowLimit=256" ∷ [])) ≡ Some (fault_at 28 BadLimits)
 low_above_type = refl
@@ -362,7 +403,7 @@ array_itself = refl
 object_type_ambiguous : fault_of (with_entry (codes "ObjectType=010" ∷ [])) ≡ Some (fault_at 26 AmbiguousNumber)
 object_type_ambiguous = refl
 
--- ---- the order of the checks: of two faults that of the earlier check is named, also where it stands on a later line
+-- ---- the order of the checks: of two faults that of the earlier check is named, also where it is on a later line
 
 -- the faults of lines come before the checks
 order_lines_1 : fault_of (codes "[1000]" ∷ codes "DataType=7" ∷ codes "datatype=7" ∷ []) ≡ Some (fault_at 3 DuplicateKey)
@@ -495,6 +536,10 @@ notes = refl
 notes_of_var : notes_of (sections_in (joined (with_lines 6 (codes "SubNumber=1" ∷ []) ++ (codes "[1000sub5]" ∷ [])))) ≡ []
 notes_of_var = refl
 
+-- 1000h in no list
+unlisted_1000 : notes_of (sections_in (codes "[0FFF]\n[1000]")) ≡ note_at 2 Unlisted ∷ []
+unlisted_1000 = refl
+
 -- entries and objects in increasing order, in whatever order the text has them
 in_increasing_order : map (λ r. r.key) (rows_of (joined (drop 9 small ++ take 9 small))) ≡ record { index = 0x1000; sub = 0 } ∷ record { index = 0x1001; sub = 0 } ∷ record { index = 0x1018; sub = 0 } ∷ record { index = 0x1018; sub = 1 } ∷ []
 in_increasing_order = refl
@@ -503,9 +548,12 @@ objects : objects_of (joined (drop 5 small ++ take 5 small)) ≡ record { index 
 objects = refl
 
 -- every section line, as it is written
-section_lines : section_names_of (joined (codes "[ FileInfo ] x" ∷ codes "a" ∷ codes "[1000SUB1]" ∷ codes "[]" ∷ [])) ≡ record { name = codes "FileInfo"; line = 1 } ∷ record { name = codes "1000SUB1"; line = 3 } ∷ record { name = []; line = 4 } ∷ []
+section_lines : section_names_in (sections_in (joined (codes "[ FileInfo ] x" ∷ codes "a" ∷ codes "[1000SUB1]" ∷ codes "[]" ∷ []))) ≡ record { name = codes "FileInfo"; line = 1 } ∷ record { name = codes "1000SUB1"; line = 3 } ∷ record { name = []; line = 4 } ∷ []
 section_lines = refl
 
 -- the dummies that DummyUsage has 1 for
-dummies : map (is_usable_dummy (joined (codes "[DummyUsage]" ∷ codes "Dummy0001=1" ∷ codes "Dummy0002=0x1" ∷ codes "Dummy0003=0" ∷ codes "dummy0005=1" ∷ codes "Dummy0007=2" ∷ codes "Dummy0008=1" ∷ []))) (1 ∷ 2 ∷ 3 ∷ 4 ∷ 5 ∷ 6 ∷ 7 ∷ 8 ∷ []) ≡ false ∷ true ∷ false ∷ false ∷ true ∷ false ∷ false ∷ false ∷ []
+dummies : map (is_dummy (dummies_in (sections_in (joined (codes "[DummyUsage]" ∷ codes "Dummy0001=1" ∷ codes "Dummy0002=0x1" ∷ codes "Dummy0003=0" ∷ codes "dummy0005=1" ∷ codes "Dummy0007=2" ∷ codes "Dummy0008=1" ∷ []))))) (1 ∷ 2 ∷ 3 ∷ 4 ∷ 5 ∷ 6 ∷ 7 ∷ 8 ∷ []) ≡ false ∷ true ∷ false ∷ false ∷ true ∷ false ∷ false ∷ false ∷ []
 dummies = refl
+
+last_dummy : is_dummy (dummies_in (sections_in (codes "[DummyUsage]\nDummy0007=1"))) 7 ≡ true
+last_dummy = refl

@@ -6,11 +6,14 @@ use Rattle.co_sheet.specs.declared.fault.SheetFault.{SheetFault}
 use Rattle.co_sheet.specs.declared.fault.FaultKind.TheVariants.{TooLarge, BadLine, KeyOutsideSection, DuplicateSection, DuplicateKey, MissingSection, BadNumber, AmbiguousNumber, BadList, ListedTwice, MissingKey, BadType, LeftOutType, BadAccess, BadLimits, BadDefault, MissingSub0, CompactForm, MissingMandatory}
 use Rattle.co_sheet.specs.declared.entry.Access.TheVariants.{Ro}
 use Rattle.co_value.specs.declared.data_type.DataType.TheVariants.{Unsigned8, Unsigned32}
-use Rattle.co_sheet.specs.Sections.{fault_at}
+use Rattle.std.specs.Option.{option_or}
+use Rattle.co_sheet.specs.Text.{lines_of}
+use Rattle.co_sheet.specs.Sections.{fault_at, first_line_fault}
+use Rattle.co_sheet.specs.Checks.{checks}
 use Rattle.co_value.specs.declared.data_type.DataType.{DataType}
 use Rattle.co_sheet.specs.declared.entry.Access.{Access}
 use Rattle.co_sheet.specs.Limits.{Default, absent, number}
-use Rattle.co_sheet.specs.Accepted.{first_fault}
+use Rattle.co_sheet.specs.Accepted.{first_fault, first_found, sections_in}
 use Rattle.co_sheet.specs.Content.{rows_of, Row}
 
 -- lines as a text, each ended by LF
@@ -33,7 +36,7 @@ fault_of lines = first_fault (joined lines)
 abbrev pub replaced : ℕ → List ℕ → List (List ℕ)
 replaced n line = slice_set small (n - 1) line
 
--- with lines put behind line n
+-- with lines put after line n
 abbrev pub with_lines : ℕ → List (List ℕ) → List (List ℕ)
 with_lines n lines = take n small ++ lines ++ drop n small
 
@@ -106,8 +109,15 @@ cut_after_line_3 = refl
 empty_text : first_fault [] ≡ Some (fault_at 0 MissingSection)
 empty_text = refl
 
--- a text of more than 1,048,576 bytes, whatever stands in it
+-- a text of more than 1,048,576 bytes, whatever it contains
 too_large : (bytes : List ℕ) → 1048576 < length bytes → first_fault bytes ≡ Some (fault_at 0 TooLarge)
 too_large bytes h =
     let test : ltb 1048576 (length bytes) ≡ true = grind (arith, nat_tests) in
+    rw test refl
+
+-- one of just so many is not: its lines and the checks say what is wrong with it
+large_enough : (bytes : List ℕ) → length bytes ≡ 1048576
+    → first_fault bytes ≡ option_or (first_line_fault [] (lines_of bytes)) (first_found checks (sections_in bytes))
+large_enough bytes h =
+    let test : ltb 1048576 (length bytes) ≡ false = grind (arith, nat_tests) in
     rw test refl

@@ -116,7 +116,7 @@ number_added ns more keys k h indexed new added after pushed =
     ∙ ap (filter all_digits) (sym (map-append (λ k. k.key.now) keys (k ∷ [])))
     ∙ ap (λ (all : List GivenKey). filter all_digits (names all)) (sym pushed)
 
--- any other key stands beside them
+-- any other key is kept beside them
 pub other_added : (ns : List (Bor (List ℕ))) (keys : List GivenKey) (k : GivenKey) → all_digits k.key.now ≡ false →
     map (λ n. n.now) ns ≡ filter all_digits (map (λ k. k.key.now) keys) →
     (after : List GivenKey) → after ≡ keys ++ k ∷ [] →

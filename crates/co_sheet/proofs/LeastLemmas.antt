@@ -1,4 +1,4 @@
--- The least fault of a list, part by part.
+-- The fault with the smallest line of a list, part by part.
 use Rattle.std.proofs.Common.{◌≡◌, ℕ, ◌+◌, ◌≤◌, ◌<◌, suc, Bool, true, false, cond, List, [], ◌∷◌, ◌++◌, Option, Some, None, refl, sym, ap, ◌∙◌, arith, leb, length, get_or, drop, drop-cons, add-one}
 use Rattle.std.proofs.lemmas.Bool.Decides.{nat_tests}
 use Rattle.std.proofs.lemmas.List.{drop_all}
@@ -8,7 +8,7 @@ use Rattle.co_sheet.specs.declared.fault.SheetFault.{SheetFault}
 use Rattle.co_sheet.specs.Accepted.{least_fault}
 use Rattle.co_sheet.specs.LeastFaults.{earlier}
 
--- the one of two with the lesser line
+-- the one of two with the smaller line
 abbrev lesser : SheetFault → SheetFault → SheetFault
 lesser f g = cond (leb f.line g.line) f g
 
@@ -65,6 +65,6 @@ pub least-views : {X V : Type 0} (view : X → V) (faults : V → List SheetFaul
     → least ≡ least_fault (flat_map faults (map view items))
 least-views view faults items least is = is ∙ ap least_fault (sym (flat_map-map faults view items))
 
--- of two lists, one behind the other
+-- of two lists, one after the other
 pub least-two : (xs ys : List SheetFault) (x y least : Option SheetFault) → least ≡ earlier x y → x ≡ least_fault xs → y ≡ least_fault ys → least ≡ least_fault (xs ++ ys)
 least-two xs ys x y least is of_x of_y = is ∙ ap (λ o. earlier o y) of_x ∙ ap (earlier (least_fault xs)) of_y ∙ sym (least-append xs ys)

@@ -1,5 +1,7 @@
 mod Examples
+mod FaultExamples
 mod Edges
+mod FixedTypeExamples
 mod LargeSheet
 mod TextLemmas
 mod NumeralLemmas
@@ -20,3 +22,10 @@ mod OrderLemmas
 mod FirstLemmas
 mod ContentLemmas
 mod AcceptedLemmas
+mod PlaceLemmas
+mod SectionLawLemmas
+mod KeyLemmas
+mod SheetLawLemmas
+mod ViewLemmas
+mod SheetLawExamples
+mod SectionLawExamples

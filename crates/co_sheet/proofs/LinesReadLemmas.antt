@@ -14,16 +14,16 @@ use Rattle.co_sheet.specs.LinesRead.{with_key, with_last, empty_section, with_fo
 abbrev pub numbered : ℕ → List (List ℕ) → List Line
 numbered n ls = map (λ l. record { number = l.0; bytes = l.1 }) (enumerate_from n ls)
 
--- the sections behind more lines
+-- the sections after more lines
 abbrev pub with_lines : List SheetSection → List Line → List SheetSection
 with_lines sections [] = sections
 with_lines sections (line ∷ lines) = with_lines (with_line sections line) lines
 
--- the first line at fault, of lines that stand behind these sections
-abbrev pub fault_behind : List SheetSection → List Line → Option SheetFault
-fault_behind sections [] = None
-fault_behind sections (line ∷ lines) =
-    option_or (option_map (fault_at line.number) (line_fault sections line)) (fault_behind (with_line sections line) lines)
+-- the first line at fault, of lines after these sections
+abbrev pub fault_after : List SheetSection → List Line → Option SheetFault
+fault_after sections [] = None
+fault_after sections (line ∷ lines) =
+    option_or (option_map (fault_at line.number) (line_fault sections line)) (fault_after (with_line sections line) lines)
 
 -- the key that a line gives a section of this kind
 abbrev pub given_by : SectionKind → Line → Option KeyValue
@@ -92,7 +92,7 @@ continues-form l ls unclosed e more ss s = continues-other l ls unclosed e more 
 continues-form l ls malformed e more ss s = continues-other l ls malformed e more ss s
 continues-form l ls (key_value key value) e more ss s = continues-other l ls (key_value key value) e more ss s
 
--- behind sections, more lines give the last one keys up to the next section line, and then sections
+-- after sections, more lines give the last one keys up to the next section line, and then sections
 pub continues : (ls : List Line) → Continues ls
 continues [] ss s = ap (λ (t : SheetSection). ss ++ t ∷ []) (sym (with_body-nil s))
 continues (l ∷ ls) ss s = continues-form l ls (line_form l) refl (continues ls) ss s
@@ -121,9 +121,9 @@ sections_of-append ls l =
     ∙ with_lines-append [] ls l
     ∙ ap (λ (ss : List SheetSection). with_line ss l) (sections_of-with_lines ls)
 
--- the first line at fault, by the sections that stand before
-pub first_line_fault-behind : (before ls : List Line) → first_line_fault before ls ≡ fault_behind (sections_of before) ls
-first_line_fault-behind before [] = refl
-first_line_fault-behind before (l ∷ ls) =
+-- the first line at fault, by the sections before
+pub first_line_fault-after : (before ls : List Line) → first_line_fault before ls ≡ fault_after (sections_of before) ls
+first_line_fault-after before [] = refl
+first_line_fault-after before (l ∷ ls) =
     ap (option_or (option_map (fault_at l.number) (line_fault (sections_of before) l)))
-    (first_line_fault-behind (before ++ l ∷ []) ls ∙ ap (λ (ss : List SheetSection). fault_behind ss ls) (sections_of-append before l))
+    (first_line_fault-after (before ++ l ∷ []) ls ∙ ap (λ (ss : List SheetSection). fault_after ss ls) (sections_of-append before l))

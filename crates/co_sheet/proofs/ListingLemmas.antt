@@ -13,7 +13,7 @@ use Rattle.co_sheet.specs.ObjectLists.{Listing, number_of_key, count_of, listing
 use Rattle.co_sheet.specs.ListingViews.{is_key_to, listing_at, has_before}
 use Rattle.co_sheet.proofs.ListLemmas.{flat_map-filter, filter-flat_map}
 
-abbrev from_1000 : Listing → Bool
+abbrev pub from_1000 : Listing → Bool
 from_1000 l = leb 0x1000 l.index
 
 -- by whether a key is a place, the number that it gives, and whether that is large enough
@@ -67,7 +67,7 @@ at_cases false false k i l s = refl
 pub is_at-same : (k i : ℕ) → is_at (nat_cmp k) i ≡ eqb k i
 is_at-same k i = at_cases (ltb k i) (eqb k i) k i refl refl
 
--- the lesser of two lines stands before another where one of them does
+-- the smaller of two lines comes before another where one of them does
 min_cases : (x y z rest : Bool) (o a line : ℕ) → ltb o line ≡ x → ltb a line ≡ y → ltb (min o a) line ≡ z → z ≡ (x || y)
 min_cases true y true rest o a line p q r = refl
 min_cases true y false rest o a line p q r = absurd (grind (arith, nat_tests))

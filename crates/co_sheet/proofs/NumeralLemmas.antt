@@ -14,17 +14,17 @@ use Rattle.co_sheet.specs.Numerals.{is_number_in}
 abbrev pub with_digit : ℕ → ℕ → ℕ → ℕ
 with_digit base n digit = base * n + digit_value digit
 
--- what digits behind a number give, below 2 ^ 64
-abbrev pub read_behind : ℕ → ℕ → List ℕ → Option ℕ
-read_behind base n text = cond (list_all (λ c. is_digit c base) text && ltb (fold (with_digit base) n text) (2 ^ 64)) (Some (fold (with_digit base) n text)) None
+-- what digits after a number give, below 2 ^ 64
+abbrev pub read_after : ℕ → ℕ → List ℕ → Option ℕ
+read_after base n text = cond (list_all (λ c. is_digit c base) text && ltb (fold (with_digit base) n text) (2 ^ 64)) (Some (fold (with_digit base) n text)) None
 
-pub read_behind-digit : (base n x : ℕ) (text : List ℕ) → digit_value x < base → read_behind base n (x ∷ text) ≡ read_behind base (base * n + digit_value x) text
-read_behind-digit base n x text h =
+pub read_after-digit : (base n x : ℕ) (text : List ℕ) → digit_value x < base → read_after base n (x ∷ text) ≡ read_after base (base * n + digit_value x) text
+read_after-digit base n x text h =
     let test : is_digit x base ≡ true = grind (arith, nat_tests) in
     rw test refl
 
-pub read_behind-other : (base n x : ℕ) (text : List ℕ) → base ≤ digit_value x → read_behind base n (x ∷ text) ≡ None
-read_behind-other base n x text h =
+pub read_after-other : (base n x : ℕ) (text : List ℕ) → base ≤ digit_value x → read_after base n (x ∷ text) ≡ None
+read_after-other base n x text h =
     let test : is_digit x base ≡ false = grind (arith, nat_tests) in
     rw test refl
 
@@ -39,42 +39,42 @@ too_great : (b : Bool) (m : ℕ) → 2 ^ 64 ≤ m → cond (b && ltb m (2 ^ 64))
 too_great true m h = let test : ltb m (2 ^ 64) ≡ false = grind (arith, nat_tests) in rw test refl
 too_great false m h = refl
 
-pub read_behind-great : (base n : ℕ) (text : List ℕ) → 1 ≤ base → 2 ^ 64 ≤ n → read_behind base n text ≡ None
-read_behind-great base n text h great =
+pub read_after-great : (base n : ℕ) (text : List ℕ) → 1 ≤ base → 2 ^ 64 ≤ n → read_after base n text ≡ None
+read_after-great base n text h great =
     let grows = fold-grows base n text h in
     too_great (list_all (λ c. is_digit c base) text) (fold (with_digit base) n text) (omega (arith, grows))
 
-pub read_behind-end : (base n : ℕ) → n < 2 ^ 64 → read_behind base n [] ≡ Some n
-read_behind-end base n h = let test : ltb n (2 ^ 64) ≡ true = grind (arith, nat_tests) in rw test refl
+pub read_after-end : (base n : ℕ) → n < 2 ^ 64 → read_after base n [] ≡ Some n
+read_after-end base n h = let test : ltb n (2 ^ 64) ≡ true = grind (arith, nat_tests) in rw test refl
 
-pub read_behind-start : (base : ℕ) (text : List ℕ) → 0 < length text → cond (is_number_in base text) (Some (number_in base text)) None ≡ read_behind base 0 text
-read_behind-start base [] h = absurd (omega arith)
-read_behind-start base (x ∷ text) h = rw (eqb-suc-zero (length text)) refl
+pub read_after-start : (base : ℕ) (text : List ℕ) → 0 < length text → cond (is_number_in base text) (Some (number_in base text)) None ≡ read_after base 0 text
+read_after-start base [] h = absurd (omega arith)
+read_after-start base (x ∷ text) h = rw (eqb-suc-zero (length text)) refl
 
 -- a digit that makes the number too great
-pub great_at : (base n i digit : ℕ) (text : List ℕ) → i < length text → 2 ≤ base → digit_value (get_or text i 0) ≡ digit → digit < base → 2 ^ 64 ≤ base * n + digit → read_behind base n (drop i text) ≡ read_behind base 0 text → None ≡ cond (is_number_in base text) (Some (number_in base text)) None
+pub great_at : (base n i digit : ℕ) (text : List ℕ) → i < length text → 2 ≤ base → digit_value (get_or text i 0) ≡ digit → digit < base → 2 ^ 64 ≤ base * n + digit → read_after base n (drop i text) ≡ read_after base 0 text → None ≡ cond (is_number_in base text) (Some (number_in base text)) None
 great_at base n i digit text inside low is small great invariant =
     let cut = drop-cons text i 0 inside in
     let some : 0 < length text = omega arith in
     let is_small : digit_value (get_or text i 0) < base = omega arith in
     let is_great : 2 ^ 64 ≤ base * n + digit_value (get_or text i 0) = omega arith in
-    let here : read_behind base n (get_or text i 0 ∷ drop (suc i) text) ≡ None =
-    read_behind-digit base n (get_or text i 0) (drop (suc i) text) is_small ∙ read_behind-great base (base * n + digit_value (get_or text i 0)) (drop (suc i) text) (omega arith) is_great in
-    sym (read_behind-start base text some ∙ sym invariant ∙ ap (read_behind base n) cut ∙ here)
+    let here : read_after base n (get_or text i 0 ∷ drop (suc i) text) ≡ None =
+    read_after-digit base n (get_or text i 0) (drop (suc i) text) is_small ∙ read_after-great base (base * n + digit_value (get_or text i 0)) (drop (suc i) text) (omega arith) is_great in
+    sym (read_after-start base text some ∙ sym invariant ∙ ap (read_after base n) cut ∙ here)
 
 -- no more digits
-pub read_all : (base n i : ℕ) (text : List ℕ) → 0 < length text → length text ≤ i → n < 2 ^ 64 → read_behind base n (drop i text) ≡ read_behind base 0 text → Some n ≡ cond (is_number_in base text) (Some (number_in base text)) None
+pub read_all : (base n i : ℕ) (text : List ℕ) → 0 < length text → length text ≤ i → n < 2 ^ 64 → read_after base n (drop i text) ≡ read_after base 0 text → Some n ≡ cond (is_number_in base text) (Some (number_in base text)) None
 read_all base n i text some past small invariant =
-    sym (read_behind-start base text some ∙ sym invariant ∙ ap (read_behind base n) (drop_all i text past) ∙ read_behind-end base n small)
+    sym (read_after-start base text some ∙ sym invariant ∙ ap (read_after base n) (drop_all i text past) ∙ read_after-end base n small)
 
 -- a digit more
-pub next_at : (base n i digit next : ℕ) (text : List ℕ) → i < length text → digit_value (get_or text i 0) ≡ digit → digit < base → next ≡ base * n + digit → read_behind base n (drop i text) ≡ read_behind base 0 text → read_behind base next (drop (i + 1) text) ≡ read_behind base 0 text
+pub next_at : (base n i digit next : ℕ) (text : List ℕ) → i < length text → digit_value (get_or text i 0) ≡ digit → digit < base → next ≡ base * n + digit → read_after base n (drop i text) ≡ read_after base 0 text → read_after base next (drop (i + 1) text) ≡ read_after base 0 text
 next_at base n i digit next text inside is small sum invariant =
     let is_small : digit_value (get_or text i 0) < base = omega arith in
     let is_next : base * n + digit_value (get_or text i 0) ≡ next = omega arith in
-    let here : read_behind base n (get_or text i 0 ∷ drop (suc i) text) ≡ read_behind base next (drop (suc i) text) =
-    read_behind-digit base n (get_or text i 0) (drop (suc i) text) is_small ∙ ap (λ m. read_behind base m (drop (suc i) text)) is_next in
-    rw (add-one i) (sym here ∙ sym (ap (read_behind base n) (drop-cons text i 0 inside)) ∙ invariant)
+    let here : read_after base n (get_or text i 0 ∷ drop (suc i) text) ≡ read_after base next (drop (suc i) text) =
+    read_after-digit base n (get_or text i 0) (drop (suc i) text) is_small ∙ ap (λ m. read_after base m (drop (suc i) text)) is_next in
+    rw (add-one i) (sym here ∙ sym (ap (read_after base n) (drop-cons text i 0 inside)) ∙ invariant)
 
 both_of : (a b : Bool) → (a && b) ≡ true → (a ≡ true) × (b ≡ true)
 both_of true true h = (refl, refl)

@@ -82,7 +82,7 @@ self_cases false h = refl
 self-ties : {X : Type 0} (lt : X → X → Bool) (order : IsStrictWeakOrder lt) (x : X) → ties lt x x ≡ true
 self-ties lt order x = let none = self_cases (lt x x) (order.one_way x x) in rw none refl
 
--- behind z, which y is before, nothing ties with y
+-- after z, which y is before, nothing ties with y
 none_cases : (before after : Bool) → (before ≡ false → ⊥) → (not before && not after) ≡ false
 none_cases true after h = refl
 none_cases false after h = absurd (h refl)

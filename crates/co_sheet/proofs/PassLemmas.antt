@@ -8,19 +8,19 @@ use Rattle.co_sheet.specs.declared.fault.SheetFault.{SheetFault}
 use Rattle.co_sheet.specs.Text.{Line, lines_of, without_mark}
 use Rattle.co_sheet.specs.Sections.{SheetSection, sections_of, first_line_fault, line_fault, fault_at}
 use Rattle.co_sheet.specs.LinesRead.{with_line}
-use Rattle.co_sheet.proofs.LinesReadLemmas.{numbered, with_lines, fault_behind, sections_of-with_lines, first_line_fault-behind}
+use Rattle.co_sheet.proofs.LinesReadLemmas.{numbered, with_lines, fault_after, sections_of-with_lines, first_line_fault-after}
 
 -- these sections, with the lines from this number that a rest of the text has, give what the text gives
 pub record Reads (text : List ℕ) (sections : List SheetSection) (number : ℕ) (rest : List ℕ) : Type 0 where
-  pub faults : fault_behind sections (numbered number (lines rest)) ≡ first_line_fault [] (lines_of text)
+  pub faults : fault_after sections (numbered number (lines rest)) ≡ first_line_fault [] (lines_of text)
   pub whole : with_lines sections (numbered number (lines rest)) ≡ sections_of (lines_of text)
 
 pub reads_all : (text rest : List ℕ) (sections : List SheetSection) → rest ≡ without_mark text → sections ≡ [] → Reads text sections 1 rest
 reads_all text rest sections h empty =
     record {
-      faults = ap (λ (r : List ℕ). fault_behind sections (numbered 1 (lines r))) h
-          ∙ ap (λ (ss : List SheetSection). fault_behind ss (lines_of text)) empty
-          ∙ sym (first_line_fault-behind [] (lines_of text));
+      faults = ap (λ (r : List ℕ). fault_after sections (numbered 1 (lines r))) h
+          ∙ ap (λ (ss : List SheetSection). fault_after ss (lines_of text)) empty
+          ∙ sym (first_line_fault-after [] (lines_of text));
       whole = ap (λ (r : List ℕ). with_lines sections (numbered 1 (lines r))) h
           ∙ ap (λ (ss : List SheetSection). with_lines ss (lines_of text)) empty
           ∙ sections_of-with_lines (lines_of text);
@@ -34,9 +34,9 @@ reads_more text rest tail bytes number sections more reads first good next =
     let line : Line = record { number = number; bytes = bytes } in
     let others : List Line = numbered (number + 1) (lines tail) in
     record {
-      faults = ap (λ (ss : List SheetSection). fault_behind ss others) next
-          ∙ sym (ap (λ (o : Option FaultKind). option_or (option_map (fault_at number) o) (fault_behind (with_line sections line) others)) good)
-          ∙ sym (ap (λ (ls : List (List ℕ)). fault_behind sections (numbered number ls)) first)
+      faults = ap (λ (ss : List SheetSection). fault_after ss others) next
+          ∙ sym (ap (λ (o : Option FaultKind). option_or (option_map (fault_at number) o) (fault_after (with_line sections line) others)) good)
+          ∙ sym (ap (λ (ls : List (List ℕ)). fault_after sections (numbered number ls)) first)
           ∙ reads.faults;
       whole = ap (λ (ss : List SheetSection). with_lines ss others) next
           ∙ sym (ap (λ (ls : List (List ℕ)). with_lines sections (numbered number ls)) first)
@@ -50,13 +50,13 @@ pub reads_fault : (text rest tail bytes : List ℕ) (number : ℕ) (sections : L
 reads_fault text rest tail bytes number sections fault reads first bad =
     let line : Line = record { number = number; bytes = bytes } in
     sym reads.faults
-    ∙ ap (λ (ls : List (List ℕ)). fault_behind sections (numbered number ls)) first
-    ∙ ap (λ (o : Option SheetFault). option_or o (fault_behind (with_line sections line) (numbered (number + 1) (lines tail)))) bad
+    ∙ ap (λ (ls : List (List ℕ)). fault_after sections (numbered number ls)) first
+    ∙ ap (λ (o : Option SheetFault). option_or o (fault_after (with_line sections line) (numbered (number + 1) (lines tail)))) bad
 
 -- no line is left
 pub reads_end : (text rest : List ℕ) (number : ℕ) (sections : List SheetSection) → Reads text sections number rest → lines rest ≡ [] →
     (first_line_fault [] (lines_of text) ≡ None) × (sections ≡ sections_of (lines_of text))
 reads_end text rest number sections reads none = (
-  sym reads.faults ∙ ap (λ (ls : List (List ℕ)). fault_behind sections (numbered number ls)) none,
+  sym reads.faults ∙ ap (λ (ls : List (List ℕ)). fault_after sections (numbered number ls)) none,
   sym (ap (λ (ls : List (List ℕ)). with_lines sections (numbered number ls)) none) ∙ reads.whole,
 )

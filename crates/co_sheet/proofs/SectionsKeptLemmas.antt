@@ -9,7 +9,7 @@ use Rattle.co_sheet.specs.Sections.{SheetSection, LineForm, fault_within, fault_
 use Rattle.co_sheet.specs.LinesRead.{with_last}
 use Rattle.co_sheet.specs.ParsedSections.{section_view}
 use Rattle.co_sheet.specs.SectionsKept.{sections_kept}
-use Rattle.co_sheet.specs.WantOfMemory.{want_of_memory}
+use Rattle.co_sheet.specs.OutOfMemory.{out_of_memory}
 use Rattle.co_sheet.proofs.SectionsReadLemmas.{last_or-append}
 use Rattle.co_sheet.proofs.LinesReadLemmas.{with_last-append}
 
@@ -34,7 +34,7 @@ with_last-kept f closed current s t h same =
 
 -- a fault within the last section
 pub fault_at_last : (fault : SheetFault) (last : Option SheetSection) (s : SheetSection) (form : LineForm) (line : ℕ) → last ≡ Some s →
-    (fault ≡ want_of_memory) ⊎ (option_map (fault_at line) (fault_within (Some s) form) ≡ Some fault) →
-    (fault ≡ want_of_memory) ⊎ (option_map (fault_at line) (fault_within last form) ≡ Some fault)
+    (fault ≡ out_of_memory) ⊎ (option_map (fault_at line) (fault_within (Some s) form) ≡ Some fault) →
+    (fault ≡ out_of_memory) ⊎ (option_map (fault_at line) (fault_within last form) ≡ Some fault)
 fault_at_last fault last s form line h here =
-    let P : Option SheetSection → Type 0 = λ o. (fault ≡ want_of_memory) ⊎ (option_map (fault_at line) (fault_within o form) ≡ Some fault) in subst P (sym h) here
+    let P : Option SheetSection → Type 0 = λ o. (fault ≡ out_of_memory) ⊎ (option_map (fault_at line) (fault_within o form) ≡ Some fault) in subst P (sym h) here

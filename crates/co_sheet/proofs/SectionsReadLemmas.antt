@@ -1,4 +1,4 @@
--- The sections that are kept, behind one more line.
+-- The sections that are kept, after one more line.
 use Rattle.std.proofs.Common.{◌≡◌, ℕ, Bool, true, false, ◌||◌, not, cond, List, [], ◌∷◌, ◌++◌, Option, Some, None, is_some, length, ◌≤◌, ltb, arith, refl, sym, ◌∙◌, ap}
 use Rattle.std.proofs.lemmas.Bool.Decides.{nat_tests}
 use Rattle.std.specs.Prelude.{if◌then◌else◌, ◌&&◌}
@@ -39,7 +39,7 @@ section_at-append k [] s = here (same_kind s.kind k) s
 section_at-append k (t ∷ ss) s =
     here_or (same_kind t.kind k) (same_kind s.kind k) t (section_at k (ss ++ s ∷ [])) (section_at k ss) (section_at-append k ss s)
 
-kind-with_key : (s : SheetSection) (o : Option KeyValue) → (with_key s o).kind ≡ s.kind
+pub kind-with_key : (s : SheetSection) (o : Option KeyValue) → (with_key s o).kind ≡ s.kind
 kind-with_key s None = refl
 kind-with_key s (Some k) = refl
 

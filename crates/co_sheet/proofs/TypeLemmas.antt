@@ -8,7 +8,7 @@ use Rattle.co_value.specs.declared.data_type.DataType.TheVariants.{Boolean, Inte
 use Rattle.co_value.specs.Types.{code_of}
 use Rattle.co_sheet.specs.Entries.{data_types, data_type_with}
 
-data_type_with-code_of : (t : DataType) → data_type_with (code_of t) ≡ Some t
+pub data_type_with-code_of : (t : DataType) → data_type_with (code_of t) ≡ Some t
 data_type_with-code_of Boolean = refl
 data_type_with-code_of Integer8 = refl
 data_type_with-code_of Integer16 = refl

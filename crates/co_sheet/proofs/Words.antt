@@ -1,7 +1,7 @@
 -- Words, lines and tables, computed from their definitions.
 use Rattle.std.proofs.Common.{◌≡◌, [], codes, refl, Some, None, Ok, Err, true, false}
 use Rattle.std.specs.Prelude.{pos, neg_ℤ}
-use Rattle.co_value.specs.declared.data_type.DataType.TheVariants.{Integer8, Integer16, Integer64, Unsigned16, Unsigned32, Unsigned64}
+use Rattle.co_value.specs.declared.data_type.DataType.TheVariants.{Integer8, Integer16, Integer64, Unsigned16, Unsigned64}
 use Rattle.co_sheet.specs.declared.section.SectionKind.TheVariants.{MandatoryObjects, OptionalObjects, DummyUsage, DeviceInfo, Object, SubIndex, PassedOver}
 use Rattle.co_sheet.specs.declared.object.ObjectType.TheVariants.{Record}
 use Rattle.co_sheet.specs.declared.entry.Access.TheVariants.{Rww, Constant}
@@ -12,7 +12,6 @@ use Rattle.co_sheet.specs.Names.{kind_of, is_read_key}
 use Rattle.co_sheet.specs.Sections.{form_of, skipped, section_line, unclosed, key_value, malformed}
 use Rattle.co_sheet.specs.Numerals.{value_at}
 use Rattle.co_sheet.specs.Entries.{data_type_with, object_type_with, access_with}
-use Rattle.co_sheet.specs.FixedTypes.{fixed_type_of}
 use Rattle.co_sheet.specs.Limits.{numeric_default, is_pairs, number, node_id}
 
 -- ---- blanks and cuts
@@ -87,6 +86,15 @@ prefix = refl
 sub_index : kind_of (codes "1018Sub0A") ≡ SubIndex (record { index = 0x1018; sub = 10 })
 sub_index = refl
 
+two_digits_of_sub_index : kind_of (codes "1018sub10") ≡ SubIndex (record { index = 0x1018; sub = 16 })
+two_digits_of_sub_index = refl
+
+five_digits_of_index : kind_of (codes "01018sub1") ≡ PassedOver
+five_digits_of_index = refl
+
+no_index : kind_of (codes "sub1") ≡ PassedOver
+no_index = refl
+
 three_digits_of_sub_index : kind_of (codes "1018sub001") ≡ PassedOver
 three_digits_of_sub_index = refl
 
@@ -133,20 +141,8 @@ key_of_section_passed_over = refl
 type_1b : data_type_with 0x1B ≡ Some Unsigned64
 type_1b = refl
 
-type_left_out : data_type_with 8 ≡ None
-type_left_out = refl
-
 type_of_three_bytes : data_type_with 0x10005 ≡ None
 type_of_three_bytes = refl
-
-fixed_mapping : fixed_type_of (record { index = 0x1A7F; sub = 64 }) ≡ Some Unsigned32
-fixed_mapping = refl
-
-past_the_mapping : fixed_type_of (record { index = 0x1A7F; sub = 65 }) ≡ None
-past_the_mapping = refl
-
-not_fixed : fixed_type_of (record { index = 0x1018; sub = 1 }) ≡ None
-not_fixed = refl
 
 object_type_9 : object_type_with 9 ≡ Some Record
 object_type_9 = refl

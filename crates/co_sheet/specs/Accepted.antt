@@ -1,7 +1,7 @@
 -- Which texts are data sheets, and what the others have wrong with them (CiA 306).
-use Rattle.std.specs.Prelude.{◌≡◌, ℕ, nat_lt, nat_le, if◌then◌else◌, List, [], ◌∷◌, length, fold, Option, Some, None}
+use Rattle.std.specs.Prelude.{◌≡◌, ◌⊎◌, ℕ, nat_lt, nat_le, if◌then◌else◌, List, [], ◌∷◌, length, fold, Option, Some, None}
 use Rattle.std.specs.Option.{option_or}
-use Rattle.co_sheet.specs.declared.fault.FaultKind.TheVariants.{TooLarge}
+use Rattle.co_sheet.specs.declared.fault.FaultKind.TheVariants.{TooLarge, Memory}
 use Rattle.co_sheet.specs.declared.fault.SheetFault.{SheetFault}
 use Rattle.co_sheet.specs.Text.{lines_of}
 use Rattle.co_sheet.specs.Sections.{SheetSection, sections_of, fault_at, first_line_fault}
@@ -11,12 +11,12 @@ use Rattle.co_sheet.specs.Checks.{checks}
 abbrev pub sections_in : List ℕ → List SheetSection
 sections_in text = sections_of (lines_of text)
 
--- the fault with the least line
+-- the fault with the smallest line
 abbrev pub least_fault : List SheetFault → Option SheetFault
 least_fault [] = None
 least_fault (f ∷ faults) = Some (fold (λ f g. if nat_le f.line g.line then f else g) f faults)
 
--- of the first check that finds any fault, the one that stands highest in the text
+-- of the first check that finds any fault, the one on the smallest line
 abbrev pub first_found : List (List SheetSection → List SheetFault) → List SheetSection → Option SheetFault
 first_found [] sections = None
 first_found (check ∷ more) sections = option_or (least_fault (check sections)) (first_found more sections)
@@ -30,3 +30,7 @@ first_fault text =
 -- a text is a data sheet
 abbrev pub IsAccepted : List ℕ → Type 0
 IsAccepted text = first_fault text ≡ None
+
+-- a fault that is answered: the first, or out of memory, which has no line
+abbrev pub IsAnswered : Option SheetFault → SheetFault → Type 0
+IsAnswered first fault = (fault ≡ fault_at 0 Memory) ⊎ (first ≡ Some fault)

@@ -24,6 +24,6 @@ value_checks = of_entries (in_numeric unread_limits) ∷ of_entries (in_numeric 
 abbrev pub mandatory_checks : List (List SheetSection → List SheetFault)
 mandatory_checks = missing_mandatory ∷ []
 
--- those behind the checks of the objects
+-- those after the checks of the objects
 abbrev pub late_checks : List (List SheetSection → List SheetFault)
 late_checks = entry_checks ++ (value_checks ++ mandatory_checks)

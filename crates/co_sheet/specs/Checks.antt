@@ -47,7 +47,7 @@ missing_lists sections = fault_if (is_none (section_at MandatoryObjects sections
 abbrev pub unread_list_numbers : List SheetSection → List SheetFault
 unread_list_numbers sections = flat_map (λ s. flat_map unread_number s.keys) (filter (λ s. is_list s.kind || same_kind s.kind DummyUsage || same_kind s.kind DeviceInfo) sections)
 
--- check 3: a list whose count isn't there or doesn't fit 16 bits, with fewer places than it counts, or with an index there that doesn't fit 16 bits
+-- check 3: a list whose count isn't there or doesn't fit 16 bits, that lacks a place (it has fewer than it counts: CountsPlaces in SectionLaws), or with an index there that doesn't fit 16 bits
 abbrev pub is_bad_list : SheetSection → ℕ → Bool
 is_bad_list list n = nat_lt 65535 n || nat_lt (length (keys_to list n)) n || list_any (λ k. option_map_or (nat_lt 0xFFFF) (number_of_key k) false) (keys_to list n)
 

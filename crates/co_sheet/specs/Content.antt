@@ -1,14 +1,17 @@
--- What an accepted text says: its entries, objects, sections and dummies (CiA 306).
-use Rattle.std.specs.Prelude.{◌≡◌, ℕ, ◌+◌, Bool, ◌&&◌, ◌||◌, ◌==◌, nat_lt, nat_le, if◌then◌else◌, List, [], ◌∷◌, ◌++◌, map, filter_map, codes, ℤ, Option, option_map, option_and_then}
+-- What a sheet holds, by the sections of its text: its objects, entries, section lines, notes and dummies (CiA 306).
+use Rattle.std.specs.Prelude.{◌≡◌, ℕ, ◌-◌, Bool, false, ◌&&◌, nat_lt, nat_le, if◌then◌else◌, List, [], ◌∷◌, map, filter_map, codes, ℤ, Option, option_map, option_and_then, slice_get, unwrap_or}
 use Rattle.co_value.specs.declared.key.Key.{Key}
 use Rattle.co_value.specs.declared.data_type.DataType.{DataType}
+use Rattle.co_value.specs.Keys.{is_key_before}
 use Rattle.co_sheet.specs.declared.section.SectionKind.TheVariants.{DummyUsage}
 use Rattle.co_sheet.specs.declared.object.ObjectType.{ObjectType}
 use Rattle.co_sheet.specs.declared.entry.Access.{Access}
-use Rattle.co_sheet.specs.Sections.{section_at}
+use Rattle.co_sheet.specs.declared.note.Note.{Note}
+use Rattle.co_sheet.specs.Sections.{SheetSection, section_at}
 use Rattle.co_sheet.specs.ObjectLists.{number_at, is_one_of, listings}
 use Rattle.co_sheet.specs.Entries.{ListedObject, listed_objects, object_type_with, object_code, Entry, entries_of, data_type_of, access_of, is_mappable, name_of}
 use Rattle.co_sheet.specs.Limits.{Default, low_limit, high_limit, default_of}
+use Rattle.co_sheet.specs.Notes.{notes_of}
 use Rattle.co_sheet.specs.Accepted.{sections_in, IsAccepted}
 
 -- an entry, without where its texts lie in memory
@@ -44,24 +47,20 @@ row_of e = option_and_then (λ t. option_map (row_with e t) (access_of e)) (data
 -- a value at its place among values in increasing order
 abbrev pub insert_before : {X : Type 0} → (X → X → Bool) → X → List X → List X
 insert_before is_before x [] = x ∷ []
-insert_before is_before x (y ∷ ys) = if is_before y x then y ∷ insert_before is_before x ys else x ∷ y ∷ ys
+insert_before is_before x (y ∷ ys) =
+    if is_before y x then y ∷ insert_before is_before x ys else x ∷ y ∷ ys
 
 -- values in increasing order
 abbrev pub in_order : {X : Type 0} → (X → X → Bool) → List X → List X
 in_order is_before [] = []
 in_order is_before (x ∷ xs) = insert_before is_before x (in_order is_before xs)
 
--- keys are ordered by index and then by sub-index
-abbrev pub is_key_before : Key → Key → Bool
-is_key_before k l = nat_lt k.index l.index || ((k.index == l.index) && nat_lt k.sub l.sub)
+-- rows in increasing key, and the rows of the entries so
+abbrev pub rows_in_order : List Row → List Row
+rows_in_order rows = in_order (λ r s. is_key_before r.key s.key) rows
 
--- the entries of a text, in increasing key
-abbrev pub rows_of : List ℕ → List Row
-rows_of text = in_order (λ r s. is_key_before r.key s.key) (filter_map row_of (entries_of (sections_in text)))
-
--- the keys of the entries of a text, in increasing order
-abbrev pub keys_of : List ℕ → List Key
-keys_of text = in_order is_key_before (map (λ e. e.key) (entries_of (sections_in text)))
+abbrev pub rows_in : List SheetSection → List Row
+rows_in sections = rows_in_order (filter_map row_of (entries_of sections))
 
 -- an object, without where its name lies in memory
 pub record ObjectRow : Type 0 where
@@ -70,33 +69,86 @@ pub record ObjectRow : Type 0 where
   pub name : Option (List ℕ)
   pub line : ℕ
 
+-- the row of an object, by its type
+abbrev pub object_row_with : ListedObject → ObjectType → ObjectRow
+object_row_with o t =
+    record { index = o.index; object_type = t; name = name_of o.section; line = o.section.line }
+
 -- the row of an object; in an accepted text each has one
 abbrev pub object_row_of : ListedObject → Option ObjectRow
-object_row_of o = option_map (λ t. record { index = o.index; object_type = t; name = name_of o.section; line = o.section.line }) (option_and_then object_type_with (object_code o.section))
+object_row_of o = option_map (object_row_with o) (option_and_then object_type_with (object_code o.section))
 
--- the objects of a text, in increasing index
-abbrev pub objects_of : List ℕ → List ObjectRow
-objects_of text = in_order (λ o p. nat_lt o.index p.index) (filter_map object_row_of (listed_objects (sections_in text)))
+-- objects in increasing index, and the rows of the listed objects so
+abbrev pub objects_in_order : List ObjectRow → List ObjectRow
+objects_in_order objects = in_order (λ o p. nat_lt o.index p.index) objects
 
--- the indices that the lists of a text name from 1000h on, in increasing order
-abbrev pub indices_of : List ℕ → List ℕ
-indices_of text = in_order nat_lt (map (λ l. l.index) (listings (sections_in text)))
+abbrev pub objects_in : List SheetSection → List ObjectRow
+objects_in sections = objects_in_order (filter_map object_row_of (listed_objects sections))
 
 -- a section line of a text
 pub record SectionName : Type 0 where
   pub name : List ℕ
   pub line : ℕ
 
--- the section lines of a text, in its order, those that are passed over too
-abbrev pub section_names_of : List ℕ → List SectionName
-section_names_of text = map (λ s. record { name = s.name; line = s.line }) (sections_in text)
+-- the section lines, in their order, those that are passed over too
+abbrev pub section_names_in : List SheetSection → List SectionName
+section_names_in sections = map (λ s. record { name = s.name; line = s.line }) sections
 
--- whether a dummy entry, 0002h to 0007h, may be mapped: DummyUsage has 1 for it
-abbrev pub is_usable_dummy : List ℕ → ℕ → Bool
-is_usable_dummy text index = nat_le 2 index && nat_le index 7
-    && is_one_of (1 ∷ []) (option_and_then (number_at (codes "Dummy000" ++ (48 + index) ∷ [])) (section_at DummyUsage (sections_in text)))
+-- whether DummyUsage has 1 at a key
+abbrev pub is_dummy_key : List SheetSection → List ℕ → Bool
+is_dummy_key sections name =
+    is_one_of (1 ∷ []) (option_and_then (number_at name) (section_at DummyUsage sections))
 
--- the text is a data sheet, and these are its entries
-pub record IsSheet (text : List ℕ) (rows : List Row) : Type 0 where
+-- of the dummy entries 0002h to 0007h, which may be mapped (CiA 306, dummy usage)
+abbrev pub dummies_in : List SheetSection → List Bool
+dummies_in sections =
+    is_dummy_key sections (codes "Dummy0002") ∷ is_dummy_key sections (codes "Dummy0003")
+    ∷ is_dummy_key sections (codes "Dummy0004") ∷ is_dummy_key sections (codes "Dummy0005")
+    ∷ is_dummy_key sections (codes "Dummy0006") ∷ is_dummy_key sections (codes "Dummy0007") ∷ []
+
+-- whether an index is a dummy entry that may be mapped
+abbrev pub is_dummy : List Bool → ℕ → Bool
+is_dummy dummies index = nat_le 2 index && unwrap_or (slice_get dummies (index - 2)) false
+
+-- what a sheet holds
+pub record SheetContent : Type 0 where
+  pub objects : List ObjectRow
+  pub rows : List Row
+  pub sections : List SectionName
+  pub notes : List Note
+  pub dummies : List Bool
+
+-- what a sheet holds, by the sections of its text
+abbrev pub content_of : List SheetSection → SheetContent
+content_of sections = record {
+  objects = objects_in sections;
+  rows = rows_in sections;
+  sections = section_names_in sections;
+  notes = notes_of sections;
+  dummies = dummies_in sections;
+}
+
+-- the text is a data sheet, and this is what it holds
+pub record IsSheet (text : List ℕ) (sheet : SheetContent) : Type 0 where
   pub accepted : IsAccepted text
-  pub entries : rows ≡ rows_of text
+  pub content : sheet ≡ content_of (sections_in text)
+
+-- the entries and the objects of a text
+abbrev pub rows_of : List ℕ → List Row
+rows_of text = rows_in (sections_in text)
+
+abbrev pub objects_of : List ℕ → List ObjectRow
+objects_of text = objects_in (sections_in text)
+
+-- the keys of the entries of a text, in increasing order
+abbrev pub keys_of : List ℕ → List Key
+keys_of text = in_order is_key_before (map (λ e. e.key) (entries_of (sections_in text)))
+
+-- the indices that the lists of a text name from 1000h on, in increasing order
+abbrev pub indices_of : List ℕ → List ℕ
+indices_of text = in_order nat_lt (map (λ l. l.index) (listings (sections_in text)))
+
+-- nothing is left out: each entry of a text has its row, and each index that its lists name an object
+pub record IsWhole (text : List ℕ) (sheet : SheetContent) : Type 0 where
+  pub keys : map (λ r. r.key) sheet.rows ≡ keys_of text
+  pub indices : map (λ o. o.index) sheet.objects ≡ indices_of text

@@ -83,7 +83,7 @@ type_code e = option_map_or number_of_key (key_at (codes "DataType") e.section) 
 abbrev pub data_type_of : Entry → Option DataType
 data_type_of e = option_and_then data_type_with (type_code e)
 
--- the access that a word stands for
+-- the access that a word means
 abbrev pub access_with : List ℕ → Option Access
 access_with word =
     if same_name word (codes "ro") then Some Ro

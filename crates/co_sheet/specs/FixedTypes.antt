@@ -1,4 +1,4 @@
--- The entries whose data type is fixed wherever they stand (CiA 301, object dictionary).
+-- The entries whose data type is fixed in every sheet (CiA 301, object dictionary).
 use Rattle.std.specs.Prelude.{ℕ, ◌&&◌, nat_le, List, [], ◌∷◌, find, Option, option_map}
 use Rattle.co_value.specs.declared.key.Key.{Key}
 use Rattle.co_value.specs.declared.data_type.DataType.{DataType}

@@ -1,4 +1,4 @@
--- Of two faults that with the lesser line, the former at equal lines.
+-- Of two faults that with the smaller line, the former at equal lines.
 use Rattle.std.specs.Prelude.{nat_le, if◌then◌else◌, Option, Some, None}
 use Rattle.co_sheet.specs.declared.fault.SheetFault.{SheetFault}
 

@@ -7,6 +7,7 @@ pub mod FixedTypes
 pub mod Entries
 pub mod Limits
 pub mod Notes
+pub mod FaultTexts
 pub mod Checks
 pub mod Accepted
 pub mod Content
@@ -14,10 +15,12 @@ pub mod Views
 pub mod ParsedSections
 pub mod LinesRead
 pub mod SectionsKept
-pub mod WantOfMemory
+pub mod OutOfMemory
 pub mod SectionsSoFar
 pub mod LeastFaults
 pub mod SectionViews
 pub mod ListingViews
-pub mod SheetContents
+pub mod SheetViews
+pub mod SheetLaws
+pub mod SectionLaws
 pub mod CheckGroups

@@ -19,7 +19,7 @@ is_key_to count k = is_position k.key && nat_le (number_in 10 k.key) count
 abbrev pub listing_at : ℕ → KeyValue → Option Listing
 listing_at count k = if is_key_to count k then option_and_then (λ n. if nat_le 0x1000 n then Some (record { index = n; line = k.line }) else None) (number_of_key k) else None
 
--- a line that is there and stands before another
+-- a line that is there and comes before another
 abbrev pub has_before : ℕ → Option ℕ → Bool
 has_before line first = option_map_or (λ l. nat_lt l line) first false
 

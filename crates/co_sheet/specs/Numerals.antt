@@ -27,7 +27,7 @@ decimal_number text =
     else if is_ambiguous text then Err Ambiguous
     else Ok (number_in 10 text)
 
--- the number behind `0x`
+-- the number after `0x`
 abbrev pub hexadecimal_number : List ℕ → Result ℕ NumeralFault
 hexadecimal_number text = if is_number_in 16 text then Ok (number_in 16 text) else Err Malformed
 
@@ -55,11 +55,11 @@ magnitude (Hexadecimal n) = n
 abbrev pub unsigned_number : List ℕ → Result ℕ NumeralFault
 unsigned_number text = result_map magnitude (unsigned_numeral text)
 
--- two's complement: a number of this many bits whose top bit is set stands for itself less 2 ^ bits
+-- two's complement: a number of this many bits whose top bit is set means itself less 2 ^ bits
 abbrev pub hexadecimal_value : ℕ → ℕ → ℤ
 hexadecimal_value bits n = if nat_le (2 ^ (bits - 1)) n && nat_lt n (2 ^ bits) then pos n +ℤ neg_ℤ (pos (2 ^ bits)) else pos n
 
--- the number that a numeral stands for at a type
+-- the number that a numeral means at a type
 abbrev pub value_at : DataType → Numeral → ℤ
 value_at t (Decimal z) = z
 value_at t (Hexadecimal n) = if is_signed t then hexadecimal_value (8 * unwrap_or (width_of t) 0) n else pos n

@@ -1,6 +1,6 @@
 -- The object lists: which indices a data sheet lists (CiA 306, object lists).
-use Rattle.std.specs.Prelude.{ℕ, Bool, false, ◌&&◌, ◌==◌, nat_le, List, [], filter, filter_map, flat_map, codes, Option, option_map, option_and_then}
-use Rattle.std.specs.List.{list_any}
+use Rattle.std.specs.Prelude.{ℕ, Bool, false, not, ◌&&◌, ◌==◌, nat_le, List, [], filter, filter_map, flat_map, codes, Option, option_map, option_and_then}
+use Rattle.std.specs.List.{list_any, range_with_len}
 use Rattle.std.specs.Option.{option_map_or}
 use Rattle.std.specs.Result.{result_ok}
 use Rattle.co_sheet.specs.Names.{is_list, is_position, number_in}
@@ -29,6 +29,13 @@ count_of list = number_at (codes "SupportedObjects") list
 -- the keys 1 to n of a list; those past n are passed over
 abbrev pub keys_to : SheetSection → ℕ → List KeyValue
 keys_to list n = filter (λ k. is_position k.key && nat_le (number_in 10 k.key) n) list.keys
+
+-- whether a list has the key of a place, and whether it lacks one of 1 to n
+abbrev pub has_place : SheetSection → ℕ → Bool
+has_place list i = list_any (λ k. is_position k.key && (number_in 10 k.key == i)) list.keys
+
+abbrev pub lacks_place : SheetSection → ℕ → Bool
+lacks_place list n = list_any (λ i. not (has_place list i)) (range_with_len 1 n)
 
 -- an index that a list names, and the line where it does
 pub record Listing : Type 0 where

@@ -25,7 +25,7 @@ is_bracket b = b == 93
 abbrev pub is_equals : ℕ → Bool
 is_equals b = b == 61
 
--- behind `[`: the name stands before the first `]`
+-- after `[`: the name is what comes before the first `]`
 abbrev pub section_form : List ℕ → LineForm
 section_form text = if list_any is_bracket text then section_line (trim (before_first is_bracket text)) else unclosed
 
@@ -92,13 +92,13 @@ key_at name section = find (λ k. same_name k.key name) section.keys
 abbrev pub section_at : SectionKind → List SheetSection → Option SheetSection
 section_at kind sections = find (λ s. same_kind s.kind kind) sections
 
--- what is wrong with a line that is neither skipped nor a section line, in the section where it stands
+-- what is wrong with a line that is neither skipped nor a section line, in the section that it is in
 abbrev pub fault_within : Option SheetSection → LineForm → Option FaultKind
 fault_within None form = Some KeyOutsideSection
 fault_within (Some s) (key_value key value) = if is_given s.kind key value && is_some (key_at key s) then Some DuplicateKey else None
 fault_within (Some s) form = if is_read s.kind then Some BadLine else None
 
--- what is wrong with a line of this form behind these sections
+-- what is wrong with a line of this form after these sections
 abbrev pub form_fault : List SheetSection → LineForm → Option FaultKind
 form_fault before skipped = None
 form_fault before unclosed = Some BadLine
@@ -113,7 +113,7 @@ line_fault before line = if nat_lt 512 (length line.bytes) then Some TooLarge el
 abbrev pub fault_at : ℕ → FaultKind → SheetFault
 fault_at line kind = record { kind = kind; line = line }
 
--- the first line at fault, of lines that stand behind the lines before
+-- the first line at fault, of lines that come after the lines before
 abbrev pub first_line_fault : List Line → List Line → Option SheetFault
 first_line_fault before [] = None
 first_line_fault before (line ∷ lines) =

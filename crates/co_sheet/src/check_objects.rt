@@ -67,7 +67,7 @@ fn unread_object_number(tables: &Tables, object: &ListedSection) -> Option<Sheet
     earlier(own, of_parts)
 }
 
-// a number that can't be read and says what an object is
+// an ObjectType or CompactSubObj that is not a number
 pub(crate) fn unread_object_numbers(
     tables: &Tables,
     objects: &[ListedSection],

@@ -169,7 +169,7 @@ pub(crate) fn mandatory_fault(tables: &Tables, lines: &BTreeMap<u64, usize>) -> 
     first_of(missing_mandatory(lines), None)
 }
 
-/// The checks behind those of the objects.
+/// The checks after those of the objects.
 pub(crate) fn late_fault(
     tables: &Tables,
     lines: &BTreeMap<u64, usize>,
@@ -182,6 +182,6 @@ pub(crate) fn late_fault(
     let of_entries = entry_fault(tables, entries);
     let of_values = value_fault(tables, entries);
     let of_lists = mandatory_fault(tables, lines);
-    let behind = first_of(of_values, of_lists);
-    first_of(of_entries, behind)
+    let late = first_of(of_values, of_lists);
+    first_of(of_entries, late)
 }

@@ -9,7 +9,7 @@ ghost use Rattle.co_sheet.specs.FixedTypes.{fixed_type_of};
 use co_value::{DataType, Key};
 
 /// The data type with this code; `None` for those that are left out, and for every other code (CiA 301, 7.4.7.1).
-pub fn data_type_with(code: u64) -> Option<DataType>
+pub(crate) fn data_type_with(code: u64) -> Option<DataType>
     ensures { result ≡ data_type_with code }
 {
     if code > 0xFFFF {
@@ -20,7 +20,7 @@ pub fn data_type_with(code: u64) -> Option<DataType>
 
 /// Whether the code is REAL32's, UNICODE_STRING's, TIME_OF_DAY's, TIME_DIFFERENCE's or REAL64's, which are left out
 /// (CiA 301, 7.4.7.1).
-pub fn is_left_out(code: u64) -> bool
+pub(crate) fn is_left_out(code: u64) -> bool
     ensures { result ≡ is_one_of left_out_codes (Some code) }
 {
     matches!(code, 0x08 | 0x0B | 0x0C | 0x0D | 0x11)
@@ -57,7 +57,7 @@ const FIXED_TYPES: [FixedType; 23] = [
 ];
 
 /// The type that the entry of this key has to have, if it is fixed (CiA 301, object dictionary).
-pub fn fixed_type(key: Key) -> Option<DataType>
+pub(crate) fn fixed_type(key: Key) -> Option<DataType>
     ensures { result ≡ fixed_type_of key }
 {
     type_among(&FIXED_TYPES, key)

@@ -1,5 +1,8 @@
 //! Why a text is no data sheet.
 
+use std::error::Error;
+use std::fmt;
+
 /// What is wrong with a text.
 #[derive(Clone, Copy, Debug, PartialEq, Eq, Hash)]
 pub enum FaultKind {
@@ -9,9 +12,9 @@ pub enum FaultKind {
     BadLine = 2,
     /// A line before the first section.
     KeyOutsideSection = 3,
-    /// A section that stands twice.
+    /// A section that occurs twice.
     DuplicateSection = 4,
-    /// A key that stands twice in its section.
+    /// A key that occurs twice in its section.
     DuplicateKey = 5,
     /// No MandatoryObjects, or no section for a listed object.
     MissingSection = 6,
@@ -26,7 +29,7 @@ pub enum FaultKind {
     ListedTwice = 10,
     /// An entry without DataType or AccessType.
     MissingKey = 11,
-    /// An object type or a data type that is none, or isn't the one that has to stand there.
+    /// An object type or a data type that is none, or isn't the required one.
     BadType = 12,
     /// A data type that isn't supported.
     LeftOutType = 13,
@@ -42,8 +45,60 @@ pub enum FaultKind {
     CompactForm = 18,
     /// 1000h, 1001h or 1018h in no object list.
     MissingMandatory = 19,
-    /// Want of memory.
+    /// Out of memory.
     Memory = 20,
+}
+
+impl FaultKind {
+    ghost use Rattle.std.specs.Prelude.{◌≡◌};
+    ghost use Rattle.co_sheet.specs.FaultTexts.{fault_number, fault_name};
+
+    /// The number of the kind, from 1 to 20.
+    pub fn number(self) -> u8
+        ensures { result ≡ fault_number self }
+    {
+        self as u8
+    }
+
+    /// The name of the kind, as `BadList`.
+    pub fn name(self) -> &'static str
+        ensures { result.now ≡ fault_name self }
+    {
+        match self {
+            FaultKind::TooLarge => "TooLarge",
+            FaultKind::BadLine => "BadLine",
+            FaultKind::KeyOutsideSection => "KeyOutsideSection",
+            FaultKind::DuplicateSection => "DuplicateSection",
+            FaultKind::DuplicateKey => "DuplicateKey",
+            FaultKind::MissingSection => "MissingSection",
+            FaultKind::BadNumber => "BadNumber",
+            FaultKind::AmbiguousNumber => "AmbiguousNumber",
+            FaultKind::BadList => "BadList",
+            FaultKind::ListedTwice => "ListedTwice",
+            FaultKind::MissingKey => "MissingKey",
+            FaultKind::BadType => "BadType",
+            FaultKind::LeftOutType => "LeftOutType",
+            FaultKind::BadAccess => "BadAccess",
+            FaultKind::BadLimits => "BadLimits",
+            FaultKind::BadDefault => "BadDefault",
+            FaultKind::MissingSub0 => "MissingSub0",
+            FaultKind::CompactForm => "CompactForm",
+            FaultKind::MissingMandatory => "MissingMandatory",
+            FaultKind::Memory => "Memory",
+        }
+    }
+}
+
+/// Prints the name, as `BadList`.
+impl fmt::Display for FaultKind {
+    ghost use Rattle.std.specs.Prelude.{Some};
+    ghost use Rattle.co_sheet.specs.FaultTexts.{fault_name};
+
+    ghost output = { λ kind. Some (fault_name kind) };
+
+    fn fmt<W: fmt::Write>(&self, f: &mut fmt::Formatter<W>) -> fmt::Result {
+        f.write_str(self.name())
+    }
 }
 
 /// What is wrong with a text, and where.
@@ -53,3 +108,20 @@ pub struct SheetFault {
     /// From 1; 0 where no line is to blame.
     pub line: usize,
 }
+
+/// Prints number, name and line, as `fault 9 BadList line 1`.
+impl fmt::Display for SheetFault {
+    ghost use Rattle.std.specs.Prelude.{Some};
+    ghost use Rattle.co_sheet.specs.FaultTexts.{fault_text};
+
+    ghost output = { λ fault. Some (fault_text fault) };
+
+    fn fmt<W: fmt::Write>(&self, f: &mut fmt::Formatter<W>) -> fmt::Result {
+        let number = self.kind.number();
+        let name = self.kind.name();
+        let line = self.line;
+        write!(f, "fault {number} {name} line {line}")
+    }
+}
+
+impl Error for SheetFault {}

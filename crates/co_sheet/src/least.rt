@@ -1,4 +1,4 @@
-//! The fault with the least line.
+//! The fault with the smallest line.
 
 ghost use Rattle.std.specs.Prelude.{◌≡◌, List, flat_map};
 ghost use Rattle.std.specs.Fn.{FnReturnsAt};
@@ -8,7 +8,7 @@ ghost use Rattle.co_sheet.specs.LeastFaults.{earlier};
 
 use crate::fault::SheetFault;
 
-// of two faults that with the lesser line
+// of two faults that with the smaller line
 pub(crate) fn earlier(fault: Option<SheetFault>, other: Option<SheetFault>) -> Option<SheetFault>
     ensures { result ≡ earlier fault other }
 {
@@ -20,7 +20,7 @@ pub(crate) fn earlier(fault: Option<SheetFault>, other: Option<SheetFault>) -> O
     }
 }
 
-// the least fault of all the items, by what is the least of each
+// the fault with the smallest line of all the items, by that of each
 pub(crate) fn least_over<T, F: Fn(&T) -> Option<SheetFault>>(
     items: &[T],
     check: F,

@@ -10,7 +10,7 @@ use crate::text::{split_at_first, trim};
 
 /// What a line is, by its bytes alone.
 #[derive(Clone, Copy, Debug, PartialEq, Eq, Hash)]
-pub enum LineForm<'a> {
+pub(crate) enum LineForm<'a> {
     /// Empty, or a comment.
     Skipped,
     /// A section line, with its name.
@@ -24,7 +24,7 @@ pub enum LineForm<'a> {
 }
 
 /// What a line is: blanks at its ends, around the name, the key and the value are dropped (CiA 306, structure of an EDS).
-pub fn form_of(line: &[u8]) -> LineForm<'_>
+pub(crate) fn form_of(line: &[u8]) -> LineForm<'_>
     ensures { form_view result ≡ form_of (trim line.now) }
 {
     let text = trim(line);

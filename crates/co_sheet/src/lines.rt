@@ -19,7 +19,7 @@ pub(crate) fn without_mark(text: &[u8]) -> &[u8]
     }
 }
 
-/// The first line of the text, without its end, and what stands after it; `None` where there is no line.
+/// The first line of the text, without its end, and what is after it; `None` where there is no line.
 pub(crate) fn split_line(text: &[u8]) -> Option<(&[u8], &[u8])>
     ensures none { IfNone result (lines text.now ≡ []) }
     ensures lines { IfSome result (λ parts. lines text.now ≡ parts.0.now ∷ lines parts.1.now) }

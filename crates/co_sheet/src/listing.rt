@@ -15,10 +15,10 @@ use std::alloc::{AllocError, Global};
 
 /// An index that an object list names, and the line where it does.
 #[derive(Clone, Copy, Debug, PartialEq, Eq)]
-pub struct Listing {
-    pub index: u64,
+pub(crate) struct Listing {
+    pub(crate) index: u64,
     /// From 1.
-    pub line: usize,
+    pub(crate) line: usize,
 }
 
 // the number of a place in an object list, where it is below 2^64
@@ -70,7 +70,10 @@ fn add_listings(all: &mut Vec<Listing>, section: &ParsedSection) -> Result<(), A
 }
 
 /// What the object lists name from 1000h on, in the order of the text (CiA 306, object lists).
-pub fn listings(alloc: Global, sections: &[ParsedSection]) -> Result<Vec<Listing>, AllocError>
+pub(crate) fn listings(
+    alloc: Global,
+    sections: &[ParsedSection],
+) -> Result<Vec<Listing>, AllocError>
     ensures { IfOk result (λ all. map listing_view all.items ≡ listings (map section_view sections.now)) }
 {
     let mut all = Vec::new(alloc);
@@ -95,7 +98,7 @@ pub(crate) fn keys_to_len(section: &ParsedSection, count: u64) -> u64
     keys
 }
 
-// whether a number above FFFFh stands at one of them
+// whether one of them names a number above FFFFh
 pub(crate) fn has_large_index(section: &ParsedSection, count: u64) -> bool
     ensures { result ≡ list_any (λ k. option_map_or (nat_lt 0xFFFF) (number_of_key k) false) (keys_to (section_view section.now) count) }
 {

@@ -1,5 +1,7 @@
 //! What is odd in a data sheet, and no fault.
 
+use std::fmt;
+
 /// What is odd.
 #[derive(Clone, Copy, Debug, PartialEq, Eq, Hash)]
 pub enum NoteKind {
@@ -9,10 +11,51 @@ pub enum NoteKind {
     Unlisted,
 }
 
+impl NoteKind {
+    ghost use Rattle.std.specs.Prelude.{◌≡◌};
+    ghost use Rattle.co_sheet.specs.FaultTexts.{note_name};
+
+    /// The name of the kind, as `SubNumber`.
+    pub fn name(self) -> &'static str
+        ensures { result.now ≡ note_name self }
+    {
+        match self {
+            NoteKind::SubNumber => "SubNumber",
+            NoteKind::Unlisted => "Unlisted",
+        }
+    }
+}
+
+/// Prints the name, as `SubNumber`.
+impl fmt::Display for NoteKind {
+    ghost use Rattle.std.specs.Prelude.{Some};
+    ghost use Rattle.co_sheet.specs.FaultTexts.{note_name};
+
+    ghost output = { λ kind. Some (note_name kind) };
+
+    fn fmt<W: fmt::Write>(&self, f: &mut fmt::Formatter<W>) -> fmt::Result {
+        f.write_str(self.name())
+    }
+}
+
 /// What is odd, and where.
 #[derive(Clone, Copy, Debug, PartialEq, Eq, Hash)]
 pub struct Note {
     pub kind: NoteKind,
     /// From 1.
     pub line: usize,
+}
+
+/// Prints line and name, as `note 12 SubNumber`.
+impl fmt::Display for Note {
+    ghost use Rattle.std.specs.Prelude.{Some};
+    ghost use Rattle.co_sheet.specs.FaultTexts.{note_text};
+
+    ghost output = { λ note. Some (note_text note) };
+
+    fn fmt<W: fmt::Write>(&self, f: &mut fmt::Formatter<W>) -> fmt::Result {
+        let line = self.line;
+        let name = self.kind.name();
+        write!(f, "note {line} {name}")
+    }
 }

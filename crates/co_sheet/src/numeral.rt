@@ -11,7 +11,7 @@ use co_value::DataType;
 
 /// A number as it is written, of a magnitude below 2^64 (CiA 306, numerals).
 #[derive(Clone, Copy, Debug, PartialEq, Eq, Hash)]
-pub enum Numeral {
+pub(crate) enum Numeral {
     /// Decimal digits, perhaps after `-`.
     Decimal(i128),
     /// Hexadecimal digits after `0x`.
@@ -20,8 +20,8 @@ pub enum Numeral {
 
 /// Why a text is no number.
 #[derive(Clone, Copy, Debug, PartialEq, Eq, Hash)]
-pub enum NumeralFault {
-    /// It has another form, a sign where none may stand, or a magnitude of 2^64 or more.
+pub(crate) enum NumeralFault {
+    /// It has another form, a sign where none is allowed, or a magnitude of 2^64 or more.
     Malformed,
     /// It begins with 0, and octal would not read it as the same number.
     Ambiguous,
@@ -82,7 +82,7 @@ fn hexadecimal_number(text: &[u8]) -> Result<u64, NumeralFault>
 
 /// Reads a number that may not be negative: decimal, or hexadecimal after `0x` (CiA 306, numerals).
 /// `Malformed` where it has another form or is 2^64 or more, `Ambiguous` where it may be octal.
-pub fn unsigned_numeral(text: &[u8]) -> Result<Numeral, NumeralFault>
+pub(crate) fn unsigned_numeral(text: &[u8]) -> Result<Numeral, NumeralFault>
     ensures { result ≡ unsigned_numeral text.now }
 {
     let (front, digits) = text.split_at(text.len().min(2));
@@ -94,7 +94,7 @@ pub fn unsigned_numeral(text: &[u8]) -> Result<Numeral, NumeralFault>
 }
 
 /// Reads a number that may be negative: as `unsigned_numeral`, or `-` and decimal digits (CiA 306, numerals).
-pub fn signed_numeral(text: &[u8]) -> Result<Numeral, NumeralFault>
+pub(crate) fn signed_numeral(text: &[u8]) -> Result<Numeral, NumeralFault>
     ensures { result ≡ signed_numeral text.now }
 {
     match text {
@@ -105,7 +105,7 @@ pub fn signed_numeral(text: &[u8]) -> Result<Numeral, NumeralFault>
 }
 
 /// Reads a number that may not be negative, as a number.
-pub fn unsigned_number(text: &[u8]) -> Result<u64, NumeralFault>
+pub(crate) fn unsigned_number(text: &[u8]) -> Result<u64, NumeralFault>
     ensures { result ≡ unsigned_number text.now }
 {
     let (prefix, digits) = text.split_at(text.len().min(2));
@@ -117,8 +117,8 @@ pub fn unsigned_number(text: &[u8]) -> Result<u64, NumeralFault>
 }
 
 impl Numeral {
-    /// The number that the numeral stands for at a type: a hexadecimal one of a signed type is in two's complement.
-    pub fn value_at(self, data_type: DataType) -> i128
+    /// The number that the numeral means at a type: a hexadecimal one of a signed type is in two's complement.
+    pub(crate) fn value_at(self, data_type: DataType) -> i128
         ensures { result ≡ value_at data_type self }
     {
         match (self, data_type.width()) {

@@ -18,7 +18,7 @@ pub enum ObjectType {
 
 impl ObjectType {
     /// The object type with this code (CiA 301, object codes); `None` for every other code.
-    pub fn of_code(code: u64) -> Option<ObjectType>
+    pub(crate) fn of_code(code: u64) -> Option<ObjectType>
         ensures { result ≡ object_type_with code }
     {
         match code {

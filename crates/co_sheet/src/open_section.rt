@@ -5,7 +5,7 @@ ghost use Rattle.std.specs.List.{list_any};
 ghost use Rattle.co_sheet.specs.Text.{same_name};
 ghost use Rattle.co_sheet.specs.Sections.{key_at, key_value, key_given, fault_within, fault_at};
 ghost use Rattle.co_sheet.specs.LinesRead.{with_key, empty_section, all_digits};
-ghost use Rattle.co_sheet.specs.WantOfMemory.{want_of_memory};
+ghost use Rattle.co_sheet.specs.OutOfMemory.{out_of_memory};
 ghost use Rattle.co_sheet.specs.ParsedSections.{key_view, section_view};
 
 use crate::fault::{FaultKind, SheetFault};
@@ -18,7 +18,7 @@ use std::alloc::{AllocError, Global};
 
 /// The section that is being read, with the keys that it gives so far.
 ///
-/// Thousands of keys may be numbers, so these stand in a set beside the list; the others are ten at most.
+/// Thousands of keys may be numbers, so these are kept in a set beside the list; the others are ten at most.
 #[derive(Drop)]
 pub(crate) struct OpenSection<'a> {
     section: ParsedSection<'a>,
@@ -76,7 +76,7 @@ impl<'a> OpenSection<'a> {
         Ok(OpenSection { section, numbers })
     }
 
-    /// The section behind a line that gives a key, or that is passed over.
+    /// The section after a line that gives a key, or that is passed over.
     pub(crate) fn with_line(
         self,
         key: &'a [u8],
@@ -85,7 +85,7 @@ impl<'a> OpenSection<'a> {
     ) -> Result<OpenSection<'a>, SheetFault>
         ensures ok { IfOk result (λ r. (fault_within (Some (section_view self.entry.section)) (key_value key.now value.now) ≡ None)
             × (section_view r.section ≡ with_key (section_view self.entry.section) (key_given self.entry.section.kind line (key_value key.now value.now)))) }
-        ensures err { IfErr result (λ fault. (fault ≡ want_of_memory)
+        ensures err { IfErr result (λ fault. (fault ≡ out_of_memory)
             ⊎ (option_map (fault_at line) (fault_within (Some (section_view self.entry.section)) (key_value key.now value.now)) ≡ Some fault)) }
     {
         if value.is_empty() || !self.section.kind.reads(key) {

@@ -4,19 +4,19 @@ use crate::section::SectionKind;
 
 /// A key that a section gives, with its value and its line.
 #[derive(Clone, Copy, Debug, PartialEq, Eq)]
-pub struct GivenKey<'a> {
-    pub key: &'a [u8],
-    pub value: &'a [u8],
+pub(crate) struct GivenKey<'a> {
+    pub(crate) key: &'a [u8],
+    pub(crate) value: &'a [u8],
     /// From 1.
-    pub line: usize,
+    pub(crate) line: usize,
 }
 
 /// A section of a text, with the keys that it gives in the order of their lines.
 #[derive(Debug, Drop)]
-pub struct ParsedSection<'a> {
-    pub kind: SectionKind,
-    pub name: &'a [u8],
+pub(crate) struct ParsedSection<'a> {
+    pub(crate) kind: SectionKind,
+    pub(crate) name: &'a [u8],
     /// From 1.
-    pub line: usize,
-    pub keys: Vec<GivenKey<'a>>,
+    pub(crate) line: usize,
+    pub(crate) keys: Vec<GivenKey<'a>>,
 }

@@ -4,7 +4,8 @@ ghost use Rattle.std.specs.Prelude.{◌≡◌, ◌≤◌, ◌⊎◌, [], map, le
 ghost use Rattle.co_sheet.specs.Text.{lines_of};
 ghost use Rattle.co_sheet.specs.Sections.{sections_of, first_line_fault};
 ghost use Rattle.co_sheet.specs.ParsedSections.{section_view};
-ghost use Rattle.co_sheet.specs.WantOfMemory.{want_of_memory};
+ghost use Rattle.co_sheet.specs.OutOfMemory.{out_of_memory};
+ghost use Rattle.co_sheet.specs.SectionLaws.{IsParsed};
 
 use crate::fault::SheetFault;
 use crate::lines::{split_line, without_mark};
@@ -19,8 +20,11 @@ use std::alloc::Global;
 /// number from 1. Where memory is refused it fails with `Memory`, line 0.
 pub(crate) fn sections_in(alloc: Global, text: &[u8]) -> Result<Vec<ParsedSection<'_>>, SheetFault>
     requires { length text.now ≤ 1048576 }
-    ensures ok { IfOk result (λ sections. (first_line_fault [] (lines_of text.now) ≡ None) × (map section_view sections.items ≡ sections_of (lines_of text.now))) }
-    ensures err { IfErr result (λ fault. (fault ≡ want_of_memory) ⊎ (first_line_fault [] (lines_of text.now) ≡ Some fault)) }
+    ensures ok { IfOk result (λ sections. (first_line_fault [] (lines_of text.now) ≡ None)
+        × (map section_view sections.items ≡ sections_of (lines_of text.now))) }
+    ensures parsed { IfOk result (λ sections. IsParsed (map section_view sections.items)) }
+    ensures err { IfErr result (λ fault. (fault ≡ out_of_memory)
+        ⊎ (first_line_fault [] (lines_of text.now) ≡ Some fault)) }
 {
     let mut sections = SectionsRead::new(alloc);
     let mut rest = without_mark(text);

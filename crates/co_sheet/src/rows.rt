@@ -3,10 +3,10 @@
 ghost use Rattle.std.specs.Prelude.{◌≡◌, map, filter_map, option_map, IfOk, OnOk};
 ghost use Rattle.std.specs.Option.{option_copied};
 ghost use Rattle.co_sheet.specs.Entries.{name_of};
-ghost use Rattle.co_sheet.specs.Content.{row_of, object_row_of};
+ghost use Rattle.co_sheet.specs.Content.{row_of, object_row_of, section_names_in, rows_in_order, objects_in_order, is_dummy_key, dummies_in};
 ghost use Rattle.co_sheet.specs.ParsedSections.{section_view};
 ghost use Rattle.co_sheet.specs.SectionViews.{object_view, entry_view};
-ghost use Rattle.co_sheet.specs.SheetContents.{row_view, object_row_view, section_name_view, rows_in_order, objects_in_order, is_dummy_key, dummies_in};
+ghost use Rattle.co_sheet.specs.SheetViews.{row_view, object_row_view, section_name_view};
 
 use crate::check_lists::section_at;
 use crate::entry::EntryRow;
@@ -129,7 +129,7 @@ pub(crate) fn section_names<'a>(
     alloc: Global,
     sections: &[ParsedSection<'a>],
 ) -> Result<Vec<Section<'a>>, AllocError>
-    ensures { IfOk result (λ names. map section_name_view names.items ≡ map (λ s. record { name = s.name; line = s.line }) (map section_view sections.now)) }
+    ensures { IfOk result (λ names. map section_name_view names.items ≡ section_names_in (map section_view sections.now)) }
 {
     let mut names = Vec::new(alloc);
     for section in sections {

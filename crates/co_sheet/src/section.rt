@@ -11,7 +11,7 @@ use co_value::Key;
 
 /// What a section is about, by its name.
 #[derive(Clone, Copy, Debug, PartialEq, Eq, Hash)]
-pub enum SectionKind {
+pub(crate) enum SectionKind {
     MandatoryObjects,
     OptionalObjects,
     ManufacturerObjects,
@@ -28,7 +28,7 @@ pub enum SectionKind {
 /// A section line of a data sheet.
 #[derive(Clone, Copy, Debug, PartialEq, Eq, Hash)]
 pub struct Section<'a> {
-    /// What stands between `[` and the first `]`, without blanks at its ends.
+    /// What is between `[` and the first `]`, without blanks at its ends.
     pub name: &'a [u8],
     /// From 1.
     pub line: usize,
@@ -37,7 +37,7 @@ pub struct Section<'a> {
 impl SectionKind {
     /// What a section of this name is about: a list, DummyUsage, DeviceInfo, an object as `1018`, a sub-index as
     /// `1018sub1`, or nothing that is read (CiA 306, object lists, object description).
-    pub fn of_name(name: &[u8]) -> SectionKind
+    pub(crate) fn of_name(name: &[u8]) -> SectionKind
         ensures { result ≡ kind_of name.now }
     {
         if same_name(name, b"MandatoryObjects") {
@@ -58,14 +58,14 @@ impl SectionKind {
     }
 
     /// Whether the section is read, and not passed over with its lines.
-    pub fn is_read(self) -> bool
+    pub(crate) fn is_read(self) -> bool
         ensures { result ≡ is_read self }
     {
         !matches!(self, SectionKind::PassedOver)
     }
 
     /// Whether the section is an object list.
-    pub fn is_list(self) -> bool
+    pub(crate) fn is_list(self) -> bool
         ensures { result ≡ is_list self }
     {
         matches!(
@@ -77,7 +77,7 @@ impl SectionKind {
     }
 
     /// Whether the key is read in the section; other keys are passed over.
-    pub fn reads(self, key: &[u8]) -> bool
+    pub(crate) fn reads(self, key: &[u8]) -> bool
         ensures { result ≡ is_read_key self key.now }
     {
         match self {
@@ -141,7 +141,7 @@ fn hexadecimal_up_to(most: usize, text: &[u8]) -> Option<u16>
     Some(number as u16)
 }
 
-// how many hexadecimal digits stand in front
+// how many hexadecimal digits are in front
 fn hexadecimal_len(text: &[u8]) -> usize
     ensures len { result ≡ prefix_len is_hexadecimal_digit text.now }
     ensures bound { result ≤ length text.now }

@@ -45,7 +45,7 @@ impl<'a> SectionsRead<'a> {
         }
     }
 
-    // behind a section line
+    // after a section line
     fn with_section(
         self,
         alloc: Global,
@@ -75,7 +75,7 @@ impl<'a> SectionsRead<'a> {
         })
     }
 
-    // behind a line that gives a key
+    // after a line that gives a key
     fn with_key(
         self,
         key: &'a [u8],
@@ -104,7 +104,7 @@ impl<'a> SectionsRead<'a> {
         })
     }
 
-    // behind a line that is nothing that a section may have
+    // after a line that is nothing that a section may have
     fn with_malformed(self, line: usize) -> Result<SectionsRead<'a>, SheetFault>
         ensures ok { IfOk result (λ r. TakesForm (sections_so_far self.entry) line malformed (sections_so_far r)) }
         ensures err { IfErr result (λ fault. option_map (fault_at line) (form_fault (sections_so_far self.entry) malformed) ≡ Some fault) }
@@ -117,7 +117,7 @@ impl<'a> SectionsRead<'a> {
         Err(SheetFault { kind, line })
     }
 
-    /// The sections behind one more line, of this number; the line's fault; or want of memory.
+    /// The sections after one more line, of this number; the line's fault; or out of memory.
     pub(crate) fn with_line(
         self,
         alloc: Global,

@@ -1,17 +1,19 @@
 //! A data sheet, read.
 
-ghost use Rattle.std.specs.Prelude.{◌≡◌, ℕ, map, is_some, IfOk, IfErr, None};
+ghost use Rattle.std.specs.Prelude.{◌≡◌, ◌<◌, ℕ, map, is_some, true, All, AllPairs, IfOk, IfErr, None};
 ghost use Rattle.std.specs.Ordering.{nat_cmp};
 ghost use Rattle.std.specs.BTreeMap.{get};
 ghost use Rattle.co_sheet.specs.ObjectLists.{is_listed};
 ghost use Rattle.co_sheet.specs.Entries.{listed_objects, entries_of};
 ghost use Rattle.co_sheet.specs.SectionViews.{object_view, entry_view};
-ghost use Rattle.co_sheet.specs.declared.fault.FaultKind.TheVariants.{Memory as OutOfMemory};
-ghost use Rattle.co_sheet.specs.Sections.{fault_at};
 ghost use Rattle.co_sheet.specs.Checks.{checks};
-ghost use Rattle.co_sheet.specs.Accepted.{first_found};
+ghost use Rattle.co_sheet.specs.Accepted.{first_found, IsAnswered};
 ghost use Rattle.co_sheet.specs.ParsedSections.{section_view};
-ghost use Rattle.co_sheet.specs.SheetContents.{row_view, object_row_view, section_name_view, is_dummy, content_of, IsAnswered};
+ghost use Rattle.co_sheet.specs.SectionLaws.{IsParsed};
+ghost use Rattle.co_value.specs.Keys.{is_key_before};
+ghost use Rattle.co_sheet.specs.Content.{is_dummy, content_of};
+ghost use Rattle.co_sheet.specs.SheetViews.{row_view, object_row_view, section_name_view};
+ghost use Rattle.co_sheet.specs.SheetLaws.{IsSheetRow, IsSheetContent};
 
 use crate::check_lists::listing_lines;
 use crate::checks::{late_fault, list_fault, object_fault};
@@ -41,31 +43,39 @@ pub struct Sheet<'a> {
 }
 
 impl<'a> Model for Sheet<'a> {
-    ghost use Rattle.std.specs.Prelude.{map, length, ◌≡◌};
-    ghost use Rattle.co_sheet.specs.SheetContents.{SheetContent, row_view, object_row_view, section_name_view};
+    ghost use Rattle.co_sheet.specs.Content.{SheetContent};
+    ghost use Rattle.co_sheet.specs.SheetViews.{content_view};
+    ghost use Rattle.co_sheet.specs.SheetLaws.{IsSheetContent};
 
     ghost Value = { SheetContent };
 
-    ghost view = { λ s. record {
-      objects = map object_row_view s.objects.items;
-      rows = map row_view s.entries.items;
-      sections = map section_name_view s.sections.items;
-      notes = s.notes.items;
-      dummies = s.dummies;
-    } };
+    ghost view = { λ s. content_view s.objects.items s.entries.items s.sections.items
+        s.notes.items s.dummies };
+
+    ghost invariant = { λ s. IsSheetContent (content_view s.objects.items s.entries.items
+        s.sections.items s.notes.items s.dummies) };
 }
 
 impl<'a> Sheet<'a> {
     /// The objects that the lists name from 1000h on, in increasing index.
     pub fn objects(&self) -> &[Object<'a>]
-        ensures { map object_row_view result.now ≡ self.now.objects }
+        ensures view { map object_row_view result.now ≡ self.now.objects }
+        ensures increase { AllPairs (λ o p. o.index < p.index) result.now }
+        // What the sheet keeps as a whole.
+        ensures sheet { IsSheetContent self.now }
     {
         self.objects.as_slice()
     }
 
-    /// The entries of these objects, in increasing key.
+    /// The entries of these objects, in increasing key. Limits are numbers of the entry's type, in order. A default is
+    /// of its type's form, a number within the limits, and of at most 512 bytes of text. A type that is fixed is that one
+    /// (CiA 301, object dictionary).
     pub fn entries(&self) -> &[EntryRow<'a>]
-        ensures { map row_view result.now ≡ self.now.rows }
+        ensures view { map row_view result.now ≡ self.now.rows }
+        ensures each { All (λ e. IsSheetRow (row_view e)) result.now }
+        ensures increase { AllPairs (λ e f. is_key_before e.key f.key ≡ true) result.now }
+        // What the sheet keeps as a whole.
+        ensures sheet { IsSheetContent self.now }
     {
         self.entries.as_slice()
     }
@@ -105,6 +115,7 @@ fn contents<'a>(
     objects: &[ListedSection<'_, 'a>],
     entries: &[EntrySection<'_, 'a>],
 ) -> Result<Sheet<'a>, AllocError>
+    requires laws { IsSheetContent (content_of tables.now) }
     requires lines { (i : ℕ) → is_some (get nat_cmp lines.now i) ≡ is_listed tables.now i }
     requires objects { map object_view objects.now ≡ listed_objects tables.now }
     requires entries { map entry_view entries.now ≡ entries_of tables.now }
@@ -125,14 +136,15 @@ fn contents<'a>(
     })
 }
 
-// The sheet that the sections of a text say, or the first fault that the checks find; want of memory has no line.
+// The sheet that the sections of a text say, or the first fault that the checks find; out of memory has no line.
 pub(crate) fn sheet_of<'a>(
     alloc: Global,
     sections: &[ParsedSection<'a>],
 ) -> Result<Sheet<'a>, SheetFault>
+    requires { IsParsed (map section_view sections.now) }
     ensures accepted { IfOk result (λ _. first_found checks (map section_view sections.now) ≡ None) }
     ensures content { IfOk result (λ sheet. sheet ≡ content_of (map section_view sections.now)) }
-    ensures err { IfErr result (λ fault. IsAnswered (first_found checks (map section_view sections.now)) fault) }
+    ensures err { IfErr result (IsAnswered (first_found checks (map section_view sections.now))) }
 {
     let tables = Tables::new(alloc, sections)?;
     let listed = listings(alloc, sections)?;

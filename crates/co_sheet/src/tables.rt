@@ -17,16 +17,16 @@ use std::marker::Model;
 
 /// An object, and its section.
 #[derive(Clone, Copy, Debug)]
-pub struct ListedSection<'s, 'a> {
-    pub index: u16,
-    pub section: &'s ParsedSection<'a>,
+pub(crate) struct ListedSection<'s, 'a> {
+    pub(crate) index: u16,
+    pub(crate) section: &'s ParsedSection<'a>,
 }
 
 /// An entry, and the section that describes it.
 #[derive(Clone, Copy, Debug)]
-pub struct EntrySection<'s, 'a> {
-    pub key: Key,
-    pub section: &'s ParsedSection<'a>,
+pub(crate) struct EntrySection<'s, 'a> {
+    pub(crate) key: Key,
+    pub(crate) section: &'s ParsedSection<'a>,
 }
 
 // the first section of each object
@@ -47,7 +47,7 @@ fn objects_by_index<'s, 'a>(
     Ok(objects)
 }
 
-// a sub-index section behind the others of its object
+// a sub-index section after the others of its object
 fn add_part<'s, 'a>(
     alloc: Global,
     parts: &mut BTreeMap<u64, Vec<EntrySection<'s, 'a>>>,
@@ -78,7 +78,7 @@ fn parts_by_index<'s, 'a>(
     Ok(parts)
 }
 
-/// The sections of a text, and where those of an object stand among them.
+/// The sections of a text, and where those of an object are among them.
 #[derive(Drop)]
 pub(crate) struct Tables<'s, 'a> {
     sections: &'s [ParsedSection<'a>],

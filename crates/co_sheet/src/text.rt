@@ -5,7 +5,7 @@ ghost use Rattle.std.specs.List.{list_any, before_first, after_first, position_o
 ghost use Rattle.co_sheet.specs.Text.{is_blank, trim_front, trim, same_name};
 
 /// Whether a byte is a space or a tab.
-pub fn is_blank(byte: u8) -> bool
+pub(crate) fn is_blank(byte: u8) -> bool
     ensures { result ≡ is_blank byte }
 {
     byte == b' ' || byte == b'\t'
@@ -25,7 +25,7 @@ fn trim_front(text: &[u8]) -> &[u8]
 }
 
 /// The text without the blanks at both its ends.
-pub fn trim(text: &[u8]) -> &[u8]
+pub(crate) fn trim(text: &[u8]) -> &[u8]
     ensures { result.now ≡ trim text.now }
 {
     let mut rest = trim_front(text);
@@ -39,13 +39,13 @@ pub fn trim(text: &[u8]) -> &[u8]
 }
 
 /// Whether two names are the same, without regard to ASCII case.
-pub fn same_name(name: &[u8], other: &[u8]) -> bool
+pub(crate) fn same_name(name: &[u8], other: &[u8]) -> bool
     ensures { result ≡ same_name name.now other.now }
 {
     name.eq_ignore_ascii_case(other)
 }
 
-// where the first of these bytes stands, or the length
+// where the first of these bytes is, or the length
 fn place_of(text: &[u8], byte: u8) -> usize
     ensures place { result ≡ position_or_len (λ b. b == byte) text.now }
     ensures bound { result ≤ length text.now }
@@ -58,8 +58,8 @@ fn place_of(text: &[u8], byte: u8) -> usize
     text.len()
 }
 
-/// What stands before and after the first of these bytes; `None` where the text has none.
-pub fn split_at_first(text: &[u8], byte: u8) -> Option<(&[u8], &[u8])>
+/// What is before and after the first of these bytes; `None` where the text has none.
+pub(crate) fn split_at_first(text: &[u8], byte: u8) -> Option<(&[u8], &[u8])>
     ensures some { is_some result ≡ list_any (λ b. b == byte) text.now }
     ensures before { IfSome result (λ parts. parts.0.now ≡ before_first (λ b. b == byte) text.now) }
     ensures after { IfSome result (λ parts. parts.1.now ≡ after_first (λ b. b == byte) text.now) }

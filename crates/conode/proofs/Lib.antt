@@ -1,11 +1,4 @@
-pub mod Digits
-pub mod FirstLine
-pub mod GrammarBodies
-pub mod GrammarFields
-pub mod GrammarLines
-pub mod GrammarRuns
-pub mod Numbers
-pub mod Pairs
+pub mod Examples
 pub mod Places
 pub mod Reached
 pub mod TaskExamples

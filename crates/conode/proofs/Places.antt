@@ -1,4 +1,4 @@
--- Where the entry of a key stands, and what a change of it leaves.
+-- The place of the entry of a key, and what a change of the entry leaves.
 use Rattle.std.proofs.Common.{◌≡◌, ℕ, zero, suc, ◌<◌, ◌≤◌, Bool, true, false, cond, not, ◌&&◌, ◌||◌, eqb, List, [], ◌∷◌, length, set, get_or, Option, Some, None, IsTrue, refl, sym, ap, ◌∙◌, subst, arith}
 use Rattle.std.specs.Prelude.{find, position, is_none}
 use Rattle.std.specs.List.{list_any, position_or_len}
@@ -14,7 +14,8 @@ use Rattle.co_frame.specs.declared.abort_code.AbortCode.{AbortCode}
 use Rattle.co_frame.specs.declared.abort_code.TheConstants.AbortCode.{OBJECT_MISSING, SUB_INDEX_MISSING}
 use Rattle.co_frame.specs.declared.sdo_request.ExpeditedData.{ExpeditedData}
 use Rattle.conode.specs.declared.list_entry.ListEntry.{ListEntry}
-use Rattle.conode.specs.Answers.{same_key, entry_at, keys_differ, with_bytes, first_refusal, read_refusal, write_refusal, entry_refusals, given_bytes, bytes_at, downloaded}
+use Rattle.co_value.specs.Keys.{same_key}
+use Rattle.conode.specs.Answers.{entry_at, keys_differ, with_bytes, first_refusal, read_refusal, write_refusal, entry_refusals, given_bytes, bytes_at, downloaded}
 
 -- ---- the first element that passes
 
@@ -82,26 +83,26 @@ key_is a b h =
 
 -- ---- refusals
 
-abbrev pub Stands : List ListEntry → Key → ℕ → Type 0
-Stands list key place = position (λ entry. same_key entry.key key) list ≡ Some place
+abbrev pub IsPlace : List ListEntry → Key → ℕ → Type 0
+IsPlace list key place = position (λ entry. same_key entry.key key) list ≡ Some place
 
-pub stands_within : (list : List ListEntry) (key : Key) (place : ℕ) (d : ListEntry) → Stands list key place → place < length list
-stands_within list key place d h = (position-Some (λ entry. same_key entry.key key) list place d h).0
+pub within_list : (list : List ListEntry) (key : Key) (place : ℕ) (d : ListEntry) → IsPlace list key place → place < length list
+within_list list key place d h = (position-Some (λ entry. same_key entry.key key) list place d h).0
 
-pub entry_at-stands : (list : List ListEntry) (key : Key) (place : ℕ) (d : ListEntry) → Stands list key place → entry_at list key ≡ Some (get_or list place d)
-entry_at-stands list key place d h = find-position (λ entry. same_key entry.key key) list place d h
+pub entry_at-at_place : (list : List ListEntry) (key : Key) (place : ℕ) (d : ListEntry) → IsPlace list key place → entry_at list key ≡ Some (get_or list place d)
+entry_at-at_place list key place d h = find-position (λ entry. same_key entry.key key) list place d h
 
--- an entry that stands can be read
-pub read_refusal-stands : (list : List ListEntry) (key : Key) (place : ℕ) (d : ListEntry) → Stands list key place → read_refusal list key ≡ None
+-- an entry that is there can be read
+pub read_refusal-at_place : (list : List ListEntry) (key : Key) (place : ℕ) (d : ListEntry) → IsPlace list key place → read_refusal list key ≡ None
 unfolding read_refusal
-read_refusal-stands list key place d h =
+read_refusal-at_place list key place d h =
     let at = position-Some (λ entry. same_key entry.key key) list place d h in
     let any : list_any (λ entry. eqb entry.key.index key.index) list ≡ true = list_any-weaker (λ entry. same_key entry.key key) (λ entry. eqb entry.key.index key.index) (λ entry same. same_index entry.key key same) list place d at.0 at.1 in
-    rw (any, entry_at-stands list key place d h) refl
+    rw (any, entry_at-at_place list key place d h) refl
 
-pub read_refusal-found : (list : List ListEntry) (key : Key) (place : ℕ) → Stands list key place → read_refusal list key ≡ None
+pub read_refusal-found : (list : List ListEntry) (key : Key) (place : ℕ) → IsPlace list key place → read_refusal list key ≡ None
 read_refusal-found [] key place h = absurd (none-some place h)
-read_refusal-found (entry ∷ list) key place h = read_refusal-stands (entry ∷ list) key place entry h
+read_refusal-found (entry ∷ list) key place h = read_refusal-at_place (entry ∷ list) key place entry h
 
 pub read_refusal-no_sub : (list : List ListEntry) (key : Key) → position (λ entry. same_key entry.key key) list ≡ None → list_any (λ entry. eqb entry.key.index key.index) list ≡ true → read_refusal list key ≡ Some SUB_INDEX_MISSING
 unfolding read_refusal
@@ -122,9 +123,9 @@ chain_some false true x y code rest h = h
 chain_some false false x y code rest h = absurd cc
 
 -- where an entry can be read, its own refusals are left
-pub write_refusal-stands : (list : List ListEntry) (key : Key) (expedited : ExpeditedData) (entry : ListEntry) → entry_at list key ≡ Some entry → read_refusal list key ≡ None → write_refusal list key expedited ≡ first_refusal (entry_refusals entry expedited)
+pub write_refusal-at_place : (list : List ListEntry) (key : Key) (expedited : ExpeditedData) (entry : ListEntry) → entry_at list key ≡ Some entry → read_refusal list key ≡ None → write_refusal list key expedited ≡ first_refusal (entry_refusals entry expedited)
 unfolding read_refusal write_refusal
-write_refusal-stands list key expedited entry at readable =
+write_refusal-at_place list key expedited entry at readable =
     chain (not (list_any (λ entry. eqb entry.key.index key.index) list)) (is_none (entry_at list key)) OBJECT_MISSING SUB_INDEX_MISSING (option_map_or (λ entry. entry_refusals entry expedited) (entry_at list key) []) readable
     ∙ ap (λ (found : Option ListEntry). first_refusal (option_map_or (λ entry. entry_refusals entry expedited) found [])) at
 
@@ -152,9 +153,9 @@ with_bytes-at (entry ∷ list) key bytes (suc i) d differ within here before =
     let rest = with_bytes-at list key bytes i d (and_right (not (list_any (λ other. same_key other.key entry.key) list)) (keys_differ list) differ) (omega arith) here (λ k h. before (suc k) (omega arith)) in
     rw (first, ← rest) refl
 
--- what setting the entry that stands here leaves
-pub with_bytes-stands : (list : List ListEntry) (key : Key) (bytes : List ℕ) (place : ℕ) (d : ListEntry) → IsTrue (keys_differ list) → Stands list key place → set list place (record (get_or list place d) { bytes = record { items = bytes } }) ≡ with_bytes list key bytes
-with_bytes-stands list key bytes place d differ h = let at = position-Some (λ entry. same_key entry.key key) list place d h in with_bytes-at list key bytes place d differ at.0 at.1 at.2
+-- what setting the entry of this place leaves
+pub with_bytes-at_place : (list : List ListEntry) (key : Key) (bytes : List ℕ) (place : ℕ) (d : ListEntry) → IsTrue (keys_differ list) → IsPlace list key place → set list place (record (get_or list place d) { bytes = record { items = bytes } }) ≡ with_bytes list key bytes
+with_bytes-at_place list key bytes place d differ h = let at = position-Some (λ entry. same_key entry.key key) list place d h in with_bytes-at list key bytes place d differ at.0 at.1 at.2
 
 -- the keys stay
 any_key : (list : List ListEntry) (i : ℕ) (entry d : ListEntry) (key : Key) → entry.key ≡ (get_or list i d).key → i < length list → list_any (λ other. same_key other.key key) (set list i entry) ≡ list_any (λ other. same_key other.key key) list
@@ -169,21 +170,21 @@ keys_differ-set (first ∷ list) (suc i) entry d same within = rw (any_key list 
 
 -- ---- with the entry that the code reads
 
-module _ (list : List ListEntry) (key : Key) (place : ℕ) (entry : ListEntry) (stands : Stands list key place) (is : entry ≡ get_or list place entry) where
+module _ (list : List ListEntry) (key : Key) (place : ℕ) (entry : ListEntry) (at : IsPlace list key place) (is : entry ≡ get_or list place entry) where
   entry_is : entry_at list key ≡ Some entry
-  entry_is = entry_at-stands list key place entry stands ∙ ap Some (sym is)
+  entry_is = entry_at-at_place list key place entry at ∙ ap Some (sym is)
 
-  pub bytes_at-stands : bytes_at list key ≡ entry.bytes.items
-  bytes_at-stands = rw entry_is refl
+  pub bytes_at-at_place : bytes_at list key ≡ entry.bytes.items
+  bytes_at-at_place = rw entry_is refl
 
-  pub refusal-stands : (expedited : ExpeditedData) → write_refusal list key expedited ≡ first_refusal (entry_refusals entry expedited)
-  refusal-stands expedited = write_refusal-stands list key expedited entry entry_is (read_refusal-stands list key place entry stands)
+  pub refusal-at_place : (expedited : ExpeditedData) → write_refusal list key expedited ≡ first_refusal (entry_refusals entry expedited)
+  refusal-at_place expedited = write_refusal-at_place list key expedited entry entry_is (read_refusal-at_place list key place entry at)
 
-  pub downloaded-stands : (expedited : ExpeditedData) (new : ListEntry) → IsTrue (keys_differ list) → new ≡ record entry { bytes = record { items = given_bytes entry expedited } } → set list place new ≡ downloaded list key expedited
-  downloaded-stands expedited new differ same = rw (entry_is, ← with_bytes-stands list key (given_bytes entry expedited) place entry differ stands, ← is, same) refl
+  pub downloaded-at_place : (expedited : ExpeditedData) (new : ListEntry) → IsTrue (keys_differ list) → new ≡ record entry { bytes = record { items = given_bytes entry expedited } } → set list place new ≡ downloaded list key expedited
+  downloaded-at_place expedited new differ same = rw (entry_is, ← with_bytes-at_place list key (given_bytes entry expedited) place entry differ at, ← is, same) refl
 
   pub differ_after : (new : ListEntry) → new.key ≡ entry.key → IsTrue (keys_differ list) → IsTrue (keys_differ (set list place new))
-  differ_after new same differ = keys_differ-set list place new entry (same ∙ ap (λ e. e.key) is) (stands_within list key place entry stands) ∙ differ
+  differ_after new same differ = keys_differ-set list place new entry (same ∙ ap (λ e. e.key) is) (within_list list key place entry at) ∙ differ
 
 pub same_entry : (list : List ListEntry) (place : ℕ) (entry new : ListEntry) → entry ≡ get_or list place entry → new ≡ entry → set list place new ≡ list
 same_entry list place entry new is same = ap (set list place) (same ∙ is) ∙ set-get_or list place entry

@@ -1,26 +1,51 @@
 -- What a writer holds after some lines.
-use Rattle.std.proofs.Common.{◌≡◌, ℕ, suc, ◌+◌, ◌≤◌, List, [], ◌∷◌, ◌++◌, length, map, take, Option, refl, ap, subst, sym, ◌∙◌, arith}
+use Rattle.std.proofs.Common.{◌≡◌, ℕ, zero, suc, ◌+◌, ◌<◌, List, [], ◌∷◌, ◌++◌, length, map, take, drop, get_or, Option, Some, None, refl, ap, subst, sym, ◌∙◌, arith, append_assoc, append-nil, length-append}
 use Rattle.std.specs.List.{flat_map}
-use Rattle.std.specs.Io.KnownBytes.{Appends}
+use Rattle.std.specs.Io.KnownBytes.{Appends, Keeps}
 use Rattle.std.proofs.KnownBytes.{Appends-trans, Appends-nil}
 use Rattle.std.proofs.lemmas.List.{length-map, take-map}
 use Rattle.std.proofs.Math.Numerals.{add-one}
-use Rattle.co_sheet.specs.Accepted.{sections_in}
-use Rattle.co_sheet.specs.Content.{IsSheet, objects_of}
-use Rattle.co_sheet.specs.Notes.{notes_of}
-use Rattle.co_sheet.specs.SheetContents.{SheetContent}
-use Rattle.conode.specs.SheetTexts.{accepted_lines, checked_lines, WritesLines, WritesSome}
+use Rattle.co_sheet.specs.Content.{IsSheet, SheetContent}
+use Rattle.conode.specs.SheetTexts.{sheet_lines, checked_lines}
+use Rattle.conode.specs.Written.{IsFront, AppendsFront, WritesLines, WritesSome, WritesFront}
+
+-- ---- fronts
+
+pub appends_nothing : (old new : Option (List ℕ)) → Keeps old new → Appends old new []
+appends_nothing None new h = tt
+appends_nothing (Some xs) None h = absurd h
+appends_nothing (Some xs) (Some ys) h = h ∙ sym (append-nil xs)
+
+-- nothing is a front of what isn't empty
+pub no_front : (text : List ℕ) → 0 < length text → IsFront [] text
+no_front text some = record { rest = text; some = some; joined = refl }
+
+-- a front behind other bytes
+pub front_after : (before front text : List ℕ) → IsFront front text → IsFront (before ++ front) (before ++ text)
+front_after before front text h = record { rest = h.rest; some = h.some; joined = ap (λ (ys : List ℕ). before ++ ys) h.joined ∙ sym (append_assoc before front h.rest) }
+
+-- a front of a text is one of a longer text
+pub front_of_longer : (front text more : List ℕ) → IsFront front text → IsFront front (text ++ more)
+front_of_longer front text more h = record { rest = h.rest ++ more; some = omega (arith, h.some, length-append h.rest more); joined = ap (λ (ys : List ℕ). ys ++ more) h.joined ∙ append_assoc front h.rest more }
+
+pub appends_front_after : (old mid new : Option (List ℕ)) (before text : List ℕ) → Appends old mid before → AppendsFront mid new text → AppendsFront old new (before ++ text)
+appends_front_after old mid new before text first (front, is, written) = (before ++ front, front_after before front text is, Appends-trans old mid new before front first written)
+
+pub appends_front_of_longer : (old new : Option (List ℕ)) (text more : List ℕ) → AppendsFront old new text → AppendsFront old new (text ++ more)
+appends_front_of_longer old new text more (front, is, written) = (front, front_of_longer front text more is, written)
+
+-- ---- lines
 
 pub some_lines : {X : Type 0} (old new : Option (List ℕ)) (f : X → List ℕ) (xs : List X) (number : ℕ)
-    → number ≤ length xs → WritesLines old new (map f (take number xs)) → WritesSome old new (map f xs)
+    → number < length xs → WritesLines old new (map f (take number xs)) → WritesSome old new (map f xs)
 some_lines old new f xs number within written = (
   number,
   omega (arith, within, length-map xs f),
   subst (WritesLines old new) (sym (take-map f number xs)) written,
 )
 
-pub no_lines : (held : Option (List ℕ)) (lines : List (List ℕ)) → WritesSome held held lines
-no_lines held lines = (0, omega arith, Appends-nil held)
+pub no_lines : (held : Option (List ℕ)) (line : List ℕ) (lines : List (List ℕ)) → WritesSome held held (line ∷ lines)
+no_lines held line lines = (0, omega arith, Appends-nil held)
 
 pub first_lines : (old mid new : Option (List ℕ)) (line : List ℕ) (lines : List (List ℕ))
     → Appends old mid line → WritesSome mid new lines → WritesSome old new (line ∷ lines)
@@ -30,7 +55,22 @@ first_lines old mid new line lines first rest = (
   subst (λ (n : ℕ). WritesLines old new (take n (line ∷ lines))) (sym (add-one rest.0)) (Appends-trans old mid new line (flat_map (λ l. l) (take rest.0 lines)) first rest.2),
 )
 
+-- the text of lines, split at one of them
+lines_split : {X : Type 0} (f : X → List ℕ) (xs : List X) (i : ℕ) (d : X) → i < length xs
+    → flat_map (λ line. line) (map f xs) ≡ (flat_map (λ line. line) (map f (take i xs)) ++ f (get_or xs i d)) ++ flat_map (λ line. line) (map f (drop (suc i) xs))
+lines_split f [] i d within = absurd (omega arith)
+lines_split f (x ∷ xs) zero d within = refl
+lines_split f (x ∷ xs) (suc i) d within =
+    ap (λ (ys : List ℕ). f x ++ ys) (lines_split f xs i d (omega arith)) ∙ simp append_assoc refl
+
+-- lines were written, and a front of the next one
+pub front_of_lines : {X : Type 0} (old mid new : Option (List ℕ)) (f : X → List ℕ) (xs : List X) (i : ℕ) (d : X) → i < length xs
+    → WritesLines old mid (map f (take i xs)) → AppendsFront mid new (f (get_or xs i d)) → WritesFront old new (map f xs)
+front_of_lines old mid new f xs i d within first next =
+    let before = flat_map (λ line. line) (map f (take i xs)) in
+    let written = appends_front_after old mid new before (f (get_or xs i d)) first next in
+    subst (AppendsFront old new) (sym (lines_split f xs i d within)) (appends_front_of_longer old new _ (flat_map (λ line. line) (map f (drop (suc i) xs))) written)
+
 -- what is written of a sheet that a text was read as is what is written of the text
-pub accepted_text : (text : List ℕ) (sheet : SheetContent) → IsSheet text sheet.rows → sheet.objects ≡ objects_of text → sheet.notes ≡ notes_of (sections_in text)
-    → accepted_lines (length sheet.objects) (length sheet.rows) sheet.notes ≡ checked_lines text
-accepted_text text sheet read objects notes = rw (read.accepted, read.entries, objects, notes) refl
+pub accepted_text : (text : List ℕ) (sheet : SheetContent) → IsSheet text sheet → sheet_lines sheet ≡ checked_lines text
+accepted_text text sheet read = rw (read.accepted, read.content) refl

@@ -1,10 +1,7 @@
 pub mod Answers
-pub mod Clocks
-pub mod FrameLines
-pub mod Grammar
-pub mod Lines
-pub mod Printed
+pub mod Messages
 pub mod Runs
 pub mod SheetTexts
+pub mod StoredEntries
 pub mod Tasks
-pub mod Texts
+pub mod Written

@@ -1,8 +1,7 @@
 -- What the words of a command line ask for.
-use Rattle.std.specs.Prelude.{ℕ, Bool, true, List, [], ◌∷◌, codes, Option, Some, None, option_map, option_and_then, if◌then◌else◌}
+use Rattle.std.specs.Prelude.{true, List, codes, Option, None, option_map, option_and_then, if◌then◌else◌}
 use Rattle.std.specs.Str.{bytes_eq}
 use Rattle.clap.specs.Words.{App, Row, Rule, Text, first_of, new_app, new_rule, with_rule, with_subcommand}
-use Rattle.clap.specs.declared.builder.action.ArgAction.TheVariants.{Set}
 use Rattle.conode.specs.declared.tasks.Task.{Task}
 use Rattle.conode.specs.declared.tasks.Task.TheVariants.{Check}
 
@@ -28,7 +27,10 @@ asked_by (Check sheet) = record { sheet = sheet.now }
 
 -- what the matches of a subcommand ask for
 abbrev pub asked_in : Text → List Row → Option Asked
-asked_in name rows = if bytes_eq name (codes "check") then option_map (λ sheet. record { sheet = sheet }) (first_of (codes "SHEET") rows) else None
+asked_in name rows =
+    if bytes_eq name (codes "check")
+    then option_map (λ sheet. record { sheet = sheet }) (first_of (codes "SHEET") rows)
+    else None
 
 -- what the matches of the program's command ask for; nothing without a subcommand
 abbrev pub asked_of : Option (Text × List Row) → Option Asked

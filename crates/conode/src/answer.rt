@@ -6,7 +6,8 @@ ghost use Rattle.std.specs.Result.{result_err};
 ghost use Rattle.co_frame.specs.declared.sdo_response.SdoResponse.TheVariants.{DownloadDone};
 ghost use Rattle.co_frame.specs.SdoResponses.{IsSdoResponse};
 ghost use Rattle.conode.specs.declared.list_entry.ListEntry.{ListEntry};
-ghost use Rattle.conode.specs.Answers.{same_key, IsEntry, keys_differ, entry_at, read_refusal, write_refusal, refused_or, uploaded, downloaded, unknown, answer_to, list_after, answer_of, list_of};
+ghost use Rattle.co_value.specs.Keys.{same_key};
+ghost use Rattle.conode.specs.Answers.{IsEntry, keys_differ, entry_at, read_refusal, write_refusal, refused_or, uploaded, downloaded, unknown, answer_to, list_after, answer_of, list_of};
 
 use crate::list_entry::ListEntry;
 use co_frame::{AbortCode, ExpeditedData, Frame, SdoRequest, SdoResponse};
@@ -27,9 +28,10 @@ fn has_index(list: &[ListEntry], index: u16) -> bool
     list.iter().any(|entry| entry.key.index == index)
 }
 
-// where the entry of a key stands, or why it can't be read
+// the place of the entry of a key, or why it can't be read
 fn readable_place(list: &[ListEntry], key: Key) -> Result<usize, AbortCode>
-    ensures found { IfOk result (λ place. position (λ entry. same_key entry.key key) list.now ≡ Some place) }
+    ensures found { IfOk result (λ place.
+        position (λ entry. same_key entry.key key) list.now ≡ Some place) }
     ensures refusal { result_err result ≡ read_refusal list.now key }
 {
     match place_of(list, key) {
@@ -56,8 +58,10 @@ fn upload(list: &[ListEntry], key: Key) -> SdoResponse
 fn download(list: &mut [ListEntry], key: Key, expedited: &ExpeditedData) -> SdoResponse
     requires valid { All IsEntry list.old }
     requires differ { IsTrue (keys_differ list.old) }
-    ensures response { result ≡ refused_or key (write_refusal list.old key expedited.now) (DownloadDone key) }
-    ensures list { list.new ≡ (if is_none (write_refusal list.old key expedited.now) then downloaded list.old key expedited.now else list.old) }
+    ensures response { result
+        ≡ refused_or key (write_refusal list.old key expedited.now) (DownloadDone key) }
+    ensures list { list.new ≡ (if is_none (write_refusal list.old key expedited.now)
+        then downloaded list.old key expedited.now else list.old) }
     ensures valid { All IsEntry list.new }
     ensures differ { IsTrue (keys_differ list.new) }
     ensures spellable { IsSdoResponse result }

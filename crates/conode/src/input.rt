@@ -1,6 +1,6 @@
 //! A whole input.
 
-ghost use Rattle.std.specs.Prelude.{◌≡◌, ◌⊎◌, ℕ, List, IfOk, IfErr, OnOk, IfSome};
+ghost use Rattle.std.specs.Prelude.{◌≡◌, ◌⊎◌, ◌+◌, ◌↔◌, ◌<◌, ◌≤◌, ℕ, List, IfOk, IfErr, OnOk, IfSome, IsTrue, true, false};
 ghost use Rattle.std.specs.Io.KnownBytes.{IsAtEnd};
 ghost use Rattle.conode.specs.declared.fault.CmdFault.TheVariants.{Read, Memory, NeverEnds};
 
@@ -8,19 +8,52 @@ use crate::fault::CmdFault;
 use std::alloc::Global;
 use std::io;
 
-/// How many times a reader is asked at most.
-const GREATEST_ASKED: u32 = 16_777_216;
+/// How many times a reader may be asked yet.
+#[derive(Drop)]
+pub struct Asks {
+    /// Until none is left; a test sets it near the end.
+    pub(crate) left: u32,
+}
 
-/// All that the reader gives. `Read` where it fails; `Memory` where memory runs out; `NeverEnds` where it has given
-/// something 16,777,216 times. A read that a signal interrupted is tried again.
-pub fn read_all<R: io::Read>(alloc: Global, reader: &mut R) -> Result<Vec<u8>, CmdFault>
-    ensures all { IfOk result (λ text. IfSome (R.remaining reader.old) (λ bytes. text.items ≡ bytes)) }
+impl Asks {
+    /// 16,777,216 times.
+    pub fn new() -> Self
+        ensures { result.left ≡ 16777216 }
+    {
+        Asks { left: 16_777_216 }
+    }
+
+    // takes one of them, if one is left
+    fn take(&mut self) -> bool
+        ensures some { result ≡ true → self.new.left + 1 ≡ self.old.left }
+        ensures none { result ≡ false → (self.old.left ≡ 0) × (self.new.left ≡ 0) }
+    {
+        if self.left == 0 {
+            return false;
+        }
+        self.left -= 1;
+        true
+    }
+}
+
+/// All that the reader gives. `Read` where it fails; `Memory` where memory runs out; `NeverEnds` where it was asked as
+/// often as it may be and has not come to its end. A read that a signal interrupted is tried again.
+pub fn read_all<R: io::Read>(
+    alloc: Global,
+    reader: &mut R,
+    asks: &mut Asks,
+) -> Result<Vec<u8>, CmdFault>
+    ensures all { IfOk result (λ text.
+        IfSome (R.remaining reader.old) (λ bytes. text.items ≡ bytes)) }
     ensures end { OnOk result (IsAtEnd (R.remaining reader.new)) }
-    ensures err { IfErr result (λ fault. (fault ≡ CmdFault.Read) ⊎ (fault ≡ CmdFault.Memory) ⊎ (fault ≡ CmdFault.NeverEnds)) }
+    ensures err { IfErr result (λ fault.
+        (fault ≡ CmdFault.Read) ⊎ (fault ≡ CmdFault.Memory) ⊎ (fault ≡ CmdFault.NeverEnds)) }
+    ensures asked { asks.new.left ≤ asks.old.left }
+    ensures never_ends { IfErr result (λ fault. fault ≡ CmdFault.NeverEnds → asks.new.left ≡ 0) }
 {
     let mut text = Vec::new(alloc);
     let mut piece = [0; 65536];
-    for _ in 0..GREATEST_ASKED {
+    while asks.take() {
         match reader.read(&mut piece) {
             Ok(0) => return Ok(text),
             Ok(count) => {

@@ -5,7 +5,8 @@ ghost use Rattle.std.specs.List.{list_any};
 ghost use Rattle.std.specs.Result.{result_err};
 ghost use Rattle.co_frame.specs.declared.sdo_request.ExpeditedData.TheVariants.{Indicated};
 ghost use Rattle.co_frame.specs.SdoParts.{IsExpeditedData};
-ghost use Rattle.conode.specs.Answers.{IsEntry, keys_differ, same_key, first_refusal, entry_refusals, given_bytes};
+ghost use Rattle.co_value.specs.Keys.{same_key};
+ghost use Rattle.conode.specs.Answers.{IsEntry, keys_differ, first_refusal, entry_refusals, given_bytes};
 
 use arrayvec::ArrayVec;
 use co_frame::{AbortCode, ExpeditedData};
@@ -45,17 +46,19 @@ impl ListEntry {
     }
 
     /// Takes the bytes of an expedited download. `READ_ONLY` where the entry isn't writable, else `TOO_LONG` or
-    /// `TOO_SHORT` where the size is told and isn't the width; then nothing changes.
+    /// `TOO_SHORT` where the size is indicated and is not the width; then nothing changes.
     pub fn download(&mut self, expedited: &ExpeditedData) -> Result<(), AbortCode>
         requires { IsEntry self.old }
-        ensures refusal { result_err result ≡ first_refusal (entry_refusals self.old expedited.now) }
-        ensures ok { OnOk result (self.new ≡ record self.old { bytes = record { items = given_bytes self.old expedited.now } }) }
+        ensures refusal { result_err result
+            ≡ first_refusal (entry_refusals self.old expedited.now) }
+        ensures ok { OnOk result (self.new
+            ≡ record self.old { bytes = record { items = given_bytes self.old expedited.now } }) }
         ensures err { OnErr result (self.new ≡ self.old) }
         ensures valid { IsEntry self.new }
     {
         let width = self.bytes.len();
         let given = match expedited {
-            ExpeditedData::Indicated(told) => told.as_slice(),
+            ExpeditedData::Indicated(data) => data.as_slice(),
             ExpeditedData::NotIndicated(four) => &four[..width],
         };
         if !self.writable {

@@ -4,14 +4,12 @@
 
 mod answer;
 mod check;
-mod clock;
 mod command_line;
 mod fault;
-mod frame_fields;
-mod frame_text;
+mod help;
 mod input;
-mod lines;
 mod list_entry;
+mod message;
 mod output;
 mod run;
 mod sheet_file;
@@ -20,25 +18,27 @@ mod stored_run;
 mod tasks;
 #[cfg(test)]
 mod tests;
-mod trace_line;
 
 use command_line::task;
 use fault::CmdFault;
 use output::stopped;
 use sheet_file::check_file;
+use std::io::{BufWriter, Write};
 use std::process::ExitCode;
 use std::{env, io};
-use stored_run::answer_standard_input;
+use stored_run::answer_input;
 use tasks::Task;
 
 /// Does what the words ask for; without a subcommand it answers standard input.
-fn carry_out(rt: &HostRuntime, words: &[&str]) -> ExitCode {
+fn carry_out<O: Write, E: Write>(
+    rt: &HostRuntime,
+    words: &[&str],
+    out: &mut O,
+    err: &mut E,
+) -> ExitCode {
     match task(rt.alloc(), words) {
-        Ok(Some(Task::Check { sheet })) => check_file(rt, sheet),
-        Ok(None) => match answer_standard_input(rt) {
-            Ok(()) => ExitCode::SUCCESS,
-            Err(fault) => stopped(rt, fault),
-        },
+        Ok(Some(Task::Check { sheet })) => check_file(rt, sheet, out, err),
+        Ok(None) => answer_input(rt.alloc(), &mut rt.reader(), out, err),
         Err(error) => {
             let _ = error.print(rt);
             ExitCode::from(error.exit_code() as u8)
@@ -47,20 +47,25 @@ fn carry_out(rt: &HostRuntime, words: &[&str]) -> ExitCode {
 }
 
 /// Takes the words of the command line and does what they ask for.
-fn run_words(rt: &HostRuntime) -> io::Result<ExitCode> {
+fn run_words<E: Write>(rt: &HostRuntime, err: &mut E) -> io::Result<ExitCode> {
     let alloc = rt.alloc();
     let given: Vec<String> = env::args(rt)?.collect(alloc)?;
     let mut words = Vec::new(alloc);
     for word in &given {
         words.push(word.as_str())?;
     }
-    Ok(carry_out(rt, words.as_slice()))
+    let mut out = BufWriter::new(alloc, io::writer(rt))?;
+    Ok(carry_out(rt, words.as_slice(), &mut out, err))
 }
 
 fn main(rt: HostRuntime) -> ExitCode {
-    match run_words(&rt) {
+    let stderr = rt.stderr();
+    let mut err = io::writer(&stderr);
+    match run_words(&rt, &mut err) {
         Ok(status) => status,
-        Err(fault) if fault.kind() == io::ErrorKind::OutOfMemory => stopped(&rt, CmdFault::Memory),
+        Err(fault) if fault.kind() == io::ErrorKind::OutOfMemory => {
+            stopped(CmdFault::Memory, &mut io::writer(&rt), &mut err)
+        }
         Err(_) => {
             let _ = eprintln!(rt; "error: a word of the command line isn't UTF-8");
             ExitCode::from(2)

@@ -1,10 +1,45 @@
-//! What goes to standard output and standard error at the end of a command.
+//! What goes to a writer: lines as they are made, and the rest at the end of a command.
 
-ghost use Rattle.std.specs.Prelude.{◌≡◌, ◌⊎◌, IfOk, IfErr, Ok, Err};
+ghost use Rattle.std.specs.Prelude.{◌≡◌, ◌⊎◌, ℕ, List, IfOk, IfErr, OnOk, Ok, Err};
+ghost use Rattle.std.specs.Io.KnownBytes.{Appends, Keeps};
+ghost use Rattle.std.specs.Process.{exit_status};
+ghost use Rattle.conode.specs.Messages.{message_line};
+ghost use Rattle.conode.specs.Written.{AppendsFront};
 
 use crate::fault::CmdFault;
+use crate::message::Message;
+use std::io;
 use std::io::Write;
 use std::process::ExitCode;
+
+/// Hands all the bytes to the writer. `Write` where the writer failed: then it has taken a front of them at most. A
+/// write that a signal interrupted is tried again.
+pub fn hand_over<W: Write>(bytes: &[u8], writer: &mut W) -> Result<(), CmdFault>
+    ensures ok { OnOk result (Appends (W.contents writer.old) (W.contents writer.new) bytes.now) }
+    ensures fault { IfErr result (λ fault. fault ≡ CmdFault.Write) }
+    ensures front { IfErr result (λ _.
+        AppendsFront (W.contents writer.old) (W.contents writer.new) bytes.now) }
+{
+    let mut rest = bytes;
+    let mut tries = u64::MAX;
+    while !rest.is_empty() && tries > 0 {
+        tries -= 1;
+        match writer.write(rest) {
+            Ok(0) => return Err(CmdFault::Write),
+            Ok(count) => rest = &rest[count..],
+            Err(error) => {
+                if error.kind() != io::ErrorKind::Interrupted {
+                    return Err(CmdFault::Write);
+                }
+            }
+        }
+    }
+    if rest.is_empty() {
+        Ok(())
+    } else {
+        Err(CmdFault::Write)
+    }
+}
 
 /// What an outcome is once all that was written has gone out.
 pub fn flushed<W: Write, T: Drop>(
@@ -15,6 +50,7 @@ pub fn flushed<W: Write, T: Drop>(
     // A fault that the command had already stays.
     ensures kept { IfErr outcome (λ fault. result ≡ Err fault) }
     ensures err { IfErr result (λ fault. (outcome ≡ Err fault) ⊎ (fault ≡ CmdFault.Write)) }
+    ensures text { Keeps (W.contents writer.old) (W.contents writer.new) }
 {
     if writer.flush().is_err() {
         return outcome.and(Err(CmdFault::Write));
@@ -22,13 +58,27 @@ pub fn flushed<W: Write, T: Drop>(
     outcome
 }
 
-/// Says why a command ended before its input did: on standard output, or where that can't be written on standard
-/// error.
-pub fn stopped(rt: &(impl Print + Eprint), fault: CmdFault) -> ExitCode {
+/// Writes the line of a message at once.
+#[tactic(auto, unfolding(crate::specs::Messages::message_line))]
+pub fn say<W: Write>(message: Message<'_>, writer: &mut W) -> io::Result<()>
+    ensures { OnOk result
+        (Appends (W.contents writer.old) (W.contents writer.new) (message_line message.entry)) }
+{
+    writeln!(writer, "{message}")?;
+    writer.flush()
+}
+
+/// Says why a command ended before its input did: on `out`, or where that can't be written on `err`. The status is 1.
+pub fn stopped<O: Write, E: Write>(fault: CmdFault, out: &mut O, err: &mut E) -> ExitCode
+    ensures status { exit_status result ≡ 1 }
+    ensures unwritable { fault ≡ CmdFault.Write → Keeps (O.contents out.old) (O.contents out.new) }
+{
+    let message = Message::Stopped(fault);
+    // Where even this can't be written, the status alone tells of it.
     if fault == CmdFault::Write {
-        let _ = eprintln!(rt; "stopped: {fault}");
+        let _ = say(message, err);
     } else {
-        let _ = println!(rt; "stopped: {fault}");
+        let _ = say(message, out);
     }
     ExitCode::FAILURE
 }

@@ -1,23 +1,22 @@
 //! A trace answered from a list of entries.
 
-ghost use Rattle.std.specs.Prelude.{◌≡◌, ◌≢◌, ◌⊎◌, ◌-◌, ◌<◌, ◌≤◌, ℕ, List, take, length, All, IfSome, IfNone, IsSome, IfErr, OnOk, IsTrue, MatchOption, Some, None, Err, string_bytes};
+ghost use Rattle.std.specs.Prelude.{◌≡◌, ◌≢◌, ◌⊎◌, ◌-◌, ◌<◌, ◌≤◌, [], ℕ, List, take, length, All, IfSome, IfNone, IsSome, IfErr, OnOk, IsTrue, Some, None, Err, string_bytes};
 ghost use Rattle.std.specs.Option.{option_map};
 ghost use Rattle.std.specs.Io.KnownBytes.{Appends, Keeps};
 ghost use Rattle.co_frame.specs.SdoResponses.{IsSdoResponse};
-ghost use Rattle.conode.specs.Clocks.{clock_after};
-ghost use Rattle.conode.specs.Lines.{lines_of};
+ghost use Rattle.co_trace.specs.Clocks.{clock_after};
+ghost use Rattle.co_trace.specs.Lines.{lines_of};
 ghost use Rattle.conode.specs.Answers.{IsEntry, keys_differ};
-ghost use Rattle.conode.specs.Runs.{taken, answer_text, LeavesList, WritesAnswers, IsFirstBadLine, LeavesListSomewhere, IsBrokenOff};
+ghost use Rattle.conode.specs.Runs.{taken, answer_text, IsAnswered, IsFirstBadLine, IsBrokenOff, IsUntouched};
+ghost use Rattle.conode.specs.Written.{AppendsFront, IsFront};
 
 use crate::answer::answer;
-use crate::clock::Clock;
 use crate::fault::CmdFault;
-use crate::frame_text::set_frame_line;
-use crate::input::read_all;
-use crate::lines::first_line;
+use crate::input::{Asks, read_all};
 use crate::list_entry::ListEntry;
-use crate::trace_line::TraceLine;
+use crate::output::hand_over;
 use co_frame::SdoResponse;
+use co_trace::{Clock, TraceLine, first_line, set_frame_line};
 use std::alloc::Global;
 use std::io::{Read, Write};
 
@@ -29,7 +28,9 @@ const ANSWER_ID: u16 = 0x585;
 fn take_line(list: &mut [ListEntry], clock: &mut Clock, line: &[u8]) -> Option<Option<SdoResponse>>
     requires valid { All IsEntry list.old }
     requires differ { IsTrue (keys_differ list.old) }
-    ensures taken { taken list.old clock.old line.now ≡ option_map (λ answer. record { list = list.new; clock = clock.new; answer = answer }) result }
+    ensures taken { taken list.old clock.old line.now ≡
+        option_map (λ answer.
+        record { list = list.new; clock = clock.new; answer = answer }) result }
     ensures bad { IfNone result (list.new ≡ list.old) }
     ensures valid { All IsEntry list.new }
     ensures differ { IsTrue (keys_differ list.new) }
@@ -52,13 +53,19 @@ fn take_line(list: &mut [ListEntry], clock: &mut Clock, line: &[u8]) -> Option<O
 #[tactic(auto, unfolding(crate::specs::Runs::answer_text))]
 fn write_answer<W: Write>(
     text: &mut String,
-    ms: u64,
+    ms: u128,
     answer: &Option<SdoResponse>,
     writer: &mut W,
 ) -> Result<(), CmdFault>
     requires { IfSome answer.now IsSdoResponse }
-    ensures ok { OnOk result (Appends (W.contents writer.old) (W.contents writer.new) (answer_text ms answer.now)) }
-    ensures err { IfErr result (λ fault. (fault ≡ CmdFault.Write) ⊎ ((fault ≡ CmdFault.Memory) × Keeps (W.contents writer.old) (W.contents writer.new))) }
+    ensures ok { OnOk result
+        (Appends (W.contents writer.old) (W.contents writer.new) (answer_text ms answer.now)) }
+    ensures write { result ≡ Err CmdFault.Write →
+        AppendsFront (W.contents writer.old) (W.contents writer.new) (answer_text ms answer.now) }
+    ensures memory { result ≡ Err CmdFault.Memory →
+        IsFront [] (answer_text ms answer.now)
+        × Keeps (W.contents writer.old) (W.contents writer.new) }
+    ensures err { IfErr result (λ fault. (fault ≡ CmdFault.Write) ⊎ (fault ≡ CmdFault.Memory)) }
 {
     let Some(response) = answer else {
         return Ok(());
@@ -66,9 +73,7 @@ fn write_answer<W: Write>(
     if set_frame_line(text, ms, &response.write(ANSWER_ID)).is_err() {
         return Err(CmdFault::Memory);
     }
-    writer
-        .write_all(text.as_bytes())
-        .map_err(|_| CmdFault::Write)
+    hand_over(text.as_bytes(), writer)
 }
 
 // answers the lines of a text
@@ -83,16 +88,22 @@ fn answer_lines<W: Write>(
     ensures valid { All IsEntry list.new }
     ensures differ { IsTrue (keys_differ list.new) }
 
-    ensures ok_list { OnOk result (LeavesList list.old (lines_of text.now) list.new) }
-    ensures ok_text { OnOk result (WritesAnswers list.old (lines_of text.now) (W.contents writer.old) (W.contents writer.new)) }
-
-    ensures bad_line { (number : ℕ) → result ≡ Err (CmdFault.BadLine number) → IsFirstBadLine list.old (lines_of text.now) number }
-    ensures bad_list { (number : ℕ) → result ≡ Err (CmdFault.BadLine number) → LeavesList list.old (take (number - 1) (lines_of text.now)) list.new }
-    ensures bad_text { (number : ℕ) → result ≡ Err (CmdFault.BadLine number) → WritesAnswers list.old (take (number - 1) (lines_of text.now)) (W.contents writer.old) (W.contents writer.new) }
-
-    ensures broken_off { LeavesListSomewhere list.old (lines_of text.now) list.new }
-    ensures memory { result ≡ Err CmdFault.Memory → IsBrokenOff list.old (lines_of text.now) list.new (W.contents writer.old) (W.contents writer.new) }
-    ensures others { IfErr result (λ fault. (fault ≢ CmdFault.Read) × (fault ≢ CmdFault.NeverEnds)) }
+    ensures ok { OnOk result
+        (IsAnswered list.old (lines_of text.now) list.new
+        (W.contents writer.old) (W.contents writer.new)) }
+    ensures bad_line { (number : ℕ) → result ≡ Err (CmdFault.BadLine number) →
+        IsFirstBadLine list.old (lines_of text.now) number }
+    ensures before { (number : ℕ) → result ≡ Err (CmdFault.BadLine number) →
+        IsAnswered list.old (take (number - 1) (lines_of text.now)) list.new
+        (W.contents writer.old) (W.contents writer.new) }
+    ensures write { result ≡ Err CmdFault.Write → (front : List ℕ) ×
+        IsBrokenOff list.old (lines_of text.now) list.new front
+        (W.contents writer.old) (W.contents writer.new) }
+    ensures memory { result ≡ Err CmdFault.Memory →
+        IsBrokenOff list.old (lines_of text.now) list.new []
+        (W.contents writer.old) (W.contents writer.new) }
+    ensures others { IfErr result (λ fault.
+        (fault ≢ CmdFault.Read) × (fault ≢ CmdFault.NeverEnds)) }
 {
     let mut clock = Clock::new();
     let mut line_text = String::new(alloc);
@@ -115,7 +126,8 @@ fn answer_lines<W: Write>(
 ///
 /// `Read` and `NeverEnds` come before the first line is taken, so nothing has changed then. `BadLine` is the first line
 /// that is no line of a trace here, event lines included; the lines before it have been answered. After `Write` or
-/// `Memory` the line whose answer it was has been taken, and those before it have been answered.
+/// `Memory` the line whose answer it was has been taken and those before it have been answered; of its own answer the
+/// writer has a part at most, after `Memory` nothing. `Memory` may also come before the first line is taken.
 pub fn first_run<R: Read, W: Write>(
     alloc: Global,
     list: &mut [ListEntry],
@@ -127,21 +139,34 @@ pub fn first_run<R: Read, W: Write>(
     ensures valid { All IsEntry list.new }
     ensures differ { IsTrue (keys_differ list.new) }
 
-    // The list and the text after all lines.
-    ensures ok_list { OnOk result (IfSome (R.remaining reader.old) (λ text. LeavesList list.old (lines_of text) list.new)) }
-    ensures ok_text { OnOk result (IfSome (R.remaining reader.old) (λ text. WritesAnswers list.old (lines_of text) (W.contents writer.old) (W.contents writer.new))) }
+    // All lines are answered.
+    ensures ok { OnOk result (IfSome (R.remaining reader.old) (λ text.
+        IsAnswered list.old (lines_of text) list.new
+        (W.contents writer.old) (W.contents writer.new))) }
 
-    // Which line is refused, and the list and the text after those before it.
-    ensures bad_line { (number : ℕ) → result ≡ Err (CmdFault.BadLine number) → IfSome (R.remaining reader.old) (λ text. IsFirstBadLine list.old (lines_of text) number) }
-    ensures bad_list { (number : ℕ) → result ≡ Err (CmdFault.BadLine number) → IfSome (R.remaining reader.old) (λ text. LeavesList list.old (take (number - 1) (lines_of text)) list.new) }
-    ensures bad_text { (number : ℕ) → result ≡ Err (CmdFault.BadLine number) → IfSome (R.remaining reader.old) (λ text. WritesAnswers list.old (take (number - 1) (lines_of text)) (W.contents writer.old) (W.contents writer.new)) }
+    // A line is bad, and those before it are answered.
+    ensures bad_line { (number : ℕ) → result ≡ Err (CmdFault.BadLine number) →
+        IfSome (R.remaining reader.old) (λ text. IsFirstBadLine list.old (lines_of text) number) }
+    ensures before { (number : ℕ) → result ≡ Err (CmdFault.BadLine number) →
+        IfSome (R.remaining reader.old) (λ text.
+        IsAnswered list.old (take (number - 1) (lines_of text)) list.new
+        (W.contents writer.old) (W.contents writer.new)) }
 
-    // After any fault.
-    ensures unread_list { IfErr result (λ fault. (fault ≡ CmdFault.Read) ⊎ (fault ≡ CmdFault.NeverEnds) → list.new ≡ list.old) }
-    ensures unread_text { IfErr result (λ fault. (fault ≡ CmdFault.Read) ⊎ (fault ≡ CmdFault.NeverEnds) → Keeps (W.contents writer.old) (W.contents writer.new)) }
-    ensures broken_off { IfSome (R.remaining reader.old) (λ text. LeavesListSomewhere list.old (lines_of text) list.new) }
-    ensures memory { result ≡ Err CmdFault.Memory → IfSome (R.remaining reader.old) (λ text. IsBrokenOff list.old (lines_of text) list.new (W.contents writer.old) (W.contents writer.new)) }
+    // An answer is written in part, or not at all.
+    ensures write { result ≡ Err CmdFault.Write →
+        IfSome (R.remaining reader.old) (λ text. (front : List ℕ) ×
+        IsBrokenOff list.old (lines_of text) list.new front
+        (W.contents writer.old) (W.contents writer.new)) }
+    ensures memory { result ≡ Err CmdFault.Memory →
+        IsUntouched list.old list.new (W.contents writer.old) (W.contents writer.new)
+        ⊎ IfSome (R.remaining reader.old) (λ text.
+        IsBrokenOff list.old (lines_of text) list.new []
+        (W.contents writer.old) (W.contents writer.new)) }
+
+    // The input is not read to its end.
+    ensures unread { IfErr result (λ fault. (fault ≡ CmdFault.Read) ⊎ (fault ≡ CmdFault.NeverEnds) →
+        IsUntouched list.old list.new (W.contents writer.old) (W.contents writer.new)) }
 {
-    let text = read_all(alloc, reader)?;
+    let text = read_all(alloc, reader, &mut Asks::new())?;
     answer_lines(alloc, list, text.as_slice(), writer)
 }

@@ -1,52 +1,85 @@
 //! The file of a data sheet, checked.
 
+ghost use Rattle.std.specs.Prelude.{◌≡◌, ◌≤◌, ◌⊎◌, IsSome, OnOk};
+ghost use Rattle.std.specs.Process.{exit_status};
+ghost use Rattle.co_sheet.specs.Accepted.{first_fault};
+ghost use Rattle.conode.specs.SheetTexts.{checked_lines};
+ghost use Rattle.conode.specs.Written.{WritesLines};
+
 use crate::check::check;
 use crate::fault::CmdFault;
-use crate::input::read_all;
-use crate::output::{flushed, stopped};
-use std::io::{BufWriter, Read};
+use crate::input::{Asks, read_all};
+use crate::message::Message;
+use crate::output::{flushed, say, stopped};
+use co_sheet::{FaultKind, GREATEST_SIZE, SheetFault};
+use std::alloc::Global;
+use std::fs;
+use std::io::{Read, Write};
 use std::process::ExitCode;
 use std::rt::Files;
-use std::{fs, io};
 
-/// How many bytes of a file are read as a data sheet: one more than a data sheet may have, so that it is seen to be
-/// too large.
-const READ_SIZE: u64 = 1_048_577;
-
-/// As much of a file as a data sheet may have, and a byte more where there is one.
+/// As much of a file as a data sheet may have, and a byte more where there is one, so that it is seen to be too large.
 pub fn file_text<R: Files + AllocGlobal>(rt: &R, path: &str) -> Result<Vec<u8>, CmdFault> {
     let Ok(file) = fs::open(rt, path) else {
         return Err(CmdFault::Read);
     };
-    read_all(rt.alloc(), &mut file.take(READ_SIZE))
+    read_all(
+        rt.alloc(),
+        &mut file.take(GREATEST_SIZE as u64 + 1),
+        &mut Asks::new(),
+    )
 }
 
-/// Checks a text on standard output.
-fn check_text(rt: &(impl Print + AllocGlobal), text: &[u8]) -> Result<bool, CmdFault> {
-    let Ok(mut writer) = BufWriter::new(rt.alloc(), io::writer(rt)) else {
-        return Err(CmdFault::Memory);
+// says that memory ran out while a data sheet was checked
+fn out_of_memory<O: Write>(out: &mut O) -> ExitCode
+    ensures { exit_status result ≡ 1 }
+{
+    let fault = SheetFault {
+        kind: FaultKind::Memory,
+        line: 0,
     };
-    let outcome = check(rt.alloc(), text, &mut writer);
-    flushed(&mut writer, outcome)
+    let _ = say(Message::Fault(fault), out);
+    ExitCode::FAILURE
 }
 
-/// Checks the data sheet of a path; the status is 0 where it is accepted.
-pub fn check_file<R: Files + Print + Eprint + AllocGlobal>(rt: &R, path: &str) -> ExitCode {
-    let outcome = match file_text(rt, path) {
-        Ok(text) => check_text(rt, text.as_slice()),
-        Err(CmdFault::Memory) => Err(CmdFault::Memory),
-        Err(_) => {
-            let _ = eprintln!(rt; "cannot read {path}");
-            return ExitCode::FAILURE;
-        }
-    };
-    match outcome {
+/// Checks a text: what it has, or its fault, goes to `out`. The status is 0 where the text is accepted and all was
+/// written, else 1; then `out` says so too, or where it can't be written `err`.
+pub fn check_text<O: Write, E: Write>(
+    alloc: Global,
+    text: &[u8],
+    out: &mut O,
+    err: &mut E,
+) -> ExitCode
+    ensures status { (exit_status result ≡ 0) ⊎ (exit_status result ≡ 1) }
+    ensures faulty { IsSome (first_fault text.now) → exit_status result ≡ 1 }
+    ensures accepted { exit_status result ≡ 0 →
+        WritesLines (O.contents out.old) (O.contents out.new) (checked_lines text.now) }
+{
+    let outcome = check(alloc, text, out);
+    match flushed(out, outcome) {
         Ok(true) => ExitCode::SUCCESS,
         Ok(false) => ExitCode::FAILURE,
-        Err(CmdFault::Memory) => {
-            let _ = println!(rt; "fault 20 Memory line 0");
+        Err(CmdFault::Memory) => out_of_memory(out),
+        Err(fault) => stopped(fault, out, err),
+    }
+}
+
+/// Checks the data sheet of a path, as `check_text` does. A file that can't be read is named on `err`; the status is
+/// then 1.
+pub fn check_file<R: Files + AllocGlobal, O: Write, E: Write>(
+    rt: &R,
+    path: &str,
+    out: &mut O,
+    err: &mut E,
+) -> ExitCode
+    ensures { (exit_status result ≡ 0) ⊎ (exit_status result ≡ 1) }
+{
+    match file_text(rt, path) {
+        Ok(text) => check_text(rt.alloc(), text.as_slice(), out, err),
+        Err(CmdFault::Memory) => out_of_memory(out),
+        Err(_) => {
+            let _ = say(Message::CannotRead(path), err);
             ExitCode::FAILURE
         }
-        Err(fault) => stopped(rt, fault),
     }
 }

@@ -1,19 +1,25 @@
-//! The run without words: standard input, a trace, answered from a list that the program has.
+//! The run without words: an input, a trace, answered from a list that the program has.
 
-ghost use Rattle.std.specs.Prelude.{All, IsTrue};
+ghost use Rattle.std.specs.Prelude.{◌≡◌, ◌⊎◌, List, All, IsTrue, IfSome};
+ghost use Rattle.std.specs.Process.{exit_status};
+ghost use Rattle.co_trace.specs.Lines.{lines_of};
 ghost use Rattle.conode.specs.Answers.{IsEntry, keys_differ};
+ghost use Rattle.conode.specs.Runs.{IsAnswered};
+ghost use Rattle.conode.specs.StoredEntries.{stored_entries};
+ghost use Rattle.conode.specs.declared.list_entry.ListEntry.{ListEntry};
 
-use crate::fault::CmdFault;
 use crate::list_entry::ListEntry;
-use crate::output::flushed;
+use crate::output::{flushed, stopped};
 use crate::run::first_run;
 use arrayvec::ArrayVec;
 use co_value::{DataType, Key};
-use std::io;
-use std::io::BufWriter;
+use std::alloc::Global;
+use std::io::{Read, Write};
+use std::process::ExitCode;
 
-/// The device type of a device without a profile, and a value that a client may change.
+/// The device type of a device with profile 401 (1000:00, 191h), and a value that a client may change (2002:00, 0).
 pub fn stored_list() -> [ListEntry; 2]
+    ensures entries { result ≡ stored_entries }
     ensures valid { All IsEntry result }
     ensures differ { IsTrue (keys_differ result) }
 {
@@ -39,12 +45,24 @@ pub fn stored_list() -> [ListEntry; 2]
     ]
 }
 
-/// Answers standard input, a trace, on standard output. What was answered before a fault is written all the same.
-pub fn answer_standard_input(rt: &(impl Input + Print + AllocGlobal)) -> Result<(), CmdFault> {
+/// Answers an input, a trace, on `out`. The status is 0 where all of it was answered and written, else 1: then `out`
+/// says why, after what was answered before, or where it can't be written `err`.
+pub fn answer_input<R: Read, O: Write, E: Write>(
+    alloc: Global,
+    input: &mut R,
+    out: &mut O,
+    err: &mut E,
+) -> ExitCode
+    ensures status { (exit_status result ≡ 0) ⊎ (exit_status result ≡ 1) }
+    ensures answered { exit_status result ≡ 0 →
+        IfSome (R.remaining input.old) (λ text. (left : List ListEntry) ×
+        IsAnswered stored_entries (lines_of text) left
+        (O.contents out.old) (O.contents out.new)) }
+{
     let mut list = stored_list();
-    let Ok(mut writer) = BufWriter::new(rt.alloc(), io::writer(rt)) else {
-        return Err(CmdFault::Memory);
-    };
-    let outcome = first_run(rt.alloc(), &mut list, &mut rt.reader(), &mut writer);
-    flushed(&mut writer, outcome)
+    let outcome = first_run(alloc, &mut list, input, out);
+    match flushed(out, outcome) {
+        Ok(()) => ExitCode::SUCCESS,
+        Err(fault) => stopped(fault, out, err),
+    }
 }

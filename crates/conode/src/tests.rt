@@ -1,5 +1,7 @@
 //! Whole runs over readers, writers and words in memory, and over files.
 
+mod edges;
+mod fakes;
 mod sheets;
 mod traces;
 mod words;

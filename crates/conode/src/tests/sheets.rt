@@ -1,13 +1,10 @@
 //! Data sheets checked.
 
+use super::fakes::Narrow;
 use crate::check::check;
 use crate::fault::CmdFault;
-use crate::sheet_file::{check_file, file_text};
 use std::alloc::{AllocError, Global};
-use std::io::Write;
-use std::process::ExitCode;
 use std::test::Fail;
-use std::{fs, io};
 
 /// A small data sheet, line by line.
 const LINES: [&str; 21] = [
@@ -36,14 +33,14 @@ const LINES: [&str; 21] = [
 
 /// In place of so many lines from a place on, others; and what is written of the sheet then.
 #[derive(Clone, Copy)]
-struct Change {
+pub(super) struct Change {
     place: usize,
     removed: usize,
     added: &'static [&'static str],
     written: &'static str,
 }
 
-const fn in_place(
+pub(super) const fn in_place(
     place: usize,
     removed: usize,
     added: &'static [&'static str],
@@ -65,7 +62,7 @@ fn push_lines(text: &mut String, lines: &[&str]) -> Result<(), AllocError> {
     Ok(())
 }
 
-fn text_with(alloc: Global, change: &Change) -> Result<String, AllocError> {
+pub(super) fn text_with(alloc: Global, change: &Change) -> Result<String, AllocError> {
     let mut text = String::new(alloc);
     let (front, rest) = LINES.split_at(change.place.min(21));
     push_lines(&mut text, front)?;
@@ -155,67 +152,20 @@ fn refused_sheets(rt: HostRuntime) -> Result<(), Fail> {
 }
 
 #[test]
-fn too_large(rt: HostRuntime) -> Result<(), Fail> {
-    let text = vec![in rt.alloc(); b'\n'; 1_048_577]?;
-    let mut written = Vec::new(rt.alloc());
-    let outcome = check(rt.alloc(), text.as_slice(), &mut written);
-    assert_eq!(rt;
-        String::from_utf8(written)?.as_str(),
-        "fault 1 TooLarge line 0\n"
-    );
-    assert_eq!(rt; outcome, Ok(false));
-    Ok(())
-}
-
-/// A writer that fails once it was given so many lines.
-#[derive(Drop)]
-struct FailingWriter {
-    lines_left: usize,
-}
-
-impl Write for FailingWriter {
-    fn write(&mut self, bytes: &[u8]) -> io::Result<usize> {
-        if self.lines_left == 0 {
-            return Err(io::Error::from(io::ErrorKind::WriteZero));
-        }
-        self.lines_left -= 1;
-        Ok(bytes.len())
-    }
-
-    fn flush(&mut self) -> io::Result<()> {
-        Ok(())
-    }
-}
-
-#[test]
 fn failing_writer(rt: HostRuntime) -> Result<(), Fail> {
-    let change = in_place(21, 0, &["[2000]", "SubNumber=1"], "");
-    let text = text_with(rt.alloc(), &change)?;
-    for lines_left in 0..3 {
-        let mut writer = FailingWriter { lines_left };
+    let text = text_with(rt.alloc(), &in_place(21, 0, &["[2000]", "SubNumber=1"], ""))?;
+    let whole = "ok: 3 objects, 4 entries, 2 notes\nnote 22 Unlisted\nnote 23 SubNumber\n";
+    for room in [0, 33, 34, 50, 51, 68] {
+        let mut writer = Narrow::new(&rt, room);
         let outcome = check(rt.alloc(), text.as_bytes(), &mut writer);
-        assert_eq!(rt; outcome, Err(CmdFault::Write));
+        assert_eq!(rt; outcome, Err(CmdFault::Write), "at {room}");
+        assert_eq!(rt;
+            writer.text.as_slice(),
+            &whole.as_bytes()[..room],
+            "at {room}"
+        );
     }
-    let mut writer = FailingWriter { lines_left: 3 };
+    let mut writer = Narrow::new(&rt, whole.len());
     assert_eq!(rt; check(rt.alloc(), text.as_bytes(), &mut writer), Ok(true));
-    Ok(())
-}
-
-/// The path of a file of this test, in the system's folder for such files.
-#[test]
-fn files(rt: HostRuntime) -> Result<(), Fail> {
-    let text = text_with(rt.alloc(), &in_place(0, 0, &[], ""))?;
-    fs::write(&rt, "conode-small-sheet.eds", text.as_str())?;
-    assert_eq!(rt;
-        file_text(&rt, "conode-small-sheet.eds").map(|read| read.as_slice() == text.as_bytes()),
-        Ok(true)
-    );
-    assert!(rt; check_file(&rt, "conode-small-sheet.eds") == ExitCode::SUCCESS);
-    fs::remove_file(&rt, "conode-small-sheet.eds")?;
-    assert!(rt; check_file(&rt, "conode-small-sheet.eds") == ExitCode::FAILURE);
-    assert!(rt; file_text(&rt, "conode-small-sheet.eds").is_err());
-    fs::create_dir(&rt, "conode-folder.eds")?;
-    assert!(rt; check_file(&rt, "conode-folder.eds") == ExitCode::FAILURE);
-    fs::remove_dir(&rt, "conode-folder.eds")?;
     Ok(())
 }

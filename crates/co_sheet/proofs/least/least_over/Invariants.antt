@@ -6,7 +6,7 @@ use Rattle.co_sheet.specs.Accepted.{least_fault}
 use Rattle.co_sheet.specs.LeastFaults.{earlier}
 use Rattle.co_sheet.proofs.least.least_over.Given as goal
 
--- the least so far and that of the rest are the least of all
+-- the smallest so far and that of the rest are the smallest of all
 abbrev pub invariant-loop-item : goal.invariant-loop-item
 invariant-loop-item g l =
     (faults : _ → List Fault) → ((x : _) (r : _) → FnReturnsAt g.F.Fn l.check x r → r ≡ least_fault (faults x))

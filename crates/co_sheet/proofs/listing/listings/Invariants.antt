@@ -5,7 +5,7 @@ use Rattle.co_sheet.specs.ListingViews.{listing_view}
 use Rattle.co_sheet.proofs.ListingLemmas.{named_by}
 use Rattle.co_sheet.proofs.listing.listings.Given as goal
 
--- what is there so far, and behind it what the rest names
+-- what is there so far, and after it what the rest names
 abbrev pub invariant-loop-section : goal.invariant-loop-section
 invariant-loop-section l =
     map listing_view l.all.items ++ flat_map named_by (map section_view (drop l.section-index l.sections)) ≡ flat_map named_by (map section_view l.sections)

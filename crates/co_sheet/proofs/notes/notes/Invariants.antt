@@ -4,7 +4,7 @@ use Rattle.co_sheet.specs.Notes.{notes_at}
 use Rattle.co_sheet.specs.ParsedSections.{section_view}
 use Rattle.co_sheet.proofs.notes.notes.Given as goal
 
--- those so far, and behind them those of the rest
+-- those so far, and after them those of the rest
 abbrev pub invariant-loop-section : goal.invariant-loop-section
 invariant-loop-section l =
     l.notes.items ++ flat_map (λ s. notes_at l.tables s s.kind) (map section_view (drop l.section-index l.section-items)) ≡ flat_map (λ s. notes_at l.tables s s.kind) (map section_view l.section-items)

@@ -3,8 +3,9 @@ use Rattle.std.specs.Ordering.{nat_cmp, is_lt, ordering_then}
 use Rattle.std.proofs.lemmas.Fn.{always_returns_same}
 use Rattle.std.proofs.lemmas.List.Sorted.{ranks_by}
 use Rattle.co_sheet.specs.declared.entry.EntryRow.{EntryRow}
-use Rattle.co_sheet.specs.Content.{is_key_before}
-use Rattle.co_sheet.specs.SheetContents.{row_view}
+use Rattle.co_value.specs.Keys.{is_key_before}
+use Rattle.co_sheet.specs.Content.{}
+use Rattle.co_sheet.specs.SheetViews.{row_view}
 use Rattle.co_sheet.proofs.OrderLemmas.{sorted-in_order, in_order-map, is_lt-pair, pair_total}
 use Rattle.co_sheet.proofs.rows.sort_rows.Goals as goal
 

@@ -4,7 +4,7 @@ use Rattle.co_sheet.specs.ParsedSections.{section_view}
 use Rattle.co_sheet.specs.SectionViews.{parts_at}
 use Rattle.co_sheet.proofs.tables.parts_by_index.Given as goal
 
--- what is there so far, and behind it what the rest has
+-- what is there so far, and after it what the rest has
 abbrev pub invariant-loop-section : goal.invariant-loop-section
 invariant-loop-section l =
     (i : ℕ) → parts_at l.parts i ++ sub_indices (map section_view (drop l.section-index l.sections)) i ≡ sub_indices (map section_view l.sections) i

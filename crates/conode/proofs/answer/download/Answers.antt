@@ -1,22 +1,22 @@
 use Rattle.std.proofs.Common.{◌≡◌, Some, None, get_or, refl, sym, ap, ◌∙◌}
 use Rattle.std.proofs.lemmas.List.Elements.{All-set}
 use Rattle.conode.specs.Answers.{IsEntry, write_refusal, first_refusal, entry_refusals}
-use Rattle.conode.proofs.Places.{refusal-stands, downloaded-stands, differ_after, same_entry, write_refusal-absent}
+use Rattle.conode.proofs.Places.{refusal-at_place, downloaded-at_place, differ_after, same_entry, write_refusal-absent}
 use Rattle.conode.proofs.answer.download.Goals as goal
 
 pub returns-in-Ok-download-clause-response : goal.returns-in-Ok-download-clause-response
 returns-in-Ok-download-clause-response c =
-    let stands = refusal-stands c.args.list.now c.args.key c.in-Ok.place (get_or c.args.list.now c.in-Ok.place c.index-list-place.result) c.in-Ok.ensures.found (ap (get_or c.args.list.now c.in-Ok.place) c.index-list-place.is) c.args.expedited.now in
+    let own_code = refusal-at_place c.args.list.now c.args.key c.in-Ok.place (get_or c.args.list.now c.in-Ok.place c.index-list-place.result) c.in-Ok.ensures.found (ap (get_or c.args.list.now c.in-Ok.place) c.index-list-place.is) c.args.expedited.now in
     let own : None ≡ first_refusal (entry_refusals (get_or c.args.list.now c.in-Ok.place c.index-list-place.result) c.args.expedited.now) = c.in-Ok-download.ensures.refusal in
-    let refusal : write_refusal c.args.list.now c.args.key c.args.expedited.now ≡ None = stands ∙ sym own in
+    let refusal : write_refusal c.args.list.now c.args.key c.args.expedited.now ≡ None = own_code ∙ sym own in
     rw refusal refl
 
 pub returns-in-Ok-download-clause-list : goal.returns-in-Ok-download-clause-list
 returns-in-Ok-download-clause-list c =
-    let stands = refusal-stands c.args.list.now c.args.key c.in-Ok.place (get_or c.args.list.now c.in-Ok.place c.index-list-place.result) c.in-Ok.ensures.found (ap (get_or c.args.list.now c.in-Ok.place) c.index-list-place.is) c.args.expedited.now in
+    let own_code = refusal-at_place c.args.list.now c.args.key c.in-Ok.place (get_or c.args.list.now c.in-Ok.place c.index-list-place.result) c.in-Ok.ensures.found (ap (get_or c.args.list.now c.in-Ok.place) c.index-list-place.is) c.args.expedited.now in
     let own : None ≡ first_refusal (entry_refusals (get_or c.args.list.now c.in-Ok.place c.index-list-place.result) c.args.expedited.now) = c.in-Ok-download.ensures.refusal in
-    let refusal : write_refusal c.args.list.now c.args.key c.args.expedited.now ≡ None = stands ∙ sym own in
-    rw refusal (downloaded-stands c.args.list.now c.args.key c.in-Ok.place (get_or c.args.list.now c.in-Ok.place c.index-list-place.result) c.in-Ok.ensures.found (ap (get_or c.args.list.now c.in-Ok.place) c.index-list-place.is) c.args.expedited.now c.download.new.self c.requires.differ c.in-Ok-download.ensures.ok)
+    let refusal : write_refusal c.args.list.now c.args.key c.args.expedited.now ≡ None = own_code ∙ sym own in
+    rw refusal (downloaded-at_place c.args.list.now c.args.key c.in-Ok.place (get_or c.args.list.now c.in-Ok.place c.index-list-place.result) c.in-Ok.ensures.found (ap (get_or c.args.list.now c.in-Ok.place) c.index-list-place.is) c.args.expedited.now c.download.new.self c.requires.differ c.in-Ok-download.ensures.ok)
 
 pub returns-in-Ok-download-clause-valid : goal.returns-in-Ok-download-clause-valid
 returns-in-Ok-download-clause-valid c = All-set IsEntry c.args.list.now c.in-Ok.place c.download.new.self c.download.ensures.valid c.requires.valid
@@ -26,16 +26,16 @@ returns-in-Ok-download-clause-differ c = differ_after c.args.list.now c.args.key
 
 pub returns-in-Err-download-clause-response : goal.returns-in-Err-download-clause-response
 returns-in-Err-download-clause-response c =
-    let stands = refusal-stands c.args.list.now c.args.key c.in-Ok.place (get_or c.args.list.now c.in-Ok.place c.index-list-place.result) c.in-Ok.ensures.found (ap (get_or c.args.list.now c.in-Ok.place) c.index-list-place.is) c.args.expedited.now in
+    let own_code = refusal-at_place c.args.list.now c.args.key c.in-Ok.place (get_or c.args.list.now c.in-Ok.place c.index-list-place.result) c.in-Ok.ensures.found (ap (get_or c.args.list.now c.in-Ok.place) c.index-list-place.is) c.args.expedited.now in
     let own : Some c.in-Err-download.code ≡ first_refusal (entry_refusals (get_or c.args.list.now c.in-Ok.place c.index-list-place.result) c.args.expedited.now) = c.in-Err-download.ensures.refusal in
-    let refusal : write_refusal c.args.list.now c.args.key c.args.expedited.now ≡ Some c.in-Err-download.code = stands ∙ sym own in
+    let refusal : write_refusal c.args.list.now c.args.key c.args.expedited.now ≡ Some c.in-Err-download.code = own_code ∙ sym own in
     rw refusal refl
 
 pub returns-in-Err-download-clause-list : goal.returns-in-Err-download-clause-list
 returns-in-Err-download-clause-list c =
-    let stands = refusal-stands c.args.list.now c.args.key c.in-Ok.place (get_or c.args.list.now c.in-Ok.place c.index-list-place.result) c.in-Ok.ensures.found (ap (get_or c.args.list.now c.in-Ok.place) c.index-list-place.is) c.args.expedited.now in
+    let own_code = refusal-at_place c.args.list.now c.args.key c.in-Ok.place (get_or c.args.list.now c.in-Ok.place c.index-list-place.result) c.in-Ok.ensures.found (ap (get_or c.args.list.now c.in-Ok.place) c.index-list-place.is) c.args.expedited.now in
     let own : Some c.in-Err-download.code ≡ first_refusal (entry_refusals (get_or c.args.list.now c.in-Ok.place c.index-list-place.result) c.args.expedited.now) = c.in-Err-download.ensures.refusal in
-    let refusal : write_refusal c.args.list.now c.args.key c.args.expedited.now ≡ Some c.in-Err-download.code = stands ∙ sym own in
+    let refusal : write_refusal c.args.list.now c.args.key c.args.expedited.now ≡ Some c.in-Err-download.code = own_code ∙ sym own in
     rw refusal (same_entry c.args.list.now c.in-Ok.place (get_or c.args.list.now c.in-Ok.place c.index-list-place.result) c.download.new.self (ap (get_or c.args.list.now c.in-Ok.place) c.index-list-place.is) c.in-Err-download.ensures.err)
 
 pub returns-in-Err-clause-response : goal.returns-in-Err-clause-response

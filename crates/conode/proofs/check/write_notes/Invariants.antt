@@ -1,5 +1,6 @@
 use Rattle.std.proofs.Common.{map, take}
-use Rattle.conode.specs.SheetTexts.{note_line, WritesLines}
+use Rattle.conode.specs.SheetTexts.{note_line}
+use Rattle.conode.specs.Written.{WritesLines}
 use Rattle.conode.proofs.check.write_notes.Given as goal
 
 abbrev pub invariant-loop-note : goal.invariant-loop-note

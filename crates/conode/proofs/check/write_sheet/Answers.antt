@@ -1,17 +1,30 @@
-use Rattle.std.proofs.Common.{◌≡◌, List, ℕ, length, map, subst, rules, string_bytes}
+use Rattle.std.proofs.Common.{◌≡◌, List, map, subst, rules}
 use Rattle.std.specs.Io.KnownBytes.{Appends}
+use Rattle.std.specs.List.{flat_map}
 use Rattle.co_sheet.specs.declared.note.Note.{Note}
-use Rattle.conode.specs.SheetTexts.{note_line, summary_line, WritesSome}
-use Rattle.conode.proofs.WriteLemmas.{first_lines}
+use Rattle.conode.specs.SheetTexts.{note_line, summary_line}
+use Rattle.conode.specs.Written.{WritesSome, WritesFront}
+use Rattle.conode.proofs.WriteLemmas.{first_lines, appends_front_after}
 use Rattle.conode.proofs.check.write_sheet.Goals as goal
 
 pub returns-clause-memory : goal.returns-clause-memory
 returns-clause-memory g c said =
     let sheet = c.args.sheet.now in
-    let summary = summary_line (length sheet.objects) (length sheet.rows) (length sheet.notes) in
-    let made : string_bytes c.set_summary_line.new.text ≡ summary = search rules in
+    let summary = summary_line sheet in
+    let made : c.as_bytes.result.now ≡ summary = search rules in
     let old = g.W.Write.contents c.args.writer.now in
     let mid = g.W.Write.contents c.hand_over.new.writer in
     let new = g.W.Write.contents c.write_notes.new.writer in
     first_lines old mid new summary (map note_line sheet.notes) (subst (Appends old mid) made c.in_ok-hand_over.ensures.ok)
     (subst (λ (notes : List Note). WritesSome mid new (map note_line notes)) c.notes.ensures (c.write_notes.ensures.memory said))
+
+pub returns-clause-write : goal.returns-clause-write
+returns-clause-write g c said =
+    let sheet = c.args.sheet.now in
+    let summary = summary_line sheet in
+    let made : c.as_bytes.result.now ≡ summary = search rules in
+    let old = g.W.Write.contents c.args.writer.now in
+    let mid = g.W.Write.contents c.hand_over.new.writer in
+    let new = g.W.Write.contents c.write_notes.new.writer in
+    appends_front_after old mid new summary (flat_map (λ line. line) (map note_line sheet.notes)) (subst (Appends old mid) made c.in_ok-hand_over.ensures.ok)
+    (subst (λ (notes : List Note). WritesFront mid new (map note_line notes)) c.notes.ensures (c.write_notes.ensures.write said))

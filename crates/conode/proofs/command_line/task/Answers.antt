@@ -1,4 +1,4 @@
-use Rattle.std.proofs.Common.{◌≡◌, ◌∙◌, ap, subst, map, [], List, ℕ, rules}
+use Rattle.std.proofs.Common.{◌≡◌, ◌∙◌, ap, subst, map, [], rules}
 use Rattle.clap.specs.Words.{App, app_of, fault_of, is_simple_and_free}
 use Rattle.conode.specs.Tasks.{conode_command}
 use Rattle.conode.proofs.TaskLemmas.{is_free_command}

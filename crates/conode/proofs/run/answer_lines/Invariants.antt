@@ -1,7 +1,7 @@
 use Rattle.std.proofs.Common.{◌+◌, ◌≤◌, length, All, IsTrue}
-use Rattle.conode.specs.Lines.{lines_of}
+use Rattle.co_trace.specs.Lines.{lines_of}
 use Rattle.conode.specs.Answers.{IsEntry, keys_differ}
-use Rattle.conode.proofs.Reached.{Stands}
+use Rattle.conode.proofs.Reached.{HasReached}
 use Rattle.conode.proofs.run.answer_lines.Given as goal
 
 abbrev pub invariant-loop-rest : goal.invariant-loop-rest
@@ -9,7 +9,7 @@ invariant-loop-rest g l = record {
   valid : All IsEntry l.list;
   differ : IsTrue (keys_differ l.list);
   few : l.number + length l.rest ≤ length l.text;
-  stands : Stands l.fn.list (lines_of l.text) l.number (lines_of l.rest) l.list l.clock (g.W.Write.contents l.fn.writer) (g.W.Write.contents l.writer);
+  reached : HasReached l.fn.list (lines_of l.text) l.number (lines_of l.rest) l.list l.clock (g.W.Write.contents l.fn.writer) (g.W.Write.contents l.writer);
 }
 
 abbrev pub decreases-loop-rest : goal.decreases-loop-rest

@@ -1,7 +1,0 @@
--- Want of memory, which is no line's fault.
-use Rattle.co_sheet.specs.declared.fault.FaultKind.TheVariants.{Memory}
-use Rattle.co_sheet.specs.declared.fault.SheetFault.{SheetFault}
-
--- it has no line
-abbrev pub want_of_memory : SheetFault
-want_of_memory = record { kind = Memory; line = 0 }

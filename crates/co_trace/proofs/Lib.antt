@@ -1,0 +1,9 @@
+pub mod Digits
+pub mod Examples
+pub mod FirstLine
+pub mod GrammarBodies
+pub mod GrammarFields
+pub mod GrammarLines
+pub mod GrammarRuns
+pub mod Numbers
+pub mod Pairs

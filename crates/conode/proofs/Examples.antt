@@ -1,0 +1,131 @@
+-- Answers and messages, evaluated.
+use Rattle.std.proofs.Common.{◌≡◌, ℕ, List, [], ◌∷◌, ◌++◌, Option, Some, None, refl, true, false, lit<, lit≤}
+use Rattle.std.specs.Prelude.{codes}
+use Rattle.std.specs.Fmt.{digits}
+use Rattle.std.proofs.lemmas.Bool.{false≢true}
+use Rattle.co_value.specs.declared.key.Key.{Key}
+use Rattle.co_frame.specs.declared.sdo_request.ExpeditedData.{ExpeditedData}
+use Rattle.co_frame.specs.declared.sdo_request.ExpeditedData.TheVariants.{Indicated, NotIndicated}
+use Rattle.co_frame.specs.declared.sdo_request.SdoRequest.TheVariants as requests
+use Rattle.co_frame.specs.declared.sdo_response.SdoResponse.{SdoResponse}
+use Rattle.co_frame.specs.declared.sdo_response.SdoResponse.TheVariants.{Abort, DownloadDone, UploadExpedited}
+use Rattle.co_trace.specs.FrameLines.{line_in, frame_line_in, stamp_at}
+use Rattle.conode.specs.declared.fault.CmdFault.TheVariants.{BadLine, NeverEnds}
+use Rattle.conode.specs.declared.message.Message.TheVariants.{Stopped, Fault}
+use Rattle.co_sheet.specs.declared.fault.FaultKind.TheVariants.{Memory}
+use Rattle.conode.specs.Answers.{answer_to, is_for_us, keys_differ, list_after, read_refusal, write_refusal}
+use Rattle.conode.specs.Messages.{message_line}
+use Rattle.conode.specs.Runs.{IsFirstBadLine, taken, after_line, after_lines}
+use Rattle.conode.specs.StoredEntries.{stored_entries, device_type}
+
+-- ---- which frames are answered
+
+abbrev eight : List ℕ
+eight = 0x40 ∷ 0 ∷ 0x10 ∷ 0 ∷ 0 ∷ 0 ∷ 0 ∷ 0 ∷ []
+
+request_to_us : is_for_us (record { id = 0x605; bytes = eight }) ≡ true
+request_to_us = refl
+
+request_to_another : is_for_us (record { id = 0x606; bytes = eight }) ≡ false
+request_to_another = refl
+
+seven_bytes : is_for_us (record { id = 0x605; bytes = 0x40 ∷ 0 ∷ 0x10 ∷ 0 ∷ 0 ∷ 0 ∷ 0 ∷ [] }) ≡ false
+seven_bytes = refl
+
+-- ---- answers
+
+abbrev type_key : Key
+type_key = record { index = 0x1000; sub = 0 }
+
+abbrev value_key : Key
+value_key = record { index = 0x2002; sub = 0 }
+
+abbrev aborted : Key → ℕ → Option SdoResponse
+aborted key number = Some (Abort key (record { 0 = number }))
+
+-- what a download to a key is answered
+abbrev downloaded_to : Key → ExpeditedData → Option SdoResponse
+downloaded_to key expedited = answer_to stored_entries (requests.DownloadExpedited key expedited)
+
+abbrev four_bytes : List ℕ
+four_bytes = 1 ∷ 2 ∷ 3 ∷ 4 ∷ []
+
+uploaded_type : answer_to stored_entries (requests.Upload type_key) ≡ Some (UploadExpedited type_key (Indicated (record { items = 0x91 ∷ 0x01 ∷ 0 ∷ 0 ∷ [] })))
+unfolding read_refusal
+uploaded_type = refl
+
+another_index : answer_to stored_entries (requests.Upload (record { index = 0x2003; sub = 0 })) ≡ aborted (record { index = 0x2003; sub = 0 }) 0x06020000
+unfolding read_refusal
+another_index = refl
+
+another_sub_index : answer_to stored_entries (requests.Upload (record { index = 0x2002; sub = 1 })) ≡ aborted (record { index = 0x2002; sub = 1 }) 0x06090011
+unfolding read_refusal
+another_sub_index = refl
+
+-- an entry of four bytes takes four, and three are too few
+four_with_size : downloaded_to value_key (Indicated (record { items = four_bytes })) ≡ Some (DownloadDone value_key)
+unfolding write_refusal
+four_with_size = refl
+
+four_without_size : downloaded_to value_key (NotIndicated four_bytes) ≡ Some (DownloadDone value_key)
+unfolding write_refusal
+four_without_size = refl
+
+three_with_size : downloaded_to value_key (Indicated (record { items = 1 ∷ 2 ∷ 3 ∷ [] })) ≡ aborted value_key 0x06070013
+unfolding write_refusal
+three_with_size = refl
+
+-- a read only entry is refused as such, whatever the size
+read_only_entry : downloaded_to type_key (Indicated (record { items = 1 ∷ 2 ∷ 3 ∷ [] })) ≡ aborted type_key 0x06010002
+unfolding write_refusal
+read_only_entry = refl
+
+-- an abort is not answered, and another request is aborted with index 0 and sub-index 0
+an_abort : answer_to stored_entries (requests.Abort type_key (record { 0 = 0x08000000 })) ≡ None
+an_abort = refl
+
+segments : answer_to stored_entries (requests.UploadSegment true) ≡ aborted (record { index = 0; sub = 0 }) 0x05040001
+segments = refl
+
+-- ---- the list
+
+changed : list_after stored_entries (requests.DownloadExpedited value_key (NotIndicated four_bytes)) ≡ device_type ∷ record { key = value_key; data_type = (device_type).data_type; writable = true; bytes = record { items = four_bytes } } ∷ []
+unfolding write_refusal
+changed = refl
+
+no_two_alike : keys_differ stored_entries ≡ true
+no_two_alike = refl
+
+two_alike : keys_differ (device_type ∷ stored_entries) ≡ false
+two_alike = refl
+
+-- ---- messages
+
+bad_line : message_line (Stopped (BadLine 12)) ≡ codes "stopped: BadLine 12" ++ 10 ∷ []
+unfolding digits
+bad_line = refl
+
+never_ends : message_line (Stopped NeverEnds) ≡ codes "stopped: NeverEnds" ++ 10 ∷ []
+never_ends = refl
+
+no_memory : message_line (Fault (record { kind = Memory; line = 0 })) ≡ codes "fault 20 Memory line 0" ++ 10 ∷ []
+unfolding digits
+no_memory = refl
+
+-- ---- bad lines
+
+abbrev two_bad_lines : List (List ℕ)
+two_bad_lines = codes "x" ∷ codes "y" ∷ []
+
+first_is_first : IsFirstBadLine stored_entries two_bad_lines 1
+unfolding after_lines after_line taken line_in frame_line_in stamp_at
+first_is_first = record { some = lit< tt; within = lit≤ tt; good = refl; bad = refl }
+
+second_is_not_first : IsFirstBadLine stored_entries two_bad_lines 2 → ⊥
+unfolding after_lines after_line taken line_in frame_line_in stamp_at
+second_is_not_first h = false≢true h.good
+
+-- a bad line after a good one
+after_a_comment : IsFirstBadLine stored_entries (codes "; a" ∷ codes "!tick 5" ∷ []) 2
+unfolding after_lines after_line taken line_in frame_line_in stamp_at
+after_a_comment = record { some = lit< tt; within = lit≤ tt; good = refl; bad = refl }

@@ -1,9 +1,0 @@
--- What the line says is what its grammar spells.
-use Rattle.conode.proofs.GrammarLines.{line_is, line_spelled}
-use Rattle.conode.proofs.trace_line.TraceLine.read.Goals as goal
-
-pub returns-clause-found : goal.returns-clause-found
-returns-clause-found c = rw c.of_line.ensures (line_spelled c.args.line.now)
-
-pub returns-clause-only : goal.returns-clause-only
-returns-clause-only c says spelled = rw c.of_line.ensures (line_is says c.args.line.now spelled)

@@ -1,0 +1,43 @@
+//! The longer texts of help.
+
+/// What the program does without a command.
+pub const TRACES: &str = "\
+Without a command, standard input is read as a CAN trace, as `candump -L` writes it. Each SDO request in it to node 5
+is answered on standard output, as a line of a trace, from two entries:
+  1000:00  UNSIGNED32, read only, 191h
+  2002:00  UNSIGNED32, writable, 0
+Uploads and expedited downloads are answered; any other request is aborted.
+
+Status: 0 if all of the trace was answered, 1 if not; then the last line says why, as `stopped: BadLine 3`.";
+
+/// What `check` prints, and what to do about each fault.
+pub const FAULTS: &str = "\
+Prints `ok: 3 objects, 4 entries, 0 notes` and a line for each note, or the sheet's first fault: its number, its name
+and its line (0 where no line is to blame). Status: 0 if the sheet is accepted, 1 if not, 2 if the words are wrong.
+
+Faults, and what to do:
+   1 TooLarge           a text of more than 1,048,576 bytes, or a line of more than 512: shorten it
+   2 BadLine            a section line without `]`, or a line without `=` or key: complete it, or put `;` before it
+   3 KeyOutsideSection  a line before the first section: move it into a section; save UTF-16 as UTF-8
+   4 DuplicateSection   a section that was there before: remove one, or correct its index
+   5 DuplicateKey       a key that was there before in its section: remove one
+   6 MissingSection     no [MandatoryObjects], or a listed object without section: add it, or take it off the list
+   7 BadNumber          a value that is not a number: write it as 10 or 0x0A, a negative one as -10
+   8 AmbiguousNumber    a decimal number with a leading 0, which some tools read as octal: write 10 or 0x08
+   9 BadList            SupportedObjects is missing, too high, or counts a missing key, or an index is above FFFFh:
+                        number the list from 1 without a gap, and count it
+  10 ListedTwice        an index that the lists have before: remove one, and number the list again
+  11 MissingKey         an entry without DataType or AccessType: add it, or the ObjectType of an ARRAY or RECORD
+  12 BadType            an ObjectType or DataType that is unknown or not the required one: give the device's code
+  13 LeftOutType        a data type that is not supported: take the object off its list
+  14 BadAccess          an AccessType other than ro, wo, rw, rwr, rww and const: choose one of these
+  15 BadLimits          a limit outside the type's range, or a LowLimit above the HighLimit: correct it
+  16 BadDefault         a default outside the type or the limits, or not of the type's form: correct it
+  17 MissingSub0        an ARRAY or RECORD without sub-index 0: describe it, or make the object a VAR
+  18 CompactForm        CompactSubObj or CompactPDO is not 0: describe each sub-index in a section of its own
+  19 MissingMandatory   1000h, 1001h or 1018h is in no list: list them, with their sections
+  20 Memory             memory ran out, and nothing is known of the sheet: run it again with more memory
+
+Notes are no faults:
+  SubNumber             it is not the number of the object's sub-index sections
+  Unlisted              an object's section that no list names";
