@@ -1,0 +1,16 @@
+//! How much room strings and domains have.
+
+use co_value::Key;
+
+/// The room of the entries whose values have no fixed length, in bytes, 0 to 65,535.
+#[derive(Clone, Copy, Debug, PartialEq, Eq, Hash)]
+pub struct Limits<'a> {
+    /// Of each string that may be written. A longer default makes more room; one that is read only has its default's
+    /// length.
+    pub strings: u16,
+    /// Of each domain.
+    pub domains: u16,
+    /// Of single entries, before the other two. Of equal keys the first counts; a key that is no string or domain is
+    /// passed over.
+    pub own: &'a [(Key, u16)],
+}

@@ -1,0 +1,109 @@
+//! The numbers that entries hold.
+
+ghost use Rattle.std.specs.Prelude.{◌≡◌, Some, true, length};
+ghost use Rattle.co_value.specs.Numbers.{unsigned_of};
+ghost use Rattle.co_value.specs.declared.data_type.DataType.TheVariants.{Unsigned8, Unsigned16, Unsigned32};
+ghost use Rattle.co_sheet.specs.FixedTypes.{fixed_type_of};
+ghost use Rattle.co_dict.specs.Rows.{number_at, takes};
+
+use crate::store::{ObjectStore, store_laws};
+use co_value::Key;
+
+// the number of a byte
+pub(crate) fn number_of_1(bytes: &[u8]) -> u8
+    requires { length bytes.now ≡ 1 }
+    ensures { result ≡ unsigned_of bytes.now }
+{
+    bytes[0]
+}
+
+// the number of two bytes
+pub(crate) fn number_of_2(bytes: &[u8]) -> u16
+    requires { length bytes.now ≡ 2 }
+    ensures { result ≡ unsigned_of bytes.now }
+{
+    u16::from_le_bytes([bytes[0], bytes[1]])
+}
+
+// the number of four bytes
+pub(crate) fn number_of_4(bytes: &[u8]) -> u32
+    requires { length bytes.now ≡ 4 }
+    ensures { result ≡ unsigned_of bytes.now }
+{
+    u32::from_le_bytes([bytes[0], bytes[1], bytes[2], bytes[3]])
+}
+
+/// The number of an entry whose type is UNSIGNED8 wherever it is, 0 where there is no such entry (CiA 301, 7.5.2).
+pub fn number_u8<S: ObjectStore>(store: &S, key: Key) -> u8
+    requires { fixed_type_of key ≡ Some Unsigned8 }
+    ensures { result ≡ number_at (S.contents store.now) key }
+{
+    store_laws(store);
+    match store.bytes(key) {
+        Some(bytes) => number_of_1(bytes),
+        None => 0,
+    }
+}
+
+/// The number of an entry whose type is UNSIGNED16 wherever it is, 0 where there is no such entry (CiA 301, 7.5.2).
+pub fn number_u16<S: ObjectStore>(store: &S, key: Key) -> u16
+    requires { fixed_type_of key ≡ Some Unsigned16 }
+    ensures { result ≡ number_at (S.contents store.now) key }
+{
+    store_laws(store);
+    match store.bytes(key) {
+        Some(bytes) => number_of_2(bytes),
+        None => 0,
+    }
+}
+
+/// The number of an entry whose type is UNSIGNED32 wherever it is, 0 where there is no such entry (CiA 301, 7.5.2).
+pub fn number_u32<S: ObjectStore>(store: &S, key: Key) -> u32
+    requires { fixed_type_of key ≡ Some Unsigned32 }
+    ensures { result ≡ number_at (S.contents store.now) key }
+{
+    store_laws(store);
+    match store.bytes(key) {
+        Some(bytes) => number_of_4(bytes),
+        None => 0,
+    }
+}
+
+// the number of the byte that an entry of UNSIGNED8 is to take
+pub(crate) fn byte_for<S: ObjectStore>(store: &S, key: Key, bytes: &[u8]) -> u8
+    requires fixed { fixed_type_of key ≡ Some Unsigned8 }
+    requires takes { takes (S.description store.now).rows key (length bytes.now) ≡ true }
+    ensures { result ≡ unsigned_of bytes.now }
+{
+    store_laws(store);
+    number_of_1(bytes)
+}
+
+// the number of the four bytes that an entry of UNSIGNED32 is to take
+pub(crate) fn word_for<S: ObjectStore>(store: &S, key: Key, bytes: &[u8]) -> u32
+    requires fixed { fixed_type_of key ≡ Some Unsigned32 }
+    requires takes { takes (S.description store.now).rows key (length bytes.now) ≡ true }
+    ensures { result ≡ unsigned_of bytes.now }
+{
+    store_laws(store);
+    number_of_4(bytes)
+}
+
+fn four_bytes(bytes: &[u8]) -> [u8; 4]
+    requires { length bytes.now ≡ 4 }
+    ensures { result ≡ bytes.now }
+{
+    let mut copy = [0; 4];
+    copy.copy_from_slice(bytes);
+    copy
+}
+
+// the bytes of an entry of UNSIGNED32
+pub(crate) fn word_bytes<S: ObjectStore>(store: &S, key: Key) -> Option<[u8; 4]>
+    requires { fixed_type_of key ≡ Some Unsigned32 }
+    ensures { result ≡ S.contents store.now key }
+{
+    store_laws(store);
+    let bytes = store.bytes(key)?;
+    Some(four_bytes(bytes))
+}

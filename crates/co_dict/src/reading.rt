@@ -1,0 +1,39 @@
+//! Why a reading is refused.
+
+ghost use Rattle.std.specs.Prelude.{◌≡◌, true, is_some, OnOk};
+ghost use Rattle.co_dict.specs.Refusals.{refusal_in};
+ghost use Rattle.co_dict.specs.ErrorList.{is_past_errors};
+ghost use Rattle.co_dict.specs.ReadRefusals.{reading_refusal};
+
+use crate::error_list::error_count;
+use crate::objects::entry_row;
+use crate::store::{ObjectStore, store_laws};
+use co_frame::AbortCode;
+use co_sheet::Access;
+use co_value::Key;
+
+// whether a sub-index of 1003h is above the number of errors
+fn is_past_errors<S: ObjectStore>(store: &S, key: Key) -> bool
+    ensures { result ≡ is_past_errors (S.contents store.now) key }
+{
+    key.index == 0x1003 && error_count(store) < key.sub
+}
+
+/// Whether an entry may be read (CiA 301, 7.2.4.3.17). The first of these refuses it: there is no object of the index
+/// (06020000h), there is no such sub-index (06090011h), the access is wo (06010001h), the key is a sub-index of 1003h
+/// above the number of errors in 1003:00 (08000024h). After Ok the entry has bytes.
+pub fn may_read<S: ObjectStore>(store: &S, key: Key) -> Result<(), AbortCode>
+    ensures refusal { refusal_in result
+        ≡ reading_refusal (S.description store.now).rows (S.contents store.now) key }
+    ensures there { OnOk result (is_some (S.contents store.now key) ≡ true) }
+{
+    store_laws(store);
+    let row = entry_row(store, key)?;
+    if row.access == Access::Wo {
+        return Err(AbortCode::WRITE_ONLY);
+    }
+    if is_past_errors(store, key) {
+        return Err(AbortCode::NO_VALUE);
+    }
+    Ok(())
+}

@@ -1,0 +1,58 @@
+//! The trait of stores.
+
+ghost use Rattle.std.specs.Prelude.{◌≡◌, ◌≤◌, ℕ, Bool, true, length};
+ghost use Rattle.std.specs.Option.{option_map};
+ghost use Rattle.co_dict.specs.Rows.{Contents, takes, written, restored};
+ghost use Rattle.co_dict.specs.Stores.{Description, IsDictionary};
+
+use crate::area::Area;
+use crate::row::Row;
+use co_value::Key;
+
+/// The entries of an object dictionary with their bytes: a finite map, in which a call changes the bytes of the
+/// entries that it names and nothing else (CiA 301, 7.4).
+pub trait ObjectStore {
+    /// The node-ID, the rows, the initial bytes, the dummy entries that may be mapped, and the keys: no call changes them.
+    ghost description: { Self → Description };
+
+    /// The bytes of each entry.
+    ghost contents: { Self → Contents };
+
+    /// The node-ID that the dictionary was built for, 1 to 127.
+    fn node_id(&self) -> u8
+        ensures node { result ≡ (description self.now).node }
+        ensures first { 1 ≤ result }
+        ensures last { result ≤ 127 };
+
+    /// The row of an entry; `None` where there is no entry.
+    fn row(&self, key: Key) -> Option<Row>
+        ensures { result ≡ (description self.now).rows key };
+
+    /// The bytes of an entry; `None` where there is no entry.
+    fn bytes(&self, key: Key) -> Option<&[u8]>
+        ensures { option_map (λ bytes. bytes.now) result ≡ contents self.now key };
+
+    /// Whether the dummy entry of an index, 0002h to 0007h, may be mapped into an RPDO (CiA 306, dummy usage).
+    fn dummy(&self, index: u16) -> bool
+        ensures { result ≡ (description self.now).dummies index };
+
+    /// Sets the bytes of one entry, which have to fit it.
+    fn set(&mut self, key: Key, bytes: &[u8])
+        requires { takes (description self.old).rows key (length bytes.now) ≡ true }
+        ensures contents { contents self.new ≡ written (contents self.old) key bytes.now }
+        ensures description { description self.new ≡ description self.old };
+
+    /// Restores the entries of an area to their initial bytes.
+    fn reset(&mut self, area: Area)
+        ensures contents { contents self.new ≡ restored area (description self.old).initial (contents self.old) }
+        ensures description { description self.new ≡ description self.old };
+
+    /// Each store is a dictionary.
+    ghost lawful: { (store : Self) → IsDictionary (description store) (contents store) };
+}
+
+/// What holds of each store: its keys are finitely many, each entry has bytes that fit it, the room of a number is its
+/// width, and fixed types are as they must be. This is a law: a call of it changes nothing.
+pub fn store_laws<S: ObjectStore>(store: &S)
+    ensures { IsDictionary (S.description store.now) (S.contents store.now) }
+{}

@@ -1,0 +1,11 @@
+//! Tests of the object dictionary through the public calls of its crate, so that that is proved once.
+#![tactic(auto)]
+
+#[cfg(test)]
+mod build;
+#[cfg(test)]
+mod rules;
+#[cfg(test)]
+mod sheet;
+#[cfg(test)]
+mod store;
