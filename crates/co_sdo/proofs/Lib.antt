@@ -1,0 +1,10 @@
+mod Examples
+pub mod StoreLemmas
+pub mod UploadLemmas
+pub mod Logs
+pub mod RefusalLemmas
+pub mod Beginnings
+pub mod Continuations
+pub mod BlockContinuations
+pub mod SubBlockLemmas
+pub mod TakeLemmas

@@ -1,0 +1,11 @@
+-- One more segment is sent.
+use Rattle.std.proofs.Common.{arith}
+use Rattle.co_sdo.specs.Uploads.{block_segment}
+use Rattle.co_sdo.proofs.UploadLemmas.{sub_block_more}
+use Rattle.co_sdo.proofs.ids.Ids.send_sub_block.Goals as goal
+
+pub loop-k-preserved : goal.loop-k-preserved
+loop-k-preserved c = record {
+  items = sub_block_more c.args.self.answer (λ n. block_segment c.args.value.now c.args.position n) c.loop-k.k _ _ _ _ _ c.push.ensures.items c.loop-k.invariant.items c.write.ensures.frame c.block_segment.ensures.segment;
+  len = omega arith;
+}

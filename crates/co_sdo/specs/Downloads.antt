@@ -1,0 +1,109 @@
+-- Whole downloads: expedited, segmented and in blocks (CiA 301, 7.2.4.3.3, 7.2.4.3.4 and 7.2.4.3.9 to 7.2.4.3.11).
+use Rattle.std.specs.Prelude.{ℕ, ◌-◌, ◌%◌, ◌==◌, ◌&&◌, Bool, true, false, not, List, [], ◌∷◌, ◌++◌, length, take, Option, Some, None, if◌then◌else◌}
+use Rattle.co_value.specs.declared.key.Key.{Key}
+use Rattle.co_frame.specs.declared.sdo_request.ExpeditedData.{ExpeditedData}
+use Rattle.co_frame.specs.declared.sdo_request.ExpeditedData.TheVariants.{Indicated, NotIndicated}
+use Rattle.co_frame.specs.declared.sdo_request.SdoRequest.{SdoRequest}
+use Rattle.co_frame.specs.declared.sdo_request.SdoRequest.TheVariants.{DownloadExpedited, DownloadBegin, DownloadSegment, BlockDownloadBegin, BlockDownloadEnd}
+use Rattle.co_frame.specs.SdoRequests.{request_in}
+use Rattle.co_dict.specs.Rows.{Rows}
+use Rattle.co_sdo.specs.Refused.{capacity_at}
+use Rattle.co_sdo.specs.SubBlocks.{block_bytes, has_last}
+
+-- a download that is complete: the key, the size where it was indicated, and the bytes
+pub record Download : Type 0 where
+  pub key : Key
+  pub indicated : Option ℕ
+  pub bytes : List ℕ
+
+abbrev pub is_odd : ℕ → Bool
+is_odd n = n % 2 == 1
+
+abbrev pub same_bool : Bool → Bool → Bool
+same_bool true b = b
+same_bool false b = not b
+
+-- where a size was indicated, it is the number of bytes
+abbrev pub is_as_indicated : Option ℕ → ℕ → Bool
+is_as_indicated None total = true
+is_as_indicated (Some size) total = size == total
+
+-- the data of an expedited download: without a size the first bytes of the four that there is room for
+abbrev pub expedited_within : ℕ → ExpeditedData → List ℕ
+expedited_within capacity (Indicated counted) = counted.items
+expedited_within capacity (NotIndicated four) = take capacity four
+
+abbrev pub expedited_part : Rows → Key → ExpeditedData → List ℕ
+expedited_part rows key expedited = expedited_within (capacity_at rows key) expedited
+
+-- a request is a segment of a download, with this toggle, and with c or without
+abbrev pub is_segment : Bool → Bool → Option SdoRequest → Bool
+is_segment toggle last (Some (DownloadSegment t segment l)) = same_bool t toggle && same_bool l last
+is_segment toggle last _ = false
+
+-- the data of a segment
+abbrev pub segment_part : Option SdoRequest → List ℕ
+segment_part (Some (DownloadSegment toggle segment last)) = segment.items
+segment_part _ = []
+
+-- requests, newest first, that are segments with the toggles 0, 1, 0, .., none of them with c
+abbrev pub are_segments : List (List ℕ) → Bool
+are_segments [] = true
+are_segments (frame ∷ older) = is_segment (is_odd (length older)) false (request_in frame) && are_segments older
+
+-- the same, with c on the last alone
+abbrev pub are_all_segments : List (List ℕ) → Bool
+are_all_segments [] = false
+are_all_segments (frame ∷ older) = is_segment (is_odd (length older)) true (request_in frame) && are_segments older
+
+-- the data of segments, in their order
+abbrev pub segments_joined : List (List ℕ) → List ℕ
+segments_joined [] = []
+segments_joined (frame ∷ older) = segments_joined older ++ segment_part (request_in frame)
+
+-- the bytes without those that the last segment leaves unused
+abbrev pub without : ℕ → List ℕ → List ℕ
+without unused bytes = take (length bytes - unused) bytes
+
+-- how many bytes the end of a block download says are unused
+abbrev pub unused_by : Option SdoRequest → ℕ
+unused_by (Some (BlockDownloadEnd unused)) = unused
+unused_by _ = 0
+
+abbrev pub is_block_end : Option SdoRequest → Bool
+is_block_end (Some (BlockDownloadEnd unused)) = true
+is_block_end _ = false
+
+-- sub-blocks, of which the last alone has a taken segment with c, and then the end
+abbrev pub are_all_sub_blocks : List (List ℕ) → Bool
+are_all_sub_blocks [] = false
+are_all_sub_blocks (frame ∷ older) = is_block_end (request_in frame) && has_last older
+
+-- the bytes of all segments taken, without those unused
+abbrev pub sub_blocks_joined : List (List ℕ) → List ℕ
+sub_blocks_joined [] = []
+sub_blocks_joined (frame ∷ older) = without (unused_by (request_in frame)) (block_bytes older)
+
+abbrev pub is_empty : List (List ℕ) → Bool
+is_empty [] = true
+is_empty (frame ∷ older) = false
+
+abbrev pub is_whole_after : Option SdoRequest → List (List ℕ) → Bool
+is_whole_after (Some (DownloadExpedited key expedited)) later = is_empty later
+is_whole_after (Some (DownloadBegin key size)) later = are_all_segments later && is_as_indicated size (length (segments_joined later))
+is_whole_after (Some (BlockDownloadBegin key size)) later = are_all_sub_blocks later && is_as_indicated size (length (sub_blocks_joined later))
+is_whole_after _ later = false
+
+-- a begin and the requests after it, newest first, are a whole download
+abbrev pub is_whole_download : List ℕ → List (List ℕ) → Bool
+is_whole_download begin later = is_whole_after (request_in begin) later
+
+abbrev pub download_after : Rows → Option SdoRequest → List (List ℕ) → Option Download
+download_after rows (Some (DownloadExpedited key expedited)) later = Some (record { key = key; indicated = None; bytes = expedited_part rows key expedited })
+download_after rows (Some (DownloadBegin key size)) later = Some (record { key = key; indicated = size; bytes = segments_joined later })
+download_after rows (Some (BlockDownloadBegin key size)) later = Some (record { key = key; indicated = size; bytes = sub_blocks_joined later })
+download_after rows _ later = None
+
+-- the download that a begin and the requests after it make, if they are a whole one
+abbrev pub whole_download : Rows → List ℕ → List (List ℕ) → Option Download
+whole_download rows begin later = if is_whole_download begin later then download_after rows (request_in begin) later else None

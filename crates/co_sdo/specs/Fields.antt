@@ -1,0 +1,25 @@
+-- What the fields of a channel are seen as, and what holds of them.
+use Rattle.std.specs.Prelude.{ℕ, ◌+◌, ◌*◌, ◌≤◌, ◌<◌, List, Option, Some, None}
+use Rattle.co_sdo.specs.declared.stage.Stage.{Stage}
+use Rattle.co_sdo.specs.declared.stage.Stage.TheVariants.{Download, Upload, SubBlock, LastTaken, BlockUploadBegun, BlockUpload, BlockUploadEnded}
+use Rattle.co_sdo.specs.declared.stage.Ongoing.{Ongoing}
+use Rattle.co_sdo.specs.Uploads.{segments_for}
+use Rattle.co_sdo.specs.Opened.{OpenTransfer}
+
+abbrev pub opened_in : Option Ongoing → List ℕ → Option OpenTransfer
+opened_in None buffer = None
+opened_in (Some ongoing) buffer = Some (record { key = ongoing.key; stage = ongoing.stage; bytes = buffer })
+
+-- the buffer has room for what may still come, and positions are within it
+abbrev pub stage_room : Stage → ℕ → ℕ → Type 0
+stage_room (Download indicated toggle) held greatest = held ≤ greatest
+stage_room (Upload sent) held greatest = (held ≤ greatest) × (7 * sent ≤ held)
+stage_room (SubBlock indicated taken) held greatest = (held ≤ greatest + 7 * taken) × (taken < 127)
+stage_room (LastTaken indicated) held greatest = held ≤ greatest + 889
+stage_room (BlockUploadBegun block_size) held greatest = (held ≤ greatest) × (1 ≤ block_size) × (block_size ≤ 127)
+stage_room (BlockUpload acknowledged sent) held greatest = (held ≤ greatest) × (acknowledged + sent ≤ segments_for held) × (sent ≤ 127)
+stage_room BlockUploadEnded held greatest = held ≤ greatest
+
+abbrev pub has_room : Option Ongoing → ℕ → ℕ → Type 0
+has_room None held greatest = Unit {0}
+has_room (Some ongoing) held greatest = stage_room ongoing.stage held greatest

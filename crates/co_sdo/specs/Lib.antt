@@ -1,0 +1,12 @@
+pub mod Refused
+pub mod Log
+pub mod SubBlocks
+pub mod Downloads
+pub mod Uploads
+pub mod OpenTransfers
+pub mod Opened
+pub mod Replies
+pub mod Completed
+pub mod Steps
+pub mod Standing
+pub mod Fields

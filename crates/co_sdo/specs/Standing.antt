@@ -1,0 +1,79 @@
+-- A channel as its callers see it, and which logs it may stand after.
+use Rattle.std.specs.Prelude.{◌≡◌, ℕ, ◌+◌, ◌*◌, ◌-◌, ◌<◌, ◌≤◌, ◌&&◌, Bool, true, false, nat_lt, not, is_some, List, [], ◌∷◌, length, Option, Some, None, if◌then◌else◌}
+use Rattle.std.specs.Option.{option_map_or}
+use Rattle.co_frame.specs.FrameContent.{FrameContent}
+use Rattle.co_frame.specs.SdoRequests.{request_in}
+use Rattle.co_frame.specs.declared.sdo_request.SdoRequest.{SdoRequest}
+use Rattle.co_frame.specs.declared.sdo_request.SdoRequest.TheVariants.{DownloadBegin, Upload, BlockUploadBegin, BlockDownloadBegin}
+use Rattle.co_dict.specs.Rows.{Rows, Contents}
+use Rattle.co_dict.specs.Stores.{Description}
+use Rattle.co_sdo.specs.Refused.{capacity_at}
+use Rattle.co_sdo.specs.Log.{Answer, Exchanged, Log, is_request_on, requests, ticks_quiet}
+use Rattle.co_sdo.specs.SubBlocks.{sub_block, taken_segments, block_bytes, has_last}
+use Rattle.co_sdo.specs.Downloads.{Download, are_segments, segments_joined}
+use Rattle.co_sdo.specs.Uploads.{value_at}
+use Rattle.co_sdo.specs.OpenTransfers.{Transfer, open_transfer}
+use Rattle.co_sdo.specs.Opened.{OpenTransfer, opened_after}
+use Rattle.co_sdo.specs.Replies.{reply_to}
+use Rattle.co_sdo.specs.Completed.{set_by}
+
+-- what contracts see of a channel: its identifiers, the greatest capacity, the time and what is left of it, and what is open
+pub record Standing : Type 0 where
+  pub request : ℕ
+  pub answer : ℕ
+  pub greatest : ℕ
+  pub time : ℕ
+  pub left : ℕ
+  pub current : Option OpenTransfer
+
+-- the bytes of an open block download: no more than the entry has room for and seven for each segment taken
+pub record IsBlockDownload (capacity : ℕ) (later : List (List ℕ)) : Type 0 where
+  pub inside : has_last later ≡ false → (length (block_bytes later) ≤ capacity + 7 * length (taken_segments (sub_block later))) × (length (taken_segments (sub_block later)) < 127)
+  pub bytes : length (block_bytes later) ≤ capacity + 889
+
+-- the segments of an open segmented download: in turn, none of them the last, and the entry has room for their data
+pub record IsSegmentedDownload (capacity : ℕ) (later : List (List ℕ)) : Type 0 where
+  pub segments : are_segments later ≡ true
+  pub bytes : length (segments_joined later) ≤ capacity
+
+abbrev pub is_transfer_after : Rows → Option SdoRequest → Transfer → Type 0
+is_transfer_after rows (Some (DownloadBegin key size)) t = IsSegmentedDownload (capacity_at rows key) (requests t.later)
+is_transfer_after rows (Some (Upload key)) t = length (value_at t.begin.contents key) ≤ capacity_at rows key
+is_transfer_after rows (Some (BlockUploadBegin key block_size threshold)) t = length (value_at t.begin.contents key) ≤ capacity_at rows key
+is_transfer_after rows (Some (BlockDownloadBegin key size)) t = IsBlockDownload (capacity_at rows key) (requests t.later)
+is_transfer_after rows _ t = ⊥
+
+-- what is open is one of the four kinds, and its bytes are bounded
+abbrev pub is_under_way : Rows → Option Transfer → Type 0
+is_under_way rows None = Unit {0}
+is_under_way rows (Some t) = is_transfer_after rows (request_in t.begin.request) t
+
+-- a channel may stand after a log
+pub record Stands (d : Description) (channel : Standing) (log : Log) : Type 0 where
+  pub current : channel.current ≡ opened_after log
+  pub left : channel.left ≡ channel.time - ticks_quiet log
+  pub under_way : is_under_way d.rows (open_transfer log)
+
+-- ---- one frame: those that are no request of the channel are passed over
+
+abbrev pub reply_on : ℕ → Description → Contents → Log → FrameContent → List Answer
+reply_on id d contents log frame = if is_request_on id frame then reply_to d contents log frame.bytes else []
+
+abbrev pub set_on : ℕ → Description → Contents → Log → FrameContent → Option Download
+set_on id d contents log frame = if is_request_on id frame then set_by d contents log frame.bytes else None
+
+abbrev pub log_on : ℕ → Description → Contents → Log → FrameContent → Log
+log_on id d contents log frame =
+    if is_request_on id frame
+    then Exchanged (record { request = frame.bytes; contents = contents; answers = reply_to d contents log frame.bytes }) ∷ log
+    else log
+
+-- how many bytes may be held after a log: the capacity of the open entry and a sub-block's 127 times 7
+abbrev pub room_after : Rows → Log → ℕ
+room_after rows log = option_map_or (λ o. capacity_at rows o.key + 889) (opened_after log) 0
+
+-- ---- time
+
+-- a transfer is open and none of its time is left; time 0 is none
+abbrev pub is_expired : Standing → Bool
+is_expired channel = is_some channel.current && (nat_lt 0 channel.time && not (nat_lt 0 channel.left))

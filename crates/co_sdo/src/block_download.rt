@@ -1,0 +1,185 @@
+//! Block downloads.
+
+ghost use Rattle.std.specs.Prelude.{◌≡◌, ℕ, ◌+◌, ◌*◌, ◌<◌, ◌≤◌, ◌++◌, [], ◌∷◌, Some, None, true, false, length, vec_len, vec_capacity};
+ghost use Rattle.std.specs.Option.{option_map_or};
+ghost use Rattle.arrayvec.specs.ArrayVec.{array_vec_len};
+ghost use Rattle.co_value.specs.declared.key.Key.{Key};
+ghost use Rattle.co_frame.specs.declared.sdo_request.SdoRequest.TheVariants.{BlockDownloadBegin};
+ghost use Rattle.co_sdo.specs.Log.{frames_on};
+ghost use Rattle.co_sdo.specs.Refused.{capacity_at};
+ghost use Rattle.co_sdo.specs.SubBlocks.{segment_taken, bytes_taken};
+ghost use Rattle.co_sdo.specs.Replies.{on_open, frame_answers, block_end_answers, begin_answers};
+ghost use Rattle.co_sdo.specs.Completed.{contents_with, key_set};
+ghost use Rattle.co_sdo.specs.Steps.{next_on, after_frame_at, after_begin, set_on_open, set_by_end};
+
+use crate::channel::Channel;
+use crate::download::capacity;
+use crate::refusals::begin_refusal;
+use crate::stage::{Ongoing, Stage};
+use co_dict::ObjectStore;
+use co_frame::{AbortCode, BlockSegment, Frame, Outbox, SdoResponse};
+use co_value::Key;
+
+// Appends a segment, if it is the next of its sub-block, and gives how many are then taken in it.
+fn append_next(buffer: &mut Vec<u8>, taken: u8, segment: BlockSegment) -> u8
+    requires room { vec_len buffer.old + 7 ≤ vec_capacity buffer.old }
+    requires few { taken < 127 }
+    ensures items { buffer.new.items ≡ buffer.old.items ++ bytes_taken (segment_taken taken (Some
+        segment)) }
+    ensures taken { result ≡ option_map_or (λ next. taken + 1) (segment_taken taken (Some
+        segment)) taken }
+    ensures len { vec_len buffer.new + 7 * taken ≡ vec_len buffer.old + 7 * result }
+    ensures capacity { vec_capacity buffer.old ≤ vec_capacity buffer.new }
+{
+    if segment.sequence != taken + 1 {
+        return taken;
+    }
+    match buffer.extend_from_slice(&segment.bytes) {
+        Ok(()) => {}
+        Err(_) => unreachable!(),
+    }
+    taken + 1
+}
+
+impl Channel {
+    // The begin of a block download: initiate SDO block download, ccs = 6, cs = 0.
+    pub(crate) fn begin_block_download<S: ObjectStore>(
+        &mut self,
+        store: &S,
+        key: Key,
+        size: Option<u32>,
+        outbox: &mut Outbox,
+    )
+        requires room { array_vec_len outbox.old < 514 }
+        ensures few { array_vec_len outbox.new ≤ array_vec_len outbox.old + 127 }
+        ensures answers { outbox.new.items ≡ outbox.old.items ++ frames_on self.old.answer
+            (begin_answers (S.description store.now) (S.contents store.now) (BlockDownloadBegin
+            key size)) }
+        ensures channel { self.new ≡ record self.old {
+          current = after_begin (S.description
+              store.now) (S.contents store.now) (BlockDownloadBegin key size);
+        } }
+    {
+        self.buffer.clear();
+        self.current = None;
+        match begin_refusal(store, key, size) {
+            Some(code) => self.ids.refuse(key, code, outbox),
+            None => {
+                self.current = Some(Ongoing {
+                    key,
+                    stage: Stage::SubBlock {
+                        indicated: size,
+                        taken: 0,
+                    },
+                });
+                let block_size = 127;
+                self.ids.send(SdoResponse::BlockDownloadBegun { key, block_size }, outbox);
+            }
+        }
+    }
+
+    // A frame inside a sub-block: download SDO block segment.
+    pub(crate) fn take_block_segment<S: ObjectStore>(
+        &mut self,
+        store: &S,
+        frame: &Frame,
+        outbox: &mut Outbox,
+    )
+        requires room { array_vec_len outbox.old < 514 }
+        requires eight { length frame.now.bytes ≡ 8 }
+        requires greatest { (key : Key) → capacity_at (S.description store.now).rows key ≤
+            self.old.greatest }
+        ensures few { array_vec_len outbox.new ≤ array_vec_len outbox.old + 127 }
+        ensures answers { outbox.new.items ≡ outbox.old.items ++ frames_on self.old.answer
+            (on_open self.old.current (λ o stage. frame_answers (S.description store.now).rows o
+            stage frame.now.bytes)) }
+        ensures channel { self.new ≡ record self.old {
+          current = next_on self.old.current (λ o
+              stage. after_frame_at (S.description store.now).rows o stage frame.now.bytes);
+        } }
+    {
+        let Some(
+            Ongoing {
+                key,
+                stage: Stage::SubBlock { indicated, taken },
+            },
+        ) = self.current
+        else {
+            self.give_up(AbortCode::UNKNOWN_COMMAND, outbox);
+            return;
+        };
+        if frame.bytes()[0] == 0x80 {
+            self.current = None;
+            return;
+        }
+        let Some(segment) = BlockSegment::read(frame) else {
+            return;
+        };
+        let count = append_next(&mut self.buffer, taken, segment);
+        if !segment.last && segment.sequence != 127 {
+            let stage = Stage::SubBlock {
+                indicated,
+                taken: count,
+            };
+            self.current = Some(Ongoing { key, stage });
+            return;
+        }
+        self.current = None;
+        let is_last = segment.last && segment.sequence == taken + 1;
+        if !is_last && capacity(store, key) < self.buffer.len() {
+            self.ids.refuse(key, AbortCode::TOO_LONG, outbox);
+            return;
+        }
+        let stage = if is_last {
+            Stage::LastTaken { indicated }
+        } else {
+            Stage::SubBlock {
+                indicated,
+                taken: 0,
+            }
+        };
+        self.current = Some(Ongoing { key, stage });
+        let acknowledge = SdoResponse::BlockDownloadAcknowledge {
+            sequence: count,
+            block_size: 127,
+        };
+        self.ids.send(acknowledge, outbox);
+    }
+
+    // The end of a block download: end SDO block download, ccs = 6, cs = 1.
+    pub(crate) fn end_block_download<S: ObjectStore>(
+        &mut self,
+        store: &mut S,
+        unused: u8,
+        outbox: &mut Outbox,
+    ) -> Option<Key>
+        requires room { array_vec_len outbox.old < 514 }
+        ensures few { array_vec_len outbox.new ≤ array_vec_len outbox.old + 127 }
+        ensures answers { outbox.new.items ≡ outbox.old.items ++ frames_on self.old.answer
+            (on_open self.old.current (λ o stage. block_end_answers (S.description store.old)
+            (S.contents store.old) o stage unused)) }
+        ensures channel { self.new ≡ record self.old { current = None } }
+        ensures key { result ≡ key_set (set_on_open self.old.current (λ o stage. set_by_end
+            (S.description store.old) (S.contents store.old) o stage unused)) }
+        ensures contents { S.contents store.new ≡ contents_with (S.contents store.old)
+            (set_on_open self.old.current (λ o stage. set_by_end (S.description store.old)
+            (S.contents store.old) o stage unused)) }
+        ensures description { S.description store.new ≡ S.description store.old }
+    {
+        let Some(
+            Ongoing {
+                key,
+                stage: Stage::LastTaken { indicated },
+            },
+        ) = self.current
+        else {
+            self.give_up(AbortCode::UNKNOWN_COMMAND, outbox);
+            return None;
+        };
+        self.current = None;
+        let len = self.buffer.len().saturating_sub(unused as usize);
+        let done = SdoResponse::BlockDownloadDone;
+        self.ids
+            .complete(store, key, indicated, &self.buffer[..len], done, outbox)
+    }
+}

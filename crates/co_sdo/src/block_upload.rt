@@ -1,0 +1,232 @@
+//! Block uploads.
+
+ghost use Rattle.std.specs.Prelude.{◌≡◌, ℕ, ◌+◌, ◌-◌, ◌*◌, ◌^◌, ◌<◌, ◌≤◌, ◌++◌, [], ◌∷◌, Some, None, true, false, length};
+ghost use Rattle.arrayvec.specs.ArrayVec.{array_vec_len};
+ghost use Rattle.co_value.specs.declared.key.Key.{Key};
+ghost use Rattle.co_frame.specs.declared.sdo_request.SdoRequest.TheVariants.{BlockUploadBegin};
+ghost use Rattle.co_sdo.specs.Log.{frames_on};
+ghost use Rattle.co_sdo.specs.Refused.{capacity_at};
+ghost use Rattle.co_sdo.specs.Uploads.{segment_count, block_segment, sub_block_length, sub_block_sent};
+ghost use Rattle.co_sdo.specs.Replies.{on_open, start_answers, acknowledge_answers, upload_end_answers, begin_answers};
+ghost use Rattle.co_sdo.specs.Steps.{next_on, after_start, after_acknowledge, after_begin};
+
+use crate::channel::Channel;
+use crate::ids::Ids;
+use crate::refusals::reading_refusal;
+use crate::stage::{Ongoing, Stage};
+use crate::upload::{copy_value, part_after};
+use co_dict::ObjectStore;
+use co_frame::{AbortCode, BlockSegment, Outbox, SdoResponse};
+use co_value::Key;
+
+// How many segments a value has.
+fn segment_count(value: &[u8]) -> usize
+    requires { length value.now < 2 ^ 40 }
+    ensures count { result ≡ segment_count value.now }
+    ensures bytes { length value.now ≤ 7 * result }
+    ensures segments { 7 * result ≤ length value.now + 7 }
+    ensures some { 1 ≤ result }
+{
+    ((value.len() + 6) / 7).max(1)
+}
+
+// A segment of a sub-block that begins after so many segments.
+fn block_segment(value: &[u8], position: usize, number: u8) -> BlockSegment
+    requires len { length value.now < 2 ^ 40 }
+    requires first { 1 ≤ number }
+    requires last { number ≤ 127 }
+    requires start { 7 * (position + number) ≤ length value.now + 7 }
+    ensures segment { result ≡ block_segment value.now position number }
+    ensures number { result.sequence ≡ number }
+{
+    let count = position + number as usize;
+    let part = part_after(value, count - 1);
+    let mut bytes = [0; 7];
+    bytes[..part.len()].copy_from_slice(part);
+    BlockSegment {
+        last: count == segment_count(value),
+        sequence: number,
+        bytes,
+    }
+}
+
+impl Ids {
+    // Sends a sub-block that begins after so many segments, and gives the number of its segments.
+    fn send_sub_block(
+        self,
+        value: &[u8],
+        position: usize,
+        block_size: u8,
+        outbox: &mut Outbox,
+    ) -> u8
+        requires id { self.answer < 2048 }
+        requires room { array_vec_len outbox.old + 127 ≤ 514 }
+        requires len { length value.now < 2 ^ 40 }
+        requires few { block_size ≤ 127 }
+        requires position { position ≤ segment_count value.now }
+        ensures few { array_vec_len outbox.new ≤ array_vec_len outbox.old + 127 }
+        ensures answers { outbox.new.items ≡ outbox.old.items ++ frames_on self.answer
+            (sub_block_sent value.now position block_size) }
+        ensures count { result ≡ sub_block_length value.now position block_size }
+        ensures most { result ≤ 127 }
+        ensures within { position + result ≤ segment_count value.now }
+    {
+        let left = segment_count(value) - position;
+        let number = (block_size as usize).min(left) as u8;
+        for k in 0..number {
+            outbox.push(block_segment(value, position, k + 1).write(self.answer));
+        }
+        number
+    }
+}
+
+impl Channel {
+    // The begin of a block upload: initiate SDO block upload, ccs = 5, cs = 0.
+    pub(crate) fn begin_block_upload<S: ObjectStore>(
+        &mut self,
+        store: &S,
+        key: Key,
+        block_size: u8,
+        threshold: u8,
+        outbox: &mut Outbox,
+    )
+        requires room { array_vec_len outbox.old < 514 }
+        requires greatest { (key : Key) → capacity_at (S.description store.now).rows key ≤
+            self.old.greatest }
+        ensures few { array_vec_len outbox.new ≤ array_vec_len outbox.old + 127 }
+        ensures answers { outbox.new.items ≡ outbox.old.items ++ frames_on self.old.answer
+            (begin_answers (S.description store.now) (S.contents store.now) (BlockUploadBegin key
+            block_size threshold)) }
+        ensures channel { self.new ≡ record self.old {
+          current = after_begin (S.description
+              store.now) (S.contents store.now) (BlockUploadBegin key block_size threshold);
+        } }
+    {
+        // the switch to another protocol is not supported
+        let _ = threshold;
+        self.current = None;
+        if let Some(code) = reading_refusal(store, key) {
+            self.ids.refuse(key, code, outbox);
+            return;
+        }
+        if block_size == 0 || 127 < block_size {
+            self.ids.refuse(key, AbortCode::INVALID_BLOCK_SIZE, outbox);
+            return;
+        }
+        copy_value(store, key, &mut self.buffer);
+        self.current = Some(Ongoing {
+            key,
+            stage: Stage::BlockUploadBegun { block_size },
+        });
+        let size = Some(self.buffer.len() as u32);
+        self.ids
+            .send(SdoResponse::BlockUploadBegun { key, size }, outbox);
+    }
+
+    // The start of a block upload: cs = 3.
+    pub(crate) fn start_block_upload(&mut self, outbox: &mut Outbox)
+        requires room { array_vec_len outbox.old + 127 ≤ 514 }
+        ensures few { array_vec_len outbox.new ≤ array_vec_len outbox.old + 127 }
+        ensures answers { outbox.new.items ≡ outbox.old.items ++ frames_on self.old.answer
+            (on_open self.old.current start_answers) }
+        ensures channel { self.new ≡ record self.old {
+          current = next_on self.old.current
+              after_start;
+        } }
+    {
+        let Some(
+            Ongoing {
+                key,
+                stage: Stage::BlockUploadBegun { block_size },
+            },
+        ) = self.current
+        else {
+            self.give_up(AbortCode::UNKNOWN_COMMAND, outbox);
+            return;
+        };
+        let sent = self.ids.send_sub_block(&self.buffer, 0, block_size, outbox);
+        self.current = Some(Ongoing {
+            key,
+            stage: Stage::BlockUpload {
+                acknowledged: 0,
+                sent,
+            },
+        });
+    }
+
+    // An acknowledgement of a sub-block: cs = 2.
+    pub(crate) fn acknowledge_block_upload(
+        &mut self,
+        sequence: u8,
+        block_size: u8,
+        outbox: &mut Outbox,
+    )
+        requires room { array_vec_len outbox.old + 127 ≤ 514 }
+        ensures few { array_vec_len outbox.new ≤ array_vec_len outbox.old + 127 }
+        ensures answers { outbox.new.items ≡ outbox.old.items ++ frames_on self.old.answer
+            (on_open self.old.current (λ o stage. acknowledge_answers o stage sequence
+            block_size)) }
+        ensures channel { self.new ≡ record self.old {
+          current = next_on self.old.current (λ o
+              stage. after_acknowledge o stage sequence block_size);
+        } }
+    {
+        let Some(
+            Ongoing {
+                key,
+                stage: Stage::BlockUpload { acknowledged, sent },
+            },
+        ) = self.current
+        else {
+            self.give_up(AbortCode::UNKNOWN_COMMAND, outbox);
+            return;
+        };
+        if sent < sequence {
+            self.give_up(AbortCode::INVALID_SEQUENCE_NUMBER, outbox);
+            return;
+        }
+        let position = acknowledged as usize + sequence as usize;
+        let count = segment_count(&self.buffer);
+        if position == count {
+            let unused = (7 * count - self.buffer.len()) as u8;
+            self.current = Some(Ongoing {
+                key,
+                stage: Stage::BlockUploadEnded,
+            });
+            self.ids
+                .send(SdoResponse::BlockUploadEnd { unused }, outbox);
+            return;
+        }
+        if block_size < 1 || 127 < block_size {
+            self.give_up(AbortCode::INVALID_BLOCK_SIZE, outbox);
+            return;
+        }
+        let sent = self
+            .ids
+            .send_sub_block(&self.buffer, position, block_size, outbox);
+        let acknowledged = position as u32;
+        self.current = Some(Ongoing {
+            key,
+            stage: Stage::BlockUpload { acknowledged, sent },
+        });
+    }
+
+    // The client's end of a block upload: cs = 1.
+    pub(crate) fn end_block_upload(&mut self, outbox: &mut Outbox)
+        requires room { array_vec_len outbox.old < 514 }
+        ensures few { array_vec_len outbox.new ≤ array_vec_len outbox.old + 127 }
+        ensures answers { outbox.new.items ≡ outbox.old.items ++ frames_on self.old.answer
+            (on_open self.old.current upload_end_answers) }
+        ensures channel { self.new ≡ record self.old { current = None } }
+    {
+        match self.current {
+            Some(
+                Ongoing {
+                    key: _,
+                    stage: Stage::BlockUploadEnded,
+                },
+            ) => self.current = None,
+            _ => self.give_up(AbortCode::UNKNOWN_COMMAND, outbox),
+        }
+    }
+}

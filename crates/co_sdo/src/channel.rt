@@ -1,0 +1,134 @@
+//! A channel of an SDO server.
+
+ghost use Rattle.std.specs.Prelude.{◌≡◌, ℕ, ◌+◌, ◌<◌, ◌≤◌, ◌++◌, [], ◌∷◌, Some, None, true, false, length, IfOk};
+ghost use Rattle.arrayvec.specs.ArrayVec.{array_vec_len};
+ghost use Rattle.co_sdo.specs.Log.{frames_on};
+ghost use Rattle.co_dict.specs.Stores.{Description};
+ghost use Rattle.co_value.specs.declared.key.Key.{Key};
+ghost use Rattle.co_sdo.specs.Log.{Log};
+ghost use Rattle.co_sdo.specs.Refused.{capacity_at};
+ghost use Rattle.co_sdo.specs.Replies.{aborted, open_key};
+ghost use Rattle.co_sdo.specs.Completed.{contents_with, key_set};
+ghost use Rattle.co_sdo.specs.Standing.{Stands, reply_on, set_on, log_on};
+
+use crate::ids::Ids;
+use crate::stage::Ongoing;
+use co_dict::{ObjectStore, store_laws};
+use co_frame::{AbortCode, Frame, Outbox};
+use co_value::Key;
+use std::alloc::{AllocError, Global};
+use std::marker::Model;
+
+/// An SDO server's channel, which serves one client (CiA 301, 7.2.4.3).
+#[derive(Drop)]
+pub struct Channel {
+    pub(crate) ids: Ids,
+    pub(crate) greatest: u32,
+    pub(crate) time: u16,
+    pub(crate) left: u16,
+    pub(crate) current: Option<Ongoing>,
+    pub(crate) buffer: Vec<u8>,
+}
+
+impl Model for Channel {
+    ghost use Rattle.std.specs.Prelude.{◌+◌, ◌<◌, ◌≤◌, vec_capacity, vec_len};
+    ghost use Rattle.co_sdo.specs.Standing.{Standing};
+    ghost use Rattle.co_sdo.specs.Fields.{opened_in, has_room};
+
+    ghost Value = { Standing };
+
+    ghost view = { λ c. record {
+      request = c.ids.request;
+      answer = c.ids.answer;
+      greatest = c.greatest;
+      time = c.time;
+      left = c.left;
+      current = opened_in c.current c.buffer.items;
+    } };
+
+    ghost invariant = { λ c. (c.ids.answer < 2048) × (c.greatest + 889 ≤ vec_capacity c.buffer) ×
+        has_room c.current (vec_len c.buffer) c.greatest };
+}
+
+impl Channel {
+    /// A channel that has received nothing. It reserves a buffer of `greatest` + 889 bytes, where `greatest` is the greatest
+    /// capacity of an entry: 889 is a sub-block of 127 segments of 7 bytes. `time` is how long the client may take for its
+    /// next request, in ms; 0 is for ever. `AllocError` where there is no memory for the buffer.
+    pub fn new(alloc: Global, ids: Ids, greatest: u32, time: u16) -> Result<Channel, AllocError>
+        requires request { ids.request < 2048 }
+        requires answer { ids.answer < 2048 }
+        ensures stands { IfOk result (λ channel. (d : Description) → Stands d channel []) }
+        ensures given { IfOk result (λ channel. channel ≡ record {
+          request = ids.request;
+          answer = ids.answer;
+          greatest = greatest;
+          time = time;
+          left = time;
+          current = None;
+        }) }
+    {
+        let buffer = Vec::with_capacity(alloc, greatest as usize + 889)?;
+        Ok(Channel {
+            ids,
+            greatest,
+            time,
+            left: time,
+            current: None,
+            buffer,
+        })
+    }
+
+    /// Takes a frame. One that hasn't eight bytes, or has another identifier than the channel's requests, is passed over.
+    /// Else the answers are put into the outbox, at most 127 frames. Where the frame completes a download that the
+    /// dictionary permits, its entry is set, and its key is given; nothing else in the store changes.
+    pub fn take<S: ObjectStore>(
+        &mut self,
+        store: &mut S,
+        frame: &Frame,
+        outbox: &mut Outbox,
+    ) -> Option<Key>
+        requires room { array_vec_len outbox.old + 127 ≤ 514 }
+        requires greatest { (key : Key) → capacity_at (S.description store.old).rows key ≤
+            self.old.greatest }
+        ensures few { array_vec_len outbox.new ≤ array_vec_len outbox.old + 127 }
+        ensures answers { (log : Log) → Stands (S.description store.old) self.old log →
+            outbox.new.items ≡ outbox.old.items ++ frames_on self.old.answer (reply_on
+            self.old.request (S.description store.old) (S.contents store.old) log frame.now) }
+        ensures stands { (log : Log) → Stands (S.description store.old) self.old log →
+            Stands (S.description store.old) self.new (log_on self.old.request
+            (S.description store.old) (S.contents store.old) log frame.now) }
+        ensures key { (log : Log) → Stands (S.description store.old) self.old log →
+            result ≡ key_set (set_on self.old.request (S.description store.old) (S.contents
+            store.old) log frame.now) }
+        ensures contents { (log : Log) → Stands (S.description store.old) self.old log →
+            S.contents store.new ≡ contents_with (S.contents store.old) (set_on self.old.request
+            (S.description store.old) (S.contents store.old) log frame.now) }
+        ensures description { S.description store.new ≡ S.description store.old }
+        ensures same { self.new ≡ record self.old {
+          left = self.new.left;
+          current = self.new.current;
+        } }
+    {
+        if frame.id() != self.ids.request || frame.bytes().len() != 8 {
+            return None;
+        }
+        store_laws(store);
+        self.step(store, frame, outbox)
+    }
+
+    // Drops what is open with an abort.
+    pub(crate) fn give_up(&mut self, code: AbortCode, outbox: &mut Outbox)
+        requires room { array_vec_len outbox.old < 514 }
+        ensures few { array_vec_len outbox.new ≤ array_vec_len outbox.old + 127 }
+        ensures answers { outbox.new.items ≡ outbox.old.items ++ frames_on self.old.answer
+            (aborted (open_key self.old.current) code.0) }
+        ensures channel { self.new ≡ record self.old { current = None } }
+    {
+        let key = match self.current {
+            Some(ongoing) => ongoing.key,
+            None => Key { index: 0, sub: 0 },
+        };
+        self.current = None;
+        self.ids.refuse(key, code, outbox);
+    }
+}

@@ -1,0 +1,223 @@
+//! Downloads: expedited and segmented.
+
+ghost use Rattle.std.specs.Prelude.{◌≡◌, ℕ, ◌+◌, ◌<◌, ◌≤◌, ◌++◌, [], ◌∷◌, Some, None, true, false, length};
+ghost use Rattle.arrayvec.specs.ArrayVec.{array_vec_len};
+ghost use Rattle.co_value.specs.declared.key.Key.{Key};
+ghost use Rattle.co_frame.specs.SdoResponses.{IsSdoResponse};
+ghost use Rattle.co_frame.specs.declared.sdo_request.SdoRequest.TheVariants.{DownloadExpedited, DownloadBegin};
+ghost use Rattle.co_sdo.specs.Log.{Response, frames_on};
+ghost use Rattle.co_sdo.specs.Refused.{capacity_at, completion_refusal};
+ghost use Rattle.co_sdo.specs.Downloads.{expedited_part, expedited_within};
+ghost use Rattle.co_sdo.specs.Replies.{on_open, segment_answers, begin_answers, unless_refused};
+ghost use Rattle.co_sdo.specs.Completed.{unless, contents_with, key_set};
+ghost use Rattle.co_sdo.specs.Steps.{next_on, after_segment, after_begin, whole, set_expedited, set_on_open, set_by_segment};
+
+use crate::channel::Channel;
+use crate::ids::Ids;
+use crate::refusals::{begin_refusal, completion_refusal};
+use crate::stage::{Ongoing, Stage};
+use co_dict::ObjectStore;
+use co_frame::{AbortCode, ExpeditedData, Outbox, SdoResponse};
+use co_value::Key;
+
+// How many bytes an entry has room for.
+pub(crate) fn capacity<S: ObjectStore>(store: &S, key: Key) -> usize
+    ensures { result ≡ capacity_at (S.description store.now).rows key }
+{
+    match store.row(key) {
+        Some(row) => row.capacity as usize,
+        None => 0,
+    }
+}
+
+// The data of an expedited download into an entry with so much room.
+fn expedited_bytes(data: &ExpeditedData, capacity: usize) -> &[u8]
+    ensures { result.now ≡ expedited_within capacity data.now }
+{
+    match data {
+        ExpeditedData::Indicated(counted) => counted.as_slice(),
+        ExpeditedData::NotIndicated(four) => {
+            if capacity < 4 {
+                &four[..capacity]
+            } else {
+                four
+            }
+        }
+    }
+}
+
+impl Ids {
+    // Sets an entry and answers with this response, or refuses.
+    pub(crate) fn complete<S: ObjectStore>(
+        self,
+        store: &mut S,
+        key: Key,
+        indicated: Option<u32>,
+        bytes: &[u8],
+        response: SdoResponse,
+        outbox: &mut Outbox,
+    ) -> Option<Key>
+        requires id { self.answer < 2048 }
+        requires room { array_vec_len outbox.old < 514 }
+        requires spellable { IsSdoResponse response }
+        ensures few { array_vec_len outbox.new ≤ array_vec_len outbox.old + 127 }
+        ensures answers { outbox.new.items ≡ outbox.old.items ++ frames_on self.answer
+            (unless_refused (completion_refusal (S.description store.old) (S.contents store.old)
+            key indicated bytes.now) key (Response response ∷ [])) }
+        ensures key { result ≡ key_set (unless (completion_refusal (S.description store.old)
+            (S.contents store.old) key indicated bytes.now) (whole key indicated bytes.now)) }
+        ensures contents { S.contents store.new ≡ contents_with (S.contents store.old) (unless
+            (completion_refusal (S.description store.old) (S.contents store.old) key indicated
+            bytes.now) (whole key indicated bytes.now)) }
+        ensures description { S.description store.new ≡ S.description store.old }
+    {
+        match completion_refusal(store, key, indicated, bytes) {
+            Some(code) => {
+                self.refuse(key, code, outbox);
+                None
+            }
+            None => {
+                store.set(key, bytes);
+                self.send(response, outbox);
+                Some(key)
+            }
+        }
+    }
+}
+
+impl Channel {
+    // An expedited download: initiate SDO download, ccs = 1, e = 1.
+    pub(crate) fn take_expedited<S: ObjectStore>(
+        &mut self,
+        store: &mut S,
+        key: Key,
+        data: &ExpeditedData,
+        outbox: &mut Outbox,
+    ) -> Option<Key>
+        requires room { array_vec_len outbox.old < 514 }
+        ensures few { array_vec_len outbox.new ≤ array_vec_len outbox.old + 127 }
+        ensures answers { outbox.new.items ≡ outbox.old.items ++ frames_on self.old.answer
+            (begin_answers (S.description store.old) (S.contents store.old) (DownloadExpedited key
+            data.now)) }
+        ensures channel { self.new ≡ record self.old { current = None } }
+        ensures key { result ≡ key_set (set_expedited (S.description store.old) (S.contents
+            store.old) key (expedited_part (S.description store.old).rows key data.now)) }
+        ensures contents { S.contents store.new ≡ contents_with (S.contents store.old)
+            (set_expedited (S.description store.old) (S.contents store.old) key (expedited_part
+            (S.description store.old).rows key data.now)) }
+        ensures description { S.description store.new ≡ S.description store.old }
+    {
+        self.current = None;
+        let bytes = expedited_bytes(data, capacity(store, key));
+        let done = SdoResponse::DownloadDone { key };
+        self.ids.complete(store, key, None, bytes, done, outbox)
+    }
+
+    // The begin of a segmented download: initiate SDO download, ccs = 1, e = 0.
+    pub(crate) fn begin_download<S: ObjectStore>(
+        &mut self,
+        store: &S,
+        key: Key,
+        size: Option<u32>,
+        outbox: &mut Outbox,
+    )
+        requires room { array_vec_len outbox.old < 514 }
+        ensures few { array_vec_len outbox.new ≤ array_vec_len outbox.old + 127 }
+        ensures answers { outbox.new.items ≡ outbox.old.items ++ frames_on self.old.answer
+            (begin_answers (S.description store.now) (S.contents store.now) (DownloadBegin key
+            size)) }
+        ensures channel { self.new ≡ record self.old {
+          current = after_begin (S.description
+              store.now) (S.contents store.now) (DownloadBegin key size);
+        } }
+    {
+        self.buffer.clear();
+        self.current = None;
+        match begin_refusal(store, key, size) {
+            Some(code) => self.ids.refuse(key, code, outbox),
+            None => {
+                self.current = Some(Ongoing {
+                    key,
+                    stage: Stage::Download {
+                        indicated: size,
+                        toggle: false,
+                    },
+                });
+                self.ids.send(SdoResponse::DownloadDone { key }, outbox);
+            }
+        }
+    }
+
+    // A segment of a download: download SDO segment, ccs = 0.
+    pub(crate) fn take_segment<S: ObjectStore>(
+        &mut self,
+        store: &mut S,
+        toggle: bool,
+        part: &[u8],
+        last: bool,
+        outbox: &mut Outbox,
+    ) -> Option<Key>
+        requires room { array_vec_len outbox.old < 514 }
+        requires few { length part.now ≤ 7 }
+        requires greatest { (key : Key) → capacity_at (S.description store.old).rows key ≤
+            self.old.greatest }
+        ensures few { array_vec_len outbox.new ≤ array_vec_len outbox.old + 127 }
+        ensures answers { outbox.new.items ≡ outbox.old.items ++ frames_on self.old.answer
+            (on_open self.old.current (λ o stage. segment_answers (S.description store.old)
+            (S.contents store.old) o stage toggle part.now last)) }
+        ensures channel { self.new ≡ record self.old {
+          current = next_on self.old.current (λ o
+              stage. after_segment (S.description store.old) (S.contents store.old) o stage toggle
+              part.now last);
+        } }
+        ensures key { result ≡ key_set (set_on_open self.old.current (λ o stage. set_by_segment
+            (S.description store.old) (S.contents store.old) o stage toggle part.now last)) }
+        ensures contents { S.contents store.new ≡ contents_with (S.contents store.old)
+            (set_on_open self.old.current (λ o stage. set_by_segment (S.description store.old)
+            (S.contents store.old) o stage toggle part.now last)) }
+        ensures description { S.description store.new ≡ S.description store.old }
+    {
+        let Some(
+            Ongoing {
+                key,
+                stage: Stage::Download {
+                    indicated,
+                    toggle: expected,
+                },
+            },
+        ) = self.current
+        else {
+            self.give_up(AbortCode::UNKNOWN_COMMAND, outbox);
+            return None;
+        };
+        self.current = None;
+        if toggle != expected {
+            self.ids
+                .refuse(key, AbortCode::TOGGLE_NOT_ALTERNATED, outbox);
+            return None;
+        }
+        if capacity(store, key) < self.buffer.len() + part.len() {
+            self.ids.refuse(key, AbortCode::TOO_LONG, outbox);
+            return None;
+        }
+        match self.buffer.extend_from_slice(part) {
+            Ok(()) => {}
+            Err(_) => unreachable!(),
+        }
+        let done = SdoResponse::DownloadSegmentDone { toggle };
+        if last {
+            return self
+                .ids
+                .complete(store, key, indicated, &self.buffer, done, outbox);
+        }
+        self.current = Some(Ongoing {
+            key,
+            stage: Stage::Download {
+                indicated,
+                toggle: !toggle,
+            },
+        });
+        self.ids.send(done, outbox);
+        None
+    }
+}

@@ -1,0 +1,16 @@
+//! The SDO server of a CANopen device: one channel over an object dictionary.
+#![tactic(auto)]
+
+mod block_download;
+mod block_upload;
+mod channel;
+mod download;
+mod ids;
+mod refusals;
+mod request;
+mod stage;
+mod time;
+mod upload;
+
+pub use channel::Channel;
+pub use ids::Ids;

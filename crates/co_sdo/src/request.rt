@@ -1,0 +1,135 @@
+//! One request, or one frame inside a sub-block, against what is open.
+
+ghost use Rattle.std.specs.Prelude.{◌≡◌, ℕ, ◌+◌, ◌<◌, ◌≤◌, ◌++◌, [], ◌∷◌, Some, None, true, false, length};
+ghost use Rattle.arrayvec.specs.ArrayVec.{array_vec_len};
+ghost use Rattle.co_value.specs.declared.key.Key.{Key};
+ghost use Rattle.co_sdo.specs.Log.{frames_on};
+ghost use Rattle.co_sdo.specs.Refused.{capacity_at};
+ghost use Rattle.co_sdo.specs.Replies.{answers_to, request_answers, is_in_sub_block};
+ghost use Rattle.co_sdo.specs.Completed.{contents_with, key_set};
+ghost use Rattle.co_sdo.specs.Steps.{opened_next, after_request, set_next, set_by_request};
+
+use crate::channel::Channel;
+use crate::stage::{Ongoing, Stage};
+use co_dict::ObjectStore;
+use co_frame::{AbortCode, Frame, Outbox, SdoRequest};
+use co_value::Key;
+
+impl Channel {
+    // A request outside a sub-block.
+    fn take_request<S: ObjectStore>(
+        &mut self,
+        store: &mut S,
+        request: &SdoRequest,
+        outbox: &mut Outbox,
+    ) -> Option<Key>
+        requires room { array_vec_len outbox.old + 127 ≤ 514 }
+        requires greatest { (key : Key) → capacity_at (S.description store.old).rows key ≤
+            self.old.greatest }
+        ensures few { array_vec_len outbox.new ≤ array_vec_len outbox.old + 127 }
+        ensures answers { outbox.new.items ≡ outbox.old.items ++ frames_on self.old.answer
+            (request_answers (S.description store.old) (S.contents store.old) self.old.current
+            (Some request.now)) }
+        ensures channel { self.new ≡ record self.old {
+          current = after_request (S.description
+              store.old) (S.contents store.old) self.old.current (Some request.now);
+        } }
+        ensures key { result ≡ key_set (set_by_request (S.description store.old) (S.contents
+            store.old) self.old.current (Some request.now)) }
+        ensures contents { S.contents store.new ≡ contents_with (S.contents store.old)
+            (set_by_request (S.description store.old) (S.contents store.old) self.old.current
+            (Some request.now)) }
+        ensures description { S.description store.new ≡ S.description store.old }
+    {
+        match request {
+            SdoRequest::DownloadExpedited { key, data } => {
+                return self.take_expedited(store, *key, data, outbox);
+            }
+            SdoRequest::DownloadBegin { key, size } => {
+                self.begin_download(store, *key, *size, outbox);
+            }
+            SdoRequest::DownloadSegment { toggle, data, last } => {
+                return self.take_segment(store, *toggle, data, *last, outbox);
+            }
+            SdoRequest::Upload { key } => self.begin_upload(store, *key, outbox),
+            SdoRequest::UploadSegment { toggle } => self.take_upload_segment(*toggle, outbox),
+            SdoRequest::Abort { key: _, code: _ } => self.current = None,
+            SdoRequest::BlockUploadBegin {
+                key,
+                block_size,
+                threshold,
+            } => self.begin_block_upload(store, *key, *block_size, *threshold, outbox),
+            SdoRequest::BlockUploadEnd => self.end_block_upload(outbox),
+            SdoRequest::BlockUploadAcknowledge {
+                sequence,
+                block_size,
+            } => self.acknowledge_block_upload(*sequence, *block_size, outbox),
+            SdoRequest::BlockUploadStart => self.start_block_upload(outbox),
+            SdoRequest::BlockDownloadBegin { key, size } => {
+                self.begin_block_download(store, *key, *size, outbox);
+            }
+            SdoRequest::BlockDownloadEnd { unused } => {
+                return self.end_block_download(store, *unused, outbox);
+            }
+        }
+        None
+    }
+
+    // Whether the next frame falls inside a sub-block of a block download.
+    fn is_in_sub_block(&self) -> bool
+        ensures { result ≡ is_in_sub_block self.now.current }
+    {
+        match self.current {
+            Some(
+                Ongoing {
+                    key: _,
+                    stage: Stage::SubBlock {
+                        indicated: _,
+                        taken: _,
+                    },
+                },
+            ) => true,
+            _ => false,
+        }
+    }
+
+    // A frame of eight bytes on the request identifier.
+    pub(crate) fn step<S: ObjectStore>(
+        &mut self,
+        store: &mut S,
+        frame: &Frame,
+        outbox: &mut Outbox,
+    ) -> Option<Key>
+        requires room { array_vec_len outbox.old + 127 ≤ 514 }
+        requires eight { length frame.now.bytes ≡ 8 }
+        requires greatest { (key : Key) → capacity_at (S.description store.old).rows key ≤
+            self.old.greatest }
+        ensures few { array_vec_len outbox.new ≤ array_vec_len outbox.old + 127 }
+        ensures answers { outbox.new.items ≡ outbox.old.items ++ frames_on self.old.answer
+            (answers_to (S.description store.old) (S.contents store.old) self.old.current
+            frame.now.bytes) }
+        ensures channel { self.new ≡ record self.old {
+          left = self.old.time;
+          current = opened_next
+              (S.description store.old) (S.contents store.old) self.old.current frame.now.bytes;
+        } }
+        ensures key { result ≡ key_set (set_next (S.description store.old) (S.contents store.old)
+            self.old.current frame.now.bytes) }
+        ensures contents { S.contents store.new ≡ contents_with (S.contents store.old) (set_next
+            (S.description store.old) (S.contents store.old) self.old.current frame.now.bytes) }
+        ensures description { S.description store.new ≡ S.description store.old }
+    {
+        self.left = self.time;
+        if self.is_in_sub_block() {
+            self.take_block_segment(store, frame, outbox);
+            return None;
+        }
+        match SdoRequest::read(frame) {
+            None => {
+                self.give_up(AbortCode::UNKNOWN_COMMAND, outbox);
+                None
+            }
+            Some(request) => self.take_request(store, &request, outbox),
+        }
+    }
+}

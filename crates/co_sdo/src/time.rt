@@ -1,0 +1,69 @@
+//! The time of a transfer, and what ends it from outside.
+
+ghost use Rattle.std.specs.Prelude.{◌≡◌, ℕ, ◌+◌, ◌-◌, ◌<◌, ◌≤◌, ◌++◌, [], ◌∷◌, Some, None, true, length};
+ghost use Rattle.arrayvec.specs.ArrayVec.{array_vec_len};
+ghost use Rattle.co_dict.specs.Stores.{Description};
+ghost use Rattle.co_sdo.specs.Log.{Log, Ticked, TimedOut, Dropped, frames_on};
+ghost use Rattle.co_sdo.specs.Opened.{held_bytes, bytes_held, is_time_over};
+ghost use Rattle.co_sdo.specs.Replies.{time_out_reply};
+ghost use Rattle.co_sdo.specs.Standing.{Stands, is_expired, room_after};
+
+use crate::channel::Channel;
+use co_frame::{AbortCode, Outbox};
+
+impl Channel {
+    /// A tick of 1 ms. What is left of the time of an open transfer goes down.
+    pub fn tick(&mut self)
+        ensures stands { (d : Description) (log : Log) → Stands d self.old log → Stands d self.new
+            (Ticked ∷ log) }
+        ensures same { self.new ≡ record self.old { left = self.old.left - 1 } }
+    {
+        self.left = self.left.saturating_sub(1);
+    }
+
+    /// Whether a transfer is open and its time is over: so many ticks came since its last request.
+    pub fn expired(&self) -> bool
+        ensures shown { result ≡ is_expired self.now }
+        ensures over { (d : Description) (log : Log) → Stands d self.now log → result ≡
+            is_time_over self.now.time log }
+    {
+        self.current.is_some() && self.time > 0 && self.left == 0
+    }
+
+    /// Gives up the transfer whose time is over, with an abort (05040000h, SDO protocol timed out).
+    pub fn time_out(&mut self, outbox: &mut Outbox)
+        requires room { array_vec_len outbox.old < 514 }
+        requires expired { is_expired self.old ≡ true }
+        ensures few { array_vec_len outbox.new ≤ array_vec_len outbox.old + 127 }
+        ensures answers { (d : Description) (log : Log) → Stands d self.old log →
+            outbox.new.items ≡ outbox.old.items ++ frames_on self.old.answer (time_out_reply log) }
+        ensures stands { (d : Description) (log : Log) → Stands d self.old log →
+            Stands d self.new (TimedOut (time_out_reply log) ∷ log) }
+        ensures same { self.new ≡ record self.old { current = None } }
+    {
+        self.give_up(AbortCode::TIMED_OUT, outbox);
+    }
+
+    /// Drops an open transfer without an abort.
+    pub fn drop_transfer(&mut self)
+        ensures stands { (d : Description) (log : Log) → Stands d self.old log → Stands d self.new
+            (Dropped ∷ log) }
+        ensures same { self.new ≡ record self.old { current = None } }
+    {
+        self.current = None;
+    }
+
+    /// How many bytes are held for an open transfer: those of a download so far, the value of an upload; else 0.
+    pub fn held(&self) -> usize
+        ensures shown { result ≡ bytes_held self.now.current }
+        ensures held { (d : Description) (log : Log) → Stands d self.now log → result ≡ held_bytes
+            log }
+        ensures room { (d : Description) (log : Log) → Stands d self.now log → result ≤ room_after
+            d.rows log }
+    {
+        match self.current {
+            Some(_) => self.buffer.len(),
+            None => 0,
+        }
+    }
+}

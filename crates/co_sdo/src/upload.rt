@@ -1,0 +1,149 @@
+//! Uploads: expedited and segmented.
+
+ghost use Rattle.std.specs.Prelude.{◌≡◌, ℕ, ◌+◌, ◌*◌, ◌<◌, ◌≤◌, ◌++◌, [], ◌∷◌, Some, None, true, false, length, vec_len, vec_capacity};
+ghost use Rattle.arrayvec.specs.ArrayVec.{array_vec_len};
+ghost use Rattle.co_value.specs.declared.key.Key.{Key};
+ghost use Rattle.co_frame.specs.declared.sdo_request.SdoRequest.TheVariants.{Upload};
+ghost use Rattle.co_sdo.specs.Log.{frames_on};
+ghost use Rattle.co_sdo.specs.Refused.{capacity_at};
+ghost use Rattle.co_sdo.specs.Uploads.{value_at, part_after};
+ghost use Rattle.co_sdo.specs.Replies.{on_open, upload_answers, begin_answers};
+ghost use Rattle.co_sdo.specs.Steps.{next_on, after_upload_segment, after_begin};
+
+use crate::channel::Channel;
+use crate::refusals::reading_refusal;
+use crate::stage::{Ongoing, Stage};
+use arrayvec::ArrayVec;
+use co_dict::{ObjectStore, store_laws};
+use co_frame::{AbortCode, ExpeditedData, Outbox, SdoResponse};
+use co_value::Key;
+
+// Copies the value of an entry into a buffer that has room for it.
+pub(crate) fn copy_value<S: ObjectStore>(store: &S, key: Key, buffer: &mut Vec<u8>)
+    requires { capacity_at (S.description store.now).rows key ≤ vec_capacity buffer.old }
+    ensures value { buffer.new.items ≡ value_at (S.contents store.now) key }
+    ensures few { vec_len buffer.new ≤ capacity_at (S.description store.now).rows key }
+    ensures capacity { vec_capacity buffer.old ≤ vec_capacity buffer.new }
+{
+    store_laws(store);
+    buffer.clear();
+    let Some(value) = store.bytes(key) else {
+        return;
+    };
+    match buffer.extend_from_slice(value) {
+        Ok(()) => {}
+        Err(_) => unreachable!(),
+    }
+}
+
+// The seven bytes of a value after so many segments, fewer at its end.
+pub(crate) fn part_after(value: &[u8], count: usize) -> &[u8]
+    requires { 7 * count ≤ length value.now }
+    ensures part { result.now ≡ part_after count value.now }
+    ensures few { length result.now ≤ 7 }
+{
+    let rest = &value[7 * count..];
+    if rest.len() < 7 { rest } else { &rest[..7] }
+}
+
+// The bytes of an expedited upload.
+fn expedited(value: &[u8]) -> ArrayVec<u8, 4>
+    requires { length value.now ≤ 4 }
+    ensures { result.items ≡ value.now }
+{
+    let mut data = ArrayVec::new();
+    match data.try_extend_from_slice(value) {
+        Ok(()) => {}
+        Err(_) => unreachable!(),
+    }
+    data
+}
+
+// The bytes of a segment.
+fn segment(part: &[u8]) -> ArrayVec<u8, 7>
+    requires { length part.now ≤ 7 }
+    ensures { result.items ≡ part.now }
+{
+    let mut data = ArrayVec::new();
+    match data.try_extend_from_slice(part) {
+        Ok(()) => {}
+        Err(_) => unreachable!(),
+    }
+    data
+}
+
+impl Channel {
+    // The begin of an upload: initiate SDO upload, ccs = 2.
+    pub(crate) fn begin_upload<S: ObjectStore>(&mut self, store: &S, key: Key, outbox: &mut Outbox)
+        requires room { array_vec_len outbox.old < 514 }
+        requires greatest { (key : Key) → capacity_at (S.description store.now).rows key ≤
+            self.old.greatest }
+        ensures few { array_vec_len outbox.new ≤ array_vec_len outbox.old + 127 }
+        ensures answers { outbox.new.items ≡ outbox.old.items ++ frames_on self.old.answer
+            (begin_answers (S.description store.now) (S.contents store.now) (Upload key)) }
+        ensures channel { self.new ≡ record self.old {
+          current = after_begin (S.description
+              store.now) (S.contents store.now) (Upload key);
+        } }
+    {
+        self.current = None;
+        if let Some(code) = reading_refusal(store, key) {
+            self.ids.refuse(key, code, outbox);
+            return;
+        }
+        copy_value(store, key, &mut self.buffer);
+        let len = self.buffer.len();
+        if 1 <= len && len <= 4 {
+            let data = ExpeditedData::Indicated(expedited(&self.buffer));
+            self.ids
+                .send(SdoResponse::UploadExpedited { key, data }, outbox);
+            return;
+        }
+        self.current = Some(Ongoing {
+            key,
+            stage: Stage::Upload { sent: 0 },
+        });
+        let size = Some(len as u32);
+        self.ids
+            .send(SdoResponse::UploadBegun { key, size }, outbox);
+    }
+
+    // The request of a segment: upload SDO segment, ccs = 3.
+    pub(crate) fn take_upload_segment(&mut self, toggle: bool, outbox: &mut Outbox)
+        requires room { array_vec_len outbox.old < 514 }
+        ensures few { array_vec_len outbox.new ≤ array_vec_len outbox.old + 127 }
+        ensures answers { outbox.new.items ≡ outbox.old.items ++ frames_on self.old.answer
+            (on_open self.old.current (λ o stage. upload_answers o stage toggle)) }
+        ensures channel { self.new ≡ record self.old {
+          current = next_on self.old.current (λ o
+              stage. after_upload_segment o stage toggle);
+        } }
+    {
+        let Some(
+            Ongoing {
+                key,
+                stage: Stage::Upload { sent },
+            },
+        ) = self.current
+        else {
+            self.give_up(AbortCode::UNKNOWN_COMMAND, outbox);
+            return;
+        };
+        if toggle != (sent % 2 == 1) {
+            self.give_up(AbortCode::TOGGLE_NOT_ALTERNATED, outbox);
+            return;
+        }
+        let data = segment(part_after(&self.buffer, sent as usize));
+        let last = self.buffer.len() <= 7 * sent as usize + 7;
+        if last {
+            self.current = None;
+        } else {
+            self.current = Some(Ongoing {
+                key,
+                stage: Stage::Upload { sent: sent + 1 },
+            });
+        }
+        self.ids
+            .send(SdoResponse::UploadSegment { toggle, data, last }, outbox);
+    }
+}
