@@ -1,0 +1,32 @@
+-- The TPDOs of a dictionary, one number after another.
+use Rattle.std.proofs.Common.{◌≡◌, ℕ, ◌+◌, ◌<◌, Bool, true, false, cond, ltb, List, [], ◌∷◌, ◌++◌, map, length, get_or, sym, ap, ◌∙◌, subst, refl, arith, append-nil, length-append}
+use Rattle.std.specs.List.{filter, range_with_len}
+use Rattle.std.proofs.lemmas.List.{map-append, get_or_append_left}
+use Rattle.std.proofs.Math.Seq.{get_or-append_seam}
+use Rattle.std.proofs.lemmas.Bool.Decides.{nat_tests}
+use Rattle.co_pdo.specs.declared.tpdo.Tpdo.{Tpdo}
+use Rattle.co_pdo.proofs.Lists.{filter_range_more}
+
+-- the numbers, where one more passes the test and is there, or does not and is not
+pub numbers_pushed : (p : ℕ → Bool) (k : ℕ) (xs ys : List Tpdo) (t : Tpdo) → t.number ≡ k → ys ≡ xs ++ t ∷ [] → p k ≡ true → map (λ t. t.number) xs ≡ filter p (range_with_len 0 k) → map (λ t. t.number) ys ≡ filter p (range_with_len 0 (k + 1))
+numbers_pushed p k xs ys t n e h numbers =
+    ap (map (λ t. t.number)) e ∙ map-append (λ (t : Tpdo). t.number) xs (t ∷ []) ∙ ap (λ ns. ns ++ t.number ∷ []) numbers ∙ ap (λ (m : ℕ). filter p (range_with_len 0 k) ++ m ∷ []) n
+    ∙ ap (λ b. filter p (range_with_len 0 k) ++ cond b (k ∷ []) []) (sym h) ∙ sym (filter_range_more p k)
+
+pub numbers_kept : (p : ℕ → Bool) (k : ℕ) (xs ys : List Tpdo) → ys ≡ xs → p k ≡ false → map (λ t. t.number) xs ≡ filter p (range_with_len 0 k) → map (λ t. t.number) ys ≡ filter p (range_with_len 0 (k + 1))
+numbers_kept p k xs ys e h numbers =
+    ap (map (λ t. t.number)) e ∙ numbers ∙ sym (append-nil (filter p (range_with_len 0 k))) ∙ ap (λ b. filter p (range_with_len 0 k) ++ cond b (k ∷ []) []) (sym h) ∙ sym (filter_range_more p k)
+
+-- what holds of each, and of one more
+pub each_pushed : (P : Tpdo → Type 0) (xs ys : List Tpdo) (t : Tpdo) → ys ≡ xs ++ t ∷ [] → P t → ((i : ℕ) (d : Tpdo) → i < length xs → P (get_or xs i d)) → (i : ℕ) (d : Tpdo) → i < length ys → P (get_or ys i d)
+each_pushed P xs ys t e h all i d lt = rw e (by_test (ltb i (length xs)) refl)
+  where
+    by_test : (b : Bool) → ltb i (length xs) ≡ b → P (get_or (xs ++ t ∷ []) i d)
+    by_test true low = let below : i < length xs = grind (arith, nat_tests) in rw (get_or_append_left xs (t ∷ []) d i below) (all i d below)
+    by_test false low =
+        let most : i < length xs + 1 = simp length-append at (subst (λ zs. i < length zs) e lt) in
+        let last : i ≡ length xs = grind (arith, nat_tests) in
+        rw last (rw (get_or-append_seam xs t [] d) h)
+
+pub numbers_at_the_end : (p : ℕ → Bool) (xs : List Tpdo) (k : ℕ) → k ≡ 512 → map (λ t. t.number) xs ≡ filter p (range_with_len 0 k) → map (λ t. t.number) xs ≡ filter p (range_with_len 0 512)
+numbers_at_the_end p xs k e numbers = numbers ∙ ap (λ n. filter p (range_with_len 0 n)) e

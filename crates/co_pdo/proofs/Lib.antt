@@ -1,0 +1,12 @@
+mod Counts
+mod Logs
+mod Lists
+mod Built
+mod Numbers
+mod Histories
+mod Words
+mod Parts
+mod TpdoExamples
+mod ScheduleExamples
+mod MappingExamples
+mod ImageExamples

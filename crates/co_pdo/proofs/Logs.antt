@@ -1,0 +1,169 @@
+-- One more call in a log.
+use Rattle.std.proofs.Common.{◌≡◌, ℕ, ◌+◌, ◌-◌, ◌<◌, Bool, true, false, cond, eqb, leb, List, [], ◌∷◌, refl, sym, ap, ◌∙◌, subst, arith}
+use Rattle.std.specs.Prelude.{◌%◌, ◌&&◌, ◌||◌, Option, Some, None, map}
+use Rattle.std.specs.List.{list_all}
+use Rattle.std.proofs.lemmas.Bool.Decides.{nat_tests}
+use Rattle.co_pdo.specs.declared.settings.Settings.{Settings}
+use Rattle.co_pdo.specs.declared.tpdo.Occasion.{Occasion}
+use Rattle.co_pdo.specs.declared.tpdo.Occasion.TheVariants.{Sync, Event, Tick}
+use Rattle.co_pdo.specs.declared.tpdo.Part.TheVariants.{Whole, Timer}
+use Rattle.co_pdo.specs.declared.tpdo.Tpdo.{Tpdo}
+use Rattle.co_pdo.specs.Log.{Log, Started, Happened, started_with}
+use Rattle.co_pdo.specs.Due.{syncs, event_since_sync, timer_ticks, event_waits, sendings, in_ms, is_due_at_sync, is_event_driven, is_due_by_event, is_due}
+use Rattle.co_pdo.specs.Countdowns.{left_of, type_of, inhibit_of, IsAfter, IsAsAt, IsCurrent}
+use Rattle.co_pdo.specs.Steps.{counted, wants, marked}
+use Rattle.co_pdo.proofs.Counts.{last_sync, next_sync, left-tick, last_tick}
+
+all_from_zero : (xs : List ℕ) → list_all (λ m. leb 0 m) xs ≡ true
+all_from_zero [] = refl
+all_from_zero (x ∷ xs) = ap (λ b. leb 0 x && b) (all_from_zero xs) ∙ from_zero x
+  where
+    from_zero : (x : ℕ) → leb 0 x && true ≡ true
+    from_zero x = grind (arith, nat_tests)
+
+all_later : (n : ℕ) (xs : List ℕ) → list_all (λ m. leb n m) (map (λ m. m + 1) xs) ≡ list_all (λ m. leb (n - 1) m) xs
+all_later n [] = refl
+all_later n (x ∷ xs) = ap (λ b. b && list_all (λ m. leb n m) (map (λ m. m + 1) xs)) (later n x) ∙ ap (λ b. leb (n - 1) x && b) (all_later n xs)
+  where
+    later : (n x : ℕ) → leb n (x + 1) ≡ leb (n - 1) x
+    later n x = grind (arith, nat_tests)
+
+left-later : (n : ℕ) (xs : List ℕ) → eqb (left_of (n - 1) xs) 0 ≡ eqb (left_of n (map (λ m. m + 1) xs)) 0
+left-later n [] = refl
+left-later n (x ∷ xs) = grind (arith, nat_tests)
+
+sent_now : (n : ℕ) (xs : List ℕ) (b : Bool) → eqb n 0 ≡ b → eqb (n - 0) 0 ≡ list_all (λ m. leb n m) (0 ∷ xs)
+sent_now n xs true e = let z : n ≡ 0 = grind (arith, nat_tests) in subst (λ (k : ℕ). eqb (k - 0) 0 ≡ list_all (λ m. leb k m) (0 ∷ xs)) (sym z) (sym (all_from_zero (0 ∷ xs)))
+sent_now n xs false e =
+    let none : eqb (n - 0) 0 ≡ false = grind (arith, nat_tests) in
+    let low : leb n 0 ≡ false = grind (arith, nat_tests) in
+    none ∙ ap (λ b. b && list_all (λ m. leb n m) xs) (sym low)
+
+-- nothing is left of a time that is over: the last sending is the nearest
+none_left : (n : ℕ) (log : Log) → eqb (left_of n (sendings log)) 0 ≡ list_all (λ m. leb n m) (sendings log)
+none_left n [] = refl
+none_left n (Started Whole s ∷ log) = refl
+none_left n (Started Timer s ∷ log) = none_left n log
+none_left n (Happened Sync s true ∷ log) = sent_now n (sendings log) _ refl
+none_left n (Happened Sync s false ∷ log) = none_left n log
+none_left n (Happened Event s true ∷ log) = sent_now n (sendings log) _ refl
+none_left n (Happened Event s false ∷ log) = none_left n log
+none_left n (Happened Tick s true ∷ log) = sent_now n (map (λ m. m + 1) (sendings log)) _ refl
+none_left n (Happened Tick s false ∷ log) = sym (left-later n (sendings log)) ∙ none_left (n - 1) log ∙ sym (all_later n (sendings log))
+
+-- the countdowns after a call in which the TPDO is not sent
+after_counted : (t : Tpdo) (log : Log) (s : Settings) (o : Occasion) → IsAfter t log → IsCurrent s log → IsAfter (counted o t) (Happened o s false ∷ log)
+after_counted t log s Sync h f = record {
+  transmission_type = h.transmission_type;
+  inhibit = h.inhibit;
+  timer = h.timer;
+  syncs_left = rw h.syncs_left (next_sync (syncs log) t.transmission_type);
+  event_since_sync = refl;
+  event_waits = h.event_waits;
+  inhibit_left = h.inhibit_left;
+  timer_left = h.timer_left;
+}
+after_counted t log s Event h f = record {
+  transmission_type = h.transmission_type;
+  inhibit = h.inhibit;
+  timer = h.timer;
+  syncs_left = h.syncs_left;
+  event_since_sync = refl;
+  event_waits = refl;
+  inhibit_left = h.inhibit_left;
+  timer_left = h.timer_left;
+}
+after_counted t log s Tick h f = record {
+  transmission_type = h.transmission_type;
+  inhibit = h.inhibit;
+  timer = h.timer;
+  syncs_left = h.syncs_left;
+  event_since_sync = h.event_since_sync;
+  event_waits =
+      ap (λ b. b || eqb t.timer_left 1) h.event_waits
+      ∙ ap (λ n. event_waits log || eqb n 1) h.timer_left
+      ∙ ap (λ b. event_waits log || b) (last_tick t.timer (timer_ticks log) ∙ ap (eqb (timer_ticks log + 1)) (h.timer ∙ sym f.timer));
+  inhibit_left = ap (λ n. n - 1) h.inhibit_left ∙ left-tick t.inhibit (sendings log);
+  timer_left = omega (arith, h.timer_left);
+}
+
+-- the same where it is sent
+after_marked : (t : Tpdo) (log : Log) (s : Settings) (o : Occasion) → IsAfter t (Happened o s false ∷ log) → IsAfter (marked t) (Happened o s true ∷ log)
+after_marked t log s Sync h = record { transmission_type = h.transmission_type; inhibit = h.inhibit; timer = h.timer; syncs_left = h.syncs_left; event_since_sync = h.event_since_sync; event_waits = refl; inhibit_left = omega arith; timer_left = omega arith }
+after_marked t log s Event h = record { transmission_type = h.transmission_type; inhibit = h.inhibit; timer = h.timer; syncs_left = h.syncs_left; event_since_sync = h.event_since_sync; event_waits = refl; inhibit_left = omega arith; timer_left = omega arith }
+after_marked t log s Tick h = record { transmission_type = h.transmission_type; inhibit = h.inhibit; timer = h.timer; syncs_left = h.syncs_left; event_since_sync = h.event_since_sync; event_waits = refl; inhibit_left = omega arith; timer_left = omega arith }
+
+-- the type and the inhibit time are those that it was started with
+record Same (t : Tpdo) (s : Settings) : Type 0 where
+  kind : t.transmission_type ≡ s.transmission_type
+  inhibit : t.inhibit ≡ in_ms s.inhibit_time
+
+same_as_started : (t : Tpdo) (s : Settings) (at : Option Settings) → t.transmission_type ≡ type_of at → t.inhibit ≡ inhibit_of at → IsAsAt at s → Same t s
+same_as_started t s None k i h = absurd h
+same_as_started t s (Some at) k i h = record { kind = k ∙ h.0; inhibit = i ∙ ap in_ms h.1 }
+
+same : (t : Tpdo) (log : Log) (s : Settings) → IsAfter t log → IsCurrent s log → s.is_active ≡ true → Same t s
+same t log s h f e = same_as_started t s (started_with log) h.transmission_type h.inhibit (f.started e)
+
+at_sync : (t : Tpdo) (log : Log) → IsAfter t log → (b : Bool) → eqb t.transmission_type 0 ≡ b → cond b t.event_since_sync (leb t.syncs_left 1 && leb t.transmission_type 240) ≡ cond b (event_since_sync log) (eqb ((syncs log + 1) % t.transmission_type) 0 && leb t.transmission_type 240)
+at_sync t log h true e = h.event_since_sync
+at_sync t log h false e =
+    let above : 0 < t.transmission_type = grind (arith, nat_tests) in
+    ap (λ n. leb n 1 && leb t.transmission_type 240) h.syncs_left ∙ ap (λ b. b && leb t.transmission_type 240) (last_sync (syncs log) t.transmission_type above)
+
+-- due by the counts after a call, types 254 and 255
+by_event : (t : Tpdo) (log : Log) (s : Settings) → Same t s → IsAfter t log → is_event_driven t.transmission_type && (t.event_waits && eqb t.inhibit_left 0) ≡ is_due_by_event s log
+by_event t log s e h =
+    ap (λ k. is_event_driven k && (t.event_waits && eqb t.inhibit_left 0)) e.kind
+    ∙ ap (λ b. is_event_driven s.transmission_type && (b && eqb t.inhibit_left 0)) h.event_waits
+    ∙ ap (λ b. is_event_driven s.transmission_type && (event_waits log && b)) (ap (λ n. eqb n 0) h.inhibit_left ∙ none_left t.inhibit log ∙ ap (λ n. list_all (λ m. leb n m) (sendings log)) e.inhibit)
+
+-- a TPDO wants to go when it is due
+wants_is : (t : Tpdo) (log : Log) (s : Settings) (o : Occasion) → IsAfter t log → IsCurrent s log → Same t s → s.is_active && wants o t ≡ is_due s log o
+wants_is t log s Sync h f e =
+    ap (λ b. s.is_active && b) (at_sync t log h (eqb t.transmission_type 0) refl ∙ ap (λ k. is_due_at_sync k log) e.kind)
+wants_is t log s Event h f e =
+    ap (λ b. s.is_active && b) (by_event (counted Event t) _ s (record { kind = e.kind; inhibit = e.inhibit }) (after_counted t log s Event h f))
+wants_is t log s Tick h f e =
+    ap (λ b. s.is_active && b) (by_event (counted Tick t) _ s (record { kind = e.kind; inhibit = e.inhibit }) (after_counted t log s Tick h f))
+
+due_by : (t : Tpdo) (log : Log) (s : Settings) (o : Occasion) → IsAfter t log → IsCurrent s log → (b : Bool) → s.is_active ≡ b → s.is_active && wants o t ≡ is_due s log o
+due_by t log s o h f true e = wants_is t log s o h f (same t log s h f e)
+due_by t log s Sync h f false e = ap (λ b. b && wants Sync t) e ∙ ap (λ b. b && is_due_at_sync s.transmission_type log) (sym e)
+due_by t log s Event h f false e = ap (λ b. b && wants Event t) e ∙ ap (λ b. b && is_due_by_event s (Happened Event s false ∷ log)) (sym e)
+due_by t log s Tick h f false e = ap (λ b. b && wants Tick t) e ∙ ap (λ b. b && is_due_by_event s (Happened Tick s false ∷ log)) (sym e)
+
+pub due_is : (t : Tpdo) (log : Log) (s : Settings) (o : Occasion) → IsAfter t log → IsCurrent s log → s.is_active && wants o t ≡ is_due s log o
+due_is t log s o h f = due_by t log s o h f s.is_active refl
+
+number_counted : (o : Occasion) (t : Tpdo) → (counted o t).number ≡ t.number
+number_counted Sync t = refl
+number_counted Event t = refl
+number_counted Tick t = refl
+
+-- whether it is active, where it was counted before
+pub active_counted : (f : ℕ → Bool) (o : Occasion) (t new : Tpdo) → new ≡ counted o t → f new.number ≡ f t.number
+active_counted f o t new e = ap f (ap (λ u. u.number) e ∙ number_counted o t)
+
+-- the countdowns after a call, by what was done to them
+pub after_unsent : (t new : Tpdo) (log : Log) (s : Settings) (o : Occasion) → new ≡ counted o t → IsAfter t log → IsCurrent s log → IsAfter new (Happened o s false ∷ log)
+after_unsent t new log s o e h f = rw e (after_counted t log s o h f)
+
+pub after_sent : (t mid new : Tpdo) (log : Log) (s : Settings) (o : Occasion) → mid ≡ counted o t → new ≡ marked mid → IsAfter t log → IsCurrent s log → IsAfter new (Happened o s true ∷ log)
+after_sent t mid new log s o e k h f = rw k (after_marked mid log s o (after_unsent t mid log s o e h f))
+
+and_true : (a : Bool) → a && true ≡ a
+and_true true = refl
+and_true false = refl
+
+and_false : (a : Bool) → a && false ≡ false
+and_false true = refl
+and_false false = refl
+
+-- it was wanted, and the dictionary says whether the TPDO is active
+pub due_wanted : (t : Tpdo) (log : Log) (s : Settings) (o : Occasion) (w : Bool) → IsAfter t log → IsCurrent s log → w ≡ wants o t → w ≡ true → s.is_active ≡ is_due s log o
+due_wanted t log s o w h f e k = sym (and_true s.is_active) ∙ ap (λ b. s.is_active && b) (sym k ∙ e) ∙ due_is t log s o h f
+
+-- it was not wanted
+pub due_unwanted : (t : Tpdo) (log : Log) (s : Settings) (o : Occasion) (w : Bool) → IsAfter t log → IsCurrent s log → w ≡ wants o t → w ≡ false → false ≡ is_due s log o
+due_unwanted t log s o w h f e k = sym (and_false s.is_active) ∙ ap (λ b. s.is_active && b) (sym k ∙ e) ∙ due_is t log s o h f

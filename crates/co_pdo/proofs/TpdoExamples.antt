@@ -1,0 +1,162 @@
+-- When one TPDO is due, computed from the definitions: both sides of each edge.
+use Rattle.std.proofs.Common.{◌≡◌, ℕ, Bool, true, false, List, [], ◌∷◌, refl}
+use Rattle.co_pdo.specs.declared.settings.Settings.{Settings}
+use Rattle.co_pdo.specs.declared.tpdo.Occasion.{Occasion}
+use Rattle.co_pdo.specs.declared.tpdo.Occasion.TheVariants.{Sync, Event, Tick}
+use Rattle.co_pdo.specs.declared.tpdo.Part.TheVariants.{Whole, Timer}
+use Rattle.co_pdo.specs.Tpdos.{is_supported_type}
+use Rattle.co_pdo.specs.Log.{Log, Started, Happened}
+use Rattle.co_pdo.specs.Due.{in_ms, is_due}
+
+-- an active TPDO with a transmission type, an inhibit time in 100 µs and an event timer in ms
+abbrev active : ℕ → ℕ → ℕ → Settings
+active kind inhibit_time event_timer = record { is_active = true; transmission_type = kind; inhibit_time = inhibit_time; event_timer = event_timer }
+
+-- whether it is sent at each of these, one after another
+abbrev sent_at : Settings → Log → List Occasion → List Bool
+sent_at s log [] = []
+sent_at s log (o ∷ os) = is_due s log o ∷ sent_at s (Happened o s (is_due s log o) ∷ log) os
+
+-- the same from a whole start on
+abbrev from_start : Settings → List Occasion → List Bool
+from_start s os = sent_at s (Started Whole s ∷ []) os
+
+-- ---- transmission types
+
+type_240 : is_supported_type 240 ≡ true
+type_240 = refl
+
+type_241 : is_supported_type 241 ≡ false
+type_241 = refl
+
+type_253 : is_supported_type 253 ≡ false
+type_253 = refl
+
+type_254 : is_supported_type 254 ≡ true
+type_254 = refl
+
+type_255 : is_supported_type 255 ≡ true
+type_255 = refl
+
+-- ---- types 1 to 240
+
+each_sync : from_start (active 1 0 0) (Sync ∷ Sync ∷ []) ≡ true ∷ true ∷ []
+each_sync = refl
+
+third_of_four : from_start (active 3 0 0) (Sync ∷ Sync ∷ Sync ∷ Sync ∷ []) ≡ false ∷ false ∷ true ∷ false ∷ []
+third_of_four = refl
+
+sixth_of_six : from_start (active 3 0 0) (Sync ∷ Sync ∷ Sync ∷ Sync ∷ Sync ∷ Sync ∷ []) ≡ false ∷ false ∷ true ∷ false ∷ false ∷ true ∷ []
+sixth_of_six = refl
+
+-- events, ticks and the inhibit time make no difference
+sync_alone : from_start (active 2 100 1) (Sync ∷ Event ∷ Tick ∷ Sync ∷ Tick ∷ Sync ∷ Sync ∷ []) ≡ false ∷ false ∷ false ∷ true ∷ false ∷ false ∷ true ∷ []
+sync_alone = refl
+
+-- a whole start begins the count anew, a start of the timer doesn't
+whole_start_counts_anew : is_due (active 2 0 0) (Started Whole (active 2 0 0) ∷ Happened Sync (active 2 0 0) false ∷ Started Whole (active 2 0 0) ∷ []) Sync ≡ false
+whole_start_counts_anew = refl
+
+timer_start_counts_on : is_due (active 2 0 0) (Started Timer (active 2 0 0) ∷ Happened Sync (active 2 0 0) false ∷ Started Whole (active 2 0 0) ∷ []) Sync ≡ true
+timer_start_counts_on = refl
+
+-- ---- type 0
+
+once_after_an_event : from_start (active 0 0 0) (Sync ∷ Event ∷ Event ∷ Sync ∷ Sync ∷ []) ≡ false ∷ false ∷ false ∷ true ∷ false ∷ []
+once_after_an_event = refl
+
+event_before_the_last_sync : from_start (active 0 0 0) (Event ∷ Sync ∷ Tick ∷ Sync ∷ Event ∷ Sync ∷ []) ≡ false ∷ true ∷ false ∷ false ∷ false ∷ true ∷ []
+event_before_the_last_sync = refl
+
+-- the event timer gives no event to it, and the inhibit time holds nothing back
+type_0_has_no_timer : from_start (active 0 100 1) (Tick ∷ Sync ∷ Event ∷ Sync ∷ Event ∷ Sync ∷ []) ≡ false ∷ false ∷ false ∷ true ∷ false ∷ true ∷ []
+type_0_has_no_timer = refl
+
+whole_start_forgets_an_event : is_due (active 0 0 0) (Started Whole (active 0 0 0) ∷ Happened Event (active 0 0 0) false ∷ []) Sync ≡ false
+whole_start_forgets_an_event = refl
+
+timer_start_keeps_an_event : is_due (active 0 0 0) (Started Timer (active 0 0 0) ∷ Happened Event (active 0 0 0) false ∷ Started Whole (active 0 0 0) ∷ []) Sync ≡ true
+timer_start_keeps_an_event = refl
+
+-- ---- the inhibit time
+
+no_time : in_ms 0 ≡ 0
+no_time = refl
+
+rounded_up : in_ms 1 ≡ 1
+rounded_up = refl
+
+one_ms : in_ms 10 ≡ 1
+one_ms = refl
+
+past_one_ms : in_ms 11 ≡ 2
+past_one_ms = refl
+
+longest : in_ms 65535 ≡ 6554
+longest = refl
+
+-- 2.5 ms: the first of two events at once, the other at the third tick
+inhibited : from_start (active 255 25 0) (Event ∷ Event ∷ Tick ∷ Tick ∷ Tick ∷ Tick ∷ []) ≡ true ∷ false ∷ false ∷ false ∷ true ∷ false ∷ []
+inhibited = refl
+
+-- several events while it is inhibited are one
+one_of_several : from_start (active 254 10 0) (Event ∷ Event ∷ Event ∷ Tick ∷ Tick ∷ Tick ∷ []) ≡ true ∷ false ∷ false ∷ true ∷ false ∷ false ∷ []
+one_of_several = refl
+
+-- no event while it is inhibited: none is sent as the time ends, and the next event is sent at once
+inhibit_is_over : from_start (active 254 10 0) (Event ∷ Tick ∷ Event ∷ []) ≡ true ∷ false ∷ true ∷ []
+inhibit_is_over = refl
+
+-- without inhibit time each event is sent
+not_inhibited : from_start (active 255 0 0) (Event ∷ Event ∷ Tick ∷ Event ∷ []) ≡ true ∷ true ∷ false ∷ true ∷ []
+not_inhibited = refl
+
+whole_start_ends_the_inhibit_time : is_due (active 255 25 0) (Started Whole (active 255 25 0) ∷ Happened Event (active 255 25 0) true ∷ Started Whole (active 255 25 0) ∷ []) Event ≡ true
+whole_start_ends_the_inhibit_time = refl
+
+timer_start_leaves_the_inhibit_time : is_due (active 255 25 0) (Started Timer (active 255 25 0) ∷ Happened Event (active 255 25 0) true ∷ Started Whole (active 255 25 0) ∷ []) Event ≡ false
+timer_start_leaves_the_inhibit_time = refl
+
+-- SYNCs don't send it
+no_sync : from_start (active 255 0 0) (Sync ∷ Event ∷ Sync ∷ []) ≡ false ∷ true ∷ false ∷ []
+no_sync = refl
+
+-- ---- the event timer
+
+-- 3 ms: at the third tick, and anew after the sending at an event
+timer_again : from_start (active 254 0 3) (Tick ∷ Tick ∷ Tick ∷ Tick ∷ Event ∷ Tick ∷ Tick ∷ Tick ∷ []) ≡ false ∷ false ∷ true ∷ false ∷ true ∷ false ∷ false ∷ true ∷ []
+timer_again = refl
+
+each_tick : from_start (active 255 0 1) (Tick ∷ Tick ∷ []) ≡ true ∷ true ∷ []
+each_tick = refl
+
+-- 2 ms inside an inhibit time of 3 ms: its one event waits, and the timer begins anew with the sending
+timer_inside_inhibit_time : from_start (active 254 30 2) (Event ∷ Tick ∷ Tick ∷ Tick ∷ Tick ∷ Tick ∷ Tick ∷ []) ≡ true ∷ false ∷ false ∷ true ∷ false ∷ false ∷ true ∷ []
+timer_inside_inhibit_time = refl
+
+-- both times end in one tick
+both_in_one_tick : from_start (active 254 20 2) (Event ∷ Tick ∷ Tick ∷ Tick ∷ Tick ∷ []) ≡ true ∷ false ∷ true ∷ false ∷ true ∷ []
+both_in_one_tick = refl
+
+-- an event and the timer's in one inhibit time are one
+event_and_timer : from_start (active 254 30 2) (Event ∷ Tick ∷ Event ∷ Tick ∷ Tick ∷ Tick ∷ []) ≡ true ∷ false ∷ false ∷ false ∷ true ∷ false ∷ []
+event_and_timer = refl
+
+-- the timer changes from 3 ms to 2 ms after two ticks: it counts from there
+timer_is_changed : sent_at (active 254 0 2) (Started Timer (active 254 0 2) ∷ Happened Tick (active 254 0 3) false ∷ Happened Tick (active 254 0 3) false ∷ Started Whole (active 254 0 3) ∷ []) (Tick ∷ Tick ∷ []) ≡ false ∷ true ∷ []
+timer_is_changed = refl
+
+-- the timer is started while an event waits: the event still waits
+event_still_waits : is_due (active 254 30 2) (Started Timer (active 254 30 2) ∷ Happened Event (active 254 30 2) false ∷ Happened Tick (active 254 30 2) false ∷ Happened Tick (active 254 30 2) false ∷ Happened Event (active 254 30 2) true ∷ Started Whole (active 254 30 2) ∷ []) Tick ≡ true
+event_still_waits = refl
+
+whole_start_forgets_a_waiting_event : is_due (active 254 30 0) (Started Whole (active 254 30 0) ∷ Happened Event (active 254 30 0) false ∷ Happened Event (active 254 30 0) true ∷ Started Whole (active 254 30 0) ∷ []) Tick ≡ false
+whole_start_forgets_a_waiting_event = refl
+
+-- ---- a TPDO that is not active
+
+never_due : sent_at (record (active 255 0 1) { is_active = false }) (Started Whole (active 255 0 1) ∷ []) (Event ∷ Tick ∷ Sync ∷ []) ≡ false ∷ false ∷ false ∷ []
+never_due = refl
+
+never_at_sync : is_due (record (active 1 0 0) { is_active = false }) (Started Whole (active 1 0 0) ∷ []) Sync ≡ false
+never_at_sync = refl

@@ -1,0 +1,100 @@
+-- What a schedule was asked and answered, the newest first, and which TPDOs are due after that.
+use Rattle.std.specs.Prelude.{◌≡◌, ℕ, ◌<◌, ◌≤◌, ◌==◌, Bool, List, [], ◌∷◌, ◌++◌, length, map, if◌then◌else◌}
+use Rattle.std.specs.List.{filter, list_any, slice_index_or}
+use Rattle.co_dict.specs.Rows.{Contents}
+use Rattle.co_dict.specs.Stores.{Description}
+use Rattle.co_pdo.specs.declared.tpdo.Part.{Part}
+use Rattle.co_pdo.specs.declared.tpdo.Occasion.{Occasion}
+use Rattle.co_pdo.specs.declared.tpdo.Occasion.TheVariants.{Sync, Event, Tick}
+use Rattle.co_pdo.specs.declared.tpdo.Tpdo.{Tpdo}
+use Rattle.co_pdo.specs.Tpdos.{settings_of, tpdo_numbers, tpdos_of}
+use Rattle.co_pdo.specs.Log.{Log, Started, Happened}
+use Rattle.co_pdo.specs.Due.{is_due}
+use Rattle.co_pdo.specs.Countdowns.{IsAfter, IsCurrent}
+
+-- one call of a schedule
+pub data Call : Type 0 where
+  Start : ℕ → Part → Call
+  OnSync : Call
+  OnEvent : ℕ → Call
+  OnTick : Call
+
+-- a call, the contents of the dictionary then, and the numbers of the TPDOs that were sent
+pub record Moment : Type 0 where
+  pub call : Call
+  pub contents : Contents
+  pub sent : List ℕ
+
+-- the newest first
+abbrev pub History : Type 0
+History = List Moment
+
+-- a number is one of those
+abbrev pub is_among : ℕ → List ℕ → Bool
+is_among k numbers = list_any (λ j. j == k) numbers
+
+-- what one call is to TPDO k
+abbrev pub part_of : ℕ → Call → Contents → List ℕ → Log
+part_of k (Start j part) contents sent = if j == k then Started part (settings_of contents k) ∷ [] else []
+part_of k OnSync contents sent = Happened Sync (settings_of contents k) (is_among k sent) ∷ []
+part_of k (OnEvent j) contents sent = if j == k then Happened Event (settings_of contents k) (is_among k sent) ∷ [] else []
+part_of k OnTick contents sent = Happened Tick (settings_of contents k) (is_among k sent) ∷ []
+
+-- the log of TPDO k
+abbrev pub log_of : ℕ → History → Log
+log_of k [] = []
+log_of k (m ∷ history) = part_of k m.call m.contents m.sent ++ log_of k history
+
+-- a history with one more call: a start, a SYNC, an event on TPDO k that was sent or not, or a tick
+abbrev pub with_start : ℕ → Part → Contents → History → History
+with_start k part contents history = record { call = Start k part; contents = contents; sent = [] } ∷ history
+
+abbrev pub with_sync : Contents → List ℕ → History → History
+with_sync contents sent history = record { call = OnSync; contents = contents; sent = sent } ∷ history
+
+abbrev pub with_event : ℕ → Contents → Bool → History → History
+with_event k contents is_sent history = record { call = OnEvent k; contents = contents; sent = if is_sent then k ∷ [] else [] } ∷ history
+
+abbrev pub with_tick : Contents → List ℕ → History → History
+with_tick contents sent history = record { call = OnTick; contents = contents; sent = sent } ∷ history
+
+-- TPDO k is due
+abbrev pub is_tpdo_due : Contents → History → Occasion → ℕ → Bool
+is_tpdo_due contents history occasion k = is_due (settings_of contents k) (log_of k history) occasion
+
+-- the numbers of the TPDOs that are due, increasing
+abbrev pub all_due : Contents → History → Occasion → List ℕ
+all_due contents history occasion = filter (λ k. is_tpdo_due contents history occasion k) tpdo_numbers
+
+-- at most 512 TPDOs, with numbers up to 511
+pub record IsTable (tpdos : List Tpdo) : Type 0 where
+  pub few : length tpdos ≤ 512
+  pub small : (i : ℕ) (d : Tpdo) → i < length tpdos → (slice_index_or tpdos i d).number < 512
+
+-- each TPDO has the countdowns after its log
+abbrev pub AllAfter : List Tpdo → (ℕ → Log) → Type 0
+AllAfter tpdos logs = (i : ℕ) (d : Tpdo) → i < length tpdos → IsAfter (slice_index_or tpdos i d) (logs (slice_index_or tpdos i d).number)
+
+-- the last starts of each log took what the dictionary says now
+abbrev pub AllCurrentAfter : Contents → (ℕ → Log) → Type 0
+AllCurrentAfter contents logs = (k : ℕ) → k < 512 → IsCurrent (settings_of contents k) (logs k)
+
+-- the logs with one more SYNC or tick in each, at which it is sent if it is due
+abbrev pub with_occasion : Contents → Occasion → (ℕ → Log) → ℕ → Log
+with_occasion contents occasion logs = λ k.
+    Happened occasion (settings_of contents k) (is_due (settings_of contents k) (logs k) occasion) ∷ logs k
+
+-- a schedule over a dictionary is one after this history: it has the TPDOs of the dictionary, each with
+-- the countdowns after its log
+pub record IsScheduleAfter (d : Description) (tpdos : List Tpdo) (history : History) : Type 0 where
+  pub numbers : map (λ t. t.number) tpdos ≡ tpdos_of d.rows
+  pub countdowns : AllAfter tpdos (λ k. log_of k history)
+
+-- the last starts of TPDO k took what the dictionary says now
+abbrev pub IsCurrentOn : Contents → ℕ → History → Type 0
+IsCurrentOn contents k history = IsCurrent (settings_of contents k) (log_of k history)
+
+-- what the three calls `on_sync`, `on_event` and `on_tick` may find in the dictionary after this history: each TPDO that
+-- is active had a whole start with its transmission type and inhibit time, and its event timer was started with its time
+abbrev pub AllCurrent : Contents → History → Type 0
+AllCurrent contents history = AllCurrentAfter contents (λ k. log_of k history)

@@ -1,0 +1,130 @@
+//! Which TPDOs are due.
+
+ghost use Rattle.std.specs.Prelude.{◌≡◌, ℕ, ◌<◌, ◌==◌, false, [], IfOk};
+ghost use Rattle.co_pdo.specs.declared.settings.Settings.{Settings};
+ghost use Rattle.co_pdo.specs.Tpdos.{settings_of};
+ghost use Rattle.co_pdo.specs.Countdowns.{IsCurrent, IsAsStarted};
+ghost use Rattle.co_pdo.specs.Schedules.{History, log_of, with_start, with_sync, with_event, with_tick, is_tpdo_due, all_due, IsScheduleAfter, IsCurrentOn, AllCurrent};
+
+use crate::settings::read_settings;
+use crate::tpdo::{Occasion, Part, Tpdo};
+use crate::tpdos::{Due, all_happen, place_of, tpdos_in};
+use co_dict::ObjectStore;
+use std::alloc::{AllocError, Global};
+use std::marker::Model;
+
+/// Which TPDOs are due, by their transmission types, inhibit times and event timers (CiA 301, 7.2.2 and 7.5.2.37). It
+/// counts for the TPDOs that the dictionary has, and asks for no memory after `new`.
+///
+/// Each call has the contents of the dictionary then. What the dictionary says of a TPDO has to be current when a SYNC,
+/// an event or a tick comes: after a write of its COB-ID, transmission type, inhibit time or mapping it was started whole
+/// if it is active, and after a write of its event timer it was started, whole or its timer alone.
+#[derive(Drop)]
+pub struct Schedule {
+    tpdos: Vec<Tpdo>,
+}
+
+impl Model for Schedule {
+    ghost use Rattle.std.specs.Prelude.{List};
+    ghost use Rattle.co_pdo.specs.declared.tpdo.Tpdo.{Tpdo};
+    ghost use Rattle.co_pdo.specs.Schedules.{IsTable};
+
+    ghost Value = { List Tpdo };
+
+    ghost view = { λ s. s.tpdos.items };
+
+    ghost invariant = { λ s. IsTable s.tpdos.items };
+}
+
+impl Schedule {
+    /// A schedule for the TPDOs of a dictionary, none of them started. `AllocError` where there is no memory.
+    pub fn new<S: ObjectStore>(alloc: Global, store: &S) -> Result<Schedule, AllocError>
+        ensures { IfOk result (λ schedule. IsScheduleAfter (S.description store.now) schedule []) }
+    {
+        let tpdos = tpdos_in(alloc, store)?;
+        Ok(Schedule { tpdos })
+    }
+
+    /// Starts TPDO k, 0 to 511: the whole TPDO, as it enters NMT state operational and after a write of its COB-ID or
+    /// transmission type, or its event timer alone, after a write of that. Nothing happens where there is no such TPDO.
+    pub fn start<S: ObjectStore>(&mut self, store: &S, k: u16, part: Part)
+        requires { k < 512 }
+        ensures after { (history : History) →
+            IsScheduleAfter (S.description store.now) self.old history →
+            IsScheduleAfter (S.description store.now) self.new
+            (with_start k part (S.contents store.now) history) }
+        ensures whole { (history : History) → part ≡ Part.Whole →
+            IsCurrentOn (S.contents store.now) k
+            (with_start k part (S.contents store.now) history) }
+        ensures timer { (history : History) →
+            IsAsStarted (settings_of (S.contents store.now) k) (log_of k history) →
+            IsCurrentOn (S.contents store.now) k
+            (with_start k part (S.contents store.now) history) }
+        ensures others { (history : History) (j : ℕ) (s : Settings) → (k == j) ≡ false →
+            IsCurrent s (log_of j history) →
+            IsCurrent s (log_of j (with_start k part (S.contents store.now) history)) }
+    {
+        if let Some(i) = place_of(&self.tpdos, k) {
+            let settings = read_settings(store, k);
+            self.tpdos[i].start(&settings, part);
+        }
+    }
+
+    /// A SYNC came: the numbers of the TPDOs that are due, increasing. They count as sent.
+    pub fn on_sync<S: ObjectStore>(&mut self, store: &S) -> Due
+        ensures due { (history : History) →
+            IsScheduleAfter (S.description store.now) self.old history →
+            AllCurrent (S.contents store.now) history →
+            result.items ≡ all_due (S.contents store.now) history Occasion.Sync }
+        ensures after { (history : History) →
+            IsScheduleAfter (S.description store.now) self.old history →
+            AllCurrent (S.contents store.now) history →
+            IsScheduleAfter (S.description store.now) self.new
+            (with_sync (S.contents store.now) result.items history) }
+        ensures current { (history : History) (j : ℕ) (s : Settings) →
+            IsCurrent s (log_of j history) →
+            IsCurrent s (log_of j (with_sync (S.contents store.now) result.items history)) }
+    {
+        all_happen(&mut self.tpdos, Occasion::Sync, store)
+    }
+
+    /// An event came for TPDO k, 0 to 511: whether the TPDO is due, and then counts as sent. False where there is none.
+    pub fn on_event<S: ObjectStore>(&mut self, store: &S, k: u16) -> bool
+        requires { k < 512 }
+        ensures due { (history : History) →
+            IsScheduleAfter (S.description store.now) self.old history →
+            AllCurrent (S.contents store.now) history →
+            result ≡ is_tpdo_due (S.contents store.now) history Occasion.Event k }
+        ensures after { (history : History) →
+            IsScheduleAfter (S.description store.now) self.old history →
+            AllCurrent (S.contents store.now) history →
+            IsScheduleAfter (S.description store.now) self.new
+            (with_event k (S.contents store.now) result history) }
+        ensures current { (history : History) (j : ℕ) (s : Settings) →
+            IsCurrent s (log_of j history) →
+            IsCurrent s (log_of j (with_event k (S.contents store.now) result history)) }
+    {
+        match place_of(&self.tpdos, k) {
+            Some(i) => self.tpdos[i].happens(Occasion::Event, store),
+            None => false,
+        }
+    }
+
+    /// A tick of 1 ms: the numbers of the TPDOs that are due, increasing. They count as sent.
+    pub fn on_tick<S: ObjectStore>(&mut self, store: &S) -> Due
+        ensures due { (history : History) →
+            IsScheduleAfter (S.description store.now) self.old history →
+            AllCurrent (S.contents store.now) history →
+            result.items ≡ all_due (S.contents store.now) history Occasion.Tick }
+        ensures after { (history : History) →
+            IsScheduleAfter (S.description store.now) self.old history →
+            AllCurrent (S.contents store.now) history →
+            IsScheduleAfter (S.description store.now) self.new
+            (with_tick (S.contents store.now) result.items history) }
+        ensures current { (history : History) (j : ℕ) (s : Settings) →
+            IsCurrent s (log_of j history) →
+            IsCurrent s (log_of j (with_tick (S.contents store.now) result.items history)) }
+    {
+        all_happen(&mut self.tpdos, Occasion::Tick, store)
+    }
+}

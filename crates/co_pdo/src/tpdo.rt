@@ -1,0 +1,170 @@
+//! One TPDO: what is counted for it.
+
+ghost use Rattle.std.specs.Prelude.{◌≡◌, ◌<◌, [], ◌∷◌};
+ghost use Rattle.co_pdo.specs.declared.settings.Settings.{Settings};
+ghost use Rattle.co_pdo.specs.Tpdos.{settings_of};
+ghost use Rattle.co_pdo.specs.Log.{Log, Started, Happened};
+ghost use Rattle.co_pdo.specs.Due.{is_due, is_event_driven};
+ghost use Rattle.co_pdo.specs.Countdowns.{IsAfter, IsCurrent};
+ghost use Rattle.co_pdo.specs.Steps.{counted, wants, marked};
+
+use crate::settings::{Settings, is_active_now};
+use co_dict::ObjectStore;
+
+/// What may happen to a TPDO.
+#[derive(Clone, Copy, Debug)]
+pub enum Occasion {
+    /// A SYNC came.
+    Sync,
+    /// Something mapped into it changed, or the application asks for it.
+    Event,
+    /// 1 ms went by.
+    Tick,
+}
+
+/// What of a TPDO is started.
+#[derive(Clone, Copy, Debug, PartialEq, Eq, Hash)]
+pub enum Part {
+    /// All of it: the count of SYNCs is 0, no event waits, the inhibit time is over, and the event timer begins.
+    Whole,
+    /// The event timer alone: it begins.
+    Timer,
+}
+
+/// What is counted for one TPDO.
+#[derive(Clone, Copy, Debug)]
+pub struct Tpdo {
+    /// k of 1800h + k, 0 to 511.
+    pub number: u16,
+    /// As at the last whole start.
+    pub transmission_type: u8,
+    /// The inhibit time in ms, as at the last whole start.
+    pub inhibit: u16,
+    /// The event timer in ms, as at the last start, whole or of the timer.
+    pub timer: u16,
+    /// How many SYNCs are left to the one that sends it, at types 1 to 240.
+    pub syncs_left: u8,
+    /// An event came since the last SYNC.
+    pub event_since_sync: bool,
+    /// An event came since the last sending.
+    pub event_waits: bool,
+    /// How many ticks of the inhibit time are left.
+    pub inhibit_left: u16,
+    /// How many ticks are left to the event of the timer; 0 where it came already.
+    pub timer_left: u16,
+}
+
+impl Tpdo {
+    /// A TPDO that was never started.
+    pub(crate) fn new(number: u16) -> Tpdo
+        ensures number { result.number ≡ number }
+        ensures after { IsAfter result [] }
+    {
+        Tpdo {
+            number,
+            transmission_type: 0,
+            inhibit: 0,
+            timer: 0,
+            syncs_left: 0,
+            event_since_sync: false,
+            event_waits: false,
+            inhibit_left: 0,
+            timer_left: 0,
+        }
+    }
+
+    /// Starts all of it, or its event timer alone.
+    pub(crate) fn start(&mut self, settings: &Settings, part: Part)
+        ensures number { self.new.number ≡ self.old.number }
+        ensures after { (log : Log) → IsAfter self.old log →
+            IsAfter self.new (Started part settings.now ∷ log) }
+    {
+        match part {
+            Part::Whole => {
+                *self = Tpdo {
+                    number: self.number,
+                    transmission_type: settings.transmission_type,
+                    inhibit: settings.inhibit_time.div_ceil(10),
+                    timer: settings.event_timer,
+                    syncs_left: settings.transmission_type,
+                    event_since_sync: false,
+                    event_waits: false,
+                    inhibit_left: 0,
+                    timer_left: settings.event_timer,
+                };
+            }
+            Part::Timer => {
+                self.timer = settings.event_timer;
+                self.timer_left = settings.event_timer;
+            }
+        }
+    }
+
+    /// Whether it is sent at events: types 254 and 255.
+    fn is_event_driven(&self) -> bool
+        ensures { result ≡ is_event_driven self.now.transmission_type }
+    {
+        self.transmission_type == 254 || self.transmission_type == 255
+    }
+
+    /// Counts a SYNC, an event or a tick, and answers whether the countdowns make it due.
+    fn count(&mut self, occasion: Occasion) -> bool
+        ensures state { self.new ≡ counted occasion self.old }
+        ensures due { result ≡ wants occasion self.old }
+    {
+        match occasion {
+            Occasion::Sync => {
+                let is_last = self.syncs_left <= 1;
+                let event = self.event_since_sync;
+                self.syncs_left = if is_last {
+                    self.transmission_type
+                } else {
+                    self.syncs_left - 1
+                };
+                self.event_since_sync = false;
+                if self.transmission_type == 0 {
+                    event
+                } else {
+                    is_last && self.transmission_type <= 240
+                }
+            }
+            Occasion::Event => {
+                self.event_since_sync = true;
+                self.event_waits = true;
+                self.is_event_driven() && self.inhibit_left == 0
+            }
+            Occasion::Tick => {
+                self.event_waits = self.event_waits || self.timer_left == 1;
+                self.inhibit_left = self.inhibit_left.saturating_sub(1);
+                self.timer_left = self.timer_left.saturating_sub(1);
+                self.is_event_driven() && self.event_waits && self.inhibit_left == 0
+            }
+        }
+    }
+
+    /// Takes note that it is sent.
+    fn mark_sent(&mut self)
+        ensures { self.new ≡ marked self.old }
+    {
+        self.event_waits = false;
+        self.inhibit_left = self.inhibit;
+        self.timer_left = self.timer;
+    }
+
+    /// A SYNC, an event or a tick; answers whether the TPDO is sent, which it is exactly if it is due.
+    pub(crate) fn happens<S: ObjectStore>(&mut self, occasion: Occasion, store: &S) -> bool
+        requires { self.old.number < 512 }
+        ensures number { self.new.number ≡ self.old.number }
+        ensures due { (log : Log) → let s = settings_of (S.contents store.now) self.old.number in
+            IsAfter self.old log → IsCurrent s log → result ≡ is_due s log occasion }
+        ensures after { (log : Log) → let s = settings_of (S.contents store.now) self.old.number in
+            IsAfter self.old log → IsCurrent s log →
+            IsAfter self.new (Happened occasion s result ∷ log) }
+    {
+        let due = self.count(occasion) && is_active_now(store, self.number);
+        if due {
+            self.mark_sent();
+        }
+        due
+    }
+}

@@ -1,0 +1,11 @@
+//! Tests of PDOs through the public calls of their crate, so that that is proved once.
+#![tactic(auto)]
+
+#[cfg(test)]
+mod data;
+#[cfg(test)]
+mod device;
+#[cfg(test)]
+mod schedule;
+#[cfg(test)]
+mod sheet;
