@@ -1,6 +1,7 @@
 -- Command lines, evaluated.
 use Rattle.std.proofs.Common.{◌≡◌, List, [], ◌∷◌, Option, Some, None, codes, refl, true}
 use Rattle.clap.specs.Words.{Text, fault_of, is_simple_and_free, subcommand_of}
+use Rattle.clap.specs.declared.error.kind.ErrorKind.{ErrorKind}
 use Rattle.clap.specs.declared.error.kind.ErrorKind.TheVariants as kind
 use Rattle.clap.proofs.OnLiterals.{clap_on_literals}
 use Rattle.conode.specs.Tasks.{Asked, asked_of, conode_command}
@@ -12,9 +13,50 @@ is_simple : is_simple_and_free conode_command ≡ true
 unfolding clap_on_literals
 is_simple = refl
 
-check_of_a_sheet : asked (codes "check" ∷ codes "a" ∷ []) ≡ Some (record { sheet = codes "a" })
+check_of_a_sheet : asked (codes "check" ∷ codes "a" ∷ []) ≡ Some (record { sheet = codes "a"; node = None; strings = 16; domains = 889 })
 unfolding clap_on_literals
 check_of_a_sheet = refl
+
+all_options : asked (codes "check" ∷ codes "--node" ∷ codes "127" ∷ codes "a" ∷ codes "--strings=0" ∷ codes "--domains" ∷ codes "65535" ∷ [])
+    ≡ Some (record { sheet = codes "a"; node = Some 127; strings = 0; domains = 65535 })
+unfolding clap_on_literals
+all_options = refl
+
+-- the faults of `check a` and an option with a word
+abbrev with_option : Text → Text → List ErrorKind
+with_option option word = fault_of conode_command (codes "conode" ∷ codes "check" ∷ codes "a" ∷ option ∷ word ∷ [])
+
+node_0 : with_option (codes "--node") (codes "0") ≡ kind.ValueValidation ∷ []
+unfolding clap_on_literals
+node_0 = refl
+
+node_1 : with_option (codes "--node") (codes "1") ≡ []
+unfolding clap_on_literals
+node_1 = refl
+
+node_127 : with_option (codes "--node") (codes "127") ≡ []
+unfolding clap_on_literals
+node_127 = refl
+
+node_128 : with_option (codes "--node") (codes "128") ≡ kind.ValueValidation ∷ []
+unfolding clap_on_literals
+node_128 = refl
+
+node_x : with_option (codes "--node") (codes "x") ≡ kind.ValueValidation ∷ []
+unfolding clap_on_literals
+node_x = refl
+
+strings_65536 : with_option (codes "--strings") (codes "65536") ≡ kind.ValueValidation ∷ []
+unfolding clap_on_literals
+strings_65536 = refl
+
+domains_65536 : with_option (codes "--domains") (codes "65536") ≡ kind.ValueValidation ∷ []
+unfolding clap_on_literals
+domains_65536 = refl
+
+two_nodes : fault_of conode_command (codes "conode" ∷ codes "check" ∷ codes "a" ∷ codes "--node" ∷ codes "5" ∷ codes "--node" ∷ codes "6" ∷ []) ≡ kind.ArgumentConflict ∷ []
+unfolding clap_on_literals
+two_nodes = refl
 
 check_is_taken : fault_of conode_command (codes "conode" ∷ codes "check" ∷ codes "a" ∷ []) ≡ []
 unfolding clap_on_literals

@@ -1,12 +1,16 @@
 -- What a writer holds after some lines.
 use Rattle.std.proofs.Common.{◌≡◌, ℕ, zero, suc, ◌+◌, ◌<◌, List, [], ◌∷◌, ◌++◌, length, map, take, drop, get_or, Option, Some, None, refl, ap, subst, sym, ◌∙◌, arith, append_assoc, append-nil, length-append}
+use Rattle.std.specs.Prelude.{is_none}
 use Rattle.std.specs.List.{flat_map}
 use Rattle.std.specs.Io.KnownBytes.{Appends, Keeps}
 use Rattle.std.proofs.KnownBytes.{Appends-trans, Appends-nil}
-use Rattle.std.proofs.lemmas.List.{length-map, take-map}
+use Rattle.std.proofs.lemmas.List.{length-map, take-append-le, take-map}
+use Rattle.std.proofs.lemmas.Grind.{flat_map-append}
+use Rattle.std.proofs.Math.Seq.{take-append-add}
 use Rattle.std.proofs.Math.Numerals.{add-one}
 use Rattle.co_sheet.specs.Content.{IsSheet, SheetContent}
-use Rattle.conode.specs.SheetTexts.{sheet_lines, checked_lines}
+use Rattle.co_dict.specs.Capacities.{Limits}
+use Rattle.conode.specs.SheetTexts.{checked_lines, is_good, sheet_build_fault, sheet_lines}
 use Rattle.conode.specs.Written.{IsFront, AppendsFront, WritesLines, WritesSome, WritesFront}
 
 -- ---- fronts
@@ -71,6 +75,48 @@ front_of_lines old mid new f xs i d within first next =
     let written = appends_front_after old mid new before (f (get_or xs i d)) first next in
     subst (AppendsFront old new) (sym (lines_split f xs i d within)) (appends_front_of_longer old new _ (flat_map (λ line. line) (map f (drop (suc i) xs))) written)
 
+-- lines after other lines
+pub lines_after : (old mid new : Option (List ℕ)) (lines more : List (List ℕ)) → WritesLines old mid lines → WritesLines mid new more → WritesLines old new (lines ++ more)
+lines_after old mid new lines more first rest =
+    subst (Appends old new) (sym (flat_map-append (λ l. l) lines more))
+    (Appends-trans old mid new (flat_map (λ l. l) lines) (flat_map (λ l. l) more) first rest)
+
+pub front_of_more : (old new : Option (List ℕ)) (lines more : List (List ℕ)) → WritesFront old new lines → WritesFront old new (lines ++ more)
+front_of_more old new lines more first =
+    subst (AppendsFront old new) (sym (flat_map-append (λ l. l) lines more))
+    (appends_front_of_longer old new (flat_map (λ l. l) lines) (flat_map (λ l. l) more) first)
+
+pub front_after_lines : (old mid new : Option (List ℕ)) (lines more : List (List ℕ)) → WritesLines old mid lines → WritesFront mid new more → WritesFront old new (lines ++ more)
+front_after_lines old mid new lines more first rest =
+    subst (AppendsFront old new) (sym (flat_map-append (λ l. l) lines more))
+    (appends_front_after old mid new (flat_map (λ l. l) lines) (flat_map (λ l. l) more) first rest)
+
+pub some_of_more : (old new : Option (List ℕ)) (lines more : List (List ℕ)) → WritesSome old new lines → WritesSome old new (lines ++ more)
+some_of_more old new lines more first = (
+  first.0,
+  omega (arith, first.1, length-append lines more),
+  subst (WritesLines old new) (sym (take-append-le first.0 lines more (omega (arith, first.1)))) first.2,
+)
+
+pub some_after_lines : (old mid new : Option (List ℕ)) (lines more : List (List ℕ)) → WritesLines old mid lines → WritesSome mid new more → WritesSome old new (lines ++ more)
+some_after_lines old mid new lines more first rest = (
+  length lines + rest.0,
+  omega (arith, rest.1, length-append lines more),
+  subst (WritesLines old new) (sym (take-append-add lines more rest.0)) (lines_after old mid new lines (take rest.0 more) first rest.2),
+)
+
+pub line_alone : (old new : Option (List ℕ)) (line : List ℕ) → Appends old new line → WritesLines old new (line ∷ [])
+line_alone old new line written = subst (Appends old new) (sym (append-nil line)) written
+
+pub front_alone : (old new : Option (List ℕ)) (line : List ℕ) → AppendsFront old new line → WritesFront old new (line ∷ [])
+front_alone old new line written = subst (AppendsFront old new) (sym (append-nil line)) written
+
 -- what is written of a sheet that a text was read as is what is written of the text
-pub accepted_text : (text : List ℕ) (sheet : SheetContent) → IsSheet text sheet → sheet_lines sheet ≡ checked_lines text
-accepted_text text sheet read = rw (read.accepted, read.content) refl
+pub accepted_text : (text : List ℕ) (sheet : SheetContent) (node : Option ℕ) (limits : Limits) → IsSheet text sheet
+    → sheet_lines sheet (sheet_build_fault node limits sheet) ≡ checked_lines text node limits
+accepted_text text sheet id limits read = rw (read.accepted, read.content) refl
+
+-- such a text is good where there is no build fault
+pub accepted_good : (text : List ℕ) (sheet : SheetContent) (node : Option ℕ) (limits : Limits) → IsSheet text sheet
+    → is_none (sheet_build_fault node limits sheet) ≡ is_good text node limits
+accepted_good text sheet id limits read = rw (read.accepted, read.content) refl

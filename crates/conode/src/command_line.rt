@@ -1,26 +1,58 @@
 //! The command line.
 
-ghost use Rattle.std.specs.Prelude.{◌≡◌, map, IfOk, option_map, false};
-ghost use Rattle.clap.specs.Words.{FailsBy, app_of, fault_of, found_of, rows_of, subcommand_of, subcommand_rows_of};
+ghost use Rattle.std.specs.Prelude.{◌≡◌, map, IfOk, option_map, false, [], codes};
+ghost use Rattle.clap.specs.Words.{FailsBy, app_of, fault_of, found_of, rows_of, rule_of, subcommand_of, subcommand_rows_of};
 ghost use Rattle.clap.specs.declared.builder.command.Command.TheViews.{out-Command};
-ghost use Rattle.conode.specs.Tasks.{check_command, conode_command, asked_by, asked_in, asked_of};
+ghost use Rattle.conode.specs.Tasks.{asked_by, asked_check, asked_in, asked_of, check_command, conode_command, number_for, numbered, wanted};
 
 use crate::help;
 use crate::tasks::Task;
+use clap::builder::ValueParser;
 use clap::{Arg, ArgMatches, Command, Error};
 use std::alloc::{AllocError, Global};
+
+// the path of the sheet
+fn sheet_arg<'a>(alloc: Global) -> Arg<'a>
+    ensures rule { rule_of result ≡ wanted (codes "SHEET") }
+    ensures local { result.global ≡ false }
+{
+    Arg::new(alloc, "SHEET")
+        .required(true)
+        .help("The electronic data sheet (EDS, CiA 306) to check")
+}
+
+// an option with a number from `low` to `high`
+fn numbered<'a>(alloc: Global, name: &'a str, low: u64, high: u64) -> Arg<'a>
+    ensures rule { rule_of result ≡ numbered name.entry.now low high [] }
+    ensures local { result.global ≡ false }
+{
+    Arg::new(alloc, name)
+        .long(name)
+        .value_name("N")
+        .value_parser(ValueParser::unsigned(low, high))
+}
 
 fn check_command<'a>(alloc: Global) -> Result<Command<'a>, AllocError>
     ensures shape { IfOk result (λ command. app_of command ≡ check_command) }
     ensures local { IfOk result (λ command. (out-Command command).has_globals ≡ false) }
 {
-    let sheet = Arg::new(alloc, "SHEET")
-        .required(true)
-        .help("The electronic data sheet (EDS, CiA 306) to check");
+    let sheet = sheet_arg(alloc);
+    let node = numbered(alloc, "node", 1, 127).help(
+        "Also builds the sheet's dictionary for this node-ID, 1 to 127",
+    );
+    let strings = numbered(alloc, "strings", 0, 65_535)
+        .default_value("16")
+        .help("The room of each string that may be written, in bytes, 0 to 65535");
+    let domains = numbered(alloc, "domains", 0, 65_535)
+        .default_value("889")
+        .help("The room of each domain, in bytes, 0 to 65535");
     Command::new(alloc, "check")
         .about("Checks a data sheet: what it has, or its first fault and the line of it")
         .after_help(help::FAULTS)
-        .arg(sheet)
+        .arg(sheet)?
+        .arg(node)?
+        .arg(strings)?
+        .arg(domains)
 }
 
 fn conode_command<'a>(alloc: Global) -> Result<Command<'a>, AllocError>
@@ -33,15 +65,47 @@ fn conode_command<'a>(alloc: Global) -> Result<Command<'a>, AllocError>
         .subcommand(check)
 }
 
+// the number of an option, of 8 bits
+#[tactic(auto, using(crate::proofs::TaskLemmas::first_in_rows, crate::proofs::TaskLemmas::number_read))]
+fn number_u8(found: &ArgMatches<'_>, name: &str) -> Option<u8>
+    ensures { result ≡ number_for 8 name.now (rows_of (found_of found.now)) }
+{
+    found.get_str(name)?.parse().ok()
+}
+
+// the number of an option, of 16 bits
+#[tactic(auto, using(crate::proofs::TaskLemmas::first_in_rows, crate::proofs::TaskLemmas::number_read))]
+fn number_u16(found: &ArgMatches<'_>, name: &str) -> Option<u16>
+    ensures { result ≡ number_for 16 name.now (rows_of (found_of found.now)) }
+{
+    found.get_str(name)?.parse().ok()
+}
+
+// what the words after `check` ask for
+#[tactic(auto, using(crate::proofs::TaskLemmas::first_in_rows))]
+fn asked_check<'a>(found: &ArgMatches<'a>) -> Option<Task<'a>>
+    ensures { option_map asked_by result ≡ asked_check (rows_of (found_of found.now)) }
+{
+    let sheet = found.get_str("SHEET")?;
+    let strings = number_u16(found, "strings")?;
+    let domains = number_u16(found, "domains")?;
+    Some(Task::Check {
+        sheet,
+        node: number_u8(found, "node"),
+        strings,
+        domains,
+    })
+}
+
 // what the words after the name of a subcommand ask for
-#[tactic(auto, using(crate::proofs::TaskLemmas::sheet_in_rows))]
 fn asked_in<'a>(name: &str, found: &ArgMatches<'a>) -> Option<Task<'a>>
     ensures { option_map asked_by result ≡ asked_in name.now (rows_of (found_of found.now)) }
 {
-    if name != "check" {
-        return None;
+    if name == "check" {
+        asked_check(found)
+    } else {
+        None
     }
-    found.get_str("SHEET").map(|sheet| Task::Check { sheet })
 }
 
 fn asked_of<'a>(matches: &ArgMatches<'a>) -> Option<Task<'a>>

@@ -13,7 +13,8 @@ Status: 0 if all of the trace was answered, 1 if not; then the last line says wh
 /// What `check` prints, and what to do about each fault.
 pub const FAULTS: &str = "\
 Prints `ok: 3 objects, 4 entries, 0 notes` and a line for each note, or the sheet's first fault: its number, its name
-and its line (0 where no line is to blame). Status: 0 if the sheet is accepted, 1 if not, 2 if the words are wrong.
+and its line (0 where no line is to blame). With --node the last line is the sheet's build fault for that node-ID, if it
+has one. Status: 0 if there is no fault, 1 if there is one, 2 if the words are wrong.
 
 Faults, and what to do:
    1 TooLarge           a text of more than 1,048,576 bytes, or a line of more than 512: shorten it
@@ -40,4 +41,12 @@ Faults, and what to do:
 
 Notes are no faults:
   SubNumber             it is not the number of the object's sub-index sections
-  Unlisted              an object's section that no list names";
+  Unlisted              an object's section that no list names
+
+Build faults, each with an index or an index and a sub-index:
+   2 ValueRange         a default with $NODEID that is outside the type or the limits for this node-ID: correct either
+   3 BadCobId           a COB-ID that is reserved, belongs to an SDO channel or has wrong bits: give a free one
+   4 PdoPair            a PDO without its other object, or without a sub-index that it needs: list or describe it
+   5 BadMapping         a PDO that counts a missing or unmappable entry, a wrong length, or more than 64 bits: correct
+                        the mapping, or set PDOMapping=1 for the entry
+   6 TooMany            over 16,384 entries, or 16,777,216 bytes of room: lower --domains or --strings";

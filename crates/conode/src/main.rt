@@ -19,6 +19,7 @@ mod tasks;
 #[cfg(test)]
 mod tests;
 
+use co_dict::Limits;
 use command_line::task;
 use fault::CmdFault;
 use output::stopped;
@@ -37,7 +38,23 @@ fn carry_out<O: Write, E: Write>(
     err: &mut E,
 ) -> ExitCode {
     match task(rt.alloc(), words) {
-        Ok(Some(Task::Check { sheet })) => check_file(rt, sheet, out, err),
+        Ok(
+            Some(
+                Task::Check {
+                    sheet,
+                    node,
+                    strings,
+                    domains,
+                },
+            ),
+        ) => {
+            let limits = Limits {
+                strings,
+                domains,
+                own: &[],
+            };
+            check_file(rt, sheet, node, &limits, out, err)
+        }
         Ok(None) => answer_input(rt.alloc(), &mut rt.reader(), out, err),
         Err(error) => {
             let _ = error.print(rt);

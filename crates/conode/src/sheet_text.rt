@@ -1,8 +1,9 @@
 //! The lines that are written of a data sheet.
 
 ghost use Rattle.std.specs.Prelude.{◌≡◌, OnOk, string_bytes};
-ghost use Rattle.conode.specs.SheetTexts.{fault_line, note_line, summary_line};
+ghost use Rattle.conode.specs.SheetTexts.{build_fault_line, fault_line, note_line, summary_line};
 
+use co_dict::BuildFault;
 use co_sheet::{Note, Sheet, SheetFault};
 use std::alloc::AllocError;
 
@@ -11,6 +12,16 @@ use std::alloc::AllocError;
 #[tactic(auto, unfolding(crate::specs::SheetTexts::fault_line))]
 pub fn set_fault_line(text: &mut String, fault: SheetFault) -> Result<(), AllocError>
     ensures { OnOk result (string_bytes text.new ≡ fault_line fault) }
+{
+    text.clear();
+    writeln!(text, "{fault}")
+}
+
+/// Makes the text the line of a build fault, as `build fault 3 BadCobId 1800:01`. On an `Err` memory ran out, and the
+/// text holds a part of the line.
+#[tactic(auto, unfolding(crate::specs::SheetTexts::build_fault_line))]
+pub fn set_build_fault_line(text: &mut String, fault: BuildFault) -> Result<(), AllocError>
+    ensures { OnOk result (string_bytes text.new ≡ build_fault_line fault) }
 {
     text.clear();
     writeln!(text, "{fault}")

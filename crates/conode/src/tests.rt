@@ -1,5 +1,6 @@
 //! Whole runs over readers, writers and words in memory, and over files.
 
+mod builds;
 mod edges;
 mod fakes;
 mod sheets;

@@ -1,7 +1,7 @@
 //! What the program does at its edge: files, statuses, and readers and writers that fail.
 
 use super::fakes::{Failing, Narrow};
-use super::sheets::{in_place, text_with};
+use super::sheets::{LIMITS, in_place, text_with};
 use crate::fault::CmdFault;
 use crate::input::{Asks, read_all};
 use crate::sheet_file::{check_file, check_text};
@@ -22,7 +22,7 @@ fn check_says(
     let mut out = Vec::new(rt.alloc());
     let mut err = Vec::new(rt.alloc());
     assert!(rt;
-        check_file(rt, path, &mut out, &mut err) == status,
+        check_file(rt, path, None, &LIMITS, &mut out, &mut err) == status,
         "for {path}"
     );
     assert_eq!(rt; String::from_utf8(out)?.as_str(), on_out, "for {path}");
@@ -101,7 +101,16 @@ fn flush_fails(rt: HostRuntime) -> Result<(), Fail> {
     let mut out = Narrow::new(&rt, 1000);
     out.flushes = false;
     let mut err = Vec::new(rt.alloc());
-    assert!(rt; check_text(rt.alloc(), text.as_bytes(), &mut out, &mut err) == ExitCode::FAILURE);
+    assert!(rt;
+        check_text(
+            rt.alloc(),
+            text.as_bytes(),
+            None,
+            &LIMITS,
+            &mut out,
+            &mut err
+        ) == ExitCode::FAILURE
+    );
     assert_eq!(rt; String::from_utf8(err)?.as_str(), "stopped: Write\n");
     Ok(())
 }

@@ -3,8 +3,16 @@
 use super::fakes::Narrow;
 use crate::check::check;
 use crate::fault::CmdFault;
+use co_dict::Limits;
 use std::alloc::{AllocError, Global};
 use std::test::Fail;
+
+/// The room of strings and domains, as without options.
+pub(super) const LIMITS: Limits<'static> = Limits {
+    strings: 16,
+    domains: 889,
+    own: &[],
+};
 
 /// A small data sheet, line by line.
 const LINES: [&str; 21] = [
@@ -86,7 +94,7 @@ fn accepted_sheets(rt: HostRuntime) -> Result<(), Fail> {
     for change in &changes {
         let text = text_with(rt.alloc(), change)?;
         let mut written = Vec::new(rt.alloc());
-        let outcome = check(rt.alloc(), text.as_bytes(), &mut written);
+        let outcome = check(rt.alloc(), text.as_bytes(), None, &LIMITS, &mut written);
         assert_eq!(rt; String::from_utf8(written)?.as_str(), change.written);
         assert_eq!(rt; outcome, Ok(true));
     }
@@ -144,7 +152,7 @@ fn refused_sheets(rt: HostRuntime) -> Result<(), Fail> {
     for change in &changes {
         let text = text_with(rt.alloc(), change)?;
         let mut written = Vec::new(rt.alloc());
-        let outcome = check(rt.alloc(), text.as_bytes(), &mut written);
+        let outcome = check(rt.alloc(), text.as_bytes(), None, &LIMITS, &mut written);
         assert_eq!(rt; String::from_utf8(written)?.as_str(), change.written);
         assert_eq!(rt; outcome, Ok(false));
     }
@@ -157,7 +165,7 @@ fn failing_writer(rt: HostRuntime) -> Result<(), Fail> {
     let whole = "ok: 3 objects, 4 entries, 2 notes\nnote 22 Unlisted\nnote 23 SubNumber\n";
     for room in [0, 33, 34, 50, 51, 68] {
         let mut writer = Narrow::new(&rt, room);
-        let outcome = check(rt.alloc(), text.as_bytes(), &mut writer);
+        let outcome = check(rt.alloc(), text.as_bytes(), None, &LIMITS, &mut writer);
         assert_eq!(rt; outcome, Err(CmdFault::Write), "at {room}");
         assert_eq!(rt;
             writer.text.as_slice(),
@@ -166,6 +174,9 @@ fn failing_writer(rt: HostRuntime) -> Result<(), Fail> {
         );
     }
     let mut writer = Narrow::new(&rt, whole.len());
-    assert_eq!(rt; check(rt.alloc(), text.as_bytes(), &mut writer), Ok(true));
+    assert_eq!(rt;
+        check(rt.alloc(), text.as_bytes(), None, &LIMITS, &mut writer),
+        Ok(true)
+    );
     Ok(())
 }

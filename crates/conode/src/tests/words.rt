@@ -9,7 +9,36 @@ use std::test::Fail;
 fn check_of_a_sheet(rt: HostRuntime) -> Result<(), Fail> {
     assert_eq!(rt;
         task(rt.alloc(), &["conode", "check", "a"])?,
-        Some(Task::Check { sheet: "a" })
+        Some(Task::Check {
+            sheet: "a",
+            node: None,
+            strings: 16,
+            domains: 889,
+        })
+    );
+    Ok(())
+}
+
+#[test]
+fn check_with_options(rt: HostRuntime) -> Result<(), Fail> {
+    let words = [
+        "conode",
+        "check",
+        "--node",
+        "127",
+        "a",
+        "--strings=0",
+        "--domains",
+        "65535",
+    ];
+    assert_eq!(rt;
+        task(rt.alloc(), &words)?,
+        Some(Task::Check {
+            sheet: "a",
+            node: Some(127),
+            strings: 0,
+            domains: 65_535,
+        })
     );
     Ok(())
 }
@@ -48,6 +77,16 @@ fn refused_words(rt: HostRuntime) -> Result<(), Fail> {
         case_of(
             &["conode", "check", "a", "--nodes", "5"],
             ErrorKind::UnknownArgument,
+            2,
+        ),
+        case_of(
+            &["conode", "check", "a", "--node", "0"],
+            ErrorKind::ValueValidation,
+            2,
+        ),
+        case_of(
+            &["conode", "check", "a", "--node", "5", "--node", "6"],
+            ErrorKind::ArgumentConflict,
             2,
         ),
         case_of(&["conode", "chek"], ErrorKind::InvalidSubcommand, 2),

@@ -1,10 +1,10 @@
-use Rattle.std.proofs.Common.{◌≡◌, List, map, subst, rules}
+use Rattle.std.proofs.Common.{◌≡◌, List, ◌++◌, map, subst, rules}
 use Rattle.std.specs.Io.KnownBytes.{Appends}
 use Rattle.std.specs.List.{flat_map}
 use Rattle.co_sheet.specs.declared.note.Note.{Note}
-use Rattle.conode.specs.SheetTexts.{note_line, summary_line}
-use Rattle.conode.specs.Written.{WritesSome, WritesFront}
-use Rattle.conode.proofs.WriteLemmas.{first_lines, appends_front_after}
+use Rattle.conode.specs.SheetTexts.{build_lines, note_line, summary_line}
+use Rattle.conode.specs.Written.{AppendsFront, WritesSome, WritesFront}
+use Rattle.conode.proofs.WriteLemmas.{first_lines, appends_front_after, appends_front_of_longer}
 use Rattle.conode.proofs.check.write_sheet.Goals as goal
 
 pub returns-clause-memory : goal.returns-clause-memory
@@ -14,9 +14,9 @@ returns-clause-memory g c said =
     let made : c.as_bytes.result.now ≡ summary = search rules in
     let old = g.W.Write.contents c.args.writer.now in
     let mid = g.W.Write.contents c.hand_over.new.writer in
-    let new = g.W.Write.contents c.write_notes.new.writer in
-    first_lines old mid new summary (map note_line sheet.notes) (subst (Appends old mid) made c.in_ok-hand_over.ensures.ok)
-    (subst (λ (notes : List Note). WritesSome mid new (map note_line notes)) c.notes.ensures (c.write_notes.ensures.memory said))
+    let new = g.W.Write.contents c.write_remarks.new.writer in
+    first_lines old mid new summary (map note_line sheet.notes ++ build_lines c.args.fault) (subst (Appends old mid) made c.in_ok-hand_over.ensures.ok)
+    (subst (λ (notes : List Note). WritesSome mid new (map note_line notes ++ build_lines c.args.fault)) c.notes.ensures (c.write_remarks.ensures.memory said))
 
 pub returns-clause-write : goal.returns-clause-write
 returns-clause-write g c said =
@@ -25,6 +25,16 @@ returns-clause-write g c said =
     let made : c.as_bytes.result.now ≡ summary = search rules in
     let old = g.W.Write.contents c.args.writer.now in
     let mid = g.W.Write.contents c.hand_over.new.writer in
-    let new = g.W.Write.contents c.write_notes.new.writer in
-    appends_front_after old mid new summary (flat_map (λ line. line) (map note_line sheet.notes)) (subst (Appends old mid) made c.in_ok-hand_over.ensures.ok)
-    (subst (λ (notes : List Note). WritesFront mid new (map note_line notes)) c.notes.ensures (c.write_notes.ensures.write said))
+    let new = g.W.Write.contents c.write_remarks.new.writer in
+    appends_front_after old mid new summary (flat_map (λ line. line) (map note_line sheet.notes ++ build_lines c.args.fault)) (subst (Appends old mid) made c.in_ok-hand_over.ensures.ok)
+    (subst (λ (notes : List Note). WritesFront mid new (map note_line notes ++ build_lines c.args.fault)) c.notes.ensures (c.write_remarks.ensures.write said))
+
+pub returns-in_err-hand_over-clause-write : goal.returns-in_err-hand_over-clause-write
+returns-in_err-hand_over-clause-write g c said =
+    let sheet = c.args.sheet.now in
+    let summary = summary_line sheet in
+    let made : c.as_bytes.result.now ≡ summary = search rules in
+    let old = g.W.Write.contents c.args.writer.now in
+    let new = g.W.Write.contents c.hand_over.new.writer in
+    appends_front_of_longer old new summary (flat_map (λ line. line) (map note_line sheet.notes ++ build_lines c.args.fault))
+    (subst (AppendsFront old new) made c.in_err-hand_over.ensures.front)
