@@ -1,7 +1,9 @@
 #!/bin/sh
 # Refuses one allocation after the other while two data sheets are read, one accepted and one at fault. Each sheet is read
-# three times: a reading has to be right or to answer want of memory, and only one of them may answer that.
+# three times: a reading has to be right or to answer that it is out of memory, and only one of them may answer that.
+# An argument, if there is one, is the number of the last allocation that is refused: without it, each is refused in turn.
 set -eu
+last=${1:-}
 root=$(CDPATH='' cd -- "$(dirname -- "$(readlink -f -- "$0")")/.." && pwd)
 folder=$(mktemp -d)
 trap 'rm -rf "$folder"' EXIT
@@ -20,7 +22,7 @@ use std::alloc::Global;
 use std::process::ExitCode;
 
 END
-    for sheet in large_sheet:LARGE want_of_memory:LATE; do
+    for sheet in large_sheet:LARGE out_of_memory:LATE; do
         sed -n "/const ${sheet#*:}: /,/^\";\$/p" "$root/crates/cases/src/sheets/${sheet%:*}.rt" | sed 's/^pub(crate) //'
     done
     cat << 'END'
@@ -125,15 +127,16 @@ cc -O1 -shared -fPIC -o "$folder/refuse.so" "$folder/refuse.c" -ldl
 (cd "$folder/crates/refused" && rt run > "$folder/log" 2>&1) || { cat "$folder/log" >&2; exit 1; }
 
 number=0
-while :; do
+refused=0
+while [ -z "$last" ] || [ "$number" -lt "$last" ]; do
     number=$((number + 1))
     status=0
     REFUSE=$number LD_PRELOAD=$folder/refuse.so "$folder/crates/refused/out/refused" || status=$?
     case $status in
-        2) ;;
+        2) refused=$number ;;
         0) break ;;
         *) echo "allocation $number refused: a wrong answer, status $status" >&2; exit 1 ;;
     esac
 done
-[ "$number" -gt 1 ] || { echo "no allocation was refused" >&2; exit 1; }
-echo "$((number - 1)) allocations refused in turn: each answered with want of memory, each later reading right"
+[ "$refused" -gt 0 ] || { echo "no allocation was refused" >&2; exit 1; }
+echo "$refused allocations refused in turn: each answered with out of memory, each later reading right"
