@@ -24,7 +24,7 @@ appends_nothing (Some xs) (Some ys) h = h ∙ sym (append-nil xs)
 pub no_front : (text : List ℕ) → 0 < length text → IsFront [] text
 no_front text some = record { rest = text; some = some; joined = refl }
 
--- a front behind other bytes
+-- a front after other bytes
 pub front_after : (before front text : List ℕ) → IsFront front text → IsFront (before ++ front) (before ++ text)
 front_after before front text h = record { rest = h.rest; some = h.some; joined = ap (λ (ys : List ℕ). before ++ ys) h.joined ∙ sym (append_assoc before front h.rest) }
 
