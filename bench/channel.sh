@@ -14,31 +14,13 @@ best_of_five() {
         END { for (name in best) print name, best[name] }'
 }
 
-mkdir -p "$folder/crates/channel_time/src" "$folder/crates/channel_time/proofs"
+mkdir -p "$folder/crates/channel_time/src"
 cp "$root/HANDLES" "$folder"
 {
-    grep -E '^co_(value|frame|sheet|dict|sdo):' "$root/crates.txt"
+    grep -E '^co_(value|frame|text|sheet|dict|sdo):' "$root/crates.txt"
     echo 'channel_time: co_value co_frame co_sheet co_dict co_sdo arrayvec anyhow'
 } > "$folder/crates.txt"
-for crate in co_value co_frame co_sheet co_dict co_sdo; do cp -R "$root/crates/$crate" "$folder/crates"; done
-echo 'mod Capacities' > "$folder/crates/channel_time/proofs/Lib.antt"
-cat > "$folder/crates/channel_time/proofs/Capacities.antt" << 'END'
--- No entry has room for more than 65,535 bytes.
-use Rattle.std.proofs.Common.{◌≡◌, ◌≤◌, Option, Some, None, refl, arith}
-use Rattle.std.specs.Option.{option_map_or}
-use Rattle.co_value.specs.declared.key.Key.{Key}
-use Rattle.co_dict.specs.declared.row.Row.{Row}
-use Rattle.co_dict.specs.Rows.{Contents}
-use Rattle.co_dict.specs.Stores.{Description, IsDictionary}
-use Rattle.co_sdo.specs.Refused.{capacity_at}
-
-room_of : (row : Option Row) → ((r : Row) → row ≡ Some r → r.capacity ≤ 65535) → option_map_or (λ row. row.capacity) row 0 ≤ 65535
-room_of None h = omega arith
-room_of (Some r) h = h r refl
-
-pub room_at : (d : Description) (contents : Contents) (key : Key) → IsDictionary d contents → capacity_at d.rows key ≤ 65535
-room_at d contents key s = room_of (d.rows key) (s.description.capacity key)
-END
+for crate in co_value co_frame co_text co_sheet co_dict co_sdo; do cp -R "$root/crates/$crate" "$folder/crates"; done
 cat > "$folder/crates/channel_time/src/main.rt" << 'END'
 //! Downloads 65,535 bytes into the domain 2000h of the data sheet on standard input, segmented and by blocks, and copies
 //! the same frames into a list. Prints how many nanoseconds each took, and how many segments that were.
@@ -50,7 +32,7 @@ ghost use Rattle.co_sdo.specs.Refused.{capacity_at};
 
 use anyhow::{Context, Result, bail};
 use arrayvec::ArrayVec;
-use co_dict::{Limits, ListStore, ObjectStore, store_laws};
+use co_dict::{Limits, ListStore, ObjectStore, capacity_law};
 use co_frame::{BlockSegment, Frame, Outbox, SdoRequest};
 use co_sdo::{Channel, Ids};
 use co_sheet::read;
@@ -78,17 +60,9 @@ struct Server<S: ObjectStore> {
     ghost greatest: { (key : Key) → capacity_at (S.description store).rows key ≤ channel.greatest },
 }
 
-// no entry has room for more than 65,535 bytes
-#[tactic(auto, using(crate::proofs::Capacities::room_at))]
-fn room<S: ObjectStore>(store: &S)
-    ensures { (key : Key) → capacity_at (S.description store.now).rows key ≤ 65535 }
-{
-    store_laws(store);
-}
-
 impl<S: ObjectStore + Drop> Server<S> {
     fn new(alloc: Global, store: S) -> Result<Server<S>, AllocError> {
-        room(&store);
+        capacity_law(&store);
         let ids = Ids {
             request: REQUEST,
             answer: ANSWER,

@@ -1,6 +1,7 @@
 #!/bin/sh
-# Refuses one allocation after the other while two data sheets are read, one accepted and one at fault. Each sheet is read
-# three times: a reading has to be right or to answer that it is out of memory, and only one of them may answer that.
+# Refuses one allocation after the other while two data sheets are read, one accepted and one at fault, and SDO channels
+# are made. Each is done three times: it has to be right or to answer that it is out of memory, and only one of them all
+# may answer that.
 # An argument, if there is one, is the number of the last allocation that is refused: without it, each is refused in turn.
 set -eu
 last=${1:-}
@@ -10,13 +11,15 @@ trap 'rm -rf "$folder"' EXIT
 
 mkdir -p "$folder/crates/refused/src"
 cp "$root/HANDLES" "$folder"
-{ grep -E '^co_(value|sheet):' "$root/crates.txt"; echo 'refused: co_sheet'; } > "$folder/crates.txt"
-cp -R "$root/crates/co_value" "$root/crates/co_sheet" "$folder/crates"
+{ grep -E '^co_(value|frame|text|sheet|dict|sdo):' "$root/crates.txt"; echo 'refused: co_sheet co_sdo'; } > "$folder/crates.txt"
+for crate in co_value co_frame co_text co_sheet co_dict co_sdo; do cp -R "$root/crates/$crate" "$folder/crates"; done
 {
     cat << 'END'
-//! Reads two data sheets, three times each. The status is 0 where all readings are right, 2 where one was refused memory.
+//! Reads two data sheets and makes a channel, three times each. The status is 0 where all are right, 2 where one was
+//! refused memory.
 #![tactic(auto)]
 
+use co_sdo::{Channel, Ids};
 use co_sheet::{FaultKind, SheetFault, read};
 use std::alloc::Global;
 use std::process::ExitCode;
@@ -28,55 +31,68 @@ END
     cat << 'END'
 
 #[derive(Clone, Copy)]
-enum Reading {
+enum Outcome {
     Right,
     Wrong,
     Refused,
 }
 
-fn of_fault(fault: SheetFault, want: Option<SheetFault>) -> Reading {
+fn of_fault(fault: SheetFault, want: Option<SheetFault>) -> Outcome {
     if Some(fault) == want {
-        Reading::Right
+        Outcome::Right
     } else if fault.kind == FaultKind::Memory && fault.line == 0 {
-        Reading::Refused
+        Outcome::Refused
     } else {
-        Reading::Wrong
+        Outcome::Wrong
     }
 }
 
-fn accepted(alloc: Global) -> Reading {
+fn accepted(alloc: Global) -> Outcome {
     match read(alloc, LARGE.as_bytes()) {
         Ok(sheet) => {
             let counts = (sheet.objects().len(), sheet.entries().len(), sheet.sections().len(), sheet.notes().len());
-            if counts == (22, 46, 60, 0) { Reading::Right } else { Reading::Wrong }
+            if counts == (22, 46, 60, 0) { Outcome::Right } else { Outcome::Wrong }
         }
         Err(fault) => of_fault(fault, None),
     }
 }
 
-fn at_fault(alloc: Global) -> Reading {
+fn at_fault(alloc: Global) -> Outcome {
     let missing = SheetFault { kind: FaultKind::MissingMandatory, line: 0 };
     match read(alloc, LATE.as_bytes()) {
-        Ok(_) => Reading::Wrong,
+        Ok(_) => Outcome::Wrong,
         Err(fault) => of_fault(fault, Some(missing)),
     }
 }
 
+fn channel(alloc: Global) -> Outcome {
+    let ids = Ids { request: 0x605, answer: 0x585 };
+    match Channel::new(alloc, ids, 65535, 0) {
+        Ok(channel) => {
+            if channel.held() == 0 { Outcome::Right } else { Outcome::Wrong }
+        }
+        Err(_) => Outcome::Refused,
+    }
+}
+
 fn main(rt: HostRuntime) -> ExitCode {
-    let readings = [
+    let outcomes = [
         accepted(rt.alloc()),
         accepted(rt.alloc()),
         accepted(rt.alloc()),
         at_fault(rt.alloc()),
         at_fault(rt.alloc()),
         at_fault(rt.alloc()),
+        channel(rt.alloc()),
+        channel(rt.alloc()),
+        channel(rt.alloc()),
     ];
     let mut status = 0;
-    for reading in readings {
-        match reading {
-            Reading::Right => {}
-            Reading::Refused if status == 0 => status = 2,
-            Reading::Refused | Reading::Wrong => return ExitCode::from(1),
+    for outcome in outcomes {
+        match outcome {
+            Outcome::Right => {}
+            Outcome::Refused if status == 0 => status = 2,
+            Outcome::Refused | Outcome::Wrong => return ExitCode::from(1),
         }
     }
     ExitCode::from(status)
@@ -139,4 +155,4 @@ while [ -z "$last" ] || [ "$number" -lt "$last" ]; do
     esac
 done
 [ "$refused" -gt 0 ] || { echo "no allocation was refused" >&2; exit 1; }
-echo "$refused allocations refused in turn: each answered with out of memory, each later reading right"
+echo "$refused allocations refused in turn: each answered with out of memory, each later one right"

@@ -1,15 +1,16 @@
 -- The greatest capacity of a list of entries.
-use Rattle.std.proofs.Common.{◌≡◌, ◌≤◌, ◌⊎◌, ℕ, Bool, true, false, cond, ltb, max, List, [], ◌∷◌, Some, None, inl, inr, refl, sym, ap, ◌∙◌, subst, arith}
+use Rattle.std.proofs.Common.{◌≡◌, ◌≤◌, ◌⊎◌, ℕ, Bool, true, false, cond, ltb, max, List, [], ◌∷◌, Option, Some, None, inl, inr, refl, sym, ap, ◌∙◌, subst, arith}
 use Rattle.std.specs.Prelude.{fold, IsSomeAnd}
 use Rattle.std.specs.List.{list_all}
-use Rattle.std.specs.Option.{option_map}
+use Rattle.std.specs.Option.{option_map, option_map_or}
 use Rattle.std.specs.Ordering.{is_eq}
 use Rattle.std.proofs.lemmas.Bool.Decides.{nat_tests}
 use Rattle.std.proofs.lemmas.Option.{none-some, same_Some}
 use Rattle.co_value.specs.declared.key.Key.{Key}
 use Rattle.co_value.specs.Keys.{same_key, is_key_before}
 use Rattle.co_dict.specs.declared.row.Row.{Row}
-use Rattle.co_dict.specs.Stores.{IsGreatestCapacity}
+use Rattle.co_dict.specs.Rows.{Rows, Contents, capacity_at}
+use Rattle.co_dict.specs.Stores.{Description, IsDictionary, IsGreatestCapacity}
 use Rattle.co_dict.specs.ListedEntries.{ListedEntry, entry_at, rows_in, keys_in, are_increasing}
 use Rattle.co_dict.specs.LawfulLists.{and_first, and_second, equal_keys}
 use Rattle.co_dict.proofs.Search.{after_compares, other_compares, same_itself}
@@ -77,3 +78,15 @@ reached most (e ∷ entries) increasing =
 
 pub most_is_greatest : (entries : List ListedEntry) → are_increasing (keys_in entries) ≡ true → IsGreatestCapacity (rows_in entries) (most_of 0 entries)
 most_is_greatest entries increasing = record { bound = bounded 0 entries; reached = reached 0 entries increasing }
+
+-- ---- the room of a key, where it has an entry or not
+
+room_of : (row : Option Row) (size : ℕ) → ((r : Row) → row ≡ Some r → r.capacity ≤ size) → option_map_or (λ row. row.capacity) row 0 ≤ size
+room_of None size h = omega arith
+room_of (Some r) size h = h r refl
+
+pub room_within : (rows : Rows) (size : ℕ) → IsGreatestCapacity rows size → (key : Key) → capacity_at rows key ≤ size
+room_within rows size h key = room_of (rows key) size (h.bound key)
+
+pub room_at : (d : Description) (contents : Contents) (key : Key) → IsDictionary d contents → capacity_at d.rows key ≤ 65535
+room_at d contents key s = room_of (d.rows key) 65535 (s.description.capacity key)

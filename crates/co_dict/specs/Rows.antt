@@ -25,6 +25,10 @@ fits row size = option_map_or (λ width. size == width) (width_of row.data_type)
 abbrev pub takes : Rows → Key → ℕ → Bool
 takes rows key size = option_map_or (λ row. fits row size) (rows key) false
 
+-- how many bytes an entry has room for; none where there is no entry
+abbrev pub capacity_at : Rows → Key → ℕ
+capacity_at rows key = option_map_or (λ row. row.capacity) (rows key) 0
+
 -- the contents after one entry was set
 abbrev pub written : Contents → Key → List ℕ → Contents
 written contents key bytes = λ other. if same_key other key then Some bytes else contents other

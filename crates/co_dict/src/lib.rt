@@ -43,5 +43,5 @@ pub use reading::may_read;
 pub use row::Row;
 pub use sdo_channels::{SdoChannel, is_sdo_id, sdo_channel};
 pub use side::Side;
-pub use store::{ObjectStore, store_laws};
+pub use store::{ObjectStore, capacity_law, store_laws};
 pub use writing::{app_store, may_begin, may_complete, may_store};

@@ -2,6 +2,8 @@
 
 ghost use Rattle.std.specs.Prelude.{◌≡◌, ◌≤◌, true, length, position, fold, max};
 ghost use Rattle.co_value.specs.Keys.{same_key};
+ghost use Rattle.co_value.specs.declared.key.Key.{Key};
+ghost use Rattle.co_dict.specs.Rows.{capacity_at};
 ghost use Rattle.co_dict.specs.ListedEntries.{keys_in, are_increasing};
 ghost use Rattle.co_dict.specs.StoredEntries.{entry_views};
 
@@ -56,7 +58,8 @@ impl ListStore {
 
     /// The greatest capacity of all entries, in bytes; 0 where there is no entry.
     pub fn greatest_capacity(&self) -> u16
-        ensures { IsGreatestCapacity (⟦<ListStore as ObjectStore>⟧.description self.now).rows result }
+        ensures greatest { IsGreatestCapacity (⟦<ListStore as ObjectStore>⟧.description self.now).rows result }
+        ensures enough { (key : Key) → capacity_at (⟦<ListStore as ObjectStore>⟧.description self.now).rows key ≤ result }
     {
         greatest_capacity(&self.entries)
     }

@@ -2,8 +2,9 @@
 
 ghost use Rattle.std.specs.Prelude.{◌≡◌, ◌≤◌, ℕ, Bool, true, length};
 ghost use Rattle.std.specs.Option.{option_map};
-ghost use Rattle.co_dict.specs.Rows.{Contents, takes, written, restored};
+ghost use Rattle.co_dict.specs.Rows.{Contents, takes, capacity_at, written, restored};
 ghost use Rattle.co_dict.specs.Stores.{Description, IsDictionary};
+ghost use Rattle.co_value.specs.declared.key.Key.{Key};
 
 use crate::area::Area;
 use crate::row::Row;
@@ -56,3 +57,11 @@ pub trait ObjectStore {
 pub fn store_laws<S: ObjectStore>(store: &S)
     ensures { IsDictionary (S.description store.now) (S.contents store.now) }
 {}
+
+/// No entry of a store has room for more than 65,535 bytes. This is a law: a call of it changes nothing.
+#[tactic(auto, using(crate::proofs::GreatestCapacity::room_at))]
+pub fn capacity_law<S: ObjectStore>(store: &S)
+    ensures { (key : Key) → capacity_at (S.description store.now).rows key ≤ 65535 }
+{
+    store_laws(store);
+}

@@ -106,6 +106,7 @@ impl SdoResponse {
     }
 
     /// The frame of the answer on an identifier, 0 to 7FFh; reserved bits and bytes are 0 (CiA 301, 7.2.4.3).
+    #[inline(always)]
     pub fn write(&self, id: u16) -> Frame
         requires id { id < 2048 }
         requires spellable { IsSdoResponse self.now }
@@ -123,6 +124,8 @@ impl SdoResponse {
         let _ = SdoResponse::read(&self.write(0));
     }
 
+    // inlined, as `write` is: most callers know the variant, so that one arm remains
+    #[inline(always)]
     fn spelling(&self) -> [u8; 8]
         requires { IsSdoResponse self.now }
         ensures bytes { result ≡ response_bytes self.now }

@@ -1,4 +1,7 @@
-mod Examples
+mod DownloadExamples
+mod UploadExamples
+mod BlockDownloadExamples
+pub mod ExampleChannel
 pub mod StoreLemmas
 pub mod UploadLemmas
 pub mod Logs
@@ -7,4 +10,5 @@ pub mod Beginnings
 pub mod Continuations
 pub mod BlockContinuations
 pub mod SubBlockLemmas
+pub mod RoomLemmas
 pub mod TakeLemmas

@@ -21,7 +21,7 @@ use Rattle.co_sdo.specs.OpenTransfers.{Transfer, is_begin, is_abort_request, is_
 use Rattle.co_sdo.specs.Opened.{OpenTransfer, opened, opened_by, opened_after, is_end_sent, acknowledged, block_upload_stage}
 use Rattle.co_sdo.specs.Replies.{aborted, unexpected, begin_answers, sub_block_answers, is_in_sub_block, later_answers, request_answers, answers_to, reply_to}
 use Rattle.co_sdo.specs.Completed.{is_expedited, unless, permitted, completed_by, set_by}
-use Rattle.co_sdo.specs.Steps.{after_later, after_request, opened_next, set_by_segment, set_by_end, set_by_request, set_next}
+use Rattle.co_sdo.specs.Steps.{after_later, after_request, opened_next, room_next, set_by_segment, set_by_end, set_by_request, set_next}
 use Rattle.co_sdo.specs.Standing.{Standing, Stands, is_under_way, is_transfer_after, IsSegmentedDownload, IsBlockDownload}
 use Rattle.co_sdo.proofs.Logs.{inside_is, upload_outside, extended, after_begins, after_open, after_nothing}
 use Rattle.co_sdo.proofs.RefusalLemmas.{allowed}
@@ -29,6 +29,7 @@ use Rattle.co_sdo.proofs.Beginnings.{StepsTo, to_nothing, exchange, begin_step}
 use Rattle.co_sdo.proofs.Continuations.{segmented, uploading, aborted_step, download_goes_on, upload_goes_on}
 use Rattle.co_sdo.proofs.BlockContinuations.{block_uploading, last_taken, block_upload_goes_on, block_download_goes_on}
 use Rattle.co_sdo.proofs.SubBlockLemmas.{receiving, frame_step}
+use Rattle.co_sdo.proofs.RoomLemmas.{room_is}
 
 -- ---- what is open
 
@@ -127,13 +128,14 @@ steps_to d contents log frame u lawful n = steps_at d contents log frame (open_t
 
 -- a channel that steps as what is open says stands after the longer log
 pub stands_next : (d : Description) (contents : Contents) (channel new : Standing) (log : Log) (frame : List ℕ) → Stands d channel log → IsDictionary d contents → length frame ≡ 8
-    → new ≡ record channel { left = channel.time; current = opened_next d contents channel.current frame }
+    → new ≡ record channel { left = channel.time; room = room_next d.rows channel.room channel.current frame; current = opened_next d contents channel.current frame }
     → Stands d new (Exchanged (record { request = frame; contents = contents; answers = reply_to d contents log frame }) ∷ log)
 stands_next d contents channel new log frame s lawful n e =
     let step = steps_to d contents log frame s.under_way lawful n in
     rw e (record {
       current = ap (λ c. opened_next d contents c frame) s.current ∙ sym step.opens;
       left = sym (omega arith);
+      room = room_is d contents channel.room channel.current frame s.room;
       under_way = step.under_way;
     })
 

@@ -10,3 +10,4 @@ pub mod Completed
 pub mod Steps
 pub mod Standing
 pub mod Fields
+pub mod BufferContent

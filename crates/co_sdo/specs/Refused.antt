@@ -1,16 +1,12 @@
 -- Why reading, beginning to write and completing to write an entry are refused: the dictionary's words, which proofs here
 -- don't look into.
 use Rattle.std.specs.Prelude.{ℕ, List, Option}
-use Rattle.std.specs.Option.{option_map_or}
 use Rattle.co_value.specs.declared.key.Key.{Key}
-use Rattle.co_dict.specs.Rows.{Rows, Contents}
+use Rattle.co_dict.specs.Rows.{Contents}
+pub use Rattle.co_dict.specs.Rows.{capacity_at}
 use Rattle.co_dict.specs.Stores.{Description}
 use Rattle.co_dict.specs.ReadRefusals.{reading_refusal as read_refusal}
 use Rattle.co_dict.specs.WriteRefusals.{begin_refusal as write_refusal, writing_refusal}
-
--- how many bytes an entry has room for; none where there is no entry
-abbrev pub capacity_at : Rows → Key → ℕ
-capacity_at rows key = option_map_or (λ row. row.capacity) (rows key) 0
 
 -- why an entry can't be read
 unfoldable pub reading_refusal : Description → Contents → Key → Option ℕ

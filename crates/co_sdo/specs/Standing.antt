@@ -1,12 +1,15 @@
 -- A channel as its callers see it, and which logs it may stand after.
 use Rattle.std.specs.Prelude.{◌≡◌, ℕ, ◌+◌, ◌*◌, ◌-◌, ◌<◌, ◌≤◌, ◌&&◌, Bool, true, false, nat_lt, not, is_some, List, [], ◌∷◌, length, Option, Some, None, if◌then◌else◌}
 use Rattle.std.specs.Option.{option_map_or}
+use Rattle.co_value.specs.declared.key.Key.{Key}
 use Rattle.co_frame.specs.FrameContent.{FrameContent}
 use Rattle.co_frame.specs.SdoRequests.{request_in}
 use Rattle.co_frame.specs.declared.sdo_request.SdoRequest.{SdoRequest}
 use Rattle.co_frame.specs.declared.sdo_request.SdoRequest.TheVariants.{DownloadBegin, Upload, BlockUploadBegin, BlockDownloadBegin}
 use Rattle.co_dict.specs.Rows.{Rows, Contents}
 use Rattle.co_dict.specs.Stores.{Description}
+use Rattle.co_sdo.specs.declared.stage.Stage.{Stage}
+use Rattle.co_sdo.specs.declared.stage.Stage.TheVariants.{Download as Downloading}
 use Rattle.co_sdo.specs.Refused.{capacity_at}
 use Rattle.co_sdo.specs.Log.{Answer, Exchanged, Log, is_request_on, requests, ticks_quiet}
 use Rattle.co_sdo.specs.SubBlocks.{sub_block, taken_segments, block_bytes, has_last}
@@ -17,13 +20,15 @@ use Rattle.co_sdo.specs.Opened.{OpenTransfer, opened_after}
 use Rattle.co_sdo.specs.Replies.{reply_to}
 use Rattle.co_sdo.specs.Completed.{set_by}
 
--- what contracts see of a channel: its identifiers, the greatest capacity, the time and what is left of it, and what is open
+-- what contracts see of a channel: its identifiers, the greatest capacity, the time and what is left of it, the room of the
+-- entry of a segmented download, and what is open
 pub record Standing : Type 0 where
   pub request : ℕ
   pub answer : ℕ
   pub greatest : ℕ
   pub time : ℕ
   pub left : ℕ
+  pub room : ℕ
   pub current : Option OpenTransfer
 
 -- the bytes of an open block download: no more than the entry has room for and seven for each segment taken
@@ -48,10 +53,20 @@ abbrev pub is_under_way : Rows → Option Transfer → Type 0
 is_under_way rows None = Unit {0}
 is_under_way rows (Some t) = is_transfer_after rows (request_in t.begin.request) t
 
+abbrev pub is_room_at : Rows → ℕ → Key → Stage → Type 0
+is_room_at rows room key (Downloading indicated expected) = room ≡ capacity_at rows key
+is_room_at rows room key _ = Unit {0}
+
+-- the room is that of the entry of an open segmented download
+abbrev pub is_room_for : Rows → ℕ → Option OpenTransfer → Type 0
+is_room_for rows room None = Unit {0}
+is_room_for rows room (Some o) = is_room_at rows room o.key o.stage
+
 -- a channel may stand after a log
 pub record Stands (d : Description) (channel : Standing) (log : Log) : Type 0 where
   pub current : channel.current ≡ opened_after log
   pub left : channel.left ≡ channel.time - ticks_quiet log
+  pub room : is_room_for d.rows channel.room channel.current
   pub under_way : is_under_way d.rows (open_transfer log)
 
 -- ---- one frame: those that are no request of the channel are passed over

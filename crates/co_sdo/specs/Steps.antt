@@ -11,7 +11,7 @@ use Rattle.co_dict.specs.Stores.{Description}
 use Rattle.co_dict.specs.Refusals.{refused_if, first_of}
 use Rattle.co_sdo.specs.declared.stage.Stage.{Stage}
 use Rattle.co_sdo.specs.declared.stage.Stage.TheVariants.{Download, Upload as Uploading, SubBlock, LastTaken, BlockUploadBegun as Begun, BlockUpload, BlockUploadEnded}
-use Rattle.co_sdo.specs.Refused.{reading_refusal, begin_refusal, completion_refusal}
+use Rattle.co_sdo.specs.Refused.{capacity_at, reading_refusal, begin_refusal, completion_refusal}
 use Rattle.co_sdo.specs.SubBlocks.{ends_sub_block, is_last_taken}
 use Rattle.co_sdo.specs.Downloads.{Download as Whole, is_odd, expedited_part, without}
 use Rattle.co_sdo.specs.Uploads.{value_at, segment_count, sub_block_length}
@@ -95,6 +95,15 @@ abbrev pub opened_next : Description → Contents → Option OpenTransfer → Li
 opened_next d contents current frame =
     if is_in_sub_block current then next_on current (λ o stage. after_frame_at d.rows o stage frame)
     else after_request d contents current (request_in frame)
+
+-- the room that a channel knows after a request: a segmented download's begin looks up that of its entry
+abbrev pub room_after : Rows → ℕ → Option SdoRequest → ℕ
+room_after rows room (Some (DownloadBegin key size)) = capacity_at rows key
+room_after rows room _ = room
+
+-- and after a frame
+abbrev pub room_next : Rows → ℕ → Option OpenTransfer → List ℕ → ℕ
+room_next rows room current frame = if is_in_sub_block current then room else room_after rows room (request_in frame)
 
 -- ---- what is set
 

@@ -1,6 +1,6 @@
 //! Block downloads.
 
-ghost use Rattle.std.specs.Prelude.{◌≡◌, ℕ, ◌+◌, ◌*◌, ◌<◌, ◌≤◌, ◌++◌, [], ◌∷◌, Some, None, true, false, length, vec_len, vec_capacity};
+ghost use Rattle.std.specs.Prelude.{◌≡◌, ℕ, ◌+◌, ◌*◌, ◌<◌, ◌≤◌, ◌++◌, [], ◌∷◌, Some, None, true, false, length};
 ghost use Rattle.std.specs.Option.{option_map_or};
 ghost use Rattle.arrayvec.specs.ArrayVec.{array_vec_len};
 ghost use Rattle.co_value.specs.declared.key.Key.{Key};
@@ -12,37 +12,39 @@ ghost use Rattle.co_sdo.specs.Replies.{on_open, frame_answers, block_end_answers
 ghost use Rattle.co_sdo.specs.Completed.{contents_with, key_set};
 ghost use Rattle.co_sdo.specs.Steps.{next_on, after_frame_at, after_begin, set_on_open, set_by_end};
 
+use crate::buffer::Buffer;
 use crate::channel::Channel;
 use crate::download::capacity;
 use crate::refusals::begin_refusal;
+use crate::request::segment_data;
 use crate::stage::{Ongoing, Stage};
 use co_dict::ObjectStore;
 use co_frame::{AbortCode, BlockSegment, Frame, Outbox, SdoResponse};
 use co_value::Key;
 
-// Appends a segment, if it is the next of its sub-block, and gives how many are then taken in it.
-fn append_next(buffer: &mut Vec<u8>, taken: u8, segment: BlockSegment) -> u8
-    requires room { vec_len buffer.old + 7 ≤ vec_capacity buffer.old }
+// Appends the data of a segment, if it is the next of its sub-block, and gives how many are then taken in it.
+fn append_next(buffer: &mut Buffer, taken: u8, segment: &BlockSegment, bytes: &[u8]) -> u8
+    requires bytes { bytes.now ≡ segment.now.bytes }
+    requires seven { length bytes.now ≡ 7 }
+    requires room { length buffer.old.bytes + 7 ≤ buffer.old.room }
     requires few { taken < 127 }
-    ensures items { buffer.new.items ≡ buffer.old.items ++ bytes_taken (segment_taken taken (Some
-        segment)) }
+    ensures bytes { buffer.new ≡ record buffer.old {
+      bytes = buffer.old.bytes ++ bytes_taken (segment_taken taken (Some segment.now));
+    } }
     ensures taken { result ≡ option_map_or (λ next. taken + 1) (segment_taken taken (Some
-        segment)) taken }
-    ensures len { vec_len buffer.new + 7 * taken ≡ vec_len buffer.old + 7 * result }
-    ensures capacity { vec_capacity buffer.old ≤ vec_capacity buffer.new }
+        segment.now)) taken }
+    ensures len { length buffer.new.bytes + 7 * taken ≡ length buffer.old.bytes + 7 * result }
 {
     if segment.sequence != taken + 1 {
         return taken;
     }
-    match buffer.extend_from_slice(&segment.bytes) {
-        Ok(()) => {}
-        Err(_) => unreachable!(),
-    }
+    buffer.append(bytes);
     taken + 1
 }
 
 impl Channel {
     // The begin of a block download: initiate SDO block download, ccs = 6, cs = 0.
+    #[inline(never)]
     pub(crate) fn begin_block_download<S: ObjectStore>(
         &mut self,
         store: &S,
@@ -63,7 +65,7 @@ impl Channel {
         self.buffer.clear();
         self.current = None;
         match begin_refusal(store, key, size) {
-            Some(code) => self.ids.refuse(key, code, outbox),
+            Some(code) => self.sender.refuse(key, code, outbox),
             None => {
                 self.current = Some(Ongoing {
                     key,
@@ -73,7 +75,7 @@ impl Channel {
                     },
                 });
                 let block_size = 127;
-                self.ids.send(SdoResponse::BlockDownloadBegun { key, block_size }, outbox);
+                self.sender.send(SdoResponse::BlockDownloadBegun { key, block_size }, outbox);
             }
         }
     }
@@ -115,19 +117,24 @@ impl Channel {
         let Some(segment) = BlockSegment::read(frame) else {
             return;
         };
-        let count = append_next(&mut self.buffer, taken, segment);
+        let count = append_next(&mut self.buffer, taken, &segment, segment_data(frame));
         if !segment.last && segment.sequence != 127 {
-            let stage = Stage::SubBlock {
-                indicated,
-                taken: count,
-            };
-            self.current = Some(Ongoing { key, stage });
+            // the rest of what is open stays, and isn't copied
+            if let Some(ongoing) = &mut self.current {
+                if let Stage::SubBlock {
+                    indicated: _,
+                    taken,
+                } = &mut ongoing.stage
+                {
+                    *taken = count;
+                }
+            }
             return;
         }
         self.current = None;
         let is_last = segment.last && segment.sequence == taken + 1;
         if !is_last && capacity(store, key) < self.buffer.len() {
-            self.ids.refuse(key, AbortCode::TOO_LONG, outbox);
+            self.sender.refuse(key, AbortCode::TOO_LONG, outbox);
             return;
         }
         let stage = if is_last {
@@ -143,10 +150,11 @@ impl Channel {
             sequence: count,
             block_size: 127,
         };
-        self.ids.send(acknowledge, outbox);
+        self.sender.send(acknowledge, outbox);
     }
 
     // The end of a block download: end SDO block download, ccs = 6, cs = 1.
+    #[inline(never)]
     pub(crate) fn end_block_download<S: ObjectStore>(
         &mut self,
         store: &mut S,
@@ -178,8 +186,9 @@ impl Channel {
         };
         self.current = None;
         let len = self.buffer.len().saturating_sub(unused as usize);
+        let bytes = &self.buffer.as_slice()[..len];
         let done = SdoResponse::BlockDownloadDone;
-        self.ids
-            .complete(store, key, indicated, &self.buffer[..len], done, outbox)
+        self.sender
+            .complete(store, key, indicated, bytes, done, outbox)
     }
 }

@@ -11,8 +11,8 @@ ghost use Rattle.co_sdo.specs.Replies.{on_open, start_answers, acknowledge_answe
 ghost use Rattle.co_sdo.specs.Steps.{next_on, after_start, after_acknowledge, after_begin};
 
 use crate::channel::Channel;
-use crate::ids::Ids;
 use crate::refusals::reading_refusal;
+use crate::sender::Sender;
 use crate::stage::{Ongoing, Stage};
 use crate::upload::{copy_value, part_after};
 use co_dict::ObjectStore;
@@ -50,7 +50,7 @@ fn block_segment(value: &[u8], position: usize, number: u8) -> BlockSegment
     }
 }
 
-impl Ids {
+impl Sender {
     // Sends a sub-block that begins after so many segments, and gives the number of its segments.
     fn send_sub_block(
         self,
@@ -82,6 +82,7 @@ impl Ids {
 
 impl Channel {
     // The begin of a block upload: initiate SDO block upload, ccs = 5, cs = 0.
+    #[inline(never)]
     pub(crate) fn begin_block_upload<S: ObjectStore>(
         &mut self,
         store: &S,
@@ -106,11 +107,12 @@ impl Channel {
         let _ = threshold;
         self.current = None;
         if let Some(code) = reading_refusal(store, key) {
-            self.ids.refuse(key, code, outbox);
+            self.sender.refuse(key, code, outbox);
             return;
         }
         if block_size == 0 || 127 < block_size {
-            self.ids.refuse(key, AbortCode::INVALID_BLOCK_SIZE, outbox);
+            self.sender
+                .refuse(key, AbortCode::INVALID_BLOCK_SIZE, outbox);
             return;
         }
         copy_value(store, key, &mut self.buffer);
@@ -119,11 +121,12 @@ impl Channel {
             stage: Stage::BlockUploadBegun { block_size },
         });
         let size = Some(self.buffer.len() as u32);
-        self.ids
+        self.sender
             .send(SdoResponse::BlockUploadBegun { key, size }, outbox);
     }
 
     // The start of a block upload: cs = 3.
+    #[inline(never)]
     pub(crate) fn start_block_upload(&mut self, outbox: &mut Outbox)
         requires room { array_vec_len outbox.old + 127 ≤ 514 }
         ensures few { array_vec_len outbox.new ≤ array_vec_len outbox.old + 127 }
@@ -144,7 +147,9 @@ impl Channel {
             self.give_up(AbortCode::UNKNOWN_COMMAND, outbox);
             return;
         };
-        let sent = self.ids.send_sub_block(&self.buffer, 0, block_size, outbox);
+        let sent = self
+            .sender
+            .send_sub_block(self.buffer.as_slice(), 0, block_size, outbox);
         self.current = Some(Ongoing {
             key,
             stage: Stage::BlockUpload {
@@ -155,6 +160,7 @@ impl Channel {
     }
 
     // An acknowledgement of a sub-block: cs = 2.
+    #[inline(never)]
     pub(crate) fn acknowledge_block_upload(
         &mut self,
         sequence: u8,
@@ -186,14 +192,14 @@ impl Channel {
             return;
         }
         let position = acknowledged as usize + sequence as usize;
-        let count = segment_count(&self.buffer);
+        let count = segment_count(self.buffer.as_slice());
         if position == count {
             let unused = (7 * count - self.buffer.len()) as u8;
             self.current = Some(Ongoing {
                 key,
                 stage: Stage::BlockUploadEnded,
             });
-            self.ids
+            self.sender
                 .send(SdoResponse::BlockUploadEnd { unused }, outbox);
             return;
         }
@@ -202,8 +208,8 @@ impl Channel {
             return;
         }
         let sent = self
-            .ids
-            .send_sub_block(&self.buffer, position, block_size, outbox);
+            .sender
+            .send_sub_block(self.buffer.as_slice(), position, block_size, outbox);
         let acknowledged = position as u32;
         self.current = Some(Ongoing {
             key,
@@ -212,6 +218,7 @@ impl Channel {
     }
 
     // The client's end of a block upload: cs = 1.
+    #[inline(never)]
     pub(crate) fn end_block_upload(&mut self, outbox: &mut Outbox)
         requires room { array_vec_len outbox.old < 514 }
         ensures few { array_vec_len outbox.new ≤ array_vec_len outbox.old + 127 }

@@ -11,10 +11,11 @@ ghost use Rattle.co_sdo.specs.Replies.{aborted, open_key};
 ghost use Rattle.co_sdo.specs.Completed.{contents_with, key_set};
 ghost use Rattle.co_sdo.specs.Standing.{Stands, reply_on, set_on, log_on};
 
-use crate::ids::Ids;
+use crate::buffer::Buffer;
+use crate::sender::Sender;
 use crate::stage::Ongoing;
 use co_dict::{ObjectStore, store_laws};
-use co_frame::{AbortCode, Frame, Outbox};
+use co_frame::{AbortCode, Frame, Ids, Outbox};
 use co_value::Key;
 use std::alloc::{AllocError, Global};
 use std::marker::Model;
@@ -22,36 +23,40 @@ use std::marker::Model;
 /// An SDO server's channel, which serves one client (CiA 301, 7.2.4.3).
 #[derive(Drop)]
 pub struct Channel {
-    pub(crate) ids: Ids,
+    pub(crate) request: u16,
+    pub(crate) sender: Sender,
     pub(crate) greatest: u32,
     pub(crate) time: u16,
     pub(crate) left: u16,
+    // of the entry of a segmented download, looked up at its begin alone
+    pub(crate) room: usize,
     pub(crate) current: Option<Ongoing>,
-    pub(crate) buffer: Vec<u8>,
+    pub(crate) buffer: Buffer,
 }
 
 impl Model for Channel {
-    ghost use Rattle.std.specs.Prelude.{◌+◌, ◌<◌, ◌≤◌, vec_capacity, vec_len};
+    ghost use Rattle.std.specs.Prelude.{◌+◌, ◌<◌, ◌≤◌, length};
     ghost use Rattle.co_sdo.specs.Standing.{Standing};
     ghost use Rattle.co_sdo.specs.Fields.{opened_in, has_room};
 
     ghost Value = { Standing };
 
     ghost view = { λ c. record {
-      request = c.ids.request;
-      answer = c.ids.answer;
+      request = c.request;
+      answer = c.sender.answer;
       greatest = c.greatest;
       time = c.time;
       left = c.left;
-      current = opened_in c.current c.buffer.items;
+      room = c.room;
+      current = opened_in c.current c.buffer.bytes;
     } };
 
-    ghost invariant = { λ c. (c.ids.answer < 2048) × (c.greatest + 889 ≤ vec_capacity c.buffer) ×
-        has_room c.current (vec_len c.buffer) c.greatest };
+    ghost invariant = { λ c. (c.sender.answer < 2048) × (c.greatest + 889 ≤ c.buffer.room) ×
+        (c.room ≤ c.greatest) × has_room c.current (length c.buffer.bytes) c.greatest };
 }
 
 impl Channel {
-    /// A channel that has received nothing. It reserves a buffer of `greatest` + 889 bytes, where `greatest` is the greatest
+    /// A channel that has received nothing. It asks for a buffer of `greatest` + 889 bytes, where `greatest` is the greatest
     /// capacity of an entry: 889 is a sub-block of 127 segments of 7 bytes. `time` is how long the client may take for its
     /// next request, in ms; 0 is for ever. `AllocError` where there is no memory for the buffer.
     pub fn new(alloc: Global, ids: Ids, greatest: u32, time: u16) -> Result<Channel, AllocError>
@@ -64,15 +69,18 @@ impl Channel {
           greatest = greatest;
           time = time;
           left = time;
+          room = 0;
           current = None;
         }) }
     {
-        let buffer = Vec::with_capacity(alloc, greatest as usize + 889)?;
+        let buffer = Buffer::new(alloc, greatest as usize + 889)?;
         Ok(Channel {
-            ids,
+            request: ids.request,
+            sender: Sender { answer: ids.answer },
             greatest,
             time,
             left: time,
+            room: 0,
             current: None,
             buffer,
         })
@@ -106,10 +114,11 @@ impl Channel {
         ensures description { S.description store.new ≡ S.description store.old }
         ensures same { self.new ≡ record self.old {
           left = self.new.left;
+          room = self.new.room;
           current = self.new.current;
         } }
     {
-        if frame.id() != self.ids.request || frame.bytes().len() != 8 {
+        if frame.id() != self.request || frame.bytes().len() != 8 {
             return None;
         }
         store_laws(store);
@@ -117,6 +126,8 @@ impl Channel {
     }
 
     // Drops what is open with an abort.
+    #[cold]
+    #[inline(never)]
     pub(crate) fn give_up(&mut self, code: AbortCode, outbox: &mut Outbox)
         requires room { array_vec_len outbox.old < 514 }
         ensures few { array_vec_len outbox.new ≤ array_vec_len outbox.old + 127 }
@@ -129,6 +140,6 @@ impl Channel {
             None => Key { index: 0, sub: 0 },
         };
         self.current = None;
-        self.ids.refuse(key, code, outbox);
+        self.sender.refuse(key, code, outbox);
     }
 }

@@ -10,11 +10,12 @@ ghost use Rattle.co_sdo.specs.Refused.{capacity_at, completion_refusal};
 ghost use Rattle.co_sdo.specs.Downloads.{expedited_part, expedited_within};
 ghost use Rattle.co_sdo.specs.Replies.{on_open, segment_answers, begin_answers, unless_refused};
 ghost use Rattle.co_sdo.specs.Completed.{unless, contents_with, key_set};
+ghost use Rattle.co_sdo.specs.Standing.{is_room_for};
 ghost use Rattle.co_sdo.specs.Steps.{next_on, after_segment, after_begin, whole, set_expedited, set_on_open, set_by_segment};
 
 use crate::channel::Channel;
-use crate::ids::Ids;
 use crate::refusals::{begin_refusal, completion_refusal};
+use crate::sender::Sender;
 use crate::stage::{Ongoing, Stage};
 use co_dict::ObjectStore;
 use co_frame::{AbortCode, ExpeditedData, Outbox, SdoResponse};
@@ -46,8 +47,9 @@ fn expedited_bytes(data: &ExpeditedData, capacity: usize) -> &[u8]
     }
 }
 
-impl Ids {
+impl Sender {
     // Sets an entry and answers with this response, or refuses.
+    #[inline(never)]
     pub(crate) fn complete<S: ObjectStore>(
         self,
         store: &mut S,
@@ -87,6 +89,7 @@ impl Ids {
 
 impl Channel {
     // An expedited download: initiate SDO download, ccs = 1, e = 1.
+    #[inline(never)]
     pub(crate) fn take_expedited<S: ObjectStore>(
         &mut self,
         store: &mut S,
@@ -110,10 +113,11 @@ impl Channel {
         self.current = None;
         let bytes = expedited_bytes(data, capacity(store, key));
         let done = SdoResponse::DownloadDone { key };
-        self.ids.complete(store, key, None, bytes, done, outbox)
+        self.sender.complete(store, key, None, bytes, done, outbox)
     }
 
     // The begin of a segmented download: initiate SDO download, ccs = 1, e = 0.
+    #[inline(never)]
     pub(crate) fn begin_download<S: ObjectStore>(
         &mut self,
         store: &S,
@@ -122,19 +126,23 @@ impl Channel {
         outbox: &mut Outbox,
     )
         requires room { array_vec_len outbox.old < 514 }
+        requires greatest { (key : Key) → capacity_at (S.description store.now).rows key ≤
+            self.old.greatest }
         ensures few { array_vec_len outbox.new ≤ array_vec_len outbox.old + 127 }
         ensures answers { outbox.new.items ≡ outbox.old.items ++ frames_on self.old.answer
             (begin_answers (S.description store.now) (S.contents store.now) (DownloadBegin key
             size)) }
         ensures channel { self.new ≡ record self.old {
+          room = capacity_at (S.description store.now).rows key;
           current = after_begin (S.description
               store.now) (S.contents store.now) (DownloadBegin key size);
         } }
     {
         self.buffer.clear();
         self.current = None;
+        self.room = capacity(store, key);
         match begin_refusal(store, key, size) {
-            Some(code) => self.ids.refuse(key, code, outbox),
+            Some(code) => self.sender.refuse(key, code, outbox),
             None => {
                 self.current = Some(Ongoing {
                     key,
@@ -143,12 +151,13 @@ impl Channel {
                         toggle: false,
                     },
                 });
-                self.ids.send(SdoResponse::DownloadDone { key }, outbox);
+                self.sender.send(SdoResponse::DownloadDone { key }, outbox);
             }
         }
     }
 
-    // A segment of a download: download SDO segment, ccs = 0.
+    // A segment of a download: download SDO segment, ccs = 0. What is said of it holds where the room that the channel knows
+    // is that of the entry.
     pub(crate) fn take_segment<S: ObjectStore>(
         &mut self,
         store: &mut S,
@@ -159,65 +168,61 @@ impl Channel {
     ) -> Option<Key>
         requires room { array_vec_len outbox.old < 514 }
         requires few { length part.now ≤ 7 }
-        requires greatest { (key : Key) → capacity_at (S.description store.old).rows key ≤
-            self.old.greatest }
         ensures few { array_vec_len outbox.new ≤ array_vec_len outbox.old + 127 }
-        ensures answers { outbox.new.items ≡ outbox.old.items ++ frames_on self.old.answer
+        ensures answers { is_room_for (S.description store.old).rows self.old.room
+            self.old.current → outbox.new.items ≡ outbox.old.items ++ frames_on self.old.answer
             (on_open self.old.current (λ o stage. segment_answers (S.description store.old)
             (S.contents store.old) o stage toggle part.now last)) }
-        ensures channel { self.new ≡ record self.old {
-          current = next_on self.old.current (λ o
-              stage. after_segment (S.description store.old) (S.contents store.old) o stage toggle
-              part.now last);
-        } }
-        ensures key { result ≡ key_set (set_on_open self.old.current (λ o stage. set_by_segment
+        ensures channel { is_room_for (S.description store.old).rows self.old.room
+            self.old.current → self.new ≡ record self.old {
+              current = next_on self.old.current (λ o
+                  stage. after_segment (S.description store.old) (S.contents store.old) o stage toggle
+                  part.now last);
+            } }
+        ensures key { is_room_for (S.description store.old).rows self.old.room self.old.current →
+            result ≡ key_set (set_on_open self.old.current (λ o stage. set_by_segment
             (S.description store.old) (S.contents store.old) o stage toggle part.now last)) }
-        ensures contents { S.contents store.new ≡ contents_with (S.contents store.old)
+        ensures contents { is_room_for (S.description store.old).rows self.old.room
+            self.old.current → S.contents store.new ≡ contents_with (S.contents store.old)
             (set_on_open self.old.current (λ o stage. set_by_segment (S.description store.old)
             (S.contents store.old) o stage toggle part.now last)) }
         ensures description { S.description store.new ≡ S.description store.old }
+        ensures same { self.new ≡ record self.old { current = self.new.current } }
     {
-        let Some(
-            Ongoing {
-                key,
-                stage: Stage::Download {
-                    indicated,
-                    toggle: expected,
-                },
-            },
-        ) = self.current
+        let Some(ongoing) = &mut self.current else {
+            self.give_up(AbortCode::UNKNOWN_COMMAND, outbox);
+            return None;
+        };
+        let Stage::Download {
+            indicated,
+            toggle: expected,
+        } = &mut ongoing.stage
         else {
             self.give_up(AbortCode::UNKNOWN_COMMAND, outbox);
             return None;
         };
-        self.current = None;
-        if toggle != expected {
-            self.ids
-                .refuse(key, AbortCode::TOGGLE_NOT_ALTERNATED, outbox);
+        if toggle != *expected {
+            self.give_up(AbortCode::TOGGLE_NOT_ALTERNATED, outbox);
             return None;
         }
-        if capacity(store, key) < self.buffer.len() + part.len() {
-            self.ids.refuse(key, AbortCode::TOO_LONG, outbox);
+        if self.room < self.buffer.len() + part.len() {
+            self.give_up(AbortCode::TOO_LONG, outbox);
             return None;
         }
-        match self.buffer.extend_from_slice(part) {
-            Ok(()) => {}
-            Err(_) => unreachable!(),
+        *expected = !toggle;
+        self.buffer.append(part);
+        if last {
+            let key = ongoing.key;
+            let indicated = *indicated;
+            self.current = None;
+            let bytes = self.buffer.as_slice();
+            let done = SdoResponse::DownloadSegmentDone { toggle };
+            return self
+                .sender
+                .complete(store, key, indicated, bytes, done, outbox);
         }
         let done = SdoResponse::DownloadSegmentDone { toggle };
-        if last {
-            return self
-                .ids
-                .complete(store, key, indicated, &self.buffer, done, outbox);
-        }
-        self.current = Some(Ongoing {
-            key,
-            stage: Stage::Download {
-                indicated,
-                toggle: !toggle,
-            },
-        });
-        self.ids.send(done, outbox);
+        self.sender.send(done, outbox);
         None
     }
 }

@@ -3,14 +3,15 @@
 
 mod block_download;
 mod block_upload;
+mod buffer;
 mod channel;
 mod download;
-mod ids;
 mod refusals;
 mod request;
+mod sender;
 mod stage;
 mod time;
 mod upload;
 
 pub use channel::Channel;
-pub use ids::Ids;
+pub use co_frame::Ids;

@@ -1,13 +1,16 @@
-//! One request, or one frame inside a sub-block, against what is open.
+//! One request, or one frame inside a sub-block, against what is open. What comes once a transfer is kept out of line, so
+//! that the way of a segment is short.
 
-ghost use Rattle.std.specs.Prelude.{◌≡◌, ℕ, ◌+◌, ◌<◌, ◌≤◌, ◌++◌, [], ◌∷◌, Some, None, true, false, length};
+ghost use Rattle.std.specs.Prelude.{◌≡◌, ℕ, ◌+◌, ◌<◌, ◌≤◌, ◌++◌, [], ◌∷◌, Some, None, true, false, length, drop};
 ghost use Rattle.arrayvec.specs.ArrayVec.{array_vec_len};
 ghost use Rattle.co_value.specs.declared.key.Key.{Key};
+ghost use Rattle.co_frame.specs.SdoRequests.{SpellsSdoRequest};
 ghost use Rattle.co_sdo.specs.Log.{frames_on};
 ghost use Rattle.co_sdo.specs.Refused.{capacity_at};
 ghost use Rattle.co_sdo.specs.Replies.{answers_to, request_answers, is_in_sub_block};
 ghost use Rattle.co_sdo.specs.Completed.{contents_with, key_set};
-ghost use Rattle.co_sdo.specs.Steps.{opened_next, after_request, set_next, set_by_request};
+ghost use Rattle.co_sdo.specs.Standing.{is_room_for};
+ghost use Rattle.co_sdo.specs.Steps.{opened_next, after_request, room_after, room_next, set_next, set_by_request};
 
 use crate::channel::Channel;
 use crate::stage::{Ongoing, Stage};
@@ -15,31 +18,52 @@ use co_dict::ObjectStore;
 use co_frame::{AbortCode, Frame, Outbox, SdoRequest};
 use co_value::Key;
 
+// The data of a segment, where they lie in its frame: they are copied once, from there.
+pub(crate) fn segment_data(frame: &Frame) -> &[u8]
+    requires { length frame.now.bytes ≡ 8 }
+    ensures data { result.now ≡ drop 1 frame.now.bytes }
+    ensures seven { length result.now ≡ 7 }
+{
+    &frame.bytes()[1..8]
+}
+
 impl Channel {
-    // A request outside a sub-block.
+    // A request outside a sub-block, and the frame that spells it.
     fn take_request<S: ObjectStore>(
         &mut self,
         store: &mut S,
         request: &SdoRequest,
+        frame: &Frame,
         outbox: &mut Outbox,
     ) -> Option<Key>
         requires room { array_vec_len outbox.old + 127 ≤ 514 }
         requires greatest { (key : Key) → capacity_at (S.description store.old).rows key ≤
             self.old.greatest }
+        requires eight { length frame.now.bytes ≡ 8 }
+        requires spelled { SpellsSdoRequest request.now frame.now.bytes }
         ensures few { array_vec_len outbox.new ≤ array_vec_len outbox.old + 127 }
-        ensures answers { outbox.new.items ≡ outbox.old.items ++ frames_on self.old.answer
+        ensures answers { is_room_for (S.description store.old).rows self.old.room
+            self.old.current → outbox.new.items ≡ outbox.old.items ++ frames_on self.old.answer
             (request_answers (S.description store.old) (S.contents store.old) self.old.current
             (Some request.now)) }
-        ensures channel { self.new ≡ record self.old {
-          current = after_request (S.description
-              store.old) (S.contents store.old) self.old.current (Some request.now);
-        } }
-        ensures key { result ≡ key_set (set_by_request (S.description store.old) (S.contents
+        ensures channel { is_room_for (S.description store.old).rows self.old.room
+            self.old.current → self.new ≡ record self.old {
+              room = room_after (S.description store.old).rows self.old.room (Some request.now);
+              current = after_request (S.description
+                  store.old) (S.contents store.old) self.old.current (Some request.now);
+            } }
+        ensures key { is_room_for (S.description store.old).rows self.old.room self.old.current →
+            result ≡ key_set (set_by_request (S.description store.old) (S.contents
             store.old) self.old.current (Some request.now)) }
-        ensures contents { S.contents store.new ≡ contents_with (S.contents store.old)
+        ensures contents { is_room_for (S.description store.old).rows self.old.room
+            self.old.current → S.contents store.new ≡ contents_with (S.contents store.old)
             (set_by_request (S.description store.old) (S.contents store.old) self.old.current
             (Some request.now)) }
         ensures description { S.description store.new ≡ S.description store.old }
+        ensures same { self.new ≡ record self.old {
+          room = self.new.room;
+          current = self.new.current;
+        } }
     {
         match request {
             SdoRequest::DownloadExpedited { key, data } => {
@@ -49,7 +73,8 @@ impl Channel {
                 self.begin_download(store, *key, *size, outbox);
             }
             SdoRequest::DownloadSegment { toggle, data, last } => {
-                return self.take_segment(store, *toggle, data, *last, outbox);
+                let part = &segment_data(frame)[..data.len()];
+                return self.take_segment(store, *toggle, part, *last, outbox);
             }
             SdoRequest::Upload { key } => self.begin_upload(store, *key, outbox),
             SdoRequest::UploadSegment { toggle } => self.take_upload_segment(*toggle, outbox),
@@ -105,19 +130,30 @@ impl Channel {
         requires greatest { (key : Key) → capacity_at (S.description store.old).rows key ≤
             self.old.greatest }
         ensures few { array_vec_len outbox.new ≤ array_vec_len outbox.old + 127 }
-        ensures answers { outbox.new.items ≡ outbox.old.items ++ frames_on self.old.answer
+        ensures answers { is_room_for (S.description store.old).rows self.old.room
+            self.old.current → outbox.new.items ≡ outbox.old.items ++ frames_on self.old.answer
             (answers_to (S.description store.old) (S.contents store.old) self.old.current
             frame.now.bytes) }
-        ensures channel { self.new ≡ record self.old {
-          left = self.old.time;
-          current = opened_next
-              (S.description store.old) (S.contents store.old) self.old.current frame.now.bytes;
-        } }
-        ensures key { result ≡ key_set (set_next (S.description store.old) (S.contents store.old)
+        ensures channel { is_room_for (S.description store.old).rows self.old.room
+            self.old.current → self.new ≡ record self.old {
+              left = self.old.time;
+              room = room_next (S.description store.old).rows self.old.room self.old.current
+                  frame.now.bytes;
+              current = opened_next
+                  (S.description store.old) (S.contents store.old) self.old.current frame.now.bytes;
+            } }
+        ensures key { is_room_for (S.description store.old).rows self.old.room self.old.current →
+            result ≡ key_set (set_next (S.description store.old) (S.contents store.old)
             self.old.current frame.now.bytes) }
-        ensures contents { S.contents store.new ≡ contents_with (S.contents store.old) (set_next
+        ensures contents { is_room_for (S.description store.old).rows self.old.room
+            self.old.current → S.contents store.new ≡ contents_with (S.contents store.old) (set_next
             (S.description store.old) (S.contents store.old) self.old.current frame.now.bytes) }
         ensures description { S.description store.new ≡ S.description store.old }
+        ensures same { self.new ≡ record self.old {
+          left = self.new.left;
+          room = self.new.room;
+          current = self.new.current;
+        } }
     {
         self.left = self.time;
         if self.is_in_sub_block() {
@@ -129,7 +165,7 @@ impl Channel {
                 self.give_up(AbortCode::UNKNOWN_COMMAND, outbox);
                 None
             }
-            Some(request) => self.take_request(store, &request, outbox),
+            Some(request) => self.take_request(store, &request, frame, outbox),
         }
     }
 }

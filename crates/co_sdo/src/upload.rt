@@ -1,6 +1,6 @@
 //! Uploads: expedited and segmented.
 
-ghost use Rattle.std.specs.Prelude.{◌≡◌, ℕ, ◌+◌, ◌*◌, ◌<◌, ◌≤◌, ◌++◌, [], ◌∷◌, Some, None, true, false, length, vec_len, vec_capacity};
+ghost use Rattle.std.specs.Prelude.{◌≡◌, ℕ, ◌+◌, ◌*◌, ◌<◌, ◌≤◌, ◌++◌, [], ◌∷◌, Some, None, true, false, length};
 ghost use Rattle.arrayvec.specs.ArrayVec.{array_vec_len};
 ghost use Rattle.co_value.specs.declared.key.Key.{Key};
 ghost use Rattle.co_frame.specs.declared.sdo_request.SdoRequest.TheVariants.{Upload};
@@ -10,6 +10,7 @@ ghost use Rattle.co_sdo.specs.Uploads.{value_at, part_after};
 ghost use Rattle.co_sdo.specs.Replies.{on_open, upload_answers, begin_answers};
 ghost use Rattle.co_sdo.specs.Steps.{next_on, after_upload_segment, after_begin};
 
+use crate::buffer::Buffer;
 use crate::channel::Channel;
 use crate::refusals::reading_refusal;
 use crate::stage::{Ongoing, Stage};
@@ -19,20 +20,15 @@ use co_frame::{AbortCode, ExpeditedData, Outbox, SdoResponse};
 use co_value::Key;
 
 // Copies the value of an entry into a buffer that has room for it.
-pub(crate) fn copy_value<S: ObjectStore>(store: &S, key: Key, buffer: &mut Vec<u8>)
-    requires { capacity_at (S.description store.now).rows key ≤ vec_capacity buffer.old }
-    ensures value { buffer.new.items ≡ value_at (S.contents store.now) key }
-    ensures few { vec_len buffer.new ≤ capacity_at (S.description store.now).rows key }
-    ensures capacity { vec_capacity buffer.old ≤ vec_capacity buffer.new }
+pub(crate) fn copy_value<S: ObjectStore>(store: &S, key: Key, buffer: &mut Buffer)
+    requires { capacity_at (S.description store.now).rows key ≤ buffer.old.room }
+    ensures value { buffer.new ≡ record buffer.old { bytes = value_at (S.contents store.now) key } }
+    ensures few { length buffer.new.bytes ≤ capacity_at (S.description store.now).rows key }
 {
     store_laws(store);
-    buffer.clear();
-    let Some(value) = store.bytes(key) else {
-        return;
-    };
-    match buffer.extend_from_slice(value) {
-        Ok(()) => {}
-        Err(_) => unreachable!(),
+    match store.bytes(key) {
+        Some(value) => buffer.fill(value),
+        None => buffer.clear(),
     }
 }
 
@@ -74,6 +70,7 @@ fn segment(part: &[u8]) -> ArrayVec<u8, 7>
 
 impl Channel {
     // The begin of an upload: initiate SDO upload, ccs = 2.
+    #[inline(never)]
     pub(crate) fn begin_upload<S: ObjectStore>(&mut self, store: &S, key: Key, outbox: &mut Outbox)
         requires room { array_vec_len outbox.old < 514 }
         requires greatest { (key : Key) → capacity_at (S.description store.now).rows key ≤
@@ -88,14 +85,14 @@ impl Channel {
     {
         self.current = None;
         if let Some(code) = reading_refusal(store, key) {
-            self.ids.refuse(key, code, outbox);
+            self.sender.refuse(key, code, outbox);
             return;
         }
         copy_value(store, key, &mut self.buffer);
         let len = self.buffer.len();
         if 1 <= len && len <= 4 {
-            let data = ExpeditedData::Indicated(expedited(&self.buffer));
-            self.ids
+            let data = ExpeditedData::Indicated(expedited(self.buffer.as_slice()));
+            self.sender
                 .send(SdoResponse::UploadExpedited { key, data }, outbox);
             return;
         }
@@ -104,7 +101,7 @@ impl Channel {
             stage: Stage::Upload { sent: 0 },
         });
         let size = Some(len as u32);
-        self.ids
+        self.sender
             .send(SdoResponse::UploadBegun { key, size }, outbox);
     }
 
@@ -133,7 +130,7 @@ impl Channel {
             self.give_up(AbortCode::TOGGLE_NOT_ALTERNATED, outbox);
             return;
         }
-        let data = segment(part_after(&self.buffer, sent as usize));
+        let data = segment(part_after(self.buffer.as_slice(), sent as usize));
         let last = self.buffer.len() <= 7 * sent as usize + 7;
         if last {
             self.current = None;
@@ -143,7 +140,7 @@ impl Channel {
                 stage: Stage::Upload { sent: sent + 1 },
             });
         }
-        self.ids
+        self.sender
             .send(SdoResponse::UploadSegment { toggle, data, last }, outbox);
     }
 }

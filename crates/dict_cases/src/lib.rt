@@ -4,6 +4,8 @@
 #[cfg(test)]
 mod build;
 #[cfg(test)]
+mod readers;
+#[cfg(test)]
 mod rules;
 #[cfg(test)]
 mod sheet;

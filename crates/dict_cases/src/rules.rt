@@ -1,7 +1,9 @@
 //! What reading and writing are refused with, entry by entry, on a dictionary of a data sheet.
 
 use crate::sheet::{LIMITS, built, key};
-use co_dict::{ListStore, ObjectStore, app_store, may_begin, may_read, may_store, push_error};
+use co_dict::{
+    ListStore, ObjectStore, app_store, may_begin, may_complete, may_read, may_store, push_error,
+};
 use co_frame::AbortCode;
 use std::alloc::Global;
 use std::test::Fail;
@@ -136,6 +138,40 @@ fn refusals_of_writing(rt: HostRuntime) -> Result<(), Fail> {
         None
     );
     assert_eq!(rt; store.bytes(value), Some([0xE8, 3].as_slice()));
+    Ok(())
+}
+
+#[test]
+fn refusals_of_completing(rt: HostRuntime) -> Result<(), Fail> {
+    let low = ("HighLimit=1000\n", "HighLimit=1000\nLowLimit=10\n");
+    let store = built(rt.alloc(), &[low], 5, &LIMITS)??;
+    let cases: [(u32, Option<u32>, &[u8], u32); 14] = [
+        (0x3000_00, Some(2), &[10, 0], 0x0602_0000),
+        (0x1018_05, Some(2), &[10, 0], 0x0609_0011),
+        (0x1201_01, Some(9), &[10, 0], 0x0601_0002),
+        // the indicated size against the entry
+        (0x2003_00, Some(3), &[10, 0], 0x0607_0012),
+        (0x2003_00, Some(1), &[10, 0], 0x0607_0013),
+        // the bytes against the indicated size
+        (0x2003_00, Some(2), &[10, 0, 0], 0x0607_0012),
+        (0x2001_00, Some(4), b"abcde", 0x0607_0012),
+        (0x2001_00, Some(4), b"abc", 0x0607_0013),
+        (0x2001_00, Some(4), b"abcd", 0),
+        // the bytes against the entry, its limits, its own rule
+        (0x2001_00, None, b"0123456789abcdefg", 0x0607_0012),
+        (0x2003_00, None, &[0xE9, 3], 0x0609_0031),
+        (0x2003_00, Some(2), &[9, 0], 0x0609_0032),
+        (0x2003_00, Some(2), &[10, 0], 0),
+        (0x1005_00, Some(4), &[0x80, 0, 0, 0x40], 0x0609_0030),
+    ];
+    for (place, indicated, bytes, refusal) in cases {
+        let answer = may_complete(&store, key(place), indicated, bytes);
+        assert_eq!(rt;
+            code(answer),
+            refusal,
+            "at {place}, {indicated:?}, {bytes:?}"
+        );
+    }
     Ok(())
 }
 

@@ -5,7 +5,8 @@ ghost use Rattle.co_value.specs.declared.key.Key.{Key};
 ghost use Rattle.co_sdo.specs.Refused.{capacity_at};
 
 use crate::large_sheet::LARGE;
-use co_dict::{Limits, ListStore, ObjectStore, app_store, store_laws};
+use crate::small_sheet::SMALL;
+use co_dict::{Area, Limits, ListStore, ObjectStore, app_store, capacity_law};
 use co_frame::{Frame, Outbox};
 use co_sdo::{Channel, Ids};
 use co_sheet::read;
@@ -30,38 +31,51 @@ pub(crate) struct Served<S: ObjectStore> {
     ghost greatest: { (key : Key) → capacity_at (S.description store).rows key ≤ channel.greatest },
 }
 
-/// The device of the large sheet.
+/// A device of a data sheet.
 pub(crate) type Device = Served<ListStore>;
+
+// A sheet at node-ID 5.
+fn device_of(alloc: Global, text: &str, limits: &Limits<'_>, time: u16) -> Result<Device, Fail> {
+    let sheet = read(alloc, text.as_bytes())?;
+    let store = ListStore::build(alloc, &sheet, 5, limits)?;
+    Ok(Served::over(alloc, store, time)?)
+}
 
 /// The large sheet at node-ID 5, with room for strings of 16 bytes; `time` is that of a transfer.
 pub(crate) fn large_device(alloc: Global, domains: u16, time: u16) -> Result<Device, Fail> {
-    let sheet = read(alloc, LARGE.as_bytes())?;
     let limits = Limits {
         strings: 16,
         domains,
         own: &[],
     };
-    let store = ListStore::build(alloc, &sheet, 5, &limits)?;
-    Ok(Served::over(alloc, store, time)?)
+    device_of(alloc, LARGE, &limits, time)
 }
 
-// No entry has room for more than 65,535 bytes.
-#[tactic(auto, using(crate::proofs::Capacities::room_at))]
-fn room<S: ObjectStore>(store: &S)
-    ensures { (key : Key) → capacity_at (S.description store.now).rows key ≤ 65535 }
-{
-    store_laws(store);
+/// The small sheet at node-ID 5, with room for strings of 12 bytes; a transfer has all the time that it needs.
+pub(crate) fn small_device(alloc: Global) -> Result<Device, Fail> {
+    let limits = Limits {
+        strings: 12,
+        domains: 0,
+        own: &[],
+    };
+    device_of(alloc, SMALL, &limits, 0)
 }
 
 impl<S: ObjectStore + Drop> Served<S> {
     fn over(alloc: Global, store: S, time: u16) -> Result<Served<S>, AllocError> {
-        room(&store);
+        capacity_law(&store);
         let ids = Ids {
             request: 0x605,
             answer: 0x585,
         };
         let channel = Channel::new(alloc, ids, 65535, time)?;
         Ok(Served { channel, store })
+    }
+
+    /// Puts the frames that answer a request in the place of what was sent, and gives the key that it set.
+    pub(crate) fn take_into(&mut self, request: &Frame, sent: &mut Outbox) -> Option<Key> {
+        sent.clear();
+        self.channel.take(&mut self.store, request, sent)
     }
 
     /// The frames that answer a request.
@@ -122,6 +136,11 @@ impl<S: ObjectStore + Drop> Served<S> {
         app_store(&self.store, key, bytes)?;
         self.store.set(key, bytes);
         Ok(())
+    }
+
+    /// All entries get their initial bytes again.
+    pub(crate) fn restore(&mut self) {
+        self.store.reset(Area::All);
     }
 
     /// Whether an entry has these bytes.

@@ -14,4 +14,10 @@ mod download;
 #[cfg(test)]
 mod large_sheet;
 #[cfg(test)]
+mod reply_table;
+#[cfg(test)]
+mod small_sheet;
+#[cfg(test)]
+mod states;
+#[cfg(test)]
 mod upload;

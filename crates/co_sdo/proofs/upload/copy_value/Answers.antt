@@ -4,12 +4,12 @@ use Rattle.co_sdo.specs.Refused.{capacity_at}
 use Rattle.co_sdo.proofs.StoreLemmas.{bytes_fit}
 use Rattle.co_sdo.proofs.upload.copy_value.Goals as goal
 
-pub unreachable-requires : goal.unreachable-requires
-unreachable-requires g c =
+pub fill-requires : goal.fill-requires
+fill-requires g c =
     let few : length c.in-Some.value.now ≤ capacity_at (g.S.ObjectStore.description c.args.store.now).rows c.args.key = bytes_fit _ _ _ _ c.store_laws.ensures c.in-Some.ensures in
-    absurd (omega (arith, few, c.in-Err.ensures.full))
+    omega (arith, few, c.requires)
 
-pub returns-clause-few : goal.returns-clause-few
-returns-clause-few g c =
+pub returns-in-Some-clause-few : goal.returns-in-Some-clause-few
+returns-in-Some-clause-few g c =
     let few : length c.in-Some.value.now ≤ capacity_at (g.S.ObjectStore.description c.args.store.now).rows c.args.key = bytes_fit _ _ _ _ c.store_laws.ensures c.in-Some.ensures in
-    omega (arith, few, c.in-Ok.ensures.len)
+    rw c.fill.ensures few

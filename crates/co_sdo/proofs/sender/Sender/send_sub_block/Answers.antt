@@ -2,7 +2,7 @@
 use Rattle.std.proofs.Common.{arith}
 use Rattle.co_sdo.specs.Uploads.{block_segment}
 use Rattle.co_sdo.proofs.UploadLemmas.{sub_block_more}
-use Rattle.co_sdo.proofs.ids.Ids.send_sub_block.Goals as goal
+use Rattle.co_sdo.proofs.sender.Sender.send_sub_block.Goals as goal
 
 pub loop-k-preserved : goal.loop-k-preserved
 loop-k-preserved c = record {

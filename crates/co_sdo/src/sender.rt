@@ -1,4 +1,4 @@
-//! The identifiers of an SDO channel.
+//! The answers of a channel, as they are sent.
 
 ghost use Rattle.std.specs.Prelude.{◌≡◌, ◌+◌, ◌≤◌, ◌<◌, ◌++◌, [], ◌∷◌};
 ghost use Rattle.arrayvec.specs.ArrayVec.{array_vec_len};
@@ -9,17 +9,16 @@ ghost use Rattle.co_sdo.specs.Replies.{aborted};
 use co_frame::{AbortCode, Outbox, SdoResponse};
 use co_value::Key;
 
-/// The identifiers that a channel receives and sends on, each 0 to 7FFh (CiA 301, 7.5.2.33).
-#[derive(Clone, Copy, Debug, PartialEq, Eq)]
-pub struct Ids {
-    /// That of the client's requests.
-    pub request: u16,
-    /// That of the server's answers.
-    pub answer: u16,
+/// What a channel sends its answers by.
+#[derive(Clone, Copy)]
+pub(crate) struct Sender {
+    /// The identifier of the answers.
+    pub(crate) answer: u16,
 }
 
-impl Ids {
+impl Sender {
     // Sends a response.
+    #[inline(always)]
     pub(crate) fn send(self, response: SdoResponse, outbox: &mut Outbox)
         requires id { self.answer < 2048 }
         requires room { array_vec_len outbox.old < 514 }
@@ -32,6 +31,8 @@ impl Ids {
     }
 
     // Refuses a request with this key.
+    #[cold]
+    #[inline(never)]
     pub(crate) fn refuse(self, key: Key, code: AbortCode, outbox: &mut Outbox)
         requires id { self.answer < 2048 }
         requires room { array_vec_len outbox.old < 514 }

@@ -3,7 +3,7 @@ use Rattle.std.specs.List.{range_with_len}
 use Rattle.arrayvec.specs.ArrayVec.{array_vec_len}
 use Rattle.co_sdo.specs.Log.{Segment, frames_on}
 use Rattle.co_sdo.specs.Uploads.{block_segment}
-use Rattle.co_sdo.proofs.ids.Ids.send_sub_block.Given as goal
+use Rattle.co_sdo.proofs.sender.Sender.send_sub_block.Given as goal
 
 abbrev pub invariant-loop-k : goal.invariant-loop-k
 invariant-loop-k l = record {
