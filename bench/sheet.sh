@@ -1,6 +1,6 @@
 #!/bin/sh
-# Checks a data sheet of 1 MiB and one of half its size, and reads the first by Python's configparser, side by side.
-# Status 1 where the first takes more than 2.5 times as long as the second.
+# Checks a data sheet of 1 MiB and one of half its size, and reads the first by the C library inih and by Python's
+# configparser, side by side. Status 1 where the first takes more than 2.5 times as long as the second.
 set -eu
 root=$(CDPATH='' cd -- "$(dirname -- "$(readlink -f -- "$0")")/.." && pwd)
 folder=$(mktemp -d)
@@ -39,12 +39,12 @@ make_sheet() {
         }'
 }
 
-# the best of five checks of a sheet, in microseconds
+# the best of five runs of a command, in microseconds
 best_of_five() {
     best=
     for _ in 1 2 3 4 5; do
         begin=$(date +%s%N)
-        "$root/crates/conode/out/conode" check "$1" > "$folder/out" || true
+        "$@" > "$folder/out" || true
         end=$(date +%s%N)
         spent=$(((end - begin) / 1000))
         if [ -z "$best" ] || [ "$spent" -lt "$best" ]; then best=$spent; fi
@@ -54,7 +54,7 @@ best_of_five() {
 
 # checks a sheet, which has to hold what it was made of, and sets `spent_best`
 measure() {
-    spent_best=$(best_of_five "$2")
+    spent_best=$(best_of_five "$root/crates/conode/out/conode" check "$2")
     [ "$(cat "$folder/out")" = "ok: $3, 0 notes" ] || { echo "not ok: $3, but $(cat "$folder/out")" >&2; exit 1; }
     awk -v name="$1" -v spent="$spent_best" -v bytes="$(wc -c < "$2")" -v held="$3" \
         'BEGIN { printf "%-13s %8.1f ms for %d bytes, %s\n", name ":", spent / 1000, bytes, held }'
@@ -78,6 +78,38 @@ time_of_whole=$spent_best
 status=0
 awk -v a="$time_of_whole" -v b="$time_of_half" \
     'BEGIN { printf "whole / half: %8.2f (at most 2.5)\n", a / b; exit (a > 2.5 * b) }' || status=1
+
+# The C library cuts the text into sections, names and values, and this hashes them.
+cat > "$folder/inih.c" << 'END'
+#include <ini.h>
+#include <stdio.h>
+
+static unsigned hash = 5381;
+
+static void add(const char *text) {
+    for (; *text; text++) hash = hash * 33 ^ (unsigned char)*text;
+}
+
+static int take(void *user, const char *section, const char *name, const char *value) {
+    (void)user;
+    add(section), add(name), add(value);
+    return 1;
+}
+
+int main(int argc, char **argv) {
+    int bad = argc != 2 || ini_parse(argv[1], take, NULL);
+    printf("%u\n", hash);
+    return bad;
+}
+END
+if cc -O2 -o "$folder/inih" "$folder/inih.c" -linih 2> "$folder/cc"; then
+    "$folder/inih" "$whole" > "$folder/out" || { echo "inih refuses the text" >&2; exit 1; }
+    time_of_inih=$(best_of_five "$folder/inih" "$whole")
+    awk -v a="$time_of_whole" -v b="$time_of_inih" \
+        'BEGIN { printf "inih:         %8.1f ms for the same text, sections, names and values hashed\nratio:        %8.2f (aim: at most 1.5)\n", b / 1000, a / b }'
+else
+    echo "libinih-dev is not installed, so inih is not measured"
+fi
 
 if command -v python3 > /dev/null; then
     time_of_python=$(python3 - "$whole" << 'END'

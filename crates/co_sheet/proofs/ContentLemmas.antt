@@ -1,7 +1,7 @@
 -- What a sheet holds, part by part.
 use Rattle.std.proofs.Common.{◌≡◌, List, Bool}
 use Rattle.co_sheet.specs.declared.note.Note.{Note}
-use Rattle.co_sheet.specs.Sections.{SheetSection}
+use Rattle.co_text.specs.Sections.{TextSection}
 use Rattle.co_sheet.specs.Content.{Row, ObjectRow, SectionName, SheetContent, content_of}
 
 same-parts : (objects other_objects : List ObjectRow) (rows other_rows : List Row) (names other_names : List SectionName) (notes other_notes : List Note) (dummies other_dummies : List Bool)
@@ -9,7 +9,7 @@ same-parts : (objects other_objects : List ObjectRow) (rows other_rows : List Ro
     → ◌≡◌ {A = SheetContent} (record { objects = objects; rows = rows; sections = names; notes = notes; dummies = dummies }) (record { objects = other_objects; rows = other_rows; sections = other_names; notes = other_notes; dummies = other_dummies })
 same-parts objects other_objects rows other_rows names other_names notes other_notes dummies other_dummies o r s n d = cc
 
-pub content-parts : (sections : List SheetSection) (objects : List ObjectRow) (rows : List Row) (names : List SectionName) (notes : List Note) (dummies : List Bool)
+pub content-parts : (sections : List TextSection) (objects : List ObjectRow) (rows : List Row) (names : List SectionName) (notes : List Note) (dummies : List Bool)
     → objects ≡ (content_of sections).objects → rows ≡ (content_of sections).rows → names ≡ (content_of sections).sections → notes ≡ (content_of sections).notes → dummies ≡ (content_of sections).dummies
     → ◌≡◌ {A = SheetContent} (record { objects = objects; rows = rows; sections = names; notes = notes; dummies = dummies }) (content_of sections)
 content-parts sections objects rows names notes dummies =

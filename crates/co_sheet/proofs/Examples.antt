@@ -7,13 +7,12 @@ use Rattle.co_sheet.specs.declared.fault.FaultKind.TheVariants.{TooLarge, BadLin
 use Rattle.co_sheet.specs.declared.entry.Access.TheVariants.{Ro}
 use Rattle.co_value.specs.declared.data_type.DataType.TheVariants.{Unsigned8, Unsigned32}
 use Rattle.std.specs.Option.{option_or}
-use Rattle.co_sheet.specs.Text.{lines_of}
-use Rattle.co_sheet.specs.Sections.{fault_at, first_line_fault}
+use Rattle.co_sheet.specs.Faults.{fault_at}
 use Rattle.co_sheet.specs.Checks.{checks}
 use Rattle.co_value.specs.declared.data_type.DataType.{DataType}
 use Rattle.co_sheet.specs.declared.entry.Access.{Access}
 use Rattle.co_sheet.specs.Limits.{Default, absent, number}
-use Rattle.co_sheet.specs.Accepted.{first_fault, first_found, sections_in}
+use Rattle.co_sheet.specs.Accepted.{first_fault, first_bad_line, first_found, sections_in}
 use Rattle.co_sheet.specs.Content.{rows_of, Row}
 
 -- lines as a text, each ended by LF
@@ -117,7 +116,7 @@ too_large bytes h =
 
 -- one of just so many is not: its lines and the checks say what is wrong with it
 large_enough : (bytes : List ℕ) → length bytes ≡ 1048576
-    → first_fault bytes ≡ option_or (first_line_fault [] (lines_of bytes)) (first_found checks (sections_in bytes))
+    → first_fault bytes ≡ option_or (first_bad_line bytes) (first_found checks (sections_in bytes))
 large_enough bytes h =
     let test : ltb 1048576 (length bytes) ≡ false = grind (arith, nat_tests) in
     rw test refl

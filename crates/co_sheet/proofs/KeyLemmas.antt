@@ -6,20 +6,21 @@ use Rattle.std.specs.List.{cons_option, list_any, AllByRecursion}
 use Rattle.std.proofs.lemmas.List.Elements.{All-from_recursion}
 use Rattle.std.proofs.lemmas.List.Kept.{AllPairs-cons}
 use Rattle.co_value.specs.declared.key.Key.{Key}
-use Rattle.co_sheet.specs.declared.section.SectionKind.{SectionKind}
-use Rattle.co_sheet.specs.declared.section.SectionKind.TheVariants.{SubIndex}
+use Rattle.co_text.specs.declared.section_kind.SectionKind.{SectionKind}
+use Rattle.co_text.specs.declared.section_kind.SectionKind.TheVariants.{SubIndex}
 use Rattle.co_sheet.specs.declared.fault.FaultKind.TheVariants.{ListedTwice}
-use Rattle.co_sheet.specs.Names.{is_list}
-use Rattle.co_sheet.specs.Sections.{KeyValue, SheetSection}
-use Rattle.co_sheet.specs.ObjectLists.{number_of_key, is_one_of, count_of, Listing, listings_in, listings}
+use Rattle.co_text.specs.Names.{is_list}
+use Rattle.co_text.specs.Sections.{Property, TextSection}
+use Rattle.co_text.specs.Properties.{property_number}
+use Rattle.co_sheet.specs.ObjectLists.{is_one_of, count_of, Listing, listings_in, listings}
 use Rattle.co_sheet.specs.ListingViews.{is_key_to, listing_at}
 use Rattle.co_sheet.specs.Entries.{single_codes, compound_codes, object_code, ListedObject, listed_objects, Entry, sub_index_in, sub_indices, entries_in, entries_of}
 use Rattle.co_sheet.specs.Checks.{fault_if, listed_twice}
 use Rattle.co_value.specs.Keys.{is_key_before, same_key}
 use Rattle.co_sheet.specs.Content.{insert_before, in_order}
-use Rattle.co_sheet.specs.SectionLaws.{IsLikeNone, AllDiffer, is_read_twice, RisesFrom, key_lines, IsParsed}
+use Rattle.co_text.specs.SectionLaws.{IsLikeNone, AllDiffer, is_read_twice, RisesFrom, property_lines, IsParsed}
 use Rattle.co_sheet.proofs.ListingLemmas.{from_1000, named_by, named-all, named-in, none-named-in}
-use Rattle.co_sheet.proofs.SectionLawLemmas.{rises-rest, rises-cons}
+use Rattle.co_text.proofs.SectionLawLemmas.{rises-rest, rises-cons}
 use Rattle.co_sheet.proofs.AcceptedLemmas.{no_fault, both-empty}
 
 -- ---- lists
@@ -54,43 +55,43 @@ at_test : (b : Bool) (o : Option Listing) (line : ℕ) → IfSome o (λ l. l.lin
 at_test true o line h = h
 at_test false o line h = tt
 
-line-listed : (count : ℕ) (k : KeyValue) → IfSome (listing_at count k) (λ l. l.line ≡ k.line)
-line-listed count k = at_test (is_key_to count k) _ k.line (at_number (number_of_key k) k.line)
+line-listed : (count : ℕ) (k : Property) → IfSome (listing_at count k) (λ l. l.line ≡ k.line)
+line-listed count k = at_test (is_key_to count k) _ k.line (at_number (property_number k) k.line)
 
 abbrev line_of : Listing → ℕ
 line_of l = l.line
 
-abbrev lines_of_keys : List KeyValue → List ℕ
-lines_of_keys keys = map (λ (k : KeyValue). k.line) keys
+abbrev lines_of_keys : List Property → List ℕ
+lines_of_keys keys = map (λ (k : Property). k.line) keys
 
 -- what rises in a rest of lines, rises in another
 abbrev Carries : List ℕ → List ℕ → Type 0
 Carries rest other = (n : ℕ) → RisesFrom n rest → RisesFrom n other
 
-rises-keys : (count : ℕ) (keys : List KeyValue) (rest other : List ℕ) → Carries rest other → (low : ℕ) → RisesFrom low (lines_of_keys keys ++ rest)
+rises-keys : (count : ℕ) (keys : List Property) (rest other : List ℕ) → Carries rest other → (low : ℕ) → RisesFrom low (lines_of_keys keys ++ rest)
     → RisesFrom low (map line_of (filter_map (listing_at count) keys) ++ other)
 rises-keys count [] rest other more low rises = more low rises
 rises-keys count (k ∷ keys) rest other more low rises =
     rises-cons line_of (listing_at count k) k.line low (filter_map (listing_at count) keys) other (line-listed count k) rises.0 (rises-keys count keys rest other more (k.line + 1) rises.1)
 
-rises-counted : (s : SheetSection) (count : Option ℕ) → count_of s ≡ count → (rest other : List ℕ) → Carries rest other → (low : ℕ) → RisesFrom low (lines_of_keys s.keys ++ rest)
+rises-counted : (s : TextSection) (count : Option ℕ) → count_of s ≡ count → (rest other : List ℕ) → Carries rest other → (low : ℕ) → RisesFrom low (lines_of_keys s.properties ++ rest)
     → RisesFrom low (map line_of (filter from_1000 (listings_in s)) ++ other)
 rises-counted s (Some count) is rest other more low rises =
-    subst (λ (ls : List Listing). RisesFrom low (map line_of ls ++ other)) (sym (named-in s count is)) (rises-keys count s.keys rest other more low rises)
+    subst (λ (ls : List Listing). RisesFrom low (map line_of ls ++ other)) (sym (named-in s count is)) (rises-keys count s.properties rest other more low rises)
 rises-counted s None is rest other more low rises =
-    subst (λ (ls : List Listing). RisesFrom low (map line_of ls ++ other)) (sym (none-named-in s is)) (more low (rises-rest low (lines_of_keys s.keys) rest rises))
+    subst (λ (ls : List Listing). RisesFrom low (map line_of ls ++ other)) (sym (none-named-in s is)) (more low (rises-rest low (lines_of_keys s.properties) rest rises))
 
-rises-list : (b : Bool) (s : SheetSection) (rest other : List ℕ) → Carries rest other → (low : ℕ) → RisesFrom low (lines_of_keys s.keys ++ rest)
+rises-list : (b : Bool) (s : TextSection) (rest other : List ℕ) → Carries rest other → (low : ℕ) → RisesFrom low (lines_of_keys s.properties ++ rest)
     → RisesFrom low (map line_of (cond b (filter from_1000 (listings_in s)) []) ++ other)
 rises-list true s rest other more low rises = rises-counted s (count_of s) refl rest other more low rises
-rises-list false s rest other more low rises = more low (rises-rest low (lines_of_keys s.keys) rest rises)
+rises-list false s rest other more low rises = more low (rises-rest low (lines_of_keys s.properties) rest rises)
 
-rises-named : (ss : List SheetSection) → Carries (key_lines ss) (flat_map (λ s. map line_of (named_by s)) ss)
+rises-named : (ss : List TextSection) → Carries (property_lines ss) (flat_map (λ s. map line_of (named_by s)) ss)
 rises-named [] low rises = tt
 rises-named (s ∷ ss) low rises =
-    rises-list (is_list s.kind) s (key_lines ss) (flat_map (λ t. map line_of (named_by t)) ss) (rises-named ss) low rises
+    rises-list (is_list s.kind) s (property_lines ss) (flat_map (λ t. map line_of (named_by t)) ss) (rises-named ss) low rises
 
-listings-rise : (sections : List SheetSection) → IsParsed sections → RisesFrom 1 (map line_of (listings sections))
+listings-rise : (sections : List TextSection) → IsParsed sections → RisesFrom 1 (map line_of (listings sections))
 listings-rise sections parsed =
     subst (RisesFrom 1) (sym (ap (map line_of) (named-all sections) ∙ map-flat_map line_of named_by sections)) (rises-named sections 1 parsed.lines_rise)
 
@@ -137,7 +138,7 @@ indices-differ [] low rises none = tt
 indices-differ (l ∷ ls) low rises none =
     (unlike-later l (l.line + 1) ls (omega arith) rises.1 (quiet-head l ls ls none.1), indices-differ ls (l.line + 1) rises.1 (quiet-tail l ls ls none.1))
 
-pub listings-differ : (sections : List SheetSection) → IsParsed sections → flat_map (listed_twice sections) (listings sections) ≡ [] → AllDiffer eqb (map (λ l. l.index) (listings sections))
+pub listings-differ : (sections : List TextSection) → IsParsed sections → flat_map (listed_twice sections) (listings sections) ≡ [] → AllDiffer eqb (map (λ l. l.index) (listings sections))
 listings-differ sections parsed none = indices-differ (listings sections) 1 (listings-rise sections parsed) (quiet (listings sections) (listings sections) none)
 
 -- ---- no entry has another's key
@@ -145,34 +146,34 @@ listings-differ sections parsed none = indices-differ (listings sections) 1 (lis
 abbrev key_of : Entry → Key
 key_of e = e.key
 
-abbrev kinds : List SheetSection → List SectionKind
-kinds ss = map (λ (s : SheetSection). s.kind) ss
+abbrev kinds : List TextSection → List SectionKind
+kinds ss = map (λ (s : TextSection). s.kind) ss
 
-part_cases : (b : Bool) (key own : Key) (s : SheetSection) (keys : List Entry) → same_key key own ≡ false → IsLikeNone same_key key (map key_of keys)
+part_cases : (b : Bool) (key own : Key) (s : TextSection) (keys : List Entry) → same_key key own ≡ false → IsLikeNone same_key key (map key_of keys)
     → IsLikeNone same_key key (map key_of (cons_option (if b then Some (record { key = own; section = s }) else None) keys))
 part_cases true key own s keys h none = (h, none)
 part_cases false key own s keys h none = none
 
-part-unlike-kind : (key : Key) (kind : SectionKind) (index : ℕ) (s : SheetSection) (keys : List Entry) → is_read_twice (SubIndex key) kind ≡ false → IsLikeNone same_key key (map key_of keys)
+part-unlike-kind : (key : Key) (kind : SectionKind) (index : ℕ) (s : TextSection) (keys : List Entry) → is_read_twice (SubIndex key) kind ≡ false → IsLikeNone same_key key (map key_of keys)
     → IsLikeNone same_key key (map key_of (cons_option (sub_index_in index s kind) keys))
 part-unlike-kind key (SubIndex own) index s keys h none = part_cases (eqb own.index index) key own s keys h none
 part-unlike-kind key kind index s keys h none = none
 
-part-unlike : (key : Key) (index : ℕ) (ss : List SheetSection) → IsLikeNone is_read_twice (SubIndex key) (kinds ss) → IsLikeNone same_key key (map key_of (sub_indices ss index))
+part-unlike : (key : Key) (index : ℕ) (ss : List TextSection) → IsLikeNone is_read_twice (SubIndex key) (kinds ss) → IsLikeNone same_key key (map key_of (sub_indices ss index))
 part-unlike key index [] none = tt
 part-unlike key index (s ∷ ss) none = part-unlike-kind key s.kind index s (sub_indices ss index) none.0 (part-unlike key index ss none.1)
 
-differ_cases : (b : Bool) (own : Key) (s : SheetSection) (keys : List Entry) → IsLikeNone same_key own (map key_of keys) → AllDiffer same_key (map key_of keys)
+differ_cases : (b : Bool) (own : Key) (s : TextSection) (keys : List Entry) → IsLikeNone same_key own (map key_of keys) → AllDiffer same_key (map key_of keys)
     → AllDiffer same_key (map key_of (cons_option (if b then Some (record { key = own; section = s }) else None) keys))
 differ_cases true own s keys none differ = (none, differ)
 differ_cases false own s keys none differ = differ
 
-parts-differ-kind : (kind : SectionKind) (index : ℕ) (s : SheetSection) (ss : List SheetSection) → IsLikeNone is_read_twice kind (kinds ss) → AllDiffer same_key (map key_of (sub_indices ss index))
+parts-differ-kind : (kind : SectionKind) (index : ℕ) (s : TextSection) (ss : List TextSection) → IsLikeNone is_read_twice kind (kinds ss) → AllDiffer same_key (map key_of (sub_indices ss index))
     → AllDiffer same_key (map key_of (cons_option (sub_index_in index s kind) (sub_indices ss index)))
 parts-differ-kind (SubIndex own) index s ss none differ = differ_cases (eqb own.index index) own s (sub_indices ss index) (part-unlike own index ss none) differ
 parts-differ-kind kind index s ss none differ = differ
 
-parts-differ : (index : ℕ) (ss : List SheetSection) → AllDiffer is_read_twice (kinds ss) → AllDiffer same_key (map key_of (sub_indices ss index))
+parts-differ : (index : ℕ) (ss : List TextSection) → AllDiffer is_read_twice (kinds ss) → AllDiffer same_key (map key_of (sub_indices ss index))
 parts-differ index [] differ = tt
 parts-differ index (s ∷ ss) differ = parts-differ-kind s.kind index s ss differ.0 (parts-differ index ss differ.1)
 
@@ -180,33 +181,33 @@ parts-differ index (s ∷ ss) differ = parts-differ-kind s.kind index s ss diffe
 abbrev HaveIndex : ℕ → List Key → Type 0
 HaveIndex index keys = AllByRecursion (λ k. k.index ≡ index) keys
 
-index_cases : (b : Bool) (own : Key) (index : ℕ) (s : SheetSection) (keys : List Entry) → (b ≡ true → own.index ≡ index) → HaveIndex index (map key_of keys)
+index_cases : (b : Bool) (own : Key) (index : ℕ) (s : TextSection) (keys : List Entry) → (b ≡ true → own.index ≡ index) → HaveIndex index (map key_of keys)
     → HaveIndex index (map key_of (cons_option (if b then Some (record { key = own; section = s }) else None) keys))
 index_cases true own index s keys is more = (is refl, more)
 index_cases false own index s keys is more = more
 
-parts-index-kind : (kind : SectionKind) (index : ℕ) (s : SheetSection) (keys : List Entry) → HaveIndex index (map key_of keys)
+parts-index-kind : (kind : SectionKind) (index : ℕ) (s : TextSection) (keys : List Entry) → HaveIndex index (map key_of keys)
     → HaveIndex index (map key_of (cons_option (sub_index_in index s kind) keys))
 parts-index-kind (SubIndex own) index s keys more = index_cases (eqb own.index index) own index s keys (eqb-true own.index index) more
 parts-index-kind kind index s keys more = more
 
-parts-index : (index : ℕ) (ss : List SheetSection) → HaveIndex index (map key_of (sub_indices ss index))
+parts-index : (index : ℕ) (ss : List TextSection) → HaveIndex index (map key_of (sub_indices ss index))
 parts-index index [] = tt
 parts-index index (s ∷ ss) = parts-index-kind s.kind index s (sub_indices ss index) (parts-index index ss)
 
-keys-index : (single compound : Bool) (index : ℕ) (s : SheetSection) (ss : List SheetSection)
+keys-index : (single compound : Bool) (index : ℕ) (s : TextSection) (ss : List TextSection)
     → HaveIndex index (map key_of (cond single (record { key = record { index = index; sub = 0 }; section = s } ∷ []) (cond compound (sub_indices ss index) [])))
 keys-index true compound index s ss = (refl, tt)
 keys-index false true index s ss = parts-index index ss
 keys-index false false index s ss = tt
 
-keys-differ : (single compound : Bool) (index : ℕ) (s : SheetSection) (ss : List SheetSection) → AllDiffer is_read_twice (kinds ss)
+keys-differ : (single compound : Bool) (index : ℕ) (s : TextSection) (ss : List TextSection) → AllDiffer is_read_twice (kinds ss)
     → AllDiffer same_key (map key_of (cond single (record { key = record { index = index; sub = 0 }; section = s } ∷ []) (cond compound (sub_indices ss index) [])))
 keys-differ true compound index s ss differ = (tt, tt)
 keys-differ false true index s ss differ = parts-differ index ss differ
 keys-differ false false index s ss differ = tt
 
-abbrev keys_in : List SheetSection → ListedObject → List Key
+abbrev keys_in : List TextSection → ListedObject → List Key
 keys_in sections o = map key_of (entries_in sections o)
 
 other_index : (k l : Key) (i j : ℕ) → k.index ≡ i → l.index ≡ j → eqb i j ≡ false → same_key k l ≡ false
@@ -216,7 +217,7 @@ unlike-index : (k : Key) (i j : ℕ) (keys : List Key) → k.index ≡ i → eqb
 unlike-index k i j [] of_k h have = tt
 unlike-index k i j (l ∷ keys) of_k h have = (other_index k l i j of_k have.0 h, unlike-index k i j keys of_k h have.1)
 
-unlike-objects : (sections : List SheetSection) (k : Key) (i : ℕ) (os : List ListedObject) → k.index ≡ i → IsLikeNone eqb i (map (λ (o : ListedObject). o.index) os)
+unlike-objects : (sections : List TextSection) (k : Key) (i : ℕ) (os : List ListedObject) → k.index ≡ i → IsLikeNone eqb i (map (λ (o : ListedObject). o.index) os)
     → IsLikeNone same_key k (flat_map (keys_in sections) os)
 unlike-objects sections k i [] of_k none = tt
 unlike-objects sections k i (o ∷ os) of_k none =
@@ -224,12 +225,12 @@ unlike-objects sections k i (o ∷ os) of_k none =
     (unlike-index k i o.index (keys_in sections o) of_k none.0 (keys-index (is_one_of single_codes (object_code o.section)) (is_one_of compound_codes (object_code o.section)) o.index o.section sections))
     (unlike-objects sections k i os of_k none.1)
 
-each-unlike : (sections : List SheetSection) (i : ℕ) (os : List ListedObject) (keys : List Key) → IsLikeNone eqb i (map (λ (o : ListedObject). o.index) os) → HaveIndex i keys
+each-unlike : (sections : List TextSection) (i : ℕ) (os : List ListedObject) (keys : List Key) → IsLikeNone eqb i (map (λ (o : ListedObject). o.index) os) → HaveIndex i keys
     → AllByRecursion (λ k. IsLikeNone same_key k (flat_map (keys_in sections) os)) keys
 each-unlike sections i os [] none have = tt
 each-unlike sections i os (k ∷ keys) none have = (unlike-objects sections k i os have.0 none, each-unlike sections i os keys none have.1)
 
-objects-differ : (sections : List SheetSection) (os : List ListedObject) → AllDiffer is_read_twice (kinds sections) → AllDiffer eqb (map (λ (o : ListedObject). o.index) os)
+objects-differ : (sections : List TextSection) (os : List ListedObject) → AllDiffer is_read_twice (kinds sections) → AllDiffer eqb (map (λ (o : ListedObject). o.index) os)
     → AllDiffer same_key (flat_map (keys_in sections) os)
 objects-differ sections [] kinds-apart differ = tt
 objects-differ sections (o ∷ os) kinds-apart differ =
@@ -240,7 +241,7 @@ objects-differ sections (o ∷ os) kinds-apart differ =
     (objects-differ sections os kinds-apart differ.1)
     (each-unlike sections o.index os (keys_in sections o) differ.0 (keys-index single compound o.index o.section sections))
 
-pub entries-differ : (sections : List SheetSection) → IsParsed sections → AllDiffer eqb (map (λ o. o.index) (listed_objects sections)) → AllDiffer same_key (map (λ e. e.key) (entries_of sections))
+pub entries-differ : (sections : List TextSection) → IsParsed sections → AllDiffer eqb (map (λ o. o.index) (listed_objects sections)) → AllDiffer same_key (map (λ e. e.key) (entries_of sections))
 entries-differ sections parsed differ =
     subst (AllDiffer same_key) (sym (map-flat_map key_of (entries_in sections) (listed_objects sections))) (objects-differ sections (listed_objects sections) parsed.kinds_differ differ)
 

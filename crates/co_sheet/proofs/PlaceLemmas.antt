@@ -7,11 +7,12 @@ use Rattle.std.proofs.lemmas.Str.{digit_value_digit}
 use Rattle.std.proofs.lemmas.Str.Parse.{digit_from_value}
 use Rattle.std.specs.List.{filter, list_any, list_all, range_with_len, AllByRecursion}
 use Rattle.std.specs.Char.{digit_value, is_digit}
-use Rattle.co_sheet.specs.Text.{same_name}
-use Rattle.co_sheet.specs.Names.{number_in, is_position}
-use Rattle.co_sheet.specs.Sections.{KeyValue, SheetSection}
+use Rattle.co_text.specs.Text.{same_name}
+use Rattle.co_text.specs.Names.{number_in, is_position}
+use Rattle.co_text.specs.Sections.{Property, TextSection}
 use Rattle.co_sheet.specs.ObjectLists.{keys_to, has_place}
-use Rattle.co_sheet.specs.SectionLaws.{IsLikeNone, AllDiffer, KeysDiffer, CountsPlaces}
+use Rattle.co_text.specs.SectionLaws.{IsLikeNone, AllDiffer, PropertiesDiffer}
+use Rattle.co_sheet.specs.PlaceLaws.{CountsPlaces}
 
 -- ---- a number is written in one way, without leading zeros
 
@@ -109,14 +110,14 @@ one_spelling (c ∷ cs) (d ∷ ds) h k same =
 
 -- ---- numbers of places differ
 
-abbrev number_of : KeyValue → ℕ
-number_of k = number_in 10 k.key
+abbrev number_of : Property → ℕ
+number_of k = number_in 10 k.name
 
-abbrev is_place_to : ℕ → KeyValue → Bool
-is_place_to n k = is_position k.key && leb (number_of k) n
+abbrev is_place_to : ℕ → Property → Bool
+is_place_to n k = is_position k.name && leb (number_of k) n
 
-abbrev key_of : KeyValue → List ℕ
-key_of k = k.key
+abbrev key_of : Property → List ℕ
+key_of k = k.name
 
 same_self : (cs : List ℕ) → same_name cs cs ≡ true
 same_self cs = (bytes_eq-Decides (str_to_ascii_lowercase cs) (str_to_ascii_lowercase cs)).1 refl
@@ -132,22 +133,22 @@ apart_cases false cs ds is h k apart = refl
 abbrev AreWithin : ℕ → ℕ → List ℕ → Type 0
 AreWithin low n xs = AllByRecursion (λ x. (low ≤ x) × (x < low + n)) xs
 
-unlike_cases : (test : Bool) (n : ℕ) (k j : KeyValue) (ks : List KeyValue) → is_place_to n j ≡ test → IsPlace k.key → same_name k.key j.key ≡ false
+unlike_cases : (test : Bool) (n : ℕ) (k j : Property) (ks : List Property) → is_place_to n j ≡ test → IsPlace k.name → same_name k.name j.name ≡ false
     → IsLikeNone eqb (number_of k) (map number_of (filter (is_place_to n) ks)) → IsLikeNone eqb (number_of k) (map number_of (cond test (j ∷ filter (is_place_to n) ks) (filter (is_place_to n) ks)))
 unlike_cases true n k j ks is place apart none =
-    (apart_cases (eqb (number_of k) (number_of j)) k.key j.key refl place (both _ _ is).0 apart, none)
+    (apart_cases (eqb (number_of k) (number_of j)) k.name j.name refl place (both _ _ is).0 apart, none)
 unlike_cases false n k j ks is place apart none = none
 
-unlike : (n : ℕ) (k : KeyValue) (ks : List KeyValue) → IsPlace k.key → IsLikeNone same_name k.key (map key_of ks) → IsLikeNone eqb (number_of k) (map number_of (filter (is_place_to n) ks))
+unlike : (n : ℕ) (k : Property) (ks : List Property) → IsPlace k.name → IsLikeNone same_name k.name (map key_of ks) → IsLikeNone eqb (number_of k) (map number_of (filter (is_place_to n) ks))
 unlike n k [] place none = tt
 unlike n k (j ∷ ks) place none = unlike_cases (is_place_to n j) n k j ks refl place none.0 (unlike n k ks place none.1)
 
-differ_cases : (test : Bool) (n : ℕ) (k : KeyValue) (ks : List KeyValue) → is_place_to n k ≡ test → IsLikeNone same_name k.key (map key_of ks) → AllDiffer eqb (map number_of (filter (is_place_to n) ks))
+differ_cases : (test : Bool) (n : ℕ) (k : Property) (ks : List Property) → is_place_to n k ≡ test → IsLikeNone same_name k.name (map key_of ks) → AllDiffer eqb (map number_of (filter (is_place_to n) ks))
     → AllDiffer eqb (map number_of (cond test (k ∷ filter (is_place_to n) ks) (filter (is_place_to n) ks)))
 differ_cases true n k ks is none differ = (unlike n k ks (both _ _ is).0 none, differ)
 differ_cases false n k ks is none differ = differ
 
-numbers-differ : (n : ℕ) (ks : List KeyValue) → AllDiffer same_name (map key_of ks) → AllDiffer eqb (map number_of (filter (is_place_to n) ks))
+numbers-differ : (n : ℕ) (ks : List Property) → AllDiffer same_name (map key_of ks) → AllDiffer eqb (map number_of (filter (is_place_to n) ks))
 numbers-differ n [] differ = tt
 numbers-differ n (k ∷ ks) differ = differ_cases (is_place_to n k) n k ks refl differ.0 (numbers-differ n ks differ.1)
 
@@ -158,16 +159,16 @@ from_one (c ∷ cs) h =
     let more = grows (10 * 0 + digit_value c) cs in
     omega arith
 
-within_cases : (test : Bool) (n : ℕ) (k : KeyValue) (ks : List KeyValue) → is_place_to n k ≡ test → AreWithin 1 n (map number_of (filter (is_place_to n) ks))
+within_cases : (test : Bool) (n : ℕ) (k : Property) (ks : List Property) → is_place_to n k ≡ test → AreWithin 1 n (map number_of (filter (is_place_to n) ks))
     → AreWithin 1 n (map number_of (cond test (k ∷ filter (is_place_to n) ks) (filter (is_place_to n) ks)))
 within_cases true n k ks is within =
-    let parts = both (is_position k.key) (leb (number_of k) n) is in
-    let some = from_one k.key parts.0 in
+    let parts = both (is_position k.name) (leb (number_of k) n) is in
+    let some = from_one k.name parts.0 in
     let few = leb-true (number_of k) n parts.1 in
     ((some, omega arith), within)
 within_cases false n k ks is within = within
 
-numbers-within : (n : ℕ) (ks : List KeyValue) → AreWithin 1 n (map number_of (filter (is_place_to n) ks))
+numbers-within : (n : ℕ) (ks : List Property) → AreWithin 1 n (map number_of (filter (is_place_to n) ks))
 numbers-within n [] = tt
 numbers-within n (k ∷ ks) = within_cases (is_place_to n k) n k ks refl (numbers-within n ks)
 
@@ -294,7 +295,7 @@ counted (suc n) low xs differ within =
 
 -- ---- of a list
 
-place_cases : (place small : Bool) (i n : ℕ) (k : KeyValue) (rest : List KeyValue) (more : Bool) → is_position k.key ≡ place → leb (number_of k) n ≡ small → i ≤ n
+place_cases : (place small : Bool) (i n : ℕ) (k : Property) (rest : List Property) (more : Bool) → is_position k.name ≡ place → leb (number_of k) n ≡ small → i ≤ n
     → has (map number_of rest) i ≡ more → has (map number_of (cond (place && small) (k ∷ rest) rest)) i ≡ ((place && eqb (number_of k) i) || more)
 place_cases true true i n k rest more is few h same = ap (λ b. eqb (number_of k) i || b) same
 place_cases true false i n k rest more is few h same =
@@ -302,27 +303,27 @@ place_cases true false i n k rest more is few h same =
     rw apart same
 place_cases false small i n k rest more is few h same = same
 
-place-counted : (i n : ℕ) (ks : List KeyValue) → i ≤ n → has (map number_of (filter (is_place_to n) ks)) i ≡ list_any (λ (k : KeyValue). is_position k.key && eqb (number_of k) i) ks
+place-counted : (i n : ℕ) (ks : List Property) → i ≤ n → has (map number_of (filter (is_place_to n) ks)) i ≡ list_any (λ (k : Property). is_position k.name && eqb (number_of k) i) ks
 place-counted i n [] h = refl
 place-counted i n (k ∷ ks) h =
-    place_cases (is_position k.key) (leb (number_of k) n) i n k (filter (is_place_to n) ks) (list_any (λ (j : KeyValue). is_position j.key && eqb (number_of j) i) ks) refl refl h (place-counted i n ks h)
+    place_cases (is_position k.name) (leb (number_of k) n) i n k (filter (is_place_to n) ks) (list_any (λ (j : Property). is_position j.name && eqb (number_of j) i) ks) refl refl h (place-counted i n ks h)
 
-lacks-listed : (s : SheetSection) (n low m : ℕ) → low + m ≤ n + 1 → lacks (map number_of (keys_to s n)) (range_with_len low m) ≡ list_any (λ i. not (has_place s i)) (range_with_len low m)
+lacks-listed : (s : TextSection) (n low m : ℕ) → low + m ≤ n + 1 → lacks (map number_of (keys_to s n)) (range_with_len low m) ≡ list_any (λ i. not (has_place s i)) (range_with_len low m)
 lacks-listed s n low zero h = refl
 lacks-listed s n low (suc m) h =
-    ap (λ b. not b || lacks (map number_of (keys_to s n)) (range_with_len (low + 1) m)) (place-counted low n s.keys (omega arith))
+    ap (λ b. not b || lacks (map number_of (keys_to s n)) (range_with_len (low + 1) m)) (place-counted low n s.properties (omega arith))
     ∙ ap (λ b. not (has_place s low) || b) (lacks-listed s n (low + 1) m (omega arith))
 
 map-length : {X Y : Type 0} (f : X → Y) (xs : List X) → length (map f xs) ≡ length xs
 map-length f [] = refl
 map-length f (x ∷ xs) = let rest = map-length f xs in omega arith
 
-pub places-counted : (s : SheetSection) → KeysDiffer s → CountsPlaces s
+pub places-counted : (s : TextSection) → PropertiesDiffer s → CountsPlaces s
 places-counted s differ n =
     ap (λ l. ltb l n) (sym (map-length number_of (keys_to s n)))
-    ∙ (counted n 1 (map number_of (keys_to s n)) (numbers-differ n s.keys differ) (numbers-within n s.keys)).same
+    ∙ (counted n 1 (map number_of (keys_to s n)) (numbers-differ n s.properties differ) (numbers-within n s.properties)).same
     ∙ lacks-listed s n 1 n (omega arith)
 
-pub all-counted : (ss : List SheetSection) → AllByRecursion KeysDiffer ss → AllByRecursion CountsPlaces ss
+pub all-counted : (ss : List TextSection) → AllByRecursion PropertiesDiffer ss → AllByRecursion CountsPlaces ss
 all-counted [] differ = tt
 all-counted (s ∷ ss) differ = (places-counted s differ.0, all-counted ss differ.1)

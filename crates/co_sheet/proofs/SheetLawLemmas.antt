@@ -9,16 +9,16 @@ use Rattle.std.proofs.lemmas.List.Elements.{All-from_recursion}
 use Rattle.co_value.specs.declared.data_type.DataType.{DataType}
 use Rattle.co_value.specs.declared.data_type.DataType.TheVariants.{Boolean, Integer8, Integer16, Integer24, Integer32, Integer40, Integer48, Integer56, Integer64, Unsigned8, Unsigned16, Unsigned24, Unsigned32, Unsigned40, Unsigned48, Unsigned56, Unsigned64, VisibleString, OctetString, Domain}
 use Rattle.co_value.specs.Types.{code_of, least_of, greatest_of, InRange}
-use Rattle.co_sheet.specs.declared.section.SectionKind.{SectionKind}
-use Rattle.co_sheet.specs.declared.section.SectionKind.TheVariants.{Object, SubIndex}
-use Rattle.co_sheet.specs.Names.{same_kind}
+use Rattle.co_text.specs.declared.section_kind.SectionKind.{SectionKind}
+use Rattle.co_text.specs.declared.section_kind.SectionKind.TheVariants.{Object, SubIndex}
+use Rattle.co_text.specs.Names.{same_kind}
 use Rattle.co_sheet.specs.declared.entry.Access.{Access}
 use Rattle.co_sheet.specs.declared.fault.FaultKind.TheVariants.{BadLimits, BadDefault, BadType, MissingMandatory}
 use Rattle.co_sheet.specs.declared.fault.SheetFault.{SheetFault}
-use Rattle.co_sheet.specs.declared.numeral.NumeralFault.{NumeralFault}
-use Rattle.co_sheet.specs.Text.{trim, same_name}
-use Rattle.co_sheet.specs.Sections.{KeyValue, SheetSection, key_at, section_at}
-use Rattle.co_sheet.specs.Numerals.{result_map, unsigned_number}
+use Rattle.co_text.specs.declared.numeral.NumeralFault.{NumeralFault}
+use Rattle.co_text.specs.Text.{trim, same_name}
+use Rattle.co_text.specs.Sections.{Property, TextSection, property_at, section_at}
+use Rattle.co_text.specs.Numerals.{result_map, unsigned_number}
 use Rattle.co_sheet.specs.ObjectLists.{is_one_of, Listing, listings, is_listed}
 use Rattle.co_sheet.specs.FixedTypes.{fixed_type_of}
 use Rattle.co_sheet.specs.Entries.{single_codes, compound_codes, object_code, sub_index_in, sub_indices, entries_in, ListedObject, is_domain, listed_objects, Entry, entries_of, data_type_with, type_code, data_type_of, access_of}
@@ -27,10 +27,10 @@ use Rattle.co_sheet.specs.Checks.{left_out_codes, fault_if, at_key, is_bad_type,
 use Rattle.co_sheet.specs.Accepted.{first_found}
 use Rattle.co_value.specs.Keys.{is_key_before, same_key}
 use Rattle.co_sheet.specs.Content.{Row, row_with, row_of, insert_before, in_order, ObjectRow, object_row_of, rows_in, objects_in, content_of}
-use Rattle.co_sheet.specs.SectionLaws.{AllDiffer, ValuesShort, IsParsed}
-use Rattle.co_sheet.specs.SheetLaws.{limit_or, IsWithinRow, IsSheetRow, has_object, IsSheetContent}
+use Rattle.co_text.specs.SectionLaws.{AllDiffer, ValuesShort, IsParsed}
+use Rattle.co_sheet.specs.SheetLaws.{limit_or, IsWithinRow, IsSheetRow, has_object, IsSheetContent, KeepsEntries}
 use Rattle.co_sheet.proofs.TypeLemmas.{data_type_with-code_of}
-use Rattle.co_sheet.proofs.AcceptedLemmas.{NothingFound, nothing-found, no_fault, both-empty, two-empty, denied, objects-all, listed-all, rows-all}
+use Rattle.co_sheet.proofs.AcceptedLemmas.{FindsNothing, finds-nothing, no_fault, both-empty, two-empty, denied, objects-all, listed-all}
 use Rattle.co_sheet.proofs.KeyLemmas.{listings-differ, entries-differ, increase, numbers_ordered, keys_ordered}
 
 -- ---- numbers of a type
@@ -164,12 +164,12 @@ order-kept t low high false is h k order =
 no_limit : (name : List ℕ) (t : DataType) (e : Entry) → is_numeric t ≡ false → limit_at name t e ≡ None
 no_limit name t e h = rw h refl
 
-inside_cases : (t : DataType) (limit : Option ℤ) (k : KeyValue) → is_numeric t ≡ true → limit_outside t limit k ≡ [] → IfSome limit (InRange t)
+inside_cases : (t : DataType) (limit : Option ℤ) (k : Property) → is_numeric t ≡ true → limit_outside t limit k ≡ [] → IfSome limit (InRange t)
 inside_cases t None k numeric h = tt
 inside_cases t (Some value) k numeric h = in_range t value numeric (denied (is_in_type t value) (no_fault _ BadLimits k.line h))
 
 -- a limit that is stated is a number of the type
-inside : (t : DataType) (found : KeyValue → Option ℤ) (o : Option KeyValue) → is_numeric t ≡ true → option_map_or (limit_outside t (option_and_then found o)) o [] ≡ [] → IfSome (option_and_then found o) (InRange t)
+inside : (t : DataType) (found : Property → Option ℤ) (o : Option Property) → is_numeric t ≡ true → option_map_or (limit_outside t (option_and_then found o)) o [] ≡ [] → IfSome (option_and_then found o) (InRange t)
 inside t found None numeric h = tt
 inside t found (Some k) numeric h = inside_cases t (found k) k numeric h
 
@@ -183,8 +183,8 @@ none_above None = tt
 none_above (Some a) = tt
 
 -- two limits that are stated are in order
-in_limit_order : (low : Option ℤ) (found : KeyValue → Option ℤ) (least greatest : Option ℤ) (high_key low_key : Option KeyValue)
-    → option_map_or (λ (k : KeyValue). fault_if (not (at_most (option_or low least) (option_or (option_and_then found high_key) greatest))) BadLimits k.line) (option_or high_key low_key) [] ≡ []
+in_limit_order : (low : Option ℤ) (found : Property → Option ℤ) (least greatest : Option ℤ) (high_key low_key : Option Property)
+    → option_map_or (λ (k : Property). fault_if (not (at_most (option_or low least) (option_or (option_and_then found high_key) greatest))) BadLimits k.line) (option_or high_key low_key) [] ≡ []
     → IfSome low (λ a. IfSome (option_and_then found high_key) (λ b. a ≤ℤ b))
 in_limit_order low found least greatest None low_key h = none_above low
 in_limit_order low found least greatest (Some k) low_key h = order_cases low (found k) least greatest (denied _ (no_fault _ BadLimits k.line h))
@@ -196,15 +196,15 @@ pub record AreLimits (t : DataType) (low high : Option ℤ) : Type 0 where
   pub in_order : IfSome low (λ a. IfSome high (λ b. a ≤ℤ b))
 
 abbrev limit_in : List ℕ → DataType → Entry → Bool → Option ℤ
-limit_in name t e numeric = if numeric then option_and_then (λ k. result_ok (number_at_type t k.value)) (key_at name e.section) else None
+limit_in name t e numeric = if numeric then option_and_then (λ k. result_ok (number_at_type t k.value)) (property_at name e.section) else None
 
 limits_cases : (t : DataType) (e : Entry) (numeric : Bool) → is_numeric t ≡ numeric → cond numeric (bad_limits t e) [] ≡ []
     → AreLimits t (limit_in (codes "LowLimit") t e numeric) (limit_in (codes "HighLimit") t e numeric)
 limits_cases t e false is h = record { low_in_type = tt; high_in_type = tt; in_order = tt }
 limits_cases t e true is h =
-    let found : KeyValue → Option ℤ = λ k. result_ok (number_at_type t k.value) in
-    let low_key = key_at (codes "LowLimit") e.section in
-    let high_key = key_at (codes "HighLimit") e.section in
+    let found : Property → Option ℤ = λ k. result_ok (number_at_type t k.value) in
+    let low_key = property_at (codes "LowLimit") e.section in
+    let high_key = property_at (codes "HighLimit") e.section in
     let low : low_limit t e ≡ option_and_then found low_key = rw is refl in
     let high : high_limit t e ≡ option_and_then found high_key = rw is refl in
     let crossed = option_map_or (limits_crossed t e) (option_or high_key low_key) [] in
@@ -216,8 +216,8 @@ limits_cases t e true is h =
       low_in_type = inside t found low_key is (ap (λ l. option_map_or (limit_outside t l) low_key []) (sym low) ∙ ends.0);
       high_in_type = inside t found high_key is (ap (λ l. option_map_or (limit_outside t l) high_key []) (sym high) ∙ ends.1);
       in_order = in_limit_order (option_and_then found low_key) found (least_of t) (greatest_of t) high_key low_key
-          (ap (λ l. option_map_or (λ (k : KeyValue). fault_if (not (at_most (option_or l (least_of t)) (option_or (option_and_then found high_key) (greatest_of t)))) BadLimits k.line) (option_or high_key low_key) []) (sym low)
-          ∙ ap (λ u. option_map_or (λ (k : KeyValue). fault_if (not (at_most (option_or (low_limit t e) (least_of t)) (option_or u (greatest_of t)))) BadLimits k.line) (option_or high_key low_key) []) (sym high)
+          (ap (λ l. option_map_or (λ (k : Property). fault_if (not (at_most (option_or l (least_of t)) (option_or (option_and_then found high_key) (greatest_of t)))) BadLimits k.line) (option_or high_key low_key) []) (sym low)
+          ∙ ap (λ u. option_map_or (λ (k : Property). fault_if (not (at_most (option_or (low_limit t e) (least_of t)) (option_or u (greatest_of t)))) BadLimits k.line) (option_or high_key low_key) []) (sym high)
           ∙ parts.1);
     }
 
@@ -273,7 +273,7 @@ of_numeric t (node_id n) h form = h
 of_numeric t (text bytes) h form = absurd form
 of_numeric t (pairs digits) h form = absurd form
 
-default-form : (t : DataType) (o : Option KeyValue) → IsForm t (unwrap_or (option_and_then (λ (k : KeyValue). default_with t k.value) o) absent)
+default-form : (t : DataType) (o : Option Property) → IsForm t (unwrap_or (option_and_then (λ (k : Property). default_with t k.value) o) absent)
 default-form t None = tt
 default-form VisibleString (Some k) = refl
 default-form OctetString (Some k) = refl
@@ -296,12 +296,12 @@ default-form Unsigned48 (Some k) = of_numeric Unsigned48 _ refl (numeric-form Un
 default-form Unsigned56 (Some k) = of_numeric Unsigned56 _ refl (numeric-form Unsigned56 k.value)
 default-form Unsigned64 (Some k) = of_numeric Unsigned64 _ refl (numeric-form Unsigned64 k.value)
 
-domain-absent : (o : Option KeyValue) → unwrap_or (option_and_then (λ (k : KeyValue). default_with Domain k.value) o) absent ≡ absent
+domain-absent : (o : Option Property) → unwrap_or (option_and_then (λ (k : Property). default_with Domain k.value) o) absent ≡ absent
 domain-absent None = refl
 domain-absent (Some k) = refl
 
-default_cases : (t : DataType) (e : Entry) (o : Option KeyValue) → option_map_or (λ (k : KeyValue). fault_if (is_bad_default t e (unwrap_or (option_and_then (λ (k : KeyValue). default_with t k.value) o) absent)) BadDefault k.line) o [] ≡ []
-    → is_bad_default t e (unwrap_or (option_and_then (λ (k : KeyValue). default_with t k.value) o) absent) ≡ false
+default_cases : (t : DataType) (e : Entry) (o : Option Property) → option_map_or (λ (k : Property). fault_if (is_bad_default t e (unwrap_or (option_and_then (λ (k : Property). default_with t k.value) o) absent)) BadDefault k.line) o [] ≡ []
+    → is_bad_default t e (unwrap_or (option_and_then (λ (k : Property). default_with t k.value) o) absent) ≡ false
 default_cases t e None h = refl
 default_cases t e (Some k) h = no_fault _ BadDefault k.line h
 
@@ -338,7 +338,7 @@ numeric_short (node_id n) form = tt
 numeric_short (text bytes) form = absurd form
 numeric_short (pairs digits) form = absurd form
 
-default-short : (t : DataType) (o : Option KeyValue) → IfSome o (λ k. length k.value ≤ 512) → IsShort (unwrap_or (option_and_then (λ (k : KeyValue). default_with t k.value) o) absent)
+default-short : (t : DataType) (o : Option Property) → IfSome o (λ k. length k.value ≤ 512) → IsShort (unwrap_or (option_and_then (λ (k : Property). default_with t k.value) o) absent)
 default-short t None h = tt
 default-short VisibleString (Some k) h = h
 default-short OctetString (Some k) h = h
@@ -393,15 +393,15 @@ found_in e = bad_type e ++ (in_numeric bad_limits e ++ bad_default e)
 
 row_laws : (e : Entry) (t : DataType) (access : Access) → data_type_of e ≡ Some t → ValuesShort e.section → found_in e ≡ [] → IsSheetRow (row_with e t access)
 row_laws e t access is values none =
-    let default_key = key_at (codes "DefaultValue") e.section in
+    let default_key = property_at (codes "DefaultValue") e.section in
     let parts = both-empty (bad_type e) (in_numeric bad_limits e ++ bad_default e) none in
     let rest = both-empty (in_numeric bad_limits e) (bad_default e) parts.1 in
     let limits_good : cond (is_numeric t) (bad_limits t e) [] ≡ [] = ap (λ o. option_map_or (λ u. cond (is_numeric u) (bad_limits u e) []) o []) (sym is) ∙ rest.0 in
     let limits = limits-kept t e limits_good in
-    let default_good = ap (λ o. option_map_or (λ (k : KeyValue). fault_if (option_map_or (λ u. is_bad_default u e (default_of u e)) o false) BadDefault k.line) default_key []) (sym is) ∙ rest.1 in
+    let default_good = ap (λ o. option_map_or (λ (k : Property). fault_if (option_map_or (λ u. is_bad_default u e (default_of u e)) o false) BadDefault k.line) default_key []) (sym is) ∙ rest.1 in
     let good = default_cases t e default_key default_good in
     let form = default-form t default_key in
-    let short = default-short t default_key (found_all (λ (k : KeyValue). length k.value ≤ 512) (λ k. same_name k.key (codes "DefaultValue")) e.section.keys values) in
+    let short = default-short t default_key (found_all (λ (k : Property). length k.value ≤ 512) (λ k. same_name k.name (codes "DefaultValue")) e.section.properties values) in
     record {
       low_in_type = limits.low_in_type;
       high_in_type = limits.high_in_type;
@@ -419,7 +419,7 @@ row_laws e t access is values none =
       pairs_digits = λ digits h. (both _ _ (denied _ (subst (λ d. is_bad_default t e d ≡ false) h good))).1;
       text_short = λ bytes h. subst IsShort h short;
       pairs_short = λ digits h. subst IsShort h short;
-      domain_absent = λ h. ap (λ u. unwrap_or (option_and_then (λ (k : KeyValue). default_with u k.value) default_key) absent) h ∙ domain-absent default_key;
+      domain_absent = λ h. ap (λ u. unwrap_or (option_and_then (λ (k : Property). default_with u k.value) default_key) absent) h ∙ domain-absent default_key;
       fixed_type = λ fixed h. fixed_cases e (type_code e) (type_line e) t fixed is h parts.0;
     }
 
@@ -442,18 +442,18 @@ each-row (e ∷ es) values none =
 abbrev HasValues : Entry → Type 0
 HasValues e = ValuesShort e.section
 
-object_values : (index : ℕ) (o : Option SheetSection) → IfSome o ValuesShort → IfSome (option_map (λ s. record { index = index; section = s }) o) (λ (l : ListedObject). ValuesShort l.section)
+object_values : (index : ℕ) (o : Option TextSection) → IfSome o ValuesShort → IfSome (option_map (λ s. record { index = index; section = s }) o) (λ (l : ListedObject). ValuesShort l.section)
 object_values index None h = tt
 object_values index (Some s) h = h
 
-objects-short : (sections : List SheetSection) (ls : List Listing) → AllByRecursion ValuesShort sections
+objects-short : (sections : List TextSection) (ls : List Listing) → AllByRecursion ValuesShort sections
     → AllByRecursion (λ (o : ListedObject). ValuesShort o.section) (filter_map (λ (l : Listing). option_map (λ s. record { index = l.index; section = s }) (section_at (Object l.index) sections)) ls)
 objects-short sections [] all = tt
 objects-short sections (l ∷ ls) all =
     cons_all (λ (o : ListedObject). ValuesShort o.section) _ _
     (object_values l.index (section_at (Object l.index) sections) (found_all ValuesShort (λ s. same_kind s.kind (Object l.index)) sections all)) (objects-short sections ls all)
 
-part_values : (index : ℕ) (s : SheetSection) (kind : SectionKind) → ValuesShort s → IfSome (sub_index_in index s kind) HasValues
+part_values : (index : ℕ) (s : TextSection) (kind : SectionKind) → ValuesShort s → IfSome (sub_index_in index s kind) HasValues
 part_values index s (SubIndex key) h = by_index (eqb key.index index)
   where
     by_index : (b : Bool) → IfSome (if b then Some (record { key = key; section = s }) else None) HasValues
@@ -461,7 +461,7 @@ part_values index s (SubIndex key) h = by_index (eqb key.index index)
     by_index false = tt
 part_values index s kind h = tt
 
-parts-short : (index : ℕ) (ss : List SheetSection) → AllByRecursion ValuesShort ss → AllByRecursion HasValues (sub_indices ss index)
+parts-short : (index : ℕ) (ss : List TextSection) → AllByRecursion ValuesShort ss → AllByRecursion HasValues (sub_indices ss index)
 parts-short index [] all = tt
 parts-short index (s ∷ ss) all = cons_all HasValues (sub_index_in index s s.kind) (sub_indices ss index) (part_values index s s.kind all.0) (parts-short index ss all.1)
 
@@ -469,13 +469,13 @@ all-append : {X : Type 0} (P : X → Type 0) (xs ys : List X) → AllByRecursion
 all-append P [] ys all more = more
 all-append P (x ∷ xs) ys all more = (all.0, all-append P xs ys all.1 more)
 
-entries_cases : (single compound : Bool) (sections : List SheetSection) (o : ListedObject) → AllByRecursion ValuesShort sections → ValuesShort o.section
+entries_cases : (single compound : Bool) (sections : List TextSection) (o : ListedObject) → AllByRecursion ValuesShort sections → ValuesShort o.section
     → AllByRecursion HasValues (cond single (record { key = record { index = o.index; sub = 0 }; section = o.section } ∷ []) (cond compound (sub_indices sections o.index) []))
 entries_cases true compound sections o all own = (own, tt)
 entries_cases false true sections o all own = parts-short o.index sections all
 entries_cases false false sections o all own = tt
 
-entries-short : (sections : List SheetSection) (os : List ListedObject) → AllByRecursion ValuesShort sections → AllByRecursion (λ (o : ListedObject). ValuesShort o.section) os
+entries-short : (sections : List TextSection) (os : List ListedObject) → AllByRecursion ValuesShort sections → AllByRecursion (λ (o : ListedObject). ValuesShort o.section) os
     → AllByRecursion HasValues (flat_map (entries_in sections) os)
 entries-short sections [] all own = tt
 entries-short sections (o ∷ os) all own =
@@ -517,7 +517,7 @@ any-map : {X : Type 0} (f : X → ℕ) (index : ℕ) (xs : List X) → list_any 
 any-map f index [] = refl
 any-map f index (x ∷ xs) = ap (λ b. eqb (f x) index || b) (any-map f index xs)
 
-has-listed : (sections : List SheetSection) (index : ℕ) → NothingFound checks sections → is_listed sections index ≡ true → has_object (objects_in sections) index ≡ true
+has-listed : (sections : List TextSection) (index : ℕ) → FindsNothing sections → is_listed sections index ≡ true → has_object (objects_in sections) index ≡ true
 has-listed sections index nothing h =
     let objects = filter_map object_row_of (listed_objects sections) in
     any-in_order index (λ o p. ltb o.index p.index) objects
@@ -537,20 +537,18 @@ three false b c h = absurd (cc)
 abbrev is_below : ObjectRow → ObjectRow → Type 0
 is_below o p = ltb o.index p.index ≡ true
 
-pub content_laws : (sections : List SheetSection) → IsParsed sections → first_found checks sections ≡ None → IsSheetContent (content_of sections)
-content_laws sections parsed found =
-    let nothing = nothing-found checks sections found in
+pub content_laws : (sections : List TextSection) → IsParsed sections → KeepsEntries sections → first_found checks sections ≡ None → IsSheetContent (content_of sections)
+content_laws sections parsed kept found =
+    let nothing = finds-nothing sections found in
     let entries = entries_of sections in
-    let late = nothing.1.1.1.1.1.1.1.1.1 in
-    let values = late.1.1.1.1.1.1 in
-    let listed = listings-differ sections parsed nothing.1.1.1.0 in
+    let listed = listings-differ sections parsed nothing.listed_twice in
     let indices : AllDiffer eqb (map (λ o. o.index) (listed_objects sections)) = subst (AllDiffer eqb) (sym (listed-all sections nothing)) listed in
     let object_indices : AllDiffer eqb (map (λ o. o.index) (filter_map object_row_of (listed_objects sections))) = subst (AllDiffer eqb) (sym (objects-all sections nothing)) listed in
-    let keys : AllDiffer same_key (map (λ r. r.key) (filter_map row_of entries)) = subst (AllDiffer same_key) (sym (rows-all sections nothing)) (entries-differ sections parsed indices) in
-    let last = two-empty (in_numeric bad_limits) bad_default entries values.0 values.1.0 in
-    let found_none = two-empty bad_type (λ e. in_numeric bad_limits e ++ bad_default e) entries late.1.1.0 last in
+    let keys : AllDiffer same_key (map (λ r. r.key) (filter_map row_of entries)) = subst (AllDiffer same_key) (sym kept) (entries-differ sections parsed indices) in
+    let last = two-empty (in_numeric bad_limits) bad_default entries nothing.bad_limits nothing.bad_default in
+    let found_none = two-empty bad_type (λ e. in_numeric bad_limits e ++ bad_default e) entries nothing.bad_type last in
     let values_short = entries-short sections (listed_objects sections) parsed.values_short (objects-short sections (listings sections) parsed.values_short) in
-    let mandatory = three (is_listed sections 0x1000) (is_listed sections 0x1001) (is_listed sections 0x1018) (denied _ (no_fault _ MissingMandatory 0 values.1.1.0)) in
+    let mandatory = three (is_listed sections 0x1000) (is_listed sections 0x1001) (is_listed sections 0x1018) (denied _ (no_fault _ MissingMandatory 0 nothing.missing_mandatory)) in
     record {
       each_row = All-from_recursion IsSheetRow (rows_in sections) (in_order_all IsSheetRow (λ r s. is_key_before r.key s.key) (filter_map row_of entries) (each-row entries values_short found_none));
       keys_increase = increase (λ (r : Row). r.key) is_key_before same_key keys_ordered (filter_map row_of entries) keys;

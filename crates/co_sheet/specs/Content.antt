@@ -3,12 +3,13 @@ use Rattle.std.specs.Prelude.{◌≡◌, ℕ, ◌-◌, Bool, false, ◌&&◌, na
 use Rattle.co_value.specs.declared.key.Key.{Key}
 use Rattle.co_value.specs.declared.data_type.DataType.{DataType}
 use Rattle.co_value.specs.Keys.{is_key_before}
-use Rattle.co_sheet.specs.declared.section.SectionKind.TheVariants.{DummyUsage}
+use Rattle.co_text.specs.declared.section_kind.SectionKind.TheVariants.{DummyUsage}
 use Rattle.co_sheet.specs.declared.object.ObjectType.{ObjectType}
 use Rattle.co_sheet.specs.declared.entry.Access.{Access}
 use Rattle.co_sheet.specs.declared.note.Note.{Note}
-use Rattle.co_sheet.specs.Sections.{SheetSection, section_at}
-use Rattle.co_sheet.specs.ObjectLists.{number_at, is_one_of, listings}
+use Rattle.co_text.specs.Sections.{TextSection, section_at}
+use Rattle.co_text.specs.Properties.{number_at}
+use Rattle.co_sheet.specs.ObjectLists.{is_one_of, listings}
 use Rattle.co_sheet.specs.Entries.{ListedObject, listed_objects, object_type_with, object_code, Entry, entries_of, data_type_of, access_of, is_mappable, name_of}
 use Rattle.co_sheet.specs.Limits.{Default, low_limit, high_limit, default_of}
 use Rattle.co_sheet.specs.Notes.{notes_of}
@@ -59,7 +60,7 @@ in_order is_before (x ∷ xs) = insert_before is_before x (in_order is_before xs
 abbrev pub rows_in_order : List Row → List Row
 rows_in_order rows = in_order (λ r s. is_key_before r.key s.key) rows
 
-abbrev pub rows_in : List SheetSection → List Row
+abbrev pub rows_in : List TextSection → List Row
 rows_in sections = rows_in_order (filter_map row_of (entries_of sections))
 
 -- an object, without where its name lies in memory
@@ -82,7 +83,7 @@ object_row_of o = option_map (object_row_with o) (option_and_then object_type_wi
 abbrev pub objects_in_order : List ObjectRow → List ObjectRow
 objects_in_order objects = in_order (λ o p. nat_lt o.index p.index) objects
 
-abbrev pub objects_in : List SheetSection → List ObjectRow
+abbrev pub objects_in : List TextSection → List ObjectRow
 objects_in sections = objects_in_order (filter_map object_row_of (listed_objects sections))
 
 -- a section line of a text
@@ -91,16 +92,16 @@ pub record SectionName : Type 0 where
   pub line : ℕ
 
 -- the section lines, in their order, those that are passed over too
-abbrev pub section_names_in : List SheetSection → List SectionName
+abbrev pub section_names_in : List TextSection → List SectionName
 section_names_in sections = map (λ s. record { name = s.name; line = s.line }) sections
 
 -- whether DummyUsage has 1 at a key
-abbrev pub is_dummy_key : List SheetSection → List ℕ → Bool
+abbrev pub is_dummy_key : List TextSection → List ℕ → Bool
 is_dummy_key sections name =
     is_one_of (1 ∷ []) (option_and_then (number_at name) (section_at DummyUsage sections))
 
 -- of the dummy entries 0002h to 0007h, which may be mapped (CiA 306, dummy usage)
-abbrev pub dummies_in : List SheetSection → List Bool
+abbrev pub dummies_in : List TextSection → List Bool
 dummies_in sections =
     is_dummy_key sections (codes "Dummy0002") ∷ is_dummy_key sections (codes "Dummy0003")
     ∷ is_dummy_key sections (codes "Dummy0004") ∷ is_dummy_key sections (codes "Dummy0005")
@@ -119,7 +120,7 @@ pub record SheetContent : Type 0 where
   pub dummies : List Bool
 
 -- what a sheet holds, by the sections of its text
-abbrev pub content_of : List SheetSection → SheetContent
+abbrev pub content_of : List TextSection → SheetContent
 content_of sections = record {
   objects = objects_in sections;
   rows = rows_in sections;

@@ -2,18 +2,19 @@
 use Rattle.std.specs.Prelude.{ℕ, ◌%◌, Bool, true, ◌&&◌, ◌==◌, if◌then◌else◌, ℤ, int_le, List, length, codes, Option, Some, None, is_some, option_and_then, unwrap_or, Result, Ok, Err}
 use Rattle.std.specs.List.{list_any, list_all, before_first, after_first}
 use Rattle.std.specs.Result.{result_ok}
-use Rattle.co_sheet.specs.Names.{is_hexadecimal_digit}
+use Rattle.co_text.specs.Names.{is_hexadecimal_digit}
 use Rattle.co_value.specs.declared.data_type.DataType.{DataType}
 use Rattle.co_value.specs.declared.data_type.DataType.TheVariants.{VisibleString, OctetString}
 use Rattle.co_value.specs.Types.{width_of, least_of, greatest_of}
-use Rattle.co_sheet.specs.declared.numeral.NumeralFault.{NumeralFault}
-use Rattle.co_sheet.specs.declared.numeral.NumeralFault.TheVariants.{Malformed}
-use Rattle.co_sheet.specs.Text.{trim, same_name}
-use Rattle.co_sheet.specs.Sections.{key_at}
-use Rattle.co_sheet.specs.Numerals.{result_map, signed_numeral, unsigned_number, value_at}
+use Rattle.co_text.specs.declared.numeral.NumeralFault.{NumeralFault}
+use Rattle.co_text.specs.declared.numeral.NumeralFault.TheVariants.{Malformed}
+use Rattle.co_text.specs.Text.{trim, same_name}
+use Rattle.co_text.specs.Sections.{property_at}
+use Rattle.co_text.specs.Numerals.{result_map, signed_numeral, unsigned_number, value_at}
 use Rattle.co_sheet.specs.Entries.{Entry}
 
--- A default, without where its bytes lie in memory: none; a number; the node-ID plus a number; bytes; pairs of hexadecimal digits.
+-- A default, without where its bytes lie in memory: none; a number; the node-ID plus a number; bytes;
+-- pairs of hexadecimal digits.
 pub data Default : Type 0 where
   absent : Default
   number : ℤ → Default
@@ -44,7 +45,8 @@ node_id_sum left right =
 abbrev pub numeric_default : DataType → List ℕ → Result Default NumeralFault
 numeric_default t value =
     if is_node_id value then Ok (node_id 0)
-    else if list_any is_plus value then node_id_sum (trim (before_first is_plus value)) (trim (after_first is_plus value))
+    else if list_any is_plus value
+    then node_id_sum (trim (before_first is_plus value)) (trim (after_first is_plus value))
     else result_map number (number_at_type t value)
 
 -- pairs of hexadecimal digits, without blanks
@@ -57,7 +59,10 @@ is_numeric t = is_some (width_of t)
 
 -- the limit that an entry states at a key; those of strings and domains are passed over
 abbrev pub limit_at : List ℕ → DataType → Entry → Option ℤ
-limit_at name t e = if is_numeric t then option_and_then (λ k. result_ok (number_at_type t k.value)) (key_at name e.section) else None
+limit_at name t e =
+    if is_numeric t
+    then option_and_then (λ k. result_ok (number_at_type t k.value)) (property_at name e.section)
+    else None
 
 -- LowLimit, and HighLimit
 abbrev pub low_limit : DataType → Entry → Option ℤ
@@ -76,7 +81,9 @@ abbrev pub is_in_type : DataType → ℤ → Bool
 is_in_type t value = at_most (least_of t) (Some value) && at_most (Some value) (greatest_of t)
 
 abbrev pub is_in_limits : DataType → Entry → ℤ → Bool
-is_in_limits t e value = is_in_type t value && at_most (low_limit t e) (Some value) && at_most (Some value) (high_limit t e)
+is_in_limits t e value =
+    is_in_type t value && at_most (low_limit t e) (Some value)
+    && at_most (Some value) (high_limit t e)
 
 -- the default that a value states; a DOMAIN's is passed over
 abbrev pub default_with : DataType → List ℕ → Option Default
@@ -86,4 +93,6 @@ default_with t value = if is_numeric t then result_ok (numeric_default t value) 
 
 -- the default of an entry, absent where it states none
 abbrev pub default_of : DataType → Entry → Default
-default_of t e = unwrap_or (option_and_then (λ k. default_with t k.value) (key_at (codes "DefaultValue") e.section)) absent
+default_of t e =
+    unwrap_or
+    (option_and_then (λ k. default_with t k.value) (property_at (codes "DefaultValue") e.section)) absent

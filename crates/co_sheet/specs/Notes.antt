@@ -1,13 +1,14 @@
 -- What is odd in a data sheet, and no fault (CiA 306, object description).
 use Rattle.std.specs.Prelude.{ℕ, not, ◌&&◌, nat_le, if◌then◌else◌, List, [], ◌∷◌, ◌++◌, length, flat_map, codes}
 use Rattle.std.specs.Option.{option_map_or}
-use Rattle.co_sheet.specs.declared.section.SectionKind.{SectionKind}
-use Rattle.co_sheet.specs.declared.section.SectionKind.TheVariants.{Object}
+use Rattle.co_text.specs.declared.section_kind.SectionKind.{SectionKind}
+use Rattle.co_text.specs.declared.section_kind.SectionKind.TheVariants.{Object}
 use Rattle.co_sheet.specs.declared.note.Note.{Note}
 use Rattle.co_sheet.specs.declared.note.NoteKind.{NoteKind}
 use Rattle.co_sheet.specs.declared.note.NoteKind.TheVariants.{SubNumber, Unlisted}
-use Rattle.co_sheet.specs.Sections.{SheetSection, key_at}
-use Rattle.co_sheet.specs.ObjectLists.{number_of_key, is_one_of, is_listed}
+use Rattle.co_text.specs.Sections.{TextSection, property_at}
+use Rattle.co_text.specs.Properties.{property_number}
+use Rattle.co_sheet.specs.ObjectLists.{is_one_of, is_listed}
 use Rattle.co_sheet.specs.Entries.{sub_indices}
 
 -- a note of a kind, at a line
@@ -15,17 +16,17 @@ abbrev pub note_at : ℕ → NoteKind → Note
 note_at line kind = record { kind = kind; line = line }
 
 -- an object section from 1000h on that no list names; a SubNumber that isn't the number of the object's sub-index sections
-abbrev pub unlisted_note : List SheetSection → SheetSection → ℕ → List Note
+abbrev pub unlisted_note : List TextSection → TextSection → ℕ → List Note
 unlisted_note sections section index = if nat_le 0x1000 index && not (is_listed sections index) then note_at section.line Unlisted ∷ [] else []
 
-abbrev pub sub_number_note : SheetSection → ℕ → List Note
-sub_number_note section count = option_map_or (λ k. if is_one_of (count ∷ []) (number_of_key k) then [] else note_at k.line SubNumber ∷ []) (key_at (codes "SubNumber") section) []
+abbrev pub sub_number_note : TextSection → ℕ → List Note
+sub_number_note section count = option_map_or (λ k. if is_one_of (count ∷ []) (property_number k) then [] else note_at k.line SubNumber ∷ []) (property_at (codes "SubNumber") section) []
 
 -- the notes of a section; only an object section has any
-abbrev pub notes_at : List SheetSection → SheetSection → SectionKind → List Note
+abbrev pub notes_at : List TextSection → TextSection → SectionKind → List Note
 notes_at sections section (Object index) = unlisted_note sections section index ++ sub_number_note section (length (sub_indices sections index))
 notes_at sections section kind = []
 
 -- the notes of the text, in the order of their lines
-abbrev pub notes_of : List SheetSection → List Note
+abbrev pub notes_of : List TextSection → List Note
 notes_of sections = flat_map (λ s. notes_at sections s s.kind) sections

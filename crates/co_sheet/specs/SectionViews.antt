@@ -4,12 +4,12 @@ use Rattle.std.specs.Global.{Global}
 use Rattle.std.specs.Option.{option_map_or}
 use Rattle.std.specs.Ordering.{nat_cmp}
 use Rattle.std.specs.BTreeMap.{BTreeMap, get}
-use Rattle.co_sheet.specs.declared.section.SectionKind.TheVariants.{Object}
+use Rattle.co_text.specs.declared.section_kind.SectionKind.TheVariants.{Object}
 use Rattle.co_sheet.specs.declared.tables.ListedSection.{ListedSection}
 use Rattle.co_sheet.specs.declared.tables.EntrySection.{EntrySection}
-use Rattle.co_sheet.specs.Sections.{SheetSection, section_at}
+use Rattle.co_text.specs.Sections.{TextSection, section_at}
 use Rattle.co_sheet.specs.Entries.{ListedObject, Entry, sub_indices}
-use Rattle.co_sheet.specs.ParsedSections.{section_view}
+use Rattle.co_text.specs.Views.{section_view}
 
 -- a listed object with its section
 abbrev pub object_view : ListedSection → ListedObject
@@ -20,7 +20,7 @@ abbrev pub entry_view : EntrySection → Entry
 entry_view e = record { key = e.key; section = section_view e.section.now }
 
 -- an object's section, with its index
-abbrev pub object_at : ℕ → List SheetSection → Option ListedObject
+abbrev pub object_at : ℕ → List TextSection → Option ListedObject
 object_at index sections = option_map (λ s. record { index = index; section = s }) (section_at (Object index) sections)
 
 -- the sub-index sections that a map has for an index
@@ -28,6 +28,6 @@ abbrev pub parts_at : BTreeMap ℕ (Vec EntrySection Global) → ℕ → List En
 parts_at parts i = option_map_or (λ v. map entry_view v.items) (get nat_cmp parts i) []
 
 -- by its index, maps have an object's section, and its sub-index sections
-pub record IsIndexed (sections : List SheetSection) (objects : BTreeMap ℕ ListedSection) (parts : BTreeMap ℕ (Vec EntrySection Global)) : Type 0 where
+pub record IsIndexed (sections : List TextSection) (objects : BTreeMap ℕ ListedSection) (parts : BTreeMap ℕ (Vec EntrySection Global)) : Type 0 where
   pub objects_found : (i : ℕ) → option_map object_view (get nat_cmp objects i) ≡ object_at i sections
   pub parts_found : (i : ℕ) → parts_at parts i ≡ sub_indices sections i

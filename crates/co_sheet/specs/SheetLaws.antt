@@ -1,15 +1,17 @@
 -- What every sheet keeps, for whoever builds from one (CiA 301, object dictionary; CiA 306).
-use Rattle.std.specs.Prelude.{◌≡◌, ℕ, ◌<◌, ◌≤◌, Bool, true, false, ◌==◌, List, length, ℤ, pos, ◌≤ℤ◌, unwrap_or, Option, Some, None, IfSome, All, AllPairs}
+use Rattle.std.specs.Prelude.{◌≡◌, ℕ, ◌<◌, ◌≤◌, Bool, true, false, ◌==◌, List, length, map, filter_map, ℤ, pos, ◌≤ℤ◌, unwrap_or, Option, Some, None, IfSome, All, AllPairs}
 use Rattle.std.specs.List.{list_any, list_all}
 use Rattle.std.specs.Option.{option_map_or}
 use Rattle.co_value.specs.declared.data_type.DataType.{DataType}
 use Rattle.co_value.specs.declared.data_type.DataType.TheVariants.{VisibleString, OctetString, Domain}
 use Rattle.co_value.specs.Types.{least_of, greatest_of, InRange}
-use Rattle.co_sheet.specs.Names.{is_hexadecimal_digit}
+use Rattle.co_text.specs.Names.{is_hexadecimal_digit}
 use Rattle.co_sheet.specs.FixedTypes.{fixed_type_of}
 use Rattle.co_sheet.specs.Limits.{absent, number, node_id, text, pairs, is_pairs, is_numeric}
 use Rattle.co_value.specs.Keys.{is_key_before}
-use Rattle.co_sheet.specs.Content.{Row, ObjectRow, SheetContent}
+use Rattle.co_sheet.specs.Content.{Row, row_of, ObjectRow, SheetContent}
+use Rattle.co_text.specs.Sections.{TextSection}
+use Rattle.co_sheet.specs.Entries.{entries_of}
 
 -- a limit that is stated, else the end of the type; 0 where there is neither, at strings and domains
 abbrev pub limit_or : Option ℤ → Option ℤ → ℤ
@@ -71,3 +73,8 @@ pub record IsSheetContent (sheet : SheetContent) : Type 0 where
   pub has_1000 : has_object sheet.objects 0x1000 ≡ true
   pub has_1001 : has_object sheet.objects 0x1001 ≡ true
   pub has_1018 : has_object sheet.objects 0x1018 ≡ true
+
+-- no entry is left out: each has a row, of its key
+abbrev pub KeepsEntries : List TextSection → Type 0
+KeepsEntries sections =
+    map (λ r. r.key) (filter_map row_of (entries_of sections)) ≡ map (λ e. e.key) (entries_of sections)

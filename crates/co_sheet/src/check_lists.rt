@@ -5,23 +5,21 @@ ghost use Rattle.std.specs.List.{list_any, list_all};
 ghost use Rattle.std.specs.Ordering.{nat_cmp};
 ghost use Rattle.std.specs.BTreeMap.{get};
 ghost use Rattle.std.specs.Option.{option_map_or, option_copied};
-ghost use Rattle.co_sheet.specs.declared.section.SectionKind.TheVariants.{DummyUsage as Dummies, DeviceInfo as Device};
-ghost use Rattle.co_sheet.specs.Names.{is_list, same_kind};
-ghost use Rattle.co_sheet.specs.Sections.{section_at, fault_at};
+ghost use Rattle.co_text.specs.declared.section_kind.SectionKind.TheVariants.{DummyUsage as Dummies, DeviceInfo as Device};
+ghost use Rattle.co_text.specs.Names.{is_list, same_kind};
+ghost use Rattle.co_text.specs.Sections.{section_at};
+ghost use Rattle.co_sheet.specs.Faults.{fault_at};
 ghost use Rattle.co_sheet.specs.ObjectLists.{is_listed, count_of};
 ghost use Rattle.co_sheet.specs.Checks.{fault_if, numeral_fault, unread_number, missing_lists, unread_list_numbers, is_bad_list, bad_lists, listed_twice, missing_section, missing_mandatory};
 ghost use Rattle.co_sheet.specs.Accepted.{least_fault};
-ghost use Rattle.co_sheet.specs.ParsedSections.{key_view, section_view};
+ghost use Rattle.co_text.specs.Views.{property_view, section_view};
 ghost use Rattle.co_sheet.specs.ListingViews.{listing_view, has_before, is_listed_before, is_listed_at};
 
 use crate::fault::{FaultKind, SheetFault};
-use crate::given::number_at;
 use crate::least::least_over;
 use crate::listing::{Listing, has_large_index, keys_to_len};
-use crate::numeral::{NumeralFault, unsigned_number};
-use crate::parsed_section::{GivenKey, ParsedSection};
-use crate::section::SectionKind;
 use crate::tables::Tables;
+use co_text::{NumeralFault, Property, SectionKind, TextSection, unsigned_number};
 use std::alloc::{AllocError, Global};
 use std::collections::BTreeMap;
 
@@ -47,8 +45,8 @@ pub(crate) fn unread(fault: NumeralFault, line: usize) -> SheetFault
     SheetFault { kind, line }
 }
 
-pub(crate) fn unread_number(given: &GivenKey) -> Option<SheetFault>
-    ensures { result ≡ least_fault (unread_number (key_view given.now)) }
+pub(crate) fn unread_number(given: &Property) -> Option<SheetFault>
+    ensures { result ≡ least_fault (unread_number (property_view given.now)) }
 {
     match unsigned_number(given.value) {
         Ok(_) => None,
@@ -76,9 +74,9 @@ fn same_kind(kind: SectionKind, other: SectionKind) -> bool
 
 // the section of a kind
 pub(crate) fn section_at<'s, 'a>(
-    sections: &'s [ParsedSection<'a>],
+    sections: &'s [TextSection<'a>],
     kind: SectionKind,
-) -> Option<&'s ParsedSection<'a>>
+) -> Option<&'s TextSection<'a>>
     ensures { option_map section_view (option_copied result) ≡ section_at kind (map section_view sections.now) }
 {
     for section in sections {
@@ -90,17 +88,17 @@ pub(crate) fn section_at<'s, 'a>(
 }
 
 // there is no MandatoryObjects
-pub(crate) fn missing_lists(sections: &[ParsedSection]) -> Option<SheetFault>
+pub(crate) fn missing_lists(sections: &[TextSection]) -> Option<SheetFault>
     ensures { result ≡ least_fault (missing_lists (map section_view sections.now)) }
 {
     let mandatory = section_at(sections, SectionKind::MandatoryObjects);
     fault_if(mandatory.is_none(), FaultKind::MissingSection, 0)
 }
 
-fn unread_numbers_of(section: &ParsedSection) -> Option<SheetFault>
-    ensures { result ≡ least_fault (flat_map unread_number (section_view section.now).keys) }
+fn unread_numbers_of(section: &TextSection) -> Option<SheetFault>
+    ensures { result ≡ least_fault (flat_map unread_number (section_view section.now).properties) }
 {
-    least_over(section.keys.as_slice(), |given| unread_number(given))
+    least_over(section.properties.as_slice(), |given| unread_number(given))
 }
 
 // whether the keys of a section are all numbers
@@ -110,8 +108,8 @@ fn has_numbers(kind: SectionKind) -> bool
     kind.is_list() || matches!(kind, SectionKind::DummyUsage | SectionKind::DeviceInfo)
 }
 
-fn unread_list_number(section: &ParsedSection) -> Option<SheetFault>
-    ensures { result ≡ least_fault (if is_list section.now.kind || same_kind section.now.kind Dummies || same_kind section.now.kind Device then flat_map unread_number (section_view section.now).keys else []) }
+fn unread_list_number(section: &TextSection) -> Option<SheetFault>
+    ensures { result ≡ least_fault (if is_list section.now.kind || same_kind section.now.kind Dummies || same_kind section.now.kind Device then flat_map unread_number (section_view section.now).properties else []) }
 {
     if has_numbers(section.kind) {
         unread_numbers_of(section)
@@ -121,25 +119,25 @@ fn unread_list_number(section: &ParsedSection) -> Option<SheetFault>
 }
 
 // a number in lists, DummyUsage and DeviceInfo that can't be read
-pub(crate) fn unread_list_numbers(sections: &[ParsedSection]) -> Option<SheetFault>
+pub(crate) fn unread_list_numbers(sections: &[TextSection]) -> Option<SheetFault>
     ensures { result ≡ least_fault (unread_list_numbers (map section_view sections.now)) }
 {
     least_over(sections, |section| unread_list_number(section))
 }
 
-fn is_bad_list(section: &ParsedSection, count: u64) -> bool
+fn is_bad_list(section: &TextSection, count: u64) -> bool
     ensures { result ≡ is_bad_list (section_view section.now) count }
 {
     count > 0xFFFF || keys_to_len(section, count) < count || has_large_index(section, count)
 }
 
-fn bad_list(section: &ParsedSection) -> Option<SheetFault>
+fn bad_list(section: &TextSection) -> Option<SheetFault>
     ensures { result ≡ least_fault (if is_list section.now.kind then fault_if (option_map_or (is_bad_list (section_view section.now)) (count_of (section_view section.now)) true) FaultKind.BadList section.now.line else []) }
 {
     if !section.kind.is_list() {
         return None;
     }
-    let is_bad = match number_at(section, b"SupportedObjects") {
+    let is_bad = match section.number_at(b"SupportedObjects") {
         Some(count) => is_bad_list(section, count),
         None => true,
     };
@@ -147,7 +145,7 @@ fn bad_list(section: &ParsedSection) -> Option<SheetFault>
 }
 
 // a list without its count, with a count that is too large, without a key up to it, or with an index that is too large
-pub(crate) fn bad_lists(sections: &[ParsedSection]) -> Option<SheetFault>
+pub(crate) fn bad_lists(sections: &[TextSection]) -> Option<SheetFault>
     ensures { result ≡ least_fault (bad_lists (map section_view sections.now)) }
 {
     least_over(sections, |section| bad_list(section))
@@ -219,18 +217,22 @@ pub(crate) fn missing_sections(tables: &Tables, listings: &[Listing]) -> Option<
     least_over(listings, |listing| missing_section_of(tables, listing))
 }
 
-fn is_listed(lines: &BTreeMap<u64, usize>, index: u64) -> bool
+fn has_listing(lines: &BTreeMap<u64, usize>, index: u64) -> bool
     ensures { result ≡ is_some (get nat_cmp lines.now index) }
 {
     lines.get(&index).is_some()
 }
 
 // 1000h, 1001h or 1018h is in no list
-pub(crate) fn missing_mandatory(lines: &BTreeMap<u64, usize>) -> Option<SheetFault>
-    ensures { result ≡ least_fault (fault_if (not (list_all (λ i. is_some (get nat_cmp lines.now i)) (0x1000 ∷ 0x1001 ∷ 0x1018 ∷ []))) FaultKind.MissingMandatory 0) }
+pub(crate) fn missing_mandatory(
+    _tables: &Tables,
+    lines: &BTreeMap<u64, usize>,
+) -> Option<SheetFault>
+    requires { (i : ℕ) → is_some (get nat_cmp lines.now i) ≡ is_listed _tables.now i }
+    ensures { result ≡ least_fault (missing_mandatory _tables.now) }
 {
-    let are_listed = is_listed(lines, 0x1000)
-        && is_listed(lines, 0x1001)
-        && is_listed(lines, 0x1018);
+    let are_listed = has_listing(lines, 0x1000)
+        && has_listing(lines, 0x1001)
+        && has_listing(lines, 0x1018);
     fault_if(!are_listed, FaultKind::MissingMandatory, 0)
 }

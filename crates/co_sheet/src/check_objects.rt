@@ -3,29 +3,28 @@
 ghost use Rattle.std.specs.Prelude.{◌≡◌, ◌++◌, ◌==◌, ◌&&◌, map, flat_map, not, is_some, codes, [], if◌then◌else◌};
 ghost use Rattle.std.specs.List.{list_any};
 ghost use Rattle.std.specs.Option.{option_map_or};
-ghost use Rattle.co_sheet.specs.Sections.{section_at};
-ghost use Rattle.co_sheet.specs.declared.section.SectionKind.TheVariants.{DeviceInfo as Device};
+ghost use Rattle.co_text.specs.Sections.{section_at};
+ghost use Rattle.co_text.specs.declared.section_kind.SectionKind.TheVariants.{DeviceInfo as Device};
 ghost use Rattle.co_sheet.specs.ObjectLists.{is_one_of};
 ghost use Rattle.co_sheet.specs.Entries.{single_codes, compound_codes, sub_indices, is_other_than_zero};
 ghost use Rattle.co_sheet.specs.Checks.{at_key, unread_number, sub_indices_checked, unread_object_numbers, other_object_type, bad_object_types, compact_form, missing_sub_index_0};
 ghost use Rattle.co_sheet.specs.Accepted.{least_fault};
-ghost use Rattle.co_sheet.specs.ParsedSections.{section_view};
+ghost use Rattle.co_text.specs.Views.{section_view};
 ghost use Rattle.co_sheet.specs.SectionViews.{object_view, entry_view};
 
 use crate::check_lists::{fault_if, section_at, unread_number};
 use crate::fault::{FaultKind, SheetFault};
-use crate::given::{key_at, number_of_key, object_code};
+use crate::given::object_code;
 use crate::least::{earlier, least_over};
 use crate::objects::{is_compound, is_single};
-use crate::parsed_section::ParsedSection;
-use crate::section::SectionKind;
 use crate::tables::{EntrySection, ListedSection, Tables};
+use co_text::{SectionKind, TextSection};
 
 // a number that can't be read at a key
-pub(crate) fn unread_at(section: &ParsedSection, name: &[u8]) -> Option<SheetFault>
+pub(crate) fn unread_at(section: &TextSection, name: &[u8]) -> Option<SheetFault>
     ensures { result ≡ least_fault (at_key unread_number name.now (section_view section.now)) }
 {
-    unread_number(&key_at(section, name)?)
+    unread_number(&section.property(name)?)
 }
 
 // the sub-index sections that are looked at: those of a VAR or a DOMAIN are passed over
@@ -78,11 +77,11 @@ pub(crate) fn unread_object_numbers(
 }
 
 // an object type that an object has and isn't one, or a sub-index has and isn't one of a single entry
-fn other_object_type(section: &ParsedSection, of_object: bool) -> Option<SheetFault>
+fn other_object_type(section: &TextSection, of_object: bool) -> Option<SheetFault>
     ensures { result ≡ least_fault (other_object_type (if of_object then single_codes ++ compound_codes else single_codes) (section_view section.now)) }
 {
-    let given = key_at(section, b"ObjectType")?;
-    let code = number_of_key(&given);
+    let given = section.property(b"ObjectType")?;
+    let code = given.number();
     let is_allowed = is_single(code) || of_object && is_compound(code);
     fault_if(!is_allowed, FaultKind::BadType, given.line)
 }
@@ -118,15 +117,15 @@ pub(crate) fn bad_object_types(tables: &Tables, objects: &[ListedSection]) -> Op
 }
 
 // a number at a key that is there and isn't 0
-fn compact_form_at(section: &ParsedSection, name: &[u8]) -> Option<SheetFault>
+fn compact_form_at(section: &TextSection, name: &[u8]) -> Option<SheetFault>
     ensures { result ≡ least_fault (at_key compact_form name.now (section_view section.now)) }
 {
-    let given = key_at(section, name)?;
-    let is_compact = number_of_key(&given).is_some_and(|number| number != 0);
+    let given = section.property(name)?;
+    let is_compact = given.number().is_some_and(|number| number != 0);
     fault_if(is_compact, FaultKind::CompactForm, given.line)
 }
 
-fn compact_pdo(sections: &[ParsedSection]) -> Option<SheetFault>
+fn compact_pdo(sections: &[TextSection]) -> Option<SheetFault>
     ensures { result ≡ least_fault (option_map_or (at_key compact_form (codes "CompactPDO")) (section_at Device (map section_view sections.now)) []) }
 {
     compact_form_at(
@@ -146,7 +145,7 @@ fn compact_objects(objects: &[ListedSection]) -> Option<SheetFault>
 
 // a compact form of PDOs or of an object
 pub(crate) fn compact_forms(
-    sections: &[ParsedSection],
+    sections: &[TextSection],
     objects: &[ListedSection],
 ) -> Option<SheetFault>
     ensures { result ≡ least_fault (option_map_or (at_key compact_form (codes "CompactPDO")) (section_at Device (map section_view sections.now)) [] ++ flat_map (λ o. at_key compact_form (codes "CompactSubObj") o.section) (map object_view objects.now)) }

@@ -6,20 +6,18 @@ ghost use Rattle.std.specs.BTreeMap.{get};
 ghost use Rattle.co_sheet.specs.ObjectLists.{is_listed};
 ghost use Rattle.co_sheet.specs.Entries.{sub_indices};
 ghost use Rattle.co_sheet.specs.Notes.{note_at, sub_number_note, notes_at, notes_of};
-ghost use Rattle.co_sheet.specs.ParsedSections.{section_view};
+ghost use Rattle.co_text.specs.Views.{section_view};
 
-use crate::given::{key_at, number_of_key};
 use crate::note::{Note, NoteKind};
-use crate::parsed_section::ParsedSection;
-use crate::section::SectionKind;
 use crate::tables::Tables;
+use co_text::{SectionKind, TextSection};
 use std::alloc::{AllocError, Global};
 use std::collections::BTreeMap;
 
 // an object section from 1000h on that no list names
 fn add_unlisted(
     notes: &mut Vec<Note>,
-    section: &ParsedSection,
+    section: &TextSection,
     index: u16,
     is_listed: bool,
 ) -> Result<(), AllocError>
@@ -37,13 +35,13 @@ fn add_unlisted(
 // a SubNumber that isn't the number of the object's sub-index sections
 fn add_sub_number(
     notes: &mut Vec<Note>,
-    section: &ParsedSection,
+    section: &TextSection,
     count: usize,
 ) -> Result<(), AllocError>
     ensures { OnOk result (notes.new.items ≡ notes.old.items ++ sub_number_note (section_view section.now) count) }
 {
-    if let Some(given) = key_at(section, b"SubNumber") {
-        let is_count = number_of_key(&given).is_some_and(|number| number == count as u64);
+    if let Some(given) = section.property(b"SubNumber") {
+        let is_count = given.number().is_some_and(|number| number == count as u64);
         if !is_count {
             notes.push(Note {
                 kind: NoteKind::SubNumber,
@@ -68,7 +66,7 @@ fn add_notes(
     notes: &mut Vec<Note>,
     tables: &Tables,
     lines: &BTreeMap<u64, usize>,
-    section: &ParsedSection,
+    section: &TextSection,
 ) -> Result<(), AllocError>
     requires { (i : ℕ) → is_some (get nat_cmp lines.now i) ≡ is_listed tables.now i }
     ensures { OnOk result (notes.new.items ≡ notes.old.items ++ notes_at tables.now (section_view section.now) section.now.kind) }

@@ -1,14 +1,18 @@
 //! A data sheet, read from its text.
 
-ghost use Rattle.std.specs.Prelude.{◌≡◌, ◌<◌, length, Err, IfOk, IfErr};
+ghost use Rattle.std.specs.Prelude.{◌≡◌, ◌<◌, ◌≤◌, ◌⊎◌, length, map, Err, Some, None, IfOk, IfErr};
+ghost use Rattle.co_text.specs.SectionLaws.{IsParsed};
+ghost use Rattle.co_text.specs.Views.{section_view};
 ghost use Rattle.co_sheet.specs.declared.fault.FaultKind.TheVariants.{TooLarge};
-ghost use Rattle.co_sheet.specs.Accepted.{first_fault, IsAnswered};
+ghost use Rattle.co_sheet.specs.Accepted.{first_fault, first_bad_line, sections_in, IsAnswered};
 ghost use Rattle.co_sheet.specs.Content.{IsSheet, IsWhole};
-ghost use Rattle.co_sheet.specs.Sections.{fault_at};
+ghost use Rattle.co_sheet.specs.Faults.{fault_at};
+ghost use Rattle.co_sheet.specs.OutOfMemory.{out_of_memory};
+ghost use Rattle.co_sheet.specs.PlaceLaws.{AllCountPlaces};
 
 use crate::fault::{FaultKind, SheetFault};
-use crate::pass;
 use crate::sheet::{Sheet, sheet_of};
+use co_text::TextSection;
 use std::alloc::Global;
 
 /// The greatest number of bytes of a data sheet.
@@ -30,6 +34,19 @@ pub fn read(alloc: Global, text: &[u8]) -> Result<Sheet<'_>, SheetFault>
             line: 0,
         });
     }
-    let sections = pass::sections_in(alloc, text)?;
+    let sections = sections_in(alloc, text)?;
     sheet_of(alloc, sections.as_slice())
+}
+
+// the sections of a text whose lines have no fault
+fn sections_in(alloc: Global, text: &[u8]) -> Result<Vec<TextSection<'_>>, SheetFault>
+    requires { length text.now ≤ 1048576 }
+    ensures ok { IfOk result (λ sections. (first_bad_line text.now ≡ None)
+        × (map section_view sections.items ≡ sections_in text.now)) }
+    ensures parsed { IfOk result (λ sections. IsParsed (map section_view sections.items)) }
+    ensures counted { IfOk result (λ sections. AllCountPlaces (map section_view sections.items)) }
+    ensures err { IfErr result (λ fault. (fault ≡ out_of_memory)
+        ⊎ (first_bad_line text.now ≡ Some fault)) }
+{
+    Ok(co_text::sections_in(alloc, text)?)
 }

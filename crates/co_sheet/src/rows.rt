@@ -3,60 +3,26 @@
 ghost use Rattle.std.specs.Prelude.{◌≡◌, map, filter_map, option_map, IfOk, OnOk};
 ghost use Rattle.std.specs.Option.{option_copied};
 ghost use Rattle.co_sheet.specs.Entries.{name_of};
-ghost use Rattle.co_sheet.specs.Content.{row_of, object_row_of, section_names_in, rows_in_order, objects_in_order, is_dummy_key, dummies_in};
-ghost use Rattle.co_sheet.specs.ParsedSections.{section_view};
-ghost use Rattle.co_sheet.specs.SectionViews.{object_view, entry_view};
+ghost use Rattle.co_sheet.specs.Content.{object_row_of, section_names_in, rows_in_order, objects_in_order, is_dummy_key, dummies_in};
+ghost use Rattle.co_text.specs.Views.{section_view};
+ghost use Rattle.co_sheet.specs.SectionViews.{object_view};
 ghost use Rattle.co_sheet.specs.SheetViews.{row_view, object_row_view, section_name_view};
 
 use crate::check_lists::section_at;
 use crate::entry::EntryRow;
-use crate::entry_values::{access_of, data_type_of, default_of, is_mappable, limit_at};
-use crate::given::{key_at, number_at, object_code};
+use crate::given::object_code;
 use crate::object::{Object, ObjectType};
-use crate::parsed_section::ParsedSection;
-use crate::section::{Section, SectionKind};
-use crate::tables::{EntrySection, ListedSection};
+use crate::section::Section;
+use crate::tables::ListedSection;
+use co_text::{SectionKind, TextSection};
 use std::alloc::{AllocError, Global};
 
 // ParameterName
-fn name_of<'a>(section: &ParsedSection<'a>) -> Option<&'a [u8]>
+pub(crate) fn name_of<'a>(section: &TextSection<'a>) -> Option<&'a [u8]>
     ensures { option_copied result ≡ name_of (section_view section.now) }
 {
-    let given = key_at(section, b"ParameterName")?;
+    let given = section.property(b"ParameterName")?;
     Some(given.value)
-}
-
-fn row_of<'a>(entry: &EntrySection<'_, 'a>) -> Option<EntryRow<'a>>
-    ensures { option_map row_view result ≡ row_of (entry_view entry.now) }
-{
-    let data_type = data_type_of(entry)?;
-    let access = access_of(entry)?;
-    Some(EntryRow {
-        key: entry.key,
-        data_type,
-        access,
-        low: limit_at(b"LowLimit", data_type, entry),
-        high: limit_at(b"HighLimit", data_type, entry),
-        default: default_of(data_type, entry),
-        mappable: is_mappable(entry),
-        name: name_of(entry.section),
-        line: entry.section.line,
-    })
-}
-
-fn rows<'a>(
-    alloc: Global,
-    entries: &[EntrySection<'_, 'a>],
-) -> Result<Vec<EntryRow<'a>>, AllocError>
-    ensures { IfOk result (λ rows. map row_view rows.items ≡ filter_map row_of (map entry_view entries.now)) }
-{
-    let mut rows = Vec::new(alloc);
-    for entry in entries {
-        if let Some(row) = row_of(entry) {
-            rows.push(row)?;
-        }
-    }
-    Ok(rows)
 }
 
 fn sort_rows(alloc: Global, rows: &mut [EntryRow]) -> Result<(), AllocError>
@@ -66,14 +32,13 @@ fn sort_rows(alloc: Global, rows: &mut [EntryRow]) -> Result<(), AllocError>
     Ok(())
 }
 
-// the rows of entries, in increasing key
+// rows in increasing key
 pub(crate) fn ordered_rows<'a>(
     alloc: Global,
-    entries: &[EntrySection<'_, 'a>],
+    mut rows: Vec<EntryRow<'a>>,
 ) -> Result<Vec<EntryRow<'a>>, AllocError>
-    ensures { IfOk result (λ rows. map row_view rows.items ≡ rows_in_order (filter_map row_of (map entry_view entries.now))) }
+    ensures { IfOk result (λ ordered. map row_view ordered.items ≡ rows_in_order (map row_view rows.entry.items)) }
 {
-    let mut rows = rows(alloc, entries)?;
     sort_rows(alloc, rows.as_mut_slice())?;
     Ok(rows)
 }
@@ -127,7 +92,7 @@ pub(crate) fn ordered_objects<'a>(
 // the section lines
 pub(crate) fn section_names<'a>(
     alloc: Global,
-    sections: &[ParsedSection<'a>],
+    sections: &[TextSection<'a>],
 ) -> Result<Vec<Section<'a>>, AllocError>
     ensures { IfOk result (λ names. map section_name_view names.items ≡ section_names_in (map section_view sections.now)) }
 {
@@ -142,17 +107,17 @@ pub(crate) fn section_names<'a>(
 }
 
 // whether DummyUsage has 1 at a key
-fn is_dummy_key(sections: &[ParsedSection], name: &[u8]) -> bool
+fn is_dummy_key(sections: &[TextSection], name: &[u8]) -> bool
     ensures { result ≡ is_dummy_key (map section_view sections.now) name.now }
 {
     match section_at(sections, SectionKind::DummyUsage) {
-        Some(section) => matches!(number_at(section, name), Some(1)),
+        Some(section) => matches!(section.number_at(name), Some(1)),
         None => false,
     }
 }
 
 // of the dummy entries 0002h to 0007h, which may be mapped
-pub(crate) fn dummies(sections: &[ParsedSection]) -> [bool; 6]
+pub(crate) fn dummies(sections: &[TextSection]) -> [bool; 6]
     ensures { result ≡ dummies_in (map section_view sections.now) }
 {
     [

@@ -1,33 +1,34 @@
 //! A data sheet, read.
 
-ghost use Rattle.std.specs.Prelude.{◌≡◌, ◌<◌, ℕ, map, is_some, true, All, AllPairs, IfOk, IfErr, None};
+ghost use Rattle.std.specs.Prelude.{◌≡◌, ◌<◌, ℕ, map, filter_map, is_some, true, All, AllPairs, IfOk, IfErr, None};
 ghost use Rattle.std.specs.Ordering.{nat_cmp};
 ghost use Rattle.std.specs.BTreeMap.{get};
 ghost use Rattle.co_sheet.specs.ObjectLists.{is_listed};
 ghost use Rattle.co_sheet.specs.Entries.{listed_objects, entries_of};
-ghost use Rattle.co_sheet.specs.SectionViews.{object_view, entry_view};
+ghost use Rattle.co_sheet.specs.SectionViews.{object_view};
 ghost use Rattle.co_sheet.specs.Checks.{checks};
 ghost use Rattle.co_sheet.specs.Accepted.{first_found, IsAnswered};
-ghost use Rattle.co_sheet.specs.ParsedSections.{section_view};
-ghost use Rattle.co_sheet.specs.SectionLaws.{IsParsed};
+ghost use Rattle.co_text.specs.Views.{section_view};
+ghost use Rattle.co_text.specs.SectionLaws.{IsParsed};
 ghost use Rattle.co_value.specs.Keys.{is_key_before};
-ghost use Rattle.co_sheet.specs.Content.{is_dummy, content_of};
+ghost use Rattle.co_sheet.specs.Content.{row_of, is_dummy, content_of};
 ghost use Rattle.co_sheet.specs.SheetViews.{row_view, object_row_view, section_name_view};
-ghost use Rattle.co_sheet.specs.SheetLaws.{IsSheetRow, IsSheetContent};
+ghost use Rattle.co_sheet.specs.SheetLaws.{IsSheetRow, IsSheetContent, KeepsEntries};
 
-use crate::check_lists::listing_lines;
-use crate::checks::{late_fault, list_fault, object_fault};
+use crate::check_lists::{listing_lines, missing_mandatory};
+use crate::checks::{list_fault, object_fault};
 use crate::entry::EntryRow;
+use crate::entry_reading::entry_rows;
 use crate::fault::{FaultKind, SheetFault};
 use crate::listing::listings;
 use crate::note::Note;
 use crate::notes::notes;
 use crate::object::Object;
-use crate::objects::{entries, listed_objects};
-use crate::parsed_section::ParsedSection;
+use crate::objects::listed_objects;
 use crate::rows::{dummies, ordered_objects, ordered_rows, section_names};
 use crate::section::Section;
-use crate::tables::{EntrySection, ListedSection, Tables};
+use crate::tables::{ListedSection, Tables};
+use co_text::TextSection;
 use std::alloc::{AllocError, Global};
 use std::collections::BTreeMap;
 use std::marker::Model;
@@ -113,16 +114,16 @@ fn contents<'a>(
     tables: &Tables<'_, 'a>,
     lines: &BTreeMap<u64, usize>,
     objects: &[ListedSection<'_, 'a>],
-    entries: &[EntrySection<'_, 'a>],
+    rows: Vec<EntryRow<'a>>,
 ) -> Result<Sheet<'a>, AllocError>
     requires laws { IsSheetContent (content_of tables.now) }
     requires lines { (i : ℕ) → is_some (get nat_cmp lines.now i) ≡ is_listed tables.now i }
     requires objects { map object_view objects.now ≡ listed_objects tables.now }
-    requires entries { map entry_view entries.now ≡ entries_of tables.now }
+    requires rows { filter_map row_of (entries_of tables.now) ≡ map row_view rows.items }
     ensures { IfOk result (λ sheet. sheet ≡ content_of tables.now) }
 {
     let ordered_objects = ordered_objects(alloc, objects)?;
-    let rows = ordered_rows(alloc, entries)?;
+    let rows = ordered_rows(alloc, rows)?;
     let sections = tables.sections();
     let names = section_names(alloc, sections)?;
     let notes = notes(alloc, tables, lines)?;
@@ -139,10 +140,11 @@ fn contents<'a>(
 // The sheet that the sections of a text say, or the first fault that the checks find; out of memory has no line.
 pub(crate) fn sheet_of<'a>(
     alloc: Global,
-    sections: &[ParsedSection<'a>],
+    sections: &[TextSection<'a>],
 ) -> Result<Sheet<'a>, SheetFault>
     requires { IsParsed (map section_view sections.now) }
     ensures accepted { IfOk result (λ _. first_found checks (map section_view sections.now) ≡ None) }
+    ensures kept { IfOk result (λ _. KeepsEntries (map section_view sections.now)) }
     ensures content { IfOk result (λ sheet. sheet ≡ content_of (map section_view sections.now)) }
     ensures err { IfErr result (IsAnswered (first_found checks (map section_view sections.now))) }
 {
@@ -156,11 +158,10 @@ pub(crate) fn sheet_of<'a>(
     if let Some(fault) = object_fault(&tables, listed_objects.as_slice()) {
         return Err(fault);
     }
-    let all_entries = entries(alloc, &tables, listed_objects.as_slice())?;
-    if let Some(fault) = late_fault(&tables, &lines, all_entries.as_slice()) {
+    let objects = listed_objects.as_slice();
+    let rows = entry_rows(alloc, &tables, objects)?;
+    if let Some(fault) = missing_mandatory(&tables, &lines) {
         return Err(fault);
     }
-    let all_entries = all_entries.as_slice();
-    let objects = listed_objects.as_slice();
-    Ok(contents(alloc, &tables, &lines, objects, all_entries)?)
+    Ok(contents(alloc, &tables, &lines, objects, rows)?)
 }

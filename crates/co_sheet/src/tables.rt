@@ -5,11 +5,10 @@ ghost use Rattle.std.specs.Ordering.{nat_cmp};
 ghost use Rattle.std.specs.BTreeMap.{get};
 ghost use Rattle.std.specs.Option.{option_map_or};
 ghost use Rattle.co_sheet.specs.Entries.{sub_indices};
-ghost use Rattle.co_sheet.specs.ParsedSections.{section_view};
+ghost use Rattle.co_text.specs.Views.{section_view};
 ghost use Rattle.co_sheet.specs.SectionViews.{object_view, entry_view, object_at, parts_at};
 
-use crate::parsed_section::ParsedSection;
-use crate::section::SectionKind;
+use co_text::{SectionKind, TextSection};
 use co_value::Key;
 use std::alloc::{AllocError, Global};
 use std::collections::BTreeMap;
@@ -19,20 +18,20 @@ use std::marker::Model;
 #[derive(Clone, Copy, Debug)]
 pub(crate) struct ListedSection<'s, 'a> {
     pub(crate) index: u16,
-    pub(crate) section: &'s ParsedSection<'a>,
+    pub(crate) section: &'s TextSection<'a>,
 }
 
 /// An entry, and the section that describes it.
 #[derive(Clone, Copy, Debug)]
 pub(crate) struct EntrySection<'s, 'a> {
     pub(crate) key: Key,
-    pub(crate) section: &'s ParsedSection<'a>,
+    pub(crate) section: &'s TextSection<'a>,
 }
 
 // the first section of each object
 fn objects_by_index<'s, 'a>(
     alloc: Global,
-    sections: &'s [ParsedSection<'a>],
+    sections: &'s [TextSection<'a>],
 ) -> Result<BTreeMap<u64, ListedSection<'s, 'a>>, AllocError>
     ensures { IfOk result (λ m. (i : ℕ) → option_map object_view (get nat_cmp m i) ≡ object_at i (map section_view sections.now)) }
 {
@@ -65,7 +64,7 @@ fn add_part<'s, 'a>(
 // the sub-index sections of each object, in the order of the text
 fn parts_by_index<'s, 'a>(
     alloc: Global,
-    sections: &'s [ParsedSection<'a>],
+    sections: &'s [TextSection<'a>],
 ) -> Result<BTreeMap<u64, Vec<EntrySection<'s, 'a>>>, AllocError>
     ensures { IfOk result (λ m. (i : ℕ) → parts_at m i ≡ sub_indices (map section_view sections.now) i) }
 {
@@ -81,7 +80,7 @@ fn parts_by_index<'s, 'a>(
 /// The sections of a text, and where those of an object are among them.
 #[derive(Drop)]
 pub(crate) struct Tables<'s, 'a> {
-    sections: &'s [ParsedSection<'a>],
+    sections: &'s [TextSection<'a>],
     objects: BTreeMap<u64, ListedSection<'s, 'a>>,
     parts: BTreeMap<u64, Vec<EntrySection<'s, 'a>>>,
 }
@@ -89,11 +88,11 @@ pub(crate) struct Tables<'s, 'a> {
 // the sections
 impl<'s, 'a> Model for Tables<'s, 'a> {
     ghost use Rattle.std.specs.Prelude.{List, map};
-    ghost use Rattle.co_sheet.specs.Sections.{SheetSection};
-    ghost use Rattle.co_sheet.specs.ParsedSections.{section_view};
+    ghost use Rattle.co_text.specs.Sections.{TextSection};
+    ghost use Rattle.co_text.specs.Views.{section_view};
     ghost use Rattle.co_sheet.specs.SectionViews.{IsIndexed};
 
-    ghost Value = { List SheetSection };
+    ghost Value = { List TextSection };
 
     ghost view = { λ t. map section_view t.sections.now };
 
@@ -104,7 +103,7 @@ impl<'s, 'a> Tables<'s, 'a> {
     // goes over the sections once
     pub(crate) fn new(
         alloc: Global,
-        sections: &'s [ParsedSection<'a>],
+        sections: &'s [TextSection<'a>],
     ) -> Result<Tables<'s, 'a>, AllocError>
         ensures { IfOk result (λ tables. tables ≡ map section_view sections.now) }
     {
@@ -117,7 +116,7 @@ impl<'s, 'a> Tables<'s, 'a> {
         })
     }
 
-    pub(crate) fn sections(&self) -> &'s [ParsedSection<'a>]
+    pub(crate) fn sections(&self) -> &'s [TextSection<'a>]
         ensures { map section_view result.now ≡ self.now }
     {
         self.sections

@@ -2,7 +2,7 @@ use Rattle.std.proofs.Common.{◌++◌}
 use Rattle.std.specs.Prelude.{flat_map}
 use Rattle.co_sheet.specs.Entries.{Entry, single_codes, compound_codes}
 use Rattle.co_sheet.specs.Checks.{other_object_type, sub_indices_checked}
-use Rattle.co_sheet.specs.ParsedSections.{section_view}
+use Rattle.co_text.specs.Views.{section_view}
 use Rattle.co_sheet.specs.SectionViews.{object_view}
 use Rattle.co_sheet.proofs.LeastLemmas.{least-two}
 use Rattle.co_sheet.proofs.check_objects.bad_object_type.Goals as goal

@@ -1,11 +1,11 @@
 use Rattle.std.proofs.Common.{map, []}
 use Rattle.std.specs.Prelude.{codes, flat_map}
 use Rattle.std.specs.Option.{option_map_or}
-use Rattle.co_sheet.specs.declared.section.SectionKind.TheVariants.{DeviceInfo}
-use Rattle.co_sheet.specs.Sections.{section_at}
+use Rattle.co_text.specs.declared.section_kind.SectionKind.TheVariants.{DeviceInfo}
+use Rattle.co_text.specs.Sections.{section_at}
 use Rattle.co_sheet.specs.Entries.{ListedObject}
 use Rattle.co_sheet.specs.Checks.{at_key, compact_form}
-use Rattle.co_sheet.specs.ParsedSections.{section_view}
+use Rattle.co_text.specs.Views.{section_view}
 use Rattle.co_sheet.specs.SectionViews.{object_view}
 use Rattle.co_sheet.proofs.LeastLemmas.{least-two}
 use Rattle.co_sheet.proofs.check_objects.compact_forms.Goals as goal

@@ -1,6 +1,6 @@
 use Rattle.std.proofs.Common.{◌≡◌, ◌+◌, ◌≤◌, drop, map, length}
 use Rattle.std.specs.List.{filter}
-use Rattle.co_sheet.specs.ParsedSections.{key_view}
+use Rattle.co_text.specs.Views.{property_view}
 use Rattle.co_sheet.specs.ListingViews.{is_key_to}
 use Rattle.co_sheet.proofs.listing.keys_to_len.Given as goal
 
@@ -8,5 +8,5 @@ use Rattle.co_sheet.proofs.listing.keys_to_len.Given as goal
 abbrev pub invariant-loop-given : goal.invariant-loop-given
 invariant-loop-given l = record {
   few : l.keys ≤ l.given-index;
-  sum : l.keys + length (filter (is_key_to l.count) (map key_view (drop l.given-index l.given-items))) ≡ length (filter (is_key_to l.count) (map key_view l.given-items));
+  sum : l.keys + length (filter (is_key_to l.count) (map property_view (drop l.given-index l.given-items))) ≡ length (filter (is_key_to l.count) (map property_view l.given-items));
 }

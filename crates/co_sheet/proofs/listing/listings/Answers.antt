@@ -1,6 +1,6 @@
 use Rattle.std.proofs.Common.{map, sym, ◌∙◌}
 use Rattle.std.specs.List.{flat_map}
-use Rattle.co_sheet.specs.ParsedSections.{section_view}
+use Rattle.co_text.specs.Views.{section_view}
 use Rattle.co_sheet.specs.ListingViews.{listing_view}
 use Rattle.co_sheet.proofs.ListLemmas.{flat-end}
 use Rattle.co_sheet.proofs.ListingLemmas.{named_by, named-all}

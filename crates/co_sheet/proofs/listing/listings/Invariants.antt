@@ -1,6 +1,6 @@
 use Rattle.std.proofs.Common.{◌≡◌, ◌++◌, drop, map}
 use Rattle.std.specs.List.{flat_map}
-use Rattle.co_sheet.specs.ParsedSections.{section_view}
+use Rattle.co_text.specs.Views.{section_view}
 use Rattle.co_sheet.specs.ListingViews.{listing_view}
 use Rattle.co_sheet.proofs.ListingLemmas.{named_by}
 use Rattle.co_sheet.proofs.listing.listings.Given as goal

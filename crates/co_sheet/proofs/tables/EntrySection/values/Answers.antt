@@ -1,0 +1,56 @@
+use Rattle.std.proofs.Common.{◌≡◌, [], Some, None, sym, ap, ◌∙◌, refl, rules}
+use Rattle.std.specs.Prelude.{option_map}
+use Rattle.std.specs.Option.{option_map_or}
+use Rattle.std.specs.Result.{result_err}
+use Rattle.co_sheet.specs.Accepted.{least_fault}
+use Rattle.co_sheet.specs.Checks.{in_numeric, bad_limits, bad_default}
+use Rattle.co_sheet.specs.Findings.{found_by}
+use Rattle.co_sheet.specs.EntryReadings.{AreValues, default_found}
+use Rattle.co_sheet.specs.SectionViews.{entry_view}
+use Rattle.co_sheet.proofs.EntryReadingLemmas.{at_ok, checked-ok, checked-err, passed, stops, value-steps, bad_default-read}
+use Rattle.co_sheet.proofs.tables.EntrySection.values.Goals as goal
+
+pub returns-in_err-values-clause-finding : goal.returns-in_err-values-clause-finding
+returns-in_err-values-clause-finding c =
+    let e = entry_view c.args.self.now in
+    let g = c.in_err-values.field-0.0 in
+    let failed : result_err c.from_residual.result ≡ Some g = search rules in
+    failed ∙ stops g (option_map (found_by 15) (result_err c.stated.result)) _ (checked-err 15 c.stated.result g c.in_err-values.ensures)
+    ∙ value-steps e (result_err c.stated.result) (least_fault (in_numeric bad_limits e)) (least_fault (bad_default e)) c.stated.ensures.fault refl refl
+
+pub returns-in_err-found-clause-finding : goal.returns-in_err-found-clause-finding
+returns-in_err-found-clause-finding c =
+    let t = c.args.data_type in
+    let e = entry_view c.args.self.now in
+    let g = c.in_err-found.field-0.0 in
+    let is = checked-ok 15 c.stated.result c.in_ok-values.values c.in_ok-values.ensures in
+    let are = at_ok (AreValues t e) c.stated.result c.in_ok-values.values is c.stated.ensures.values in
+    let failed : result_err c.from_residual-in_err-found.result ≡ Some g = search rules in
+    failed ∙ stops g (option_map (found_by 16) c.limits_fault.result) _ c.in_err-found.ensures
+    ∙ value-steps e None c.limits_fault.result (least_fault (bad_default e)) (sym (ap result_err is) ∙ c.stated.ensures.fault) (c.limits_fault.ensures ∙ ap least_fault (sym are.limits)) refl
+
+pub returns-in_err-found-2-clause-finding : goal.returns-in_err-found-2-clause-finding
+returns-in_err-found-2-clause-finding c =
+    let t = c.args.data_type in
+    let e = entry_view c.args.self.now in
+    let values = c.in_ok-values.values in
+    let g = c.in_err-found-2.field-0.0 in
+    let is = checked-ok 15 c.stated.result values c.in_ok-values.ensures in
+    let are = at_ok (AreValues t e) c.stated.result values is c.stated.ensures.values in
+    let limits = sym (passed 16 c.limits_fault.result c.in_ok-found.ensures) ∙ c.limits_fault.ensures ∙ ap least_fault (sym are.limits) in
+    let failed : result_err c.from_residual-in_err-found-2.result ≡ Some g = search rules in
+    failed ∙ stops g (option_map (found_by 17) c.default_fault.result) None c.in_err-found-2.ensures
+    ∙ value-steps e None None c.default_fault.result (sym (ap result_err is) ∙ c.stated.ensures.fault) limits
+    (c.default_fault.ensures ∙ ap (λ k. least_fault (option_map_or (default_found t values) k [])) c.property-given.ensures ∙ ap least_fault (sym (bad_default-read t e values c.requires are)))
+
+pub returns-clause-finding : goal.returns-clause-finding
+returns-clause-finding c =
+    let t = c.args.data_type in
+    let e = entry_view c.args.self.now in
+    let values = c.in_ok-values.values in
+    let is = checked-ok 15 c.stated.result values c.in_ok-values.ensures in
+    let are = at_ok (AreValues t e) c.stated.result values is c.stated.ensures.values in
+    let limits = sym (passed 16 c.limits_fault.result c.in_ok-found.ensures) ∙ c.limits_fault.ensures ∙ ap least_fault (sym are.limits) in
+    let default = sym (passed 17 c.default_fault.result c.in_ok-found-2.ensures) ∙ c.default_fault.ensures in
+    value-steps e None None None (sym (ap result_err is) ∙ c.stated.ensures.fault) limits
+    (default ∙ ap (λ k. least_fault (option_map_or (default_found t values) k [])) c.property-given.ensures ∙ ap least_fault (sym (bad_default-read t e values c.requires are)))

@@ -1,0 +1,59 @@
+use Rattle.std.proofs.Common.{◌≡◌, ◌∙◌, ◌++◌, ◌∷◌, [], List, Option, None, Result, Ok, Err, OnOk, OnErr, IfErr, is_some, ap, inr, map}
+use Rattle.std.specs.Prelude.{option_map}
+use Rattle.co_text.specs.declared.section_kind.SectionKind.{SectionKind}
+use Rattle.co_text.specs.declared.fault.TextFault.{TextFault}
+use Rattle.co_text.specs.Sections.{TextSection, Property, fault_at, name_value, property_given, section_at}
+use Rattle.co_text.specs.LinesRead.{with_property, fault_within}
+use Rattle.co_text.specs.Views.{section_view}
+use Rattle.co_text.proofs.SectionsReadLemmas.{section_at-with_property}
+use Rattle.co_text.proofs.SectionsKeptLemmas.{kept_some, last_kept, none_kept, with_last-kept, fault_at_last}
+use Rattle.co_text.proofs.sections_read.SectionsRead.take_property.Goals as goal
+
+-- whether a section of a kind is there doesn't change, whether the line is taken or not
+kinds-kept : {X : Type 0} (r : Result X TextFault) (k : SectionKind) (ss : List TextSection) (s t : TextSection) (o : Option Property)
+    → OnOk r (t ≡ with_property s o) → OnErr r (t ≡ s) → is_some (section_at k (ss ++ s ∷ [])) ≡ is_some (section_at k (ss ++ t ∷ []))
+kinds-kept (Ok x) k ss s t o taken kept = section_at-with_property k ss s t o taken
+kinds-kept (Err e) k ss s t o taken kept = section_at-with_property k ss s t None kept
+
+ok-both : {X : Type 0} (r : Result X TextFault) (A B C : Type 0) → (A → B → C) → OnOk r A → OnOk r B → OnOk r C
+ok-both (Ok x) A B C f a b = f a b
+ok-both (Err e) A B C f a b = tt
+
+err-more : {X : Type 0} (r : Result X TextFault) (P Q : TextFault → Type 0) → ((e : TextFault) → P e → Q e) → IfErr r P → IfErr r Q
+err-more (Ok x) P Q f p = tt
+err-more (Err e) P Q f p = f e p
+
+pub invariant_of-self : goal.invariant_of-self
+invariant_of-self c =
+    let s = c.args.self.now in
+    let old = section_view c.in-Some.section.section in
+    record {
+      indexed = λ k. s.indexed k
+          ∙ ap (λ r. is_some (section_at k r)) (kept_some s.closed.items s.current c.in-Some.section c.in-Some.is)
+          ∙ kinds-kept c.take_line.result k (map section_view s.closed.items) old (section_view c.take_line.new.self.section)
+          (property_given old.kind c.args.line (name_value c.args.name.now c.args.value.now)) c.take_line.ensures.taken c.take_line.ensures.kept;
+      begun = λ e. cc;
+    }
+
+pub returns-in-Some-clause-ok : goal.returns-in-Some-clause-ok
+returns-in-Some-clause-ok c =
+    let s = c.args.self.now in
+    let form = name_value c.args.name.now c.args.value.now in
+    ok-both c.take_line.result _ _ _
+    (λ good taken. (
+      ap (λ (o : Option TextSection). fault_within o form) (last_kept s.closed.items s.current c.in-Some.section c.in-Some.is) ∙ good,
+      with_last-kept (λ t. with_property t (property_given t.kind c.args.line form)) s.closed.items s.current c.in-Some.section (section_view c.take_line.new.self.section) c.in-Some.is taken,
+    )) c.take_line.ensures.good c.take_line.ensures.taken
+
+pub returns-in-Some-clause-err : goal.returns-in-Some-clause-err
+returns-in-Some-clause-err c =
+    let s = c.args.self.now in
+    err-more c.take_line.result _ _
+    (λ e bad. fault_at_last e _ (section_view c.in-Some.section.section) (name_value c.args.name.now c.args.value.now) c.args.line
+    (last_kept s.closed.items s.current c.in-Some.section c.in-Some.is) bad) c.take_line.ensures.err
+
+pub returns-in-None-clause-err : goal.returns-in-None-clause-err
+returns-in-None-clause-err c =
+    let s = c.args.self.now in
+    inr (ap (λ (o : Option TextSection). option_map (fault_at c.args.line) (fault_within o (name_value c.args.name.now c.args.value.now)))
+    (none_kept s.closed.items s.current c.in-None.is (s.begun c.in-None.is)))

@@ -1,0 +1,11 @@
+pub mod Text
+pub mod Names
+pub mod Sections
+pub mod Numerals
+pub mod Properties
+pub mod Views
+pub mod LinesRead
+pub mod SectionsKept
+pub mod OutOfMemory
+pub mod SectionsSoFar
+pub mod SectionLaws
