@@ -1,0 +1,15 @@
+//! Tests of the SDO client, by itself and with a channel of a server, through the public calls of their crates.
+#![tactic(auto)]
+
+#[cfg(test)]
+mod dialogue;
+#[cfg(test)]
+mod downloads;
+#[cfg(test)]
+mod faults;
+#[cfg(test)]
+mod server;
+#[cfg(test)]
+mod transfers;
+#[cfg(test)]
+mod uploads;

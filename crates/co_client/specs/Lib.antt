@@ -1,0 +1,10 @@
+pub mod Buffers
+pub mod Calls
+pub mod Segments
+pub mod SubBlocks
+pub mod Stages
+pub mod Verdicts
+pub mod Outcomes
+pub mod Standing
+pub mod Steps
+pub mod Fields

@@ -1,0 +1,10 @@
+//! Which way the bytes go.
+
+/// Which way the bytes go.
+#[derive(Clone, Copy, Debug, PartialEq, Eq)]
+pub(crate) enum Direction {
+    /// To the server; their number is indicated at the begin, or not.
+    Download { tell_size: bool },
+    /// From the server: at most `cap` bytes.
+    Upload { cap: u16 },
+}

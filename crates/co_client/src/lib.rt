@@ -1,0 +1,22 @@
+//! The SDO client of a CANopen device: one download or upload over a server's channel.
+#![tactic(auto)]
+
+mod answers;
+mod block_download;
+mod block_upload;
+mod buffer;
+mod calls;
+mod client;
+mod direction;
+mod download;
+mod mode;
+mod sending;
+mod stage;
+mod state;
+mod transfer;
+mod upload;
+
+pub use client::Client;
+pub use co_frame::Ids;
+pub use mode::Mode;
+pub use state::ClientState;
