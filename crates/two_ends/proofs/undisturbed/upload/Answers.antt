@@ -1,0 +1,14 @@
+use Rattle.two_ends.proofs.Transfers.{upload_ends, upload_goes, upload_gives, upload_sets_nothing}
+use Rattle.two_ends.proofs.undisturbed.upload.Goals as goal
+
+pub returns-clause-turns : goal.returns-clause-turns
+returns-clause-turns c = upload_goes
+
+pub returns-clause-value : goal.returns-clause-value
+returns-clause-value c = upload_gives
+
+pub returns-clause-contents : goal.returns-clause-contents
+returns-clause-contents c = upload_sets_nothing
+
+pub returns-clause-ends : goal.returns-clause-ends
+returns-clause-ends c = upload_ends
