@@ -6,7 +6,7 @@ use Rattle.co_trace.specs.declared.trace_line.TraceLine.TheVariants.{Skipped, Pa
 use Rattle.co_trace.specs.Clocks.{ClockState, clock_at_start, clock_after}
 use Rattle.co_trace.specs.FrameLines.{line_in, stamp_at, identifier_at, body_in, frame_at, frame_line_in}
 use Rattle.co_trace.specs.Lines.{lines_of}
-use Rattle.co_trace.specs.Printed.{frame_line, frame_text, last_digits, seconds_text, stamp_text}
+use Rattle.co_trace.specs.Printed.{frame_line, frame_text, digits_text, seconds_text, stamp_text}
 
 -- ---- what a line says
 
@@ -32,9 +32,57 @@ either_case : line_in (codes "(12.345678)" ++ 9 ∷ codes " 0123456789abcde " ++
 unfolding line_in frame_line_in stamp_at frame_at identifier_at body_in
 either_case = refl
 
+no_blank_before_interface : line_in (codes "(0.000000)can0 605#") ≡ None
+unfolding line_in frame_line_in stamp_at frame_at identifier_at body_in
+no_blank_before_interface = refl
+
+below_decimal_digits : line_in (codes "(/.000000) can0 605#") ≡ None
+unfolding line_in frame_line_in stamp_at frame_at identifier_at body_in
+below_decimal_digits = refl
+
+above_decimal_digits : line_in (codes "(:.000000) can0 605#") ≡ None
+unfolding line_in frame_line_in stamp_at frame_at identifier_at body_in
+above_decimal_digits = refl
+
+below_capitals : line_in (codes "(0.000000) can0 605#@0") ≡ None
+unfolding line_in frame_line_in stamp_at frame_at identifier_at body_in
+below_capitals = refl
+
+above_capitals : line_in (codes "(0.000000) can0 605#G0") ≡ None
+unfolding line_in frame_line_in stamp_at frame_at identifier_at body_in
+above_capitals = refl
+
+below_small_letters : line_in (codes "(0.000000) can0 605#`0") ≡ None
+unfolding line_in frame_line_in stamp_at frame_at identifier_at body_in
+below_small_letters = refl
+
+above_small_letters : line_in (codes "(0.000000) can0 605#g0") ≡ None
+unfolding line_in frame_line_in stamp_at frame_at identifier_at body_in
+above_small_letters = refl
+
+extended_no_digit : line_in (codes "(0.000000) can0 0000060g#40") ≡ None
+unfolding line_in frame_line_in stamp_at frame_at identifier_at body_in
+extended_no_digit = refl
+
+blank_after_remote_frame : line_in (codes "(0.000000) can0 605#R1 ") ≡ None
+unfolding line_in frame_line_in stamp_at frame_at identifier_at body_in
+blank_after_remote_frame = refl
+
+nine_as_a_digit : line_in (codes "(0.000000) can0 609#9a") ≡ Some (Data 0 (record { id = 0x609; bytes = 0x9A ∷ [] }))
+unfolding line_in frame_line_in stamp_at frame_at identifier_at body_in
+nine_as_a_digit = refl
+
+blank_before_semicolon : line_in (codes " ;") ≡ None
+unfolding line_in frame_line_in stamp_at frame_at identifier_at body_in
+blank_before_semicolon = refl
+
 interface_of_16 : line_in (codes "(0.000000) 0123456789abcdef 605#") ≡ None
 unfolding line_in frame_line_in stamp_at frame_at identifier_at body_in
 interface_of_16 = refl
+
+one_second : line_in (codes "(9.000999) can0 605#") ≡ Some (Data 9000 (record { id = 0x605; bytes = [] }))
+unfolding line_in frame_line_in stamp_at frame_at identifier_at body_in
+one_second = refl
 
 twelve_seconds : line_in (codes "(999999999999.999999) can0 605#") ≡ Some (Data 999999999999999 (record { id = 0x605; bytes = [] }))
 unfolding line_in frame_line_in stamp_at frame_at identifier_at body_in
@@ -82,7 +130,37 @@ four_digits : line_in (codes "(0.000000) can0 0605#") ≡ None
 unfolding line_in frame_line_in stamp_at frame_at identifier_at body_in
 four_digits = refl
 
+-- no digit after `R`, and one that is hexadecimal alone
+no_digit_after_R : line_in (codes "(1.000000) can0 605#R") ≡ Some (PassedOver 1000)
+unfolding line_in frame_line_in stamp_at frame_at identifier_at body_in
+no_digit_after_R = refl
+
+letter_after_R : line_in (codes "(1.000000) can0 605#RA") ≡ None
+unfolding line_in frame_line_in stamp_at frame_at identifier_at body_in
+letter_after_R = refl
+
+can_fd_frame_above : line_in (codes "(0.000000) can0 800##0") ≡ None
+unfolding line_in frame_line_in stamp_at frame_at identifier_at body_in
+can_fd_frame_above = refl
+
+-- an identifier of eight digits is followed by what may follow three
+extended_remote_frame : line_in (codes "(1.000000) can0 1FFFFFFF#R8 T") ≡ Some (PassedOver 1000)
+unfolding line_in frame_line_in stamp_at frame_at identifier_at body_in
+extended_remote_frame = refl
+
+extended_half_a_byte : line_in (codes "(1.000000) can0 00000605#4") ≡ None
+unfolding line_in frame_line_in stamp_at frame_at identifier_at body_in
+extended_half_a_byte = refl
+
 -- ---- the end of a line
+
+return_at_end : line_in (codes "(0.000000) can0 605#" ++ 13 ∷ []) ≡ None
+unfolding line_in frame_line_in stamp_at frame_at identifier_at body_in
+return_at_end = refl
+
+lower_case_mark : line_in (codes "(0.000000) can0 605# t") ≡ None
+unfolding line_in frame_line_in stamp_at frame_at identifier_at body_in
+lower_case_mark = refl
 
 blank_at_end : line_in (codes "(0.000000) can0 605# ") ≡ None
 unfolding line_in frame_line_in stamp_at frame_at identifier_at body_in
@@ -122,10 +200,6 @@ blank_at_front : line_in (codes " (0.000000) can0 605#") ≡ None
 unfolding line_in frame_line_in stamp_at
 blank_at_front = refl
 
-event_line : line_in (codes "!tick 5") ≡ None
-unfolding line_in frame_line_in stamp_at
-event_line = refl
-
 -- ---- the lines of a text
 
 -- one carriage return before a line feed is dropped, and no other one
@@ -161,18 +235,18 @@ more_than_a_day_later = refl
 -- ---- the line of a frame
 
 printed : frame_line 1700000000012 (record { id = 0x585; bytes = 0x43 ∷ 0x0A ∷ 0xFF ∷ [] }) ≡ codes "(1700000000.012000) can0 585#430AFF" ++ 10 ∷ []
-unfolding frame_line frame_text last_digits seconds_text stamp_text
+unfolding frame_line frame_text digits_text seconds_text stamp_text
 printed = refl
 
 printed_at_start : frame_line 0 (record { id = 5; bytes = [] }) ≡ codes "(0000000000.000000) can0 005#" ++ 10 ∷ []
-unfolding frame_line frame_text last_digits seconds_text stamp_text
+unfolding frame_line frame_text digits_text seconds_text stamp_text
 printed_at_start = refl
 
 -- ten digits of seconds, and the first time that takes eleven
 printed_late : frame_line 9999999999999 (record { id = 0x7FF; bytes = [] }) ≡ codes "(9999999999.999000) can0 7FF#" ++ 10 ∷ []
-unfolding frame_line frame_text last_digits seconds_text stamp_text
+unfolding frame_line frame_text digits_text seconds_text stamp_text
 printed_late = refl
 
 printed_later : frame_line 10000000000000 (record { id = 0x7FF; bytes = [] }) ≡ codes "(10000000000.000000) can0 7FF#" ++ 10 ∷ []
-unfolding frame_line frame_text last_digits seconds_text stamp_text digits
+unfolding frame_line frame_text digits_text seconds_text stamp_text digits
 printed_later = refl

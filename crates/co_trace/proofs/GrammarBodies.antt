@@ -9,7 +9,8 @@ use Rattle.std.specs.Option.{option_map_or}
 use Rattle.co_trace.specs.declared.frame_fields.Body.{Body}
 use Rattle.co_trace.specs.declared.frame_fields.Body.TheVariants.{Bytes, Other}
 use Rattle.co_trace.specs.Texts.{◌>>=◌, is_blank, is_digit, hex_digit, hex_pair}
-use Rattle.co_trace.specs.FrameLines.{pairs_at, few_pairs_at, is_mark, is_ending, past_digit, body_in}
+use Rattle.co_trace.specs.HexPairs.{pairs_at}
+use Rattle.co_trace.specs.FrameLines.{few_pairs_at, is_mark, is_ending, past_digit, body_in}
 use Rattle.co_trace.specs.Grammar.{IsRun, SpellsPairs, IsEnding, SpellsBody}
 use Rattle.co_trace.proofs.GrammarRuns.{by_test, guarded, both, take-run}
 

@@ -7,9 +7,9 @@ use Rattle.std.proofs.lemmas.List.{take-append-drop}
 use Rattle.std.specs.List.{prefix_len, list_all}
 use Rattle.co_trace.specs.declared.frame_fields.Identifier.{Identifier}
 use Rattle.co_trace.specs.declared.frame_fields.Identifier.TheVariants.{Base, Extended}
-use Rattle.co_trace.specs.Texts.{is_digit, decimal_value}
+use Rattle.co_trace.specs.Texts.{is_digit, is_hex_digit, decimal_value}
 use Rattle.co_trace.specs.FrameLines.{past_byte, number_at, stamp_at, three_digits, identifier_at}
-use Rattle.co_trace.specs.Grammar.{IsRun, is_hex_digit, SpellsStamp, SpellsIdentifier}
+use Rattle.co_trace.specs.Grammar.{IsRun, SpellsStamp, SpellsIdentifier}
 use Rattle.co_trace.proofs.GrammarRuns.{by_test, guarded, both, prefix_len-run, take-run, drop-run, front_run}
 
 -- ---- one byte

@@ -1,16 +1,20 @@
 -- What reading a line finds, its grammar spells, and what the grammar spells by a line, reading finds.
-use Rattle.std.proofs.Common.{◌≡◌, ℕ, suc, ◌+◌, ◌≤◌, true, false, inl, inr, List, [], ◌∷◌, ◌++◌, length, Option, Some, None, IfSome, eqb, ltb, refl, sym, ap, ◌∙◌, arith, length-append}
+use Rattle.std.proofs.Common.{◌≡◌, ℕ, suc, ◌+◌, ◌≤◌, true, false, inl, inr, List, [], ◌∷◌, ◌++◌, length, Option, Some, None, IfSome, eqb, ltb, get_or, refl, sym, ap, ◌∙◌, arith, length-append}
 use Rattle.std.proofs.lemmas.Bool.{eqb-true}
 use Rattle.std.proofs.lemmas.Bool.Decides.{nat_tests}
 use Rattle.std.proofs.lemmas.Option.{option_and_then_some}
-use Rattle.std.specs.List.{prefix_len, list_all}
+use Rattle.std.specs.List.{prefix_len, list_all, onto_first}
+use Rattle.std.specs.Option.{option_map}
 use Rattle.co_trace.specs.declared.trace_line.TraceLine.{TraceLine}
+use Rattle.co_trace.specs.declared.trace_line.TraceLine.TheVariants.{Event}
+use Rattle.co_trace.specs.declared.event_line.EventLine.{EventLine}
 use Rattle.co_trace.specs.declared.frame_fields.Identifier.{Identifier}
 use Rattle.co_trace.specs.declared.frame_fields.Identifier.TheVariants.{Base, Extended}
-use Rattle.co_trace.specs.Texts.{is_blank}
-use Rattle.co_trace.specs.FrameLines.{past_run, stamp_at, is_name_byte, identifier_at, body_in, line_of, frame_at, frame_line_in, is_skipped, line_in}
-use Rattle.co_trace.specs.Grammar.{IsRun, is_hex_digit, SpellsIdentifier, SpellsFrameLine, IsSkipped, SpellsLine}
-use Rattle.co_trace.proofs.GrammarRuns.{by_test, both, past_run-is, run_passed}
+use Rattle.co_trace.specs.Texts.{is_blank, is_hex_digit}
+use Rattle.co_trace.specs.FrameLines.{past_run, stamp_at, is_name_byte, identifier_at, body_in, line_of, frame_at, frame_line_in, is_skipped, begins_as_event, line_in}
+use Rattle.co_trace.specs.Events.{words, event_of_one, event_of_two, event_of_three, event_in}
+use Rattle.co_trace.specs.Grammar.{IsRun, SpellsIdentifier, SpellsFrameLine, IsSkipped, IsEventLine, SpellsLine}
+use Rattle.co_trace.proofs.GrammarRuns.{by_test, both, if_some, past_run-is, run_passed}
 use Rattle.co_trace.proofs.GrammarFields.{stamp_is, stamp_spelled, identifier_is, identifier_spelled}
 use Rattle.co_trace.proofs.GrammarBodies.{blank_digit, body_is, body_spelled}
 
@@ -65,14 +69,64 @@ not_skipped said line h =
     let whole : line ≡ 40 ∷ more = rw (h.joined, h.stamp_spelled.joined) refl in
     rw (whole, not_empty 40 more) refl
 
+not_event : (said : TraceLine) (line : List ℕ) → SpellsFrameLine said line → begins_as_event line ≡ false
+not_event said line h =
+    let more = (h.stamp_spelled.seconds ++ 46 ∷ (h.stamp_spelled.micros ++ 41 ∷ [])) ++ (h.first_blanks ++ (h.interface ++ (h.second_blanks ++ (h.id_text ++ 35 ∷ h.body_text)))) in
+    let whole : line ≡ 40 ∷ more = rw (h.joined, h.stamp_spelled.joined) refl in
+    rw whole refl
+
+-- ---- the name of an event begins with `!`
+
+of_one : (name word : List ℕ) (event : EventLine) → event_of_one name word ≡ Some event → eqb (get_or name 0 0) 33 ≡ true
+unfolding event_of_one
+of_one [] word event h = cc
+of_one (byte ∷ rest) word event h = by_test (eqb byte 33) (λ same. same) (λ other. let no : None ≡ Some event = rw other at h in cc)
+
+of_two : (name first second : List ℕ) (event : EventLine) → event_of_two name first second ≡ Some event → eqb (get_or name 0 0) 33 ≡ true
+unfolding event_of_two
+of_two [] first second event h = cc
+of_two (byte ∷ rest) first second event h = by_test (eqb byte 33) (λ same. same) (λ other. let no : None ≡ Some event = rw other at h in cc)
+
+of_three : (name first second third : List ℕ) (event : EventLine) → event_of_three name first second third ≡ Some event → eqb (get_or name 0 0) 33 ≡ true
+unfolding event_of_three
+of_three [] first second third event h = cc
+of_three (byte ∷ rest) first second third event h = by_test (eqb byte 33) (λ same. same) (λ other. let no : None ≡ Some event = rw other at h in cc)
+
+of_words : (name : List ℕ) (rest : List (List ℕ)) (event : EventLine) → event_in (name ∷ rest) ≡ Some event → eqb (get_or name 0 0) 33 ≡ true
+of_words name [] event h = cc
+of_words name (a ∷ []) event h = of_one name a event h
+of_words name (a ∷ b ∷ []) event h = of_two name a b event h
+of_words name (a ∷ b ∷ c ∷ []) event h = of_three name a b c event h
+of_words name (a ∷ b ∷ c ∷ d ∷ more) event h = cc
+
+of_longer : (byte : ℕ) (parts : List (List ℕ)) (event : EventLine) → event_in (onto_first byte parts) ≡ Some event → eqb byte 33 ≡ true
+of_longer byte [] event h = cc
+of_longer byte (part ∷ parts) event h = of_words (byte ∷ part) parts event h
+
+event_begins : (line : List ℕ) (event : EventLine) → event_in (words line) ≡ Some event → begins_as_event line ≡ true
+event_begins [] event h = cc
+event_begins (byte ∷ text) event h = by_test (eqb byte 32)
+    (λ space. let no : false ≡ true = of_words [] (words text) event (rw space at h) in cc)
+    (λ other. of_longer byte (words text) event (rw other at h))
+
+event_not_skipped : (line : List ℕ) → begins_as_event line ≡ true → is_skipped line ≡ false
+event_not_skipped [] h = cc
+event_not_skipped (byte ∷ text) h = rw (eqb-true byte 33 h, not_empty 33 text) refl
+
+-- ---- a whole line
+
 pub line_is : (said : TraceLine) (line : List ℕ) → SpellsLine said line → line_in line ≡ Some said
 unfolding line_in
 line_is said line (few, inl (e, skipped)) =
     let small : ltb 512 (length line) ≡ false = grind (arith, nat_tests) in
     rw (small, skipped_is line skipped, e) refl
-line_is said line (few, inr frame) =
+line_is said line (few, inr (inl frame)) =
     let small : ltb 512 (length line) ≡ false = grind (arith, nat_tests) in
-    rw (small, not_skipped said line frame) (frame_line_is said line frame)
+    rw (small, not_skipped said line frame, not_event said line frame) (frame_line_is said line frame)
+line_is said line (few, inr (inr (event, read, e))) =
+    let small : ltb 512 (length line) ≡ false = grind (arith, nat_tests) in
+    let begins = event_begins line event read in
+    rw (small, event_not_skipped line begins, begins, read, e) refl
 
 -- ---- what is read is spelled
 
@@ -119,10 +173,9 @@ skipped_spelled (x ∷ xs) e =
     let some : eqb (length (x ∷ xs)) 0 ≡ false = grind (arith, nat_tests) in
     inr (xs, ap (λ (b : ℕ). b ∷ xs) (eqb-true x 59 (rw some at e)))
 
--- what holds of each value that there may be
-if_some : {A : Type 0} {P : A → Type 0} (o : Option A) → ((x : A) → o ≡ Some x → P x) → IfSome o P
-if_some None each = tt
-if_some (Some x) each = each x refl
+event_spelled : (line : List ℕ) (found : Option EventLine) (said : TraceLine) → event_in (words line) ≡ found → option_map Event found ≡ Some said → IsEventLine said line
+event_spelled line None said read e = cc
+event_spelled line (Some event) said read e = (event, read, let same : Event event ≡ said = cc in sym same)
 
 pub line_spelled : (line : List ℕ) → IfSome (line_in line) (λ said. SpellsLine said line)
 unfolding line_in
@@ -132,4 +185,6 @@ line_spelled line = by_test (ltb 512 (length line))
     let few : length line ≤ 512 = grind (arith, nat_tests, short) in
     by_test (is_skipped line)
     (λ skipped. rw (short, skipped) (few, inl (refl, skipped_spelled line skipped)))
-    (λ not_one. rw (short, not_one) (if_some (frame_line_in line) (λ said e. (few, inr (frame_line_spelled line said few e))))))
+    (λ not_one. by_test (begins_as_event line)
+    (λ event. rw (short, not_one, event) (if_some (option_map Event (event_in (words line))) (λ said e. (few, inr (inr (event_spelled line (event_in (words line)) said refl e))))))
+    (λ other. rw (short, not_one, other) (if_some (frame_line_in line) (λ said e. (few, inr (inl (frame_line_spelled line said few e))))))))

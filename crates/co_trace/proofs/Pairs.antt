@@ -1,11 +1,12 @@
 -- Pairs of digits.
-use Rattle.std.proofs.Common.{◌≡◌, ℕ, List, [], ◌∷◌, ◌++◌, Option, Some, None, refl, sym, ◌∙◌, append_assoc, ◌≤◌, length, arith}
+use Rattle.std.proofs.Common.{◌≡◌, ℕ, List, [], ◌∷◌, ◌++◌, Option, Some, None, refl, sym, ap, ◌∙◌, append_assoc, ◌+◌, ◌*◌, ◌≤◌, length, arith}
 use Rattle.std.specs.Option.{option_map_or, option_map}
 use Rattle.std.proofs.lemmas.List.{append-nil}
 use Rattle.std.proofs.lemmas.Bool.Decides.{nat_tests}
 use Rattle.std.proofs.lemmas.Option.{none-some, some_pair_parts}
 use Rattle.co_trace.specs.Texts.{hex_pair}
-use Rattle.co_trace.specs.FrameLines.{pair_at, pairs_at, few_pairs_at}
+use Rattle.co_trace.specs.HexPairs.{pair_at, pairs_at}
+use Rattle.co_trace.specs.FrameLines.{few_pairs_at}
 
 no_pair : (high low : ℕ) (text : List ℕ) (pair : Option ℕ) → option_map {U = ℕ × List ℕ} (λ b. (b, text)) pair ≡ None → option_map_or {U = List ℕ × List ℕ} (λ byte. (byte ∷ (pairs_at text).0, (pairs_at text).1)) pair ([], high ∷ low ∷ text) ≡ ([], high ∷ low ∷ text)
 no_pair high low text None h = refl
@@ -39,3 +40,20 @@ read_all text bytes rest h e = h ∙ rw (pairs_end rest e, append-nil) refl
 
 pub few_all : (text bytes rest : List ℕ) → AreRead text bytes rest → pair_at rest ≡ None → length bytes ≤ 8 → Some (bytes, rest) ≡ few_pairs_at text
 few_all text bytes rest h e few = rw (read_all text bytes rest h e) (grind (arith, nat_tests))
+
+-- what is left after a pair is pairs too
+pub pairs_left : (text : List ℕ) (byte : ℕ) (rest : List ℕ) → pair_at text ≡ Some (byte, rest) → (pairs_at text).1 ≡ (pairs_at rest).1
+pairs_left text byte rest e = ap (λ (p : List ℕ × List ℕ). p.1) (pairs_begin text byte rest e)
+
+pub pairs_taken : (text : List ℕ) (byte : ℕ) (rest : List ℕ) → pair_at text ≡ Some (byte, rest) → (pairs_at text).0 ≡ byte ∷ (pairs_at rest).0
+pairs_taken text byte rest e = ap (λ (p : List ℕ × List ℕ). p.0) (pairs_begin text byte rest e)
+
+longer : (high low : ℕ) (text : List ℕ) (o : Option ℕ) → length text ≡ 2 * length (pairs_at text).0 + length (pairs_at text).1 → length (high ∷ low ∷ text) ≡ 2 * length (option_map_or {U = List ℕ × List ℕ} (λ byte. (byte ∷ (pairs_at text).0, (pairs_at text).1)) o ([], high ∷ low ∷ text)).0 + length (option_map_or {U = List ℕ × List ℕ} (λ byte. (byte ∷ (pairs_at text).0, (pairs_at text).1)) o ([], high ∷ low ∷ text)).1
+longer high low text None h = omega arith
+longer high low text (Some byte) h = omega arith
+
+-- two digits a byte
+pub length-pairs : (text : List ℕ) → length text ≡ 2 * length (pairs_at text).0 + length (pairs_at text).1
+length-pairs [] = omega arith
+length-pairs (high ∷ []) = omega arith
+length-pairs (high ∷ low ∷ text) = longer high low text (hex_pair high low) (length-pairs text)

@@ -1,5 +1,6 @@
 -- The clock of a trace.
-use Rattle.std.specs.Prelude.{ℕ, ◌+◌, nat_lt, max, Bool, true, false, not, if◌then◌else◌, Option, Some, None}
+use Rattle.std.specs.Prelude.{ℕ, ◌+◌, ◌-◌, nat_lt, max, Bool, true, false, not, if◌then◌else◌, Option, Some, None}
+use Rattle.std.specs.Option.{option_map}
 
 -- the time in ms, and whether a frame line came
 pub record ClockState : Type 0 where
@@ -10,10 +11,19 @@ pub record ClockState : Type 0 where
 abbrev pub clock_at_start : ClockState
 clock_at_start = record { ms = 0; started = false }
 
--- the clock after a frame line: the first sets it to its stamp; a later one moves it there, or where it is older not
--- at all; none moves it by more than a day
-abbrev pub clock_after : ClockState → ℕ → Option ClockState
-clock_after clock stamp =
-    if not clock.started then Some (record { ms = stamp; started = true })
+-- how many ticks a frame line gives, and the clock after it: the first line sets the clock to its stamp, also
+-- backwards, and gives none; a later one gives a tick a ms until the clock is its stamp, an older one none; none
+-- may be more than a day past the clock
+abbrev pub move_to : ClockState → ℕ → Option (ℕ × ClockState)
+move_to clock stamp =
+    if not clock.started then Some (0, record { ms = stamp; started = true })
     else (if nat_lt (clock.ms + 86400000) stamp then None
-    else Some (record { ms = max clock.ms stamp; started = true }))
+    else Some (stamp - clock.ms, record { ms = max clock.ms stamp; started = true }))
+
+-- so many ticks, and the clock after them
+abbrev pub move_by : ClockState → ℕ → ℕ × ClockState
+move_by clock count = (count, record clock { ms = clock.ms + count })
+
+-- the clock after a frame line alone
+abbrev pub clock_after : ClockState → ℕ → Option ClockState
+clock_after clock stamp = option_map (λ moved. moved.1) (move_to clock stamp)

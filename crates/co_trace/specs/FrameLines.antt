@@ -1,14 +1,16 @@
 -- What a trace line says, read from its front.
-use Rattle.std.specs.Prelude.{ℕ, ◌+◌, ◌-◌, ◌*◌, ◌/◌, ◌==◌, nat_le, nat_lt, ◌<◌, Bool, not, ◌&&◌, ◌||◌, if◌then◌else◌, List, [], ◌∷◌, length, take, drop, slice_index, Option, Some, None, is_some}
+use Rattle.std.specs.Prelude.{ℕ, ◌+◌, ◌-◌, ◌*◌, ◌/◌, ◌==◌, nat_le, nat_lt, ◌<◌, Bool, not, ◌&&◌, ◌||◌, if◌then◌else◌, List, [], ◌∷◌, length, take, drop, slice_index, Option, Some, None}
 use Rattle.std.specs.List.{prefix_len, list_all}
-use Rattle.std.specs.Option.{option_map, option_map_or}
+use Rattle.std.specs.Option.{option_map}
 use Rattle.co_trace.specs.declared.trace_line.TraceLine.{TraceLine}
-use Rattle.co_trace.specs.declared.trace_line.TraceLine.TheVariants.{Skipped, PassedOver, Data}
+use Rattle.co_trace.specs.declared.trace_line.TraceLine.TheVariants.{Skipped, PassedOver, Data, Event}
 use Rattle.co_trace.specs.declared.frame_fields.Identifier.{Identifier}
 use Rattle.co_trace.specs.declared.frame_fields.Identifier.TheVariants.{Base, Extended}
 use Rattle.co_trace.specs.declared.frame_fields.Body.{Body}
 use Rattle.co_trace.specs.declared.frame_fields.Body.TheVariants.{Bytes, Other}
-use Rattle.co_trace.specs.Texts.{◌>>=◌, is_blank, is_digit, decimal_value, hex_digit, hex_pair}
+use Rattle.co_trace.specs.Texts.{◌>>=◌, is_blank, is_digit, decimal_value, hex_digit, is_hex_digit}
+use Rattle.co_trace.specs.HexPairs.{pairs_at}
+use Rattle.co_trace.specs.Events.{words, event_in, HasFewBytes}
 
 -- what follows this byte, which must come first
 abbrev pub past_byte : ℕ → List ℕ → Option (List ℕ)
@@ -59,24 +61,10 @@ unfoldable pub identifier_at : List ℕ → Option (Identifier × List ℕ)
 identifier_at text =
     if slice_index text 3 == 35
     then (three_digits text >>= λ id. if nat_le id 0x7FF then Some (Base id, drop 4 text) else None)
-    else (if (slice_index text 8 == 35) && list_all (λ byte. is_some (hex_digit byte)) (take 8 text)
+    else (if (slice_index text 8 == 35) && list_all is_hex_digit (take 8 text)
     then Some (Extended, drop 9 text) else None)
 
--- the byte that the two digits at the front spell, and what follows
-abbrev pub pair_at : List ℕ → Option (ℕ × List ℕ)
-pair_at [] = None
-pair_at (high ∷ []) = None
-pair_at (high ∷ low ∷ text) = option_map (λ byte. (byte, text)) (hex_pair high low)
-
--- the bytes that the pairs of digits at the front spell, and what follows
-abbrev pub pairs_at : List ℕ → List ℕ × List ℕ
-pairs_at [] = ([], [])
-pairs_at (high ∷ []) = ([], high ∷ [])
-pairs_at (high ∷ low ∷ text) =
-    let rest = pairs_at text in
-    option_map_or (λ byte. (byte ∷ rest.0, rest.1)) (hex_pair high low) ([], high ∷ low ∷ text)
-
--- the same, if they are at most eight
+-- the bytes that the pairs of digits at the front spell, if they are at most eight, and what follows
 abbrev pub few_pairs_at : List ℕ → Option (List ℕ × List ℕ)
 few_pairs_at text = let pairs = pairs_at text in if nat_le (length pairs.0) 8 then Some pairs else None
 
@@ -130,8 +118,18 @@ frame_line_in line = do
 abbrev pub is_skipped : List ℕ → Bool
 is_skipped line = (length line == 0) || (slice_index line 0 == 59)
 
+-- a line that begins with `!` can only be an event line
+abbrev pub begins_as_event : List ℕ → Bool
+begins_as_event line = slice_index line 0 == 33
+
 -- what a trace line says
 unfoldable pub line_in : List ℕ → Option TraceLine
 line_in line =
     if nat_lt 512 (length line) then None
-    else (if is_skipped line then Some Skipped else frame_line_in line)
+    else (if is_skipped line then Some Skipped
+    else (if begins_as_event line then option_map Event (event_in (words line)) else frame_line_in line))
+
+-- a line whose bytes, if it writes some, are at most 256
+abbrev pub WritesFewBytes : TraceLine → Type 0
+WritesFewBytes (Event event) = HasFewBytes event
+WritesFewBytes other = Unit {0}

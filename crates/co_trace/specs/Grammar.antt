@@ -1,13 +1,15 @@
 -- The grammar of a frame line, as `candump -L` writes it: a line is the join of its parts. Reading is apart from it.
-use Rattle.std.specs.Prelude.{◌≡◌, ℕ, ◌+◌, ◌*◌, ◌/◌, ◌<◌, ◌≤◌, Bool, true, ◌⊎◌, List, [], ◌∷◌, ◌++◌, length, Some, is_some}
+use Rattle.std.specs.Prelude.{◌≡◌, ℕ, ◌+◌, ◌*◌, ◌/◌, ◌<◌, ◌≤◌, Bool, true, ◌⊎◌, List, [], ◌∷◌, ◌++◌, length, Some}
 use Rattle.std.specs.List.{list_all}
 use Rattle.co_trace.specs.declared.trace_line.TraceLine.{TraceLine}
-use Rattle.co_trace.specs.declared.trace_line.TraceLine.TheVariants.{Skipped}
+use Rattle.co_trace.specs.declared.trace_line.TraceLine.TheVariants.{Skipped, Event}
+use Rattle.co_trace.specs.declared.event_line.EventLine.{EventLine}
 use Rattle.co_trace.specs.declared.frame_fields.Identifier.{Identifier}
 use Rattle.co_trace.specs.declared.frame_fields.Identifier.TheVariants.{Base, Extended}
 use Rattle.co_trace.specs.declared.frame_fields.Body.{Body}
 use Rattle.co_trace.specs.declared.frame_fields.Body.TheVariants.{Bytes, Other}
-use Rattle.co_trace.specs.Texts.{is_blank, is_digit, decimal_value, hex_digit, hex_pair}
+use Rattle.co_trace.specs.Texts.{is_blank, is_digit, is_hex_digit, decimal_value, hex_pair}
+use Rattle.co_trace.specs.Events.{words, event_in}
 use Rattle.co_trace.specs.FrameLines.{is_name_byte, three_digits, line_of}
 
 -- from least to most bytes that all pass
@@ -15,9 +17,6 @@ pub record IsRun (passes : ℕ → Bool) (least most : ℕ) (text : List ℕ) : 
   pub all : list_all passes text ≡ true
   pub enough : least ≤ length text
   pub few : length text ≤ most
-
-abbrev pub is_hex_digit : ℕ → Bool
-is_hex_digit byte = is_some (hex_digit byte)
 
 -- seconds and microseconds in parentheses, with a point between, as a time in ms
 pub record SpellsStamp (ms : ℕ) (text : List ℕ) : Type 0 where
@@ -97,6 +96,12 @@ pub record SpellsFrameLine (said : TraceLine) (line : List ℕ) : Type 0 where
 abbrev pub IsSkipped : List ℕ → Type 0
 IsSkipped line = (line ≡ []) ⊎ ((rest : List ℕ) × (line ≡ 59 ∷ rest))
 
+-- an event line: its words are the event
+abbrev pub IsEventLine : TraceLine → List ℕ → Type 0
+IsEventLine said line = (event : EventLine) × (event_in (words line) ≡ Some event) × (said ≡ Event event)
+
 -- a line of a trace, of at most 512 bytes, and what it says
 abbrev pub SpellsLine : TraceLine → List ℕ → Type 0
-SpellsLine said line = (length line ≤ 512) × (((said ≡ Skipped) × IsSkipped line) ⊎ SpellsFrameLine said line)
+SpellsLine said line =
+    (length line ≤ 512)
+    × (((said ≡ Skipped) × IsSkipped line) ⊎ (SpellsFrameLine said line ⊎ IsEventLine said line))

@@ -1,34 +1,34 @@
--- The line of a frame that is sent.
+-- How numbers and frames are printed.
 use Rattle.std.specs.Prelude.{ℕ, zero, suc, ◌+◌, ◌/◌, ◌%◌, ◌^◌, nat_lt, if◌then◌else◌, List, [], ◌∷◌, ◌++◌, codes, decimal}
 use Rattle.std.specs.List.{flat_map}
 use Rattle.co_frame.specs.FrameContent.{FrameContent}
 
--- a hexadecimal digit in upper case
+-- a digit, from ten on a letter in upper case
 abbrev pub printed_digit : ℕ → ℕ
 printed_digit digit = if nat_lt digit 10 then 48 + digit else 55 + digit
 
+-- the last digits of a number in a base of at most 16, as many as are asked for
+unfoldable pub digits_text : ℕ → ℕ → ℕ → List ℕ
+digits_text base zero number = []
+digits_text base (suc count) number =
+    digits_text base count (number / base) ++ printed_digit (number % base) ∷ []
+
+-- a byte in two hexadecimal digits
 abbrev pub byte_text : ℕ → List ℕ
-byte_text byte = printed_digit (byte / 16) ∷ printed_digit (byte % 16) ∷ []
+byte_text byte = digits_text 16 2 byte
 
 -- an identifier of three digits, the number sign, and two digits a byte
 unfoldable pub frame_text : FrameContent → List ℕ
-frame_text frame =
-    (printed_digit (frame.id / 256) ∷ printed_digit (frame.id / 16 % 16) ∷ printed_digit (frame.id % 16) ∷ 35 ∷ [])
-    ++ flat_map byte_text frame.bytes
-
--- the last decimal digits of a number, as many as are asked for
-unfoldable pub last_digits : ℕ → ℕ → List ℕ
-last_digits zero number = []
-last_digits (suc count) number = last_digits count (number / 10) ++ (48 + number % 10) ∷ []
+frame_text frame = digits_text 16 3 frame.id ++ codes "#" ++ flat_map byte_text frame.bytes
 
 -- seconds in ten digits, or in more where it takes more
 unfoldable pub seconds_text : ℕ → List ℕ
-seconds_text seconds = if nat_lt seconds (10 ^ 10) then last_digits 10 seconds else decimal seconds
+seconds_text seconds = if nat_lt seconds (10 ^ 10) then digits_text 10 10 seconds else decimal seconds
 
 -- a time in ms as seconds and microseconds in parentheses
 unfoldable pub stamp_text : ℕ → List ℕ
 stamp_text ms =
-    codes "(" ++ seconds_text (ms / 1000) ++ codes "." ++ last_digits 3 (ms % 1000) ++ codes "000)"
+    codes "(" ++ seconds_text (ms / 1000) ++ codes "." ++ digits_text 10 3 (ms % 1000) ++ codes "000)"
 
 -- the line of a frame that is sent at a time in ms
 unfoldable pub frame_line : ℕ → FrameContent → List ℕ

@@ -1,11 +1,13 @@
 //! The fields of a frame line, each read from the front of the text.
 
-ghost use Rattle.std.specs.Prelude.{◌≡◌, ◌+◌, ◌*◌, ◌^◌, ◌<◌, ◌≤◌, ℕ, List, length, slice_index, ◌==◌, Option, IfSome, IsTrue, is_some};
+ghost use Rattle.std.specs.Prelude.{◌≡◌, ◌+◌, ◌*◌, ◌^◌, ◌<◌, ◌≤◌, ℕ, List, length, slice_index, ◌==◌, Option, IfSome, IsTrue};
 ghost use Rattle.std.specs.Option.{option_map, option_copied};
 ghost use Rattle.std.specs.List.{prefix_len, list_all};
-ghost use Rattle.co_trace.specs.Texts.{is_blank, is_digit, hex_digit, hex_pair};
-ghost use Rattle.co_trace.specs.FrameLines.{past_byte, past_run, number_at, stamp_at, is_name_byte, three_digits, identifier_at, pair_at, few_pairs_at, IsIdentifier, is_ending, is_mark, past_digit, body_in};
+ghost use Rattle.co_trace.specs.Texts.{is_blank, is_digit, is_hex_digit};
+ghost use Rattle.co_trace.specs.FrameLines.{past_byte, past_run, number_at, stamp_at, is_name_byte, three_digits, identifier_at, few_pairs_at, IsIdentifier, is_ending, is_mark, past_digit, body_in};
 
+use crate::hex_digit::{hex_digit, is_digit};
+use crate::hex_pairs::pair_at;
 use arrayvec::ArrayVec;
 
 /// The identifier of a frame line.
@@ -30,32 +32,6 @@ fn is_blank(byte: u8) -> bool
     ensures { result ≡ is_blank byte }
 {
     byte == b' ' || byte == b'\t'
-}
-
-fn is_digit(byte: u8) -> bool
-    ensures { result ≡ is_digit byte }
-{
-    b'0' <= byte && byte <= b'9'
-}
-
-fn hex_digit(byte: u8) -> Option<u8>
-    ensures value { result ≡ hex_digit byte }
-    ensures small { IfSome result (λ digit. digit < 16) }
-{
-    match byte {
-        b'0'..=b'9' => Some(byte - b'0'),
-        b'A'..=b'F' => Some(byte - b'A' + 10),
-        b'a'..=b'f' => Some(byte - b'a' + 10),
-        _ => None,
-    }
-}
-
-fn hex_pair(high: u8, low: u8) -> Option<u8>
-    ensures { result ≡ hex_pair high low }
-{
-    let high = hex_digit(high)?;
-    let low = hex_digit(low)?;
-    Some(16 * high + low)
 }
 
 fn past_byte(text: &[u8], wanted: u8) -> Option<&[u8]>
@@ -171,7 +147,7 @@ fn has_sign(text: &[u8], place: usize) -> bool
 }
 
 fn are_hex_digits(text: &[u8]) -> bool
-    ensures { result ≡ list_all (λ byte. is_some (hex_digit byte)) text.now }
+    ensures { result ≡ list_all is_hex_digit text.now }
 {
     text.iter().all(|byte| hex_digit(*byte).is_some())
 }
@@ -224,16 +200,6 @@ fn past_digit(text: &[u8]) -> &[u8]
         [digit, rest @ ..] if is_digit(*digit) => rest,
         _ => text,
     }
-}
-
-fn pair_at(text: &[u8]) -> Option<(u8, &[u8])>
-    ensures exact { option_map (λ found. (found.0, found.1.now)) result ≡ pair_at text.now }
-    ensures shorter { IfSome result (λ found. length found.1.now < length text.now) }
-{
-    let [high, low, rest @ ..] = text else {
-        return None;
-    };
-    Some((hex_pair(*high, *low)?, rest))
 }
 
 fn few_pairs_at(text: &[u8]) -> Option<(ArrayVec<u8, 8>, &[u8])>

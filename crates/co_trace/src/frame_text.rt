@@ -1,80 +1,44 @@
 //! The line of a frame that is sent.
 
 ghost use Rattle.std.specs.Prelude.{◌≡◌, ◌<◌, ◌+◌, ◌%◌, ◌^◌, [], ◌∷◌, ◌++◌, ℕ, List, OnOk, string_bytes};
-ghost use Rattle.std.specs.List.{flat_map};
-ghost use Rattle.co_trace.specs.Printed.{printed_digit, byte_text, frame_text, last_digits, seconds_text, stamp_text, frame_line};
+ghost use Rattle.co_trace.specs.Printed.{frame_text, digits_text, seconds_text, stamp_text, frame_line};
 
+use crate::digits::{push_byte, push_bytes, push_digit};
 use co_frame::Frame;
 use std::alloc::AllocError;
 
-fn push_hex(text: &mut String, digit: u8) -> Result<(), AllocError>
-    requires { digit < 16 }
-    ensures { OnOk result
-        (string_bytes text.new ≡ string_bytes text.old ++ printed_digit digit ∷ []) }
-{
-    let code = if digit < 10 {
-        b'0' + digit
-    } else {
-        b'A' - 10 + digit
-    };
-    text.push(code as char)
-}
-
-fn push_byte(text: &mut String, byte: u8) -> Result<(), AllocError>
-    ensures { OnOk result (string_bytes text.new ≡ string_bytes text.old ++ byte_text byte) }
-{
-    push_hex(text, byte / 16)?;
-    push_hex(text, byte % 16)
-}
-
-fn push_bytes(text: &mut String, bytes: &[u8]) -> Result<(), AllocError>
-    ensures { OnOk result
-        (string_bytes text.new ≡ string_bytes text.old ++ flat_map byte_text bytes.now) }
-{
-    for byte in bytes {
-        push_byte(text, *byte)?;
-    }
-    Ok(())
-}
-
-#[tactic(auto, unfolding(crate::specs::Printed::frame_text))]
-fn push_frame(text: &mut String, frame: &Frame) -> Result<(), AllocError>
+/// Appends a frame, as `605#2B17`: its identifier in three hexadecimal digits, a number sign, and two digits a byte. On an
+/// `Err` memory ran out, and the text may have a part of it.
+#[tactic(auto, unfolding(crate::specs::Printed::frame_text, crate::specs::Printed::digits_text))]
+pub fn push_frame(text: &mut String, frame: &Frame) -> Result<(), AllocError>
     ensures { OnOk result (string_bytes text.new ≡ string_bytes text.old ++ frame_text frame.now) }
 {
     let id = frame.id();
-    push_hex(text, (id / 256) as u8)?;
-    push_hex(text, (id / 16 % 16) as u8)?;
-    push_hex(text, (id % 16) as u8)?;
+    push_digit(text, (id / 256) as u8)?;
+    push_byte(text, (id % 256) as u8)?;
     text.push('#')?;
     push_bytes(text, frame.bytes())
 }
 
-fn push_digit(text: &mut String, digit: u32) -> Result<(), AllocError>
-    requires { digit < 10 }
-    ensures { OnOk result (string_bytes text.new ≡ string_bytes text.old ++ (48 + digit) ∷ []) }
-{
-    text.push((b'0' + digit as u8) as char)
-}
-
-#[tactic(auto, unfolding(crate::specs::Printed::last_digits))]
+#[tactic(auto, unfolding(crate::specs::Printed::digits_text))]
 fn push_three(text: &mut String, number: u32) -> Result<(), AllocError>
-    ensures { OnOk result (string_bytes text.new ≡ string_bytes text.old ++ last_digits 3 number) }
+    ensures { OnOk result (string_bytes text.new ≡ string_bytes text.old ++ digits_text 10 3 number) }
 {
     let tens = number / 10;
-    push_digit(text, tens / 10 % 10)?;
-    push_digit(text, tens % 10)?;
-    push_digit(text, number % 10)
+    push_digit(text, (tens / 10 % 10) as u8)?;
+    push_digit(text, (tens % 10) as u8)?;
+    push_digit(text, (number % 10) as u8)
 }
 
-#[tactic(auto, unfolding(crate::specs::Printed::last_digits))]
+#[tactic(auto, unfolding(crate::specs::Printed::digits_text))]
 fn push_five(text: &mut String, number: u32) -> Result<(), AllocError>
-    ensures { OnOk result (string_bytes text.new ≡ string_bytes text.old ++ last_digits 5 number) }
+    ensures { OnOk result (string_bytes text.new ≡ string_bytes text.old ++ digits_text 10 5 number) }
 {
     let tens = number / 10;
     let hundreds = tens / 10;
     push_three(text, hundreds)?;
-    push_digit(text, tens % 10)?;
-    push_digit(text, number % 10)
+    push_digit(text, (tens % 10) as u8)?;
+    push_digit(text, (number % 10) as u8)
 }
 
 #[tactic(auto, unfolding(crate::specs::Printed::seconds_text))]

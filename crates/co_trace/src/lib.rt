@@ -1,14 +1,25 @@
-//! CAN traces as `candump -L` writes them: the lines of a text, what each one says, the clock that they set, and the
-//! line of a frame that is sent.
+//! CAN traces as `candump -L` writes them, with event lines of this project's own: the lines of a text, what each one
+//! says, the clock that they set, the inputs that they give, and the line of a frame that is sent.
 #![tactic(auto)]
 
 mod clock;
+mod digits;
+mod event_line;
 mod frame_fields;
 mod frame_text;
+mod hex_digit;
+mod hex_pairs;
 mod lines;
+mod timed_line;
 mod trace_line;
+mod trace_reader;
 
 pub use clock::Clock;
-pub use frame_text::set_frame_line;
+pub use digits::{push_byte, push_bytes, push_u16, push_u32};
+pub use event_line::{AppLine, EventLine};
+pub use frame_text::{push_frame, set_frame_line};
+pub use hex_pairs::{HexPairs, key_in};
 pub use lines::first_line;
+pub use timed_line::TimedLine;
 pub use trace_line::TraceLine;
+pub use trace_reader::{BadLine, TraceReader};

@@ -1,20 +1,20 @@
 //! The lines of a text.
 
-ghost use Rattle.std.specs.Prelude.{◌≡◌, ◌<◌, ◌≤◌, ◌∷◌, length, take, slice_index, ◌≢◌};
+ghost use Rattle.std.specs.Prelude.{◌≡◌, ◌<◌, ◌≤◌, ◌∷◌, length, take, slice_index, ◌≢◌, ◌==◌};
 ghost use Rattle.std.specs.List.{position_or_len};
-ghost use Rattle.co_trace.specs.Lines.{is_feed, lines_of, without_return};
+ghost use Rattle.co_trace.specs.Lines.{lines_of, without_return};
 
-// the place of the first line feed, or the length of the text
-fn feed_place(text: &[u8]) -> usize
-    ensures place { result ≡ position_or_len is_feed text.now }
+use memchr::memchr;
+
+// the place of the first such byte, or the length of the text
+pub(crate) fn place_of(text: &[u8], wanted: u8) -> usize
+    ensures place { result ≡ position_or_len (λ byte. byte == wanted) text.now }
     ensures within { result ≤ length text.now }
 {
-    for (place, byte) in text.iter().enumerate() {
-        if *byte == b'\n' {
-            return place;
-        }
+    match memchr(wanted, text) {
+        Some(place) => place,
+        None => text.len(),
     }
-    text.len()
 }
 
 fn without_return(line: &[u8]) -> &[u8]
@@ -32,7 +32,7 @@ pub fn first_line(text: &[u8]) -> (&[u8], &[u8])
     ensures line { lines_of text.now ≡ result.0.now ∷ lines_of result.1.now }
     ensures shorter { length result.1.now < length text.now }
 {
-    let place = feed_place(text);
+    let place = place_of(text, b'\n');
     if place == text.len() {
         return (text, &[]);
     }

@@ -3,8 +3,9 @@
 ghost use Rattle.std.specs.Prelude.{◌≡◌, ◌+◌, ◌*◌, ◌^◌, ◌<◌, ℕ, List, length, Option, Some, IfSome};
 ghost use Rattle.co_trace.specs.declared.trace_line.TraceLine.{TraceLine};
 ghost use Rattle.co_trace.specs.Grammar.{SpellsLine};
-ghost use Rattle.co_trace.specs.FrameLines.{frame_at, frame_line_in, is_skipped, line_in, line_of, IsIdentifier};
+ghost use Rattle.co_trace.specs.FrameLines.{frame_at, frame_line_in, is_skipped, line_in, line_of, IsIdentifier, WritesFewBytes};
 
+use crate::event_line::{EventLine, event_line};
 use crate::frame_fields::{
     Body, Identifier, body_in, identifier_at, past_blanks, past_name, stamp_at,
 };
@@ -13,9 +14,9 @@ use co_frame::Frame;
 /// The greatest number of bytes of a line, without its line feed.
 const LONGEST: usize = 512;
 
-/// A line of a trace as `candump -L` writes it.
-#[derive(Clone, Copy, Debug, PartialEq, Eq)]
-pub enum TraceLine {
+/// What a line of a trace says: a frame as `candump -L` writes it, or an event.
+#[derive(Debug, Drop)]
+pub enum TraceLine<'a> {
     /// An empty line, or a comment.
     Skipped,
     /// A frame that this device doesn't take: a remote frame, a CAN FD frame, or one with an identifier of 29 bits.
@@ -30,12 +31,15 @@ pub enum TraceLine {
         /// The frame.
         frame: Frame,
     },
+    /// An event line.
+    Event(EventLine<'a>),
 }
 
-impl TraceLine {
+impl<'a> TraceLine<'a> {
     /// What a line says, without its line feed; `None` where it is no line of a trace.
-    pub fn read(line: &[u8]) -> Option<TraceLine>
+    pub fn read(line: &'a [u8]) -> Option<TraceLine<'a>>
         ensures exact { result ≡ line_in line.now }
+        ensures few { IfSome result WritesFewBytes }
         // What is found is spelled by the line, and what the line spells is found, so it spells one thing at most.
         ensures found { IfSome result (λ says. SpellsLine says line.now) }
         ensures only { (says : TraceLine) → SpellsLine says line.now → result ≡ Some says }
@@ -44,7 +48,7 @@ impl TraceLine {
     }
 
     #[tactic(auto, unfolding(crate::specs::FrameLines::line_in))]
-    fn of_line(line: &[u8]) -> Option<TraceLine>
+    fn of_line(line: &'a [u8]) -> Option<TraceLine<'a>>
         ensures { result ≡ line_in line.now }
     {
         if line.len() > LONGEST {
@@ -52,6 +56,9 @@ impl TraceLine {
         }
         if is_skipped(line) {
             return Some(TraceLine::Skipped);
+        }
+        if line[0] == b'!' {
+            return Some(TraceLine::Event(event_line(line)?));
         }
         frame_line(line)
     }
@@ -64,7 +71,7 @@ fn is_skipped(line: &[u8]) -> bool
 }
 
 #[tactic(auto, unfolding(crate::specs::FrameLines::frame_line_in))]
-fn frame_line(line: &[u8]) -> Option<TraceLine>
+fn frame_line(line: &[u8]) -> Option<TraceLine<'static>>
     ensures { result ≡ frame_line_in line.now }
 {
     let (stamp, rest) = stamp_at(line)?;
@@ -75,7 +82,7 @@ fn frame_line(line: &[u8]) -> Option<TraceLine>
 }
 
 #[tactic(auto, unfolding(crate::specs::FrameLines::frame_at))]
-fn frame_at(stamp: u64, text: &[u8]) -> Option<TraceLine>
+fn frame_at(stamp: u64, text: &[u8]) -> Option<TraceLine<'static>>
     ensures { result ≡ frame_at stamp text.now }
 {
     let (id, text) = identifier_at(text)?;
@@ -83,7 +90,7 @@ fn frame_at(stamp: u64, text: &[u8]) -> Option<TraceLine>
     Some(line_of(stamp, id, &body))
 }
 
-fn line_of(stamp: u64, id: Identifier, body: &Body) -> TraceLine
+fn line_of(stamp: u64, id: Identifier, body: &Body) -> TraceLine<'static>
     requires { IsIdentifier id }
     ensures { result ≡ line_of stamp id body.now }
 {

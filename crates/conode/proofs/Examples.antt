@@ -1,21 +1,22 @@
 -- Answers and messages, evaluated.
-use Rattle.std.proofs.Common.{◌≡◌, ℕ, List, [], ◌∷◌, ◌++◌, Option, Some, None, refl, true, false, lit<, lit≤}
+use Rattle.std.proofs.Common.{◌≡◌, ℕ, List, [], ◌∷◌, ◌++◌, Option, Some, None, refl, true, false}
 use Rattle.std.specs.Prelude.{codes}
 use Rattle.std.specs.Fmt.{digits}
-use Rattle.std.proofs.lemmas.Bool.{false≢true}
 use Rattle.co_value.specs.declared.key.Key.{Key}
 use Rattle.co_frame.specs.declared.sdo_request.ExpeditedData.{ExpeditedData}
 use Rattle.co_frame.specs.declared.sdo_request.ExpeditedData.TheVariants.{Indicated, NotIndicated}
 use Rattle.co_frame.specs.declared.sdo_request.SdoRequest.TheVariants as requests
 use Rattle.co_frame.specs.declared.sdo_response.SdoResponse.{SdoResponse}
 use Rattle.co_frame.specs.declared.sdo_response.SdoResponse.TheVariants.{Abort, DownloadDone, UploadExpedited}
+use Rattle.co_trace.specs.Events.{event_of_one}
 use Rattle.co_trace.specs.FrameLines.{line_in, frame_line_in, stamp_at}
 use Rattle.conode.specs.declared.fault.CmdFault.TheVariants.{BadLine, NeverEnds}
 use Rattle.conode.specs.declared.message.Message.TheVariants.{Stopped, Fault}
 use Rattle.co_sheet.specs.declared.fault.FaultKind.TheVariants.{Memory}
 use Rattle.conode.specs.Answers.{answer_to, is_for_us, keys_differ, list_after, read_refusal, write_refusal}
 use Rattle.conode.specs.Messages.{message_line}
-use Rattle.conode.specs.Runs.{IsFirstBadLine, taken, after_line, after_lines}
+use Rattle.co_trace.specs.Traces.{timed, trace_from, trace_of}
+use Rattle.conode.specs.Runs.{event_number, is_event_line, trace_here}
 use Rattle.conode.specs.StoredEntries.{stored_entries, device_type}
 
 -- ---- which frames are answered
@@ -117,15 +118,16 @@ no_memory = refl
 abbrev two_bad_lines : List (List ℕ)
 two_bad_lines = codes "x" ∷ codes "y" ∷ []
 
-first_is_first : IsFirstBadLine stored_entries two_bad_lines 1
-unfolding after_lines after_line taken line_in frame_line_in stamp_at
-first_is_first = record { some = lit< tt; within = lit≤ tt; good = refl; bad = refl }
-
-second_is_not_first : IsFirstBadLine stored_entries two_bad_lines 2 → ⊥
-unfolding after_lines after_line taken line_in frame_line_in stamp_at
-second_is_not_first h = false≢true h.good
+first_is_first : (trace_here two_bad_lines).bad ≡ Some 1
+unfolding trace_here event_number trace_of trace_from timed is_event_line line_in frame_line_in stamp_at event_of_one
+first_is_first = refl
 
 -- a bad line after a good one
-after_a_comment : IsFirstBadLine stored_entries (codes "; a" ∷ codes "!tick 5" ∷ []) 2
-unfolding after_lines after_line taken line_in frame_line_in stamp_at
-after_a_comment = record { some = lit< tt; within = lit≤ tt; good = refl; bad = refl }
+after_a_comment : (trace_here (codes "; a" ∷ codes "!tick 5" ∷ [])).bad ≡ Some 2
+unfolding trace_here event_number trace_of trace_from timed is_event_line line_in frame_line_in stamp_at event_of_one
+after_a_comment = refl
+
+-- an event line ends the trace, whatever comes after it
+an_event_first : trace_here (codes "!tick 5" ∷ codes "x" ∷ []) ≡ record { inputs = []; bad = Some 1 }
+unfolding trace_here event_number trace_of trace_from timed is_event_line line_in frame_line_in stamp_at event_of_one
+an_event_first = refl

@@ -4,7 +4,7 @@ use Rattle.clap.specs.Words.{Text, fault_of, is_simple_and_free, subcommand_of}
 use Rattle.clap.specs.declared.error.kind.ErrorKind.{ErrorKind}
 use Rattle.clap.specs.declared.error.kind.ErrorKind.TheVariants as kind
 use Rattle.clap.proofs.OnLiterals.{clap_on_literals}
-use Rattle.conode.specs.Tasks.{Asked, asked_of, conode_command}
+use Rattle.conode.specs.Tasks.{Asked, check, decode, asked_of, conode_command}
 
 abbrev asked : List Text → Option Asked
 asked words = asked_of (subcommand_of conode_command (codes "conode" ∷ words))
@@ -13,14 +13,30 @@ is_simple : is_simple_and_free conode_command ≡ true
 unfolding clap_on_literals
 is_simple = refl
 
-check_of_a_sheet : asked (codes "check" ∷ codes "a" ∷ []) ≡ Some (record { sheet = codes "a"; node = None; strings = 16; domains = 889 })
+check_of_a_sheet : asked (codes "check" ∷ codes "a" ∷ []) ≡ Some (check (record { sheet = codes "a"; node = None; strings = 16; domains = 889 }))
 unfolding clap_on_literals
 check_of_a_sheet = refl
 
 all_options : asked (codes "check" ∷ codes "--node" ∷ codes "127" ∷ codes "a" ∷ codes "--strings=0" ∷ codes "--domains" ∷ codes "65535" ∷ [])
-    ≡ Some (record { sheet = codes "a"; node = Some 127; strings = 0; domains = 65535 })
+    ≡ Some (check (record { sheet = codes "a"; node = Some 127; strings = 0; domains = 65535 }))
 unfolding clap_on_literals
 all_options = refl
+
+decode_of_a_trace : asked (codes "decode" ∷ codes "t" ∷ []) ≡ Some (decode (record { trace = codes "t"; sheet = None; node = None }))
+unfolding clap_on_literals
+decode_of_a_trace = refl
+
+decode_with_options : asked (codes "decode" ∷ codes "--node" ∷ codes "5" ∷ codes "t" ∷ codes "--sheet" ∷ codes "s" ∷ []) ≡ Some (decode (record { trace = codes "t"; sheet = Some (codes "s"); node = Some 5 }))
+unfolding clap_on_literals
+decode_with_options = refl
+
+decode_of_nothing : fault_of conode_command (codes "conode" ∷ codes "decode" ∷ codes "--sheet" ∷ codes "s" ∷ []) ≡ kind.MissingRequiredArgument ∷ []
+unfolding clap_on_literals
+decode_of_nothing = refl
+
+decode_for_node_128 : fault_of conode_command (codes "conode" ∷ codes "decode" ∷ codes "t" ∷ codes "--node" ∷ codes "128" ∷ []) ≡ kind.ValueValidation ∷ []
+unfolding clap_on_literals
+decode_for_node_128 = refl
 
 -- the faults of `check a` and an option with a word
 abbrev with_option : Text → Text → List ErrorKind

@@ -1,4 +1,5 @@
 pub mod Answers
+pub mod DecodedTraces
 pub mod Messages
 pub mod Runs
 pub mod SheetTexts

@@ -3,7 +3,7 @@
 ghost use Rattle.std.specs.Prelude.{◌≡◌, map, IfOk, option_map, false, [], codes};
 ghost use Rattle.clap.specs.Words.{FailsBy, app_of, fault_of, found_of, rows_of, rule_of, subcommand_of, subcommand_rows_of};
 ghost use Rattle.clap.specs.declared.builder.command.Command.TheViews.{out-Command};
-ghost use Rattle.conode.specs.Tasks.{asked_by, asked_check, asked_in, asked_of, check_command, conode_command, number_for, numbered, wanted};
+ghost use Rattle.conode.specs.Tasks.{asked_by, asked_check, asked_decode, asked_in, asked_of, check_command, conode_command, decode_command, number_for, numbered, sheet_option, wanted};
 
 use crate::help;
 use crate::tasks::Task;
@@ -55,14 +55,56 @@ fn check_command<'a>(alloc: Global) -> Result<Command<'a>, AllocError>
         .arg(domains)
 }
 
+// the path of the trace
+fn trace_arg<'a>(alloc: Global) -> Arg<'a>
+    ensures rule { rule_of result ≡ wanted (codes "TRACE") }
+    ensures local { result.global ≡ false }
+{
+    Arg::new(alloc, "TRACE")
+        .required(true)
+        .help("The CAN trace to decode, as `candump -L` writes it")
+}
+
+// the path of the sheet that has the names
+fn sheet_option<'a>(alloc: Global) -> Arg<'a>
+    ensures rule { rule_of result ≡ sheet_option }
+    ensures local { result.global ≡ false }
+{
+    Arg::new(alloc, "sheet")
+        .long("sheet")
+        .value_name("SHEET")
+        .help("An electronic data sheet (EDS, CiA 306), whose names follow the keys")
+}
+
+fn decode_command<'a>(alloc: Global) -> Result<Command<'a>, AllocError>
+    ensures shape { IfOk result (λ command. app_of command ≡ decode_command) }
+    ensures local { IfOk result (λ command. (out-Command command).has_globals ≡ false) }
+{
+    let trace = trace_arg(alloc);
+    let sheet = sheet_option(alloc);
+    let node = numbered(alloc, "node", 1, 127).help(
+        "The node-ID of the only node whose entries are named, 1 to 127",
+    );
+    Command::new(alloc, "decode")
+        .about("Decodes a CAN trace: each frame with what it says, by CiA 301")
+        .after_help(help::DECODED)
+        .arg(trace)?
+        .arg(sheet)?
+        .arg(node)
+}
+
 fn conode_command<'a>(alloc: Global) -> Result<Command<'a>, AllocError>
     ensures { IfOk result (λ command. app_of command ≡ conode_command) }
 {
     let check = check_command(alloc)?;
+    let decode = decode_command(alloc)?;
     Command::new(alloc, "conode")
-        .about("Checks data sheets of CANopen devices, and answers the SDO requests of a CAN trace")
+        .about(
+            "Checks data sheets of CANopen devices, decodes CAN traces, and answers the SDO requests of one",
+        )
         .after_help(help::TRACES)
-        .subcommand(check)
+        .subcommand(check)?
+        .subcommand(decode)
 }
 
 // the number of an option, of 8 bits
@@ -97,12 +139,27 @@ fn asked_check<'a>(found: &ArgMatches<'a>) -> Option<Task<'a>>
     })
 }
 
+// what the words after `decode` ask for
+#[tactic(auto, using(crate::proofs::TaskLemmas::first_in_rows))]
+fn asked_decode<'a>(found: &ArgMatches<'a>) -> Option<Task<'a>>
+    ensures { option_map asked_by result ≡ asked_decode (rows_of (found_of found.now)) }
+{
+    let trace = found.get_str("TRACE")?;
+    Some(Task::Decode {
+        trace,
+        sheet: found.get_str("sheet"),
+        node: number_u8(found, "node"),
+    })
+}
+
 // what the words after the name of a subcommand ask for
 fn asked_in<'a>(name: &str, found: &ArgMatches<'a>) -> Option<Task<'a>>
     ensures { option_map asked_by result ≡ asked_in name.now (rows_of (found_of found.now)) }
 {
     if name == "check" {
         asked_check(found)
+    } else if name == "decode" {
+        asked_decode(found)
     } else {
         None
     }

@@ -50,3 +50,12 @@ Build faults, each with an index or an index and a sub-index:
    5 BadMapping         a PDO that counts a missing or unmappable entry, a wrong length, or more than 64 bits: correct
                         the mapping, or set PDOMapping=1 for the entry
    6 TooMany            over 16,384 entries, or 16,777,216 bytes of room: lower --domains or --strings";
+
+/// What `decode` prints.
+pub const DECODED: &str = "\
+Prints a line for each data frame with an 11-bit identifier: the number of its line in the trace, the frame and what it
+says, as `12 605#4017100000000000 SDO request node 5 upload 1017:00`. With --sheet the entry's name follows in quotes.
+Empty lines, comments (`;`), event lines (`!`) and other frames print nothing.
+
+Status: 0 if all of the trace was decoded, 1 if not; then the last line says why, as `stopped: BadLine 3`, or `fault 9
+BadList line 1` for the sheet; 2 if the words are wrong.";

@@ -1,10 +1,12 @@
-//! A CANopen device node on the command line: checks data sheets, and answers the SDO requests of a CAN trace, as
-//! `candump -L` writes it.
+//! A CANopen device node on the command line: checks data sheets, decodes CAN traces as `candump -L` writes them, and
+//! answers the SDO requests of one.
 #![tactic(auto)]
 
 mod answer;
 mod check;
 mod command_line;
+mod decode;
+mod decode_file;
 mod fault;
 mod help;
 mod input;
@@ -21,6 +23,7 @@ mod tests;
 
 use co_dict::Limits;
 use command_line::task;
+use decode_file::decode_files;
 use fault::CmdFault;
 use output::stopped;
 use sheet_file::check_file;
@@ -54,6 +57,9 @@ fn carry_out<O: Write, E: Write>(
                 own: &[],
             };
             check_file(rt, sheet, node, &limits, out, err)
+        }
+        Ok(Some(Task::Decode { trace, sheet, node })) => {
+            decode_files(rt, trace, sheet, node, out, err)
         }
         Ok(None) => answer_input(rt.alloc(), &mut rt.reader(), out, err),
         Err(error) => {

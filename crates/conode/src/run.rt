@@ -1,13 +1,11 @@
 //! A trace answered from a list of entries.
 
-ghost use Rattle.std.specs.Prelude.{◌≡◌, ◌≢◌, ◌⊎◌, ◌-◌, ◌<◌, ◌≤◌, [], ℕ, List, take, length, All, IfSome, IfNone, IsSome, IfErr, OnOk, IsTrue, Some, None, Err, string_bytes};
-ghost use Rattle.std.specs.Option.{option_map};
+ghost use Rattle.std.specs.Prelude.{◌≡◌, ◌≢◌, ◌⊎◌, [], ℕ, List, All, IfSome, IfErr, OnOk, IsTrue, Some, None, Err, true, false};
 ghost use Rattle.std.specs.Io.KnownBytes.{Appends, Keeps};
 ghost use Rattle.co_frame.specs.SdoResponses.{IsSdoResponse};
-ghost use Rattle.co_trace.specs.Clocks.{clock_after};
 ghost use Rattle.co_trace.specs.Lines.{lines_of};
 ghost use Rattle.conode.specs.Answers.{IsEntry, keys_differ};
-ghost use Rattle.conode.specs.Runs.{taken, answer_text, IsAnswered, IsFirstBadLine, IsBrokenOff, IsUntouched};
+ghost use Rattle.conode.specs.Runs.{after_said, answer_text, is_event, text_of_said, trace_here, IsAnswered, IsBrokenOff, IsUntouched};
 ghost use Rattle.conode.specs.Written.{AppendsFront, IsFront};
 
 use crate::answer::answer;
@@ -16,38 +14,12 @@ use crate::input::{Asks, read_all};
 use crate::list_entry::ListEntry;
 use crate::output::hand_over;
 use co_frame::SdoResponse;
-use co_trace::{Clock, TraceLine, first_line, set_frame_line};
+use co_trace::{BadLine, TimedLine, TraceLine, TraceReader, set_frame_line};
 use std::alloc::Global;
 use std::io::{Read, Write};
 
 /// The identifier of the SDO answers of node 5.
 const ANSWER_ID: u16 = 0x585;
-
-// what a line is answered; None where it is no line of a trace here, and then nothing changes
-#[tactic(auto, unfolding(crate::specs::Runs::taken))]
-fn take_line(list: &mut [ListEntry], clock: &mut Clock, line: &[u8]) -> Option<Option<SdoResponse>>
-    requires valid { All IsEntry list.old }
-    requires differ { IsTrue (keys_differ list.old) }
-    ensures taken { taken list.old clock.old line.now ≡
-        option_map (λ answer.
-        record { list = list.new; clock = clock.new; answer = answer }) result }
-    ensures bad { IfNone result (list.new ≡ list.old) }
-    ensures valid { All IsEntry list.new }
-    ensures differ { IsTrue (keys_differ list.new) }
-    ensures spellable { IfSome result (λ answer. IfSome answer IsSdoResponse) }
-{
-    match TraceLine::read(line)? {
-        TraceLine::Skipped => Some(None),
-        TraceLine::PassedOver { stamp } => {
-            *clock = clock.after(stamp)?;
-            Some(None)
-        }
-        TraceLine::Data { stamp, frame } => {
-            *clock = clock.after(stamp)?;
-            Some(answer(list, &frame))
-        }
-    }
-}
 
 // writes an answer, if there is one, as a line that is made in the text
 #[tactic(auto, unfolding(crate::specs::Runs::answer_text))]
@@ -76,7 +48,45 @@ fn write_answer<W: Write>(
     hand_over(text.as_bytes(), writer)
 }
 
-// answers the lines of a text
+// answers what a line says, if it is a frame; an event is bad
+#[tactic(auto)]
+fn answer_line<W: Write>(
+    text: &mut String,
+    list: &mut [ListEntry],
+    timed: &TimedLine<'_>,
+    writer: &mut W,
+) -> Result<(), CmdFault>
+    requires valid { All IsEntry list.old }
+    requires differ { IsTrue (keys_differ list.old) }
+    ensures valid { All IsEntry list.new }
+    ensures differ { IsTrue (keys_differ list.new) }
+    ensures list { list.new ≡ after_said list.old timed.now.said }
+    ensures ok { OnOk result (is_event timed.now.said ≡ false) }
+    ensures text { OnOk result (Appends (W.contents writer.old) (W.contents writer.new)
+        (text_of_said list.old timed.now.ms timed.now.said)) }
+    ensures bad_line { (number : ℕ) → result ≡ Err (CmdFault.BadLine number) →
+        (number ≡ timed.now.number) × (is_event timed.now.said ≡ true)
+        × (list.new ≡ list.old) × Keeps (W.contents writer.old) (W.contents writer.new) }
+    ensures write { result ≡ Err CmdFault.Write → (is_event timed.now.said ≡ false)
+        × AppendsFront (W.contents writer.old) (W.contents writer.new)
+        (text_of_said list.old timed.now.ms timed.now.said) }
+    ensures memory { result ≡ Err CmdFault.Memory → (is_event timed.now.said ≡ false)
+        × IsFront [] (text_of_said list.old timed.now.ms timed.now.said)
+        × Keeps (W.contents writer.old) (W.contents writer.new) }
+    ensures err { IfErr result (λ fault.
+        (fault ≢ CmdFault.Read) × (fault ≢ CmdFault.NeverEnds)) }
+{
+    match &timed.said {
+        TraceLine::Data { frame, .. } => {
+            let answer = answer(list, frame);
+            write_answer(text, timed.ms, &answer, writer)
+        }
+        TraceLine::Event(_) => Err(CmdFault::BadLine(timed.number)),
+        _ => Ok(()),
+    }
+}
+
+// answers the lines of a text, up to its first bad line
 fn answer_lines<W: Write>(
     alloc: Global,
     list: &mut [ListEntry],
@@ -88,35 +98,31 @@ fn answer_lines<W: Write>(
     ensures valid { All IsEntry list.new }
     ensures differ { IsTrue (keys_differ list.new) }
 
-    ensures ok { OnOk result
-        (IsAnswered list.old (lines_of text.now) list.new
+    ensures ok { OnOk result ((trace_here (lines_of text.now)).bad ≡ None) }
+    ensures answered { OnOk result
+        (IsAnswered list.old (trace_here (lines_of text.now)).inputs list.new
         (W.contents writer.old) (W.contents writer.new)) }
     ensures bad_line { (number : ℕ) → result ≡ Err (CmdFault.BadLine number) →
-        IsFirstBadLine list.old (lines_of text.now) number }
+        (trace_here (lines_of text.now)).bad ≡ Some number }
     ensures before { (number : ℕ) → result ≡ Err (CmdFault.BadLine number) →
-        IsAnswered list.old (take (number - 1) (lines_of text.now)) list.new
+        IsAnswered list.old (trace_here (lines_of text.now)).inputs list.new
         (W.contents writer.old) (W.contents writer.new) }
     ensures write { result ≡ Err CmdFault.Write → (front : List ℕ) ×
-        IsBrokenOff list.old (lines_of text.now) list.new front
+        IsBrokenOff list.old (trace_here (lines_of text.now)).inputs list.new front
         (W.contents writer.old) (W.contents writer.new) }
     ensures memory { result ≡ Err CmdFault.Memory →
-        IsBrokenOff list.old (lines_of text.now) list.new []
+        IsBrokenOff list.old (trace_here (lines_of text.now)).inputs list.new []
         (W.contents writer.old) (W.contents writer.new) }
     ensures others { IfErr result (λ fault.
         (fault ≢ CmdFault.Read) × (fault ≢ CmdFault.NeverEnds)) }
 {
-    let mut clock = Clock::new();
+    let mut reader = TraceReader::new(text);
     let mut line_text = String::new(alloc);
-    let mut rest = text;
-    let mut number = 0;
-    while !rest.is_empty() {
-        let (line, after) = first_line(rest);
-        number += 1;
-        let Some(answer) = take_line(list, &mut clock, line) else {
-            return Err(CmdFault::BadLine(number));
-        };
-        write_answer(&mut line_text, clock.ms(), &answer, writer)?;
-        rest = after;
+    while let Some(read) = reader.next() {
+        match read {
+            Ok(timed) => answer_line(&mut line_text, list, &timed, writer)?,
+            Err(BadLine(number)) => return Err(CmdFault::BadLine(number)),
+        }
     }
     Ok(())
 }
@@ -126,8 +132,8 @@ fn answer_lines<W: Write>(
 ///
 /// `Read` and `NeverEnds` come before the first line is taken, so nothing has changed then. `BadLine` is the first line
 /// that is no line of a trace here, event lines included; the lines before it have been answered. After `Write` or
-/// `Memory` the line whose answer it was has been taken and those before it have been answered; of its own answer the
-/// writer has a part at most, after `Memory` nothing. `Memory` may also come before the first line is taken.
+/// `Memory` the frame whose answer it was has been taken and the lines before it have been answered; of its own answer
+/// the writer has a part at most, after `Memory` nothing. `Memory` may also come before the first line is taken.
 pub fn first_run<R: Read, W: Write>(
     alloc: Global,
     list: &mut [ListEntry],
@@ -139,28 +145,31 @@ pub fn first_run<R: Read, W: Write>(
     ensures valid { All IsEntry list.new }
     ensures differ { IsTrue (keys_differ list.new) }
 
-    // All lines are answered.
+    // No line is bad, and all inputs are answered.
     ensures ok { OnOk result (IfSome (R.remaining reader.old) (λ text.
-        IsAnswered list.old (lines_of text) list.new
+        (trace_here (lines_of text)).bad ≡ None)) }
+    ensures answered { OnOk result (IfSome (R.remaining reader.old) (λ text.
+        IsAnswered list.old (trace_here (lines_of text)).inputs list.new
         (W.contents writer.old) (W.contents writer.new))) }
 
-    // A line is bad, and those before it are answered.
+    // A line is the first bad one, and the inputs before it are answered.
     ensures bad_line { (number : ℕ) → result ≡ Err (CmdFault.BadLine number) →
-        IfSome (R.remaining reader.old) (λ text. IsFirstBadLine list.old (lines_of text) number) }
+        IfSome (R.remaining reader.old) (λ text.
+        (trace_here (lines_of text)).bad ≡ Some number) }
     ensures before { (number : ℕ) → result ≡ Err (CmdFault.BadLine number) →
         IfSome (R.remaining reader.old) (λ text.
-        IsAnswered list.old (take (number - 1) (lines_of text)) list.new
+        IsAnswered list.old (trace_here (lines_of text)).inputs list.new
         (W.contents writer.old) (W.contents writer.new)) }
 
     // An answer is written in part, or not at all.
     ensures write { result ≡ Err CmdFault.Write →
         IfSome (R.remaining reader.old) (λ text. (front : List ℕ) ×
-        IsBrokenOff list.old (lines_of text) list.new front
+        IsBrokenOff list.old (trace_here (lines_of text)).inputs list.new front
         (W.contents writer.old) (W.contents writer.new)) }
     ensures memory { result ≡ Err CmdFault.Memory →
         IsUntouched list.old list.new (W.contents writer.old) (W.contents writer.new)
         ⊎ IfSome (R.remaining reader.old) (λ text.
-        IsBrokenOff list.old (lines_of text) list.new []
+        IsBrokenOff list.old (trace_here (lines_of text)).inputs list.new []
         (W.contents writer.old) (W.contents writer.new)) }
 
     // The input is not read to its end.

@@ -31,8 +31,8 @@ pub fn file_text<R: Files + AllocGlobal>(rt: &R, path: &str) -> Result<Vec<u8>, 
     )
 }
 
-// says that memory ran out while a data sheet was checked
-fn out_of_memory<O: Write>(out: &mut O) -> ExitCode
+/// Says that memory ran out while a data sheet was read. The status is 1.
+pub fn out_of_memory<O: Write>(out: &mut O) -> ExitCode
     ensures { exit_status result ≡ 1 }
 {
     let fault = SheetFault {

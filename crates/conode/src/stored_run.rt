@@ -1,10 +1,10 @@
 //! The run without words: an input, a trace, answered from a list that the program has.
 
-ghost use Rattle.std.specs.Prelude.{◌≡◌, ◌⊎◌, List, All, IsTrue, IfSome};
+ghost use Rattle.std.specs.Prelude.{◌≡◌, ◌⊎◌, List, All, IsTrue, IfSome, None};
 ghost use Rattle.std.specs.Process.{exit_status};
 ghost use Rattle.co_trace.specs.Lines.{lines_of};
 ghost use Rattle.conode.specs.Answers.{IsEntry, keys_differ};
-ghost use Rattle.conode.specs.Runs.{IsAnswered};
+ghost use Rattle.conode.specs.Runs.{trace_here, IsAnswered};
 ghost use Rattle.conode.specs.StoredEntries.{stored_entries};
 ghost use Rattle.conode.specs.declared.list_entry.ListEntry.{ListEntry};
 
@@ -54,9 +54,11 @@ pub fn answer_input<R: Read, O: Write, E: Write>(
     err: &mut E,
 ) -> ExitCode
     ensures status { (exit_status result ≡ 0) ⊎ (exit_status result ≡ 1) }
+    ensures good { exit_status result ≡ 0 →
+        IfSome (R.remaining input.old) (λ text. (trace_here (lines_of text)).bad ≡ None) }
     ensures answered { exit_status result ≡ 0 →
         IfSome (R.remaining input.old) (λ text. (left : List ListEntry) ×
-        IsAnswered stored_entries (lines_of text) left
+        IsAnswered stored_entries (trace_here (lines_of text)).inputs left
         (O.contents out.old) (O.contents out.new)) }
 {
     let mut list = stored_list();

@@ -14,4 +14,13 @@ pub enum Task<'a> {
         /// The room of each domain, in bytes.
         domains: u16,
     },
+    /// To decode a trace.
+    Decode {
+        /// The trace's path.
+        trace: &'a str,
+        /// The path of the data sheet that has the names of entries; `None`: they aren't named.
+        sheet: Option<&'a str>,
+        /// The node-ID of the only node whose entries are named, 1 to 127; `None`: those of all nodes are.
+        node: Option<u8>,
+    },
 }

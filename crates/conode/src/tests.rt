@@ -1,6 +1,7 @@
 //! Whole runs over readers, writers and words in memory, and over files.
 
 mod builds;
+mod decodes;
 mod edges;
 mod fakes;
 mod sheets;

@@ -22,6 +22,26 @@ impl Read for Failing {
     }
 }
 
+/// Gives a text ten bytes at a time, in so many calls, and then fails.
+#[derive(Drop)]
+pub struct Pieces {
+    pub text: &'static [u8],
+    pub calls: u32,
+}
+
+impl Read for Pieces {
+    fn read(&mut self, buf: &mut [u8]) -> io::Result<usize> {
+        if self.calls == 0 {
+            return Err(io::ErrorKind::Other.into());
+        }
+        self.calls -= 1;
+        let mut piece = &self.text[..self.text.len().min(10)];
+        let count = piece.read(buf)?;
+        self.text = &self.text[count.min(self.text.len())..];
+        Ok(count)
+    }
+}
+
 /// Is interrupted by a signal once, and then gives a text.
 #[derive(Drop)]
 pub struct InterruptedOnce {

@@ -44,6 +44,30 @@ fn check_with_options(rt: HostRuntime) -> Result<(), Fail> {
 }
 
 #[test]
+fn decode_of_a_trace(rt: HostRuntime) -> Result<(), Fail> {
+    assert_eq!(rt;
+        task(rt.alloc(), &["conode", "decode", "t"])?,
+        Some(Task::Decode {
+            trace: "t",
+            sheet: None,
+            node: None,
+        })
+    );
+    assert_eq!(rt;
+        task(
+            rt.alloc(),
+            &["conode", "decode", "--sheet", "s", "t", "--node=1"]
+        )?,
+        Some(Task::Decode {
+            trace: "t",
+            sheet: Some("s"),
+            node: Some(1),
+        })
+    );
+    Ok(())
+}
+
+#[test]
 fn no_subcommand(rt: HostRuntime) -> Result<(), Fail> {
     assert_eq!(rt; task(rt.alloc(), &["conode"])?, None);
     Ok(())
@@ -87,6 +111,12 @@ fn refused_words(rt: HostRuntime) -> Result<(), Fail> {
         case_of(
             &["conode", "check", "a", "--node", "5", "--node", "6"],
             ErrorKind::ArgumentConflict,
+            2,
+        ),
+        case_of(&["conode", "decode"], ErrorKind::MissingRequiredArgument, 2),
+        case_of(
+            &["conode", "decode", "t", "--node", "128"],
+            ErrorKind::ValueValidation,
             2,
         ),
         case_of(&["conode", "chek"], ErrorKind::InvalidSubcommand, 2),

@@ -1,5 +1,5 @@
 use Rattle.std.proofs.Common.{append_assoc, rules, arith}
-use Rattle.co_trace.proofs.Digits.{seconds_text-ten}
+use Rattle.co_trace.proofs.TenDigits.{seconds_text-ten}
 use Rattle.co_trace.proofs.frame_text.push_seconds.Goals as goal
 
 pub returns : goal.returns

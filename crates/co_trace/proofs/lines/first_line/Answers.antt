@@ -6,4 +6,4 @@ pub returns-then-place-text-clause-line : goal.returns-then-place-text-clause-li
 returns-then-place-text-clause-line c = rw lines_of-nothing (lines_of-only c.args.text.now c.requires (omega arith))
 
 pub returns-clause-line : goal.returns-clause-line
-returns-clause-line c = first_and_rest c.args.text.now c.feed_place-place.result c.without_return.result.now c.feed_place-place.ensures.place (omega arith) (grind arith)
+returns-clause-line c = first_and_rest c.args.text.now c.place_of-place.result c.without_return.result.now c.place_of-place.ensures.place (omega arith) (grind arith)

@@ -1,16 +1,16 @@
-use Rattle.std.proofs.Common.{◌+◌, ◌≤◌, length, All, IsTrue}
+use Rattle.std.proofs.Common.{length, All, IsTrue}
 use Rattle.co_trace.specs.Lines.{lines_of}
 use Rattle.conode.specs.Answers.{IsEntry, keys_differ}
-use Rattle.conode.proofs.Reached.{HasReached}
+use Rattle.conode.specs.Runs.{trace_here}
+use Rattle.conode.proofs.Reached.{HasAnswered, here_left}
 use Rattle.conode.proofs.run.answer_lines.Given as goal
 
-abbrev pub invariant-loop-rest : goal.invariant-loop-rest
-invariant-loop-rest g l = record {
+abbrev pub invariant-loop-read : goal.invariant-loop-read
+invariant-loop-read g l = record {
   valid : All IsEntry l.list;
   differ : IsTrue (keys_differ l.list);
-  few : l.number + length l.rest ≤ length l.text;
-  reached : HasReached l.fn.list (lines_of l.text) l.number (lines_of l.rest) l.list l.clock (g.W.Write.contents l.fn.writer) (g.W.Write.contents l.writer);
+  reached : HasAnswered l.fn.list (trace_here (lines_of l.text)) (here_left l.reader) l.list (g.W.Write.contents l.fn.writer) (g.W.Write.contents l.writer);
 }
 
-abbrev pub decreases-loop-rest : goal.decreases-loop-rest
-decreases-loop-rest g l = length l.rest
+abbrev pub decreases-loop-read : goal.decreases-loop-read
+decreases-loop-read g l = length l.reader.lines

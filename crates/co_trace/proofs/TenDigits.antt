@@ -1,11 +1,11 @@
 -- Ten digits as twice five.
 use Rattle.std.proofs.Common.{◌≡◌, ℕ, ◌/◌, ◌%◌, ◌<◌, ◌^◌, ◌++◌, arith}
 use Rattle.std.proofs.lemmas.Bool.Decides.{nat_tests}
-use Rattle.co_trace.specs.Printed.{last_digits, seconds_text}
+use Rattle.co_trace.specs.Printed.{digits_text, seconds_text}
 
 -- the digits of the front and of the rest
-pub ten_digits : (s : ℕ) → last_digits 5 (s / 100000) ++ last_digits 5 (s % 100000) ≡ last_digits 10 s
-unfolding last_digits
+pub ten_digits : (s : ℕ) → digits_text 10 5 (s / 100000) ++ digits_text 10 5 (s % 100000) ≡ digits_text 10 10 s
+unfolding digits_text
 ten_digits s =
     let front : s / 10 / 10 / 10 / 10 / 10 ≡ s / 100000 = omega arith in
     let ones : s % 100000 % 10 ≡ s % 10 = omega arith in
@@ -16,6 +16,6 @@ ten_digits s =
     cc
 
 -- the digits of few seconds
-pub seconds_text-ten : (s : ℕ) → s < 10 ^ 10 → seconds_text s ≡ last_digits 5 (s / 100000) ++ last_digits 5 (s % 100000)
+pub seconds_text-ten : (s : ℕ) → s < 10 ^ 10 → seconds_text s ≡ digits_text 10 5 (s / 100000) ++ digits_text 10 5 (s % 100000)
 unfolding seconds_text
 seconds_text-ten s few = rw ten_digits (grind (arith, nat_tests))

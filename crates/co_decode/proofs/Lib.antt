@@ -1,0 +1,4 @@
+pub mod Examples
+pub mod Finds
+pub mod SearchedKeys
+pub mod Utf8

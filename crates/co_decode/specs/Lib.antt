@@ -1,0 +1,5 @@
+pub mod Names
+pub mod Numbers
+pub mod SdoTexts
+pub mod Services
+pub mod Texts

@@ -1,0 +1,7 @@
+//! Tests of traces through the public calls of their crate, so that that is proved once.
+#![tactic(auto)]
+
+#[cfg(test)]
+mod lines;
+#[cfg(test)]
+mod runs;
