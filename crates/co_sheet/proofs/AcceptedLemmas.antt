@@ -18,6 +18,7 @@ use Rattle.co_sheet.specs.ObjectLists.{is_one_of, Listing, listings}
 use Rattle.co_sheet.specs.Entries.{ListedObject, listed_objects, object_code, object_type_with, Entry, entries_of, data_type_of, access_of, name_of}
 use Rattle.co_sheet.specs.Checks.{fault_if, listed_twice, missing_section, bad_object_types, bad_type, in_numeric, bad_limits, bad_default, missing_mandatory, of_listings, of_objects, of_entries, checks}
 use Rattle.co_sheet.specs.Accepted.{least_fault, first_bad_line, first_found, sections_in, IsAccepted}
+use Rattle.co_sheet.specs.AcceptedTexts.{FindNothing, IsFaultless}
 use Rattle.co_value.specs.Keys.{is_key_before}
 use Rattle.co_sheet.specs.Content.{row_of, row_with, object_row_of, Row, ObjectRow, in_order, rows_of, keys_of, objects_of, indices_of}
 use Rattle.co_sheet.specs.SheetLaws.{KeepsEntries}
@@ -31,11 +32,6 @@ accepted-from text small lines found =
 
 -- ---- nothing is found
 
--- no check finds anything
-abbrev pub NothingFound : List (List TextSection → List SheetFault) → List TextSection → Type 0
-NothingFound [] sections = Unit {0}
-NothingFound (check ∷ more) sections = (check sections ≡ []) × NothingFound more sections
-
 pub neither : {X : Type 0} (o p : Option X) → option_or o p ≡ None → (o ≡ None) × (p ≡ None)
 neither None p h = (refl, h)
 neither (Some x) p h = absurd (cc)
@@ -44,7 +40,7 @@ least-none : (faults : List SheetFault) → least_fault faults ≡ None → faul
 least-none [] h = refl
 least-none (f ∷ faults) h = absurd (cc)
 
-pub nothing-found : (cs : List (List TextSection → List SheetFault)) (sections : List TextSection) → first_found cs sections ≡ None → NothingFound cs sections
+pub nothing-found : (cs : List (List TextSection → List SheetFault)) (sections : List TextSection) → first_found cs sections ≡ None → FindNothing cs sections
 nothing-found [] sections h = tt
 nothing-found (check ∷ more) sections h =
     let none = neither (least_fault (check sections)) (first_found more sections) h in
@@ -57,6 +53,34 @@ unless false x o h = h
 pub checks-nothing : (text : List ℕ) → IsAccepted text → first_found checks (sections_in text) ≡ None
 checks-nothing text accepted =
     (neither (first_bad_line text) (first_found checks (sections_in text)) (unless (nat_lt 1048576 (length text)) _ _ accepted)).1
+
+-- and the other way round
+all-nothing : (cs : List (List TextSection → List SheetFault)) (sections : List TextSection)
+    → FindNothing cs sections → first_found cs sections ≡ None
+all-nothing [] sections nothing = refl
+all-nothing (check ∷ more) sections nothing =
+    ap (λ found. option_or found (first_found more sections)) (ap least_fault nothing.0)
+    ∙ all-nothing more sections nothing.1
+
+not_large : {X : Type 0} (test : Bool) (x : X) (o : Option X) → cond test (Some x) o ≡ None → test ≡ false
+not_large true x o h = absurd (cc)
+not_large false x o h = refl
+
+small_text : (size : ℕ) → ltb 1048576 size ≡ false → size ≤ 1048576
+small_text size test = grind (arith, nat_tests)
+
+pub faultless : (text : List ℕ) → IsAccepted text → IsFaultless text
+faultless text accepted = record {
+  size = small_text (length text) (not_large (nat_lt 1048576 (length text)) _ _ accepted);
+  lines = (neither (first_bad_line text) (first_found checks (sections_in text))
+      (unless (nat_lt 1048576 (length text)) _ _ accepted)).0;
+  sections = nothing-found checks (sections_in text) (checks-nothing text accepted);
+}
+
+pub accepted-faultless : (text : List ℕ) → IsFaultless text → IsAccepted text
+accepted-faultless text faultless =
+    accepted-from text faultless.size faultless.lines
+    (all-nothing checks (sections_in text) faultless.sections)
 
 pub no_fault : (test : Bool) (kind : FaultKind) (line : ℕ) → fault_if test kind line ≡ [] → test ≡ false
 no_fault true kind line h = absurd (cc)

@@ -5,11 +5,11 @@ use Rattle.std.proofs.lemmas.List.{drop_all}
 use Rattle.std.specs.Prelude.{flat_map, option_map}
 use Rattle.std.specs.Option.{option_or}
 use Rattle.co_sheet.specs.declared.fault.SheetFault.{SheetFault}
-use Rattle.co_sheet.specs.declared.finding.Finding.{Finding}
+use Rattle.co_sheet.specs.declared.checks.findings.Finding.{Finding}
 use Rattle.co_sheet.specs.Accepted.{least_fault, first_found}
 use Rattle.co_text.specs.Sections.{TextSection}
-use Rattle.co_sheet.specs.LeastFaults.{earlier}
-use Rattle.co_sheet.specs.Findings.{found_by, first_finding, is_before, sooner, soonest}
+use Rattle.co_sheet.specs.private.LeastFaults.{earlier}
+use Rattle.co_sheet.specs.private.Findings.{found_by, first_finding, is_before, sooner, soonest}
 use Rattle.co_sheet.proofs.LeastLemmas.{least-append}
 
 -- ---- the order of findings
@@ -119,16 +119,48 @@ found-fault number (check ∷ more) sections =
 
 -- ---- item by item
 
-pub soonest-turn : {X V : Type 0} (view : X → V) (found : V → Option Finding) (items : List X) (i : ℕ) (d : X) (first more : Option Finding) → i < length items
-    → more ≡ sooner first (found (view (get_or items i d))) → sooner first (soonest found (map view (drop i items))) ≡ soonest found (map view items)
-    → sooner more (soonest found (map view (drop (i + 1) items))) ≡ soonest found (map view items)
+pub soonest-turn : {X V : Type 0} {all : Option Finding} (view : X → V) (found : V → Option Finding) (items : List X) (i : ℕ) (d : X) (first more : Option Finding) → i < length items
+    → more ≡ sooner first (found (view (get_or items i d))) → sooner first (soonest found (map view (drop i items))) ≡ all
+    → sooner more (soonest found (map view (drop (i + 1) items))) ≡ all
 soonest-turn view found items i d first more inside is invariant =
     let rest = soonest found (map view (drop (suc i) items)) in
     rw (add-one i)
     (ap (λ o. sooner o rest) is ∙ sooner-assoc first (found (view (get_or items i d))) rest
     ∙ ap (λ xs. sooner first (soonest found (map view xs))) (sym (drop-cons items i d inside)) ∙ invariant)
 
-pub soonest-end : {X V : Type 0} (view : X → V) (found : V → Option Finding) (items : List X) (i : ℕ) (first : Option Finding) → length items ≤ i
-    → sooner first (soonest found (map view (drop i items))) ≡ soonest found (map view items) → first ≡ soonest found (map view items)
+pub soonest-end : {X V : Type 0} {all : Option Finding} (view : X → V) (found : V → Option Finding) (items : List X) (i : ℕ) (first : Option Finding) → length items ≤ i
+    → sooner first (soonest found (map view (drop i items))) ≡ all → first ≡ all
 soonest-end view found items i first past invariant =
     sym (sooner-none first) ∙ sym (ap (λ xs. sooner first (soonest found (map view xs))) (drop_all i items past)) ∙ invariant
+
+-- where the one that comes first is none, there is none
+pub sooner-neither : (x y : Option Finding) → sooner x y ≡ None → (x ≡ None) × (y ≡ None)
+sooner-neither None y h = (refl, h)
+sooner-neither (Some f) None h = absurd (cc)
+sooner-neither (Some f) (Some g) h = absurd (cc)
+
+-- ---- check by check, of faults that are found
+
+-- the first of lists of faults that isn't empty, by the number of its check
+abbrev pub first_of : ℕ → List (List SheetFault) → Option Finding
+first_of number [] = None
+first_of number (faults ∷ more) = option_or (option_map (found_by number) (least_fault faults)) (first_of (number + 1) more)
+
+from-of : (number : ℕ) (faults : List (List SheetFault)) → IsFrom number (first_of number faults)
+from-of number [] = tt
+from-of number (fs ∷ more) = or_from number (least_fault fs) (first_of (number + 1) more) (from-of (number + 1) more)
+
+-- both lists of each check
+abbrev pub joined : List (List SheetFault) → List (List SheetFault) → List (List SheetFault)
+joined [] gs = gs
+joined (f ∷ fs) [] = f ∷ fs
+joined (f ∷ fs) (g ∷ gs) = (f ++ g) ∷ joined fs gs
+
+-- what is found first in either is found first in both
+pub sooner-joined : (number : ℕ) (fs gs : List (List SheetFault)) → sooner (first_of number fs) (first_of number gs) ≡ first_of number (joined fs gs)
+sooner-joined number [] gs = refl
+sooner-joined number (f ∷ fs) [] = sooner-none (first_of number (f ∷ fs))
+sooner-joined number (f ∷ fs) (g ∷ gs) =
+    merge number (least_fault f) (least_fault g) (first_of (number + 1) fs) (first_of (number + 1) gs) (from-of (number + 1) fs) (from-of (number + 1) gs)
+    ∙ ap (λ o. option_or (option_map (found_by number) o) (sooner (first_of (number + 1) fs) (first_of (number + 1) gs))) (sym (least-append f g))
+    ∙ ap (option_or (option_map (found_by number) (least_fault (f ++ g)))) (sooner-joined (number + 1) fs gs)

@@ -13,13 +13,13 @@ use Rattle.co_text.specs.Names.{is_list}
 use Rattle.co_text.specs.Sections.{Property, TextSection}
 use Rattle.co_text.specs.Properties.{property_number}
 use Rattle.co_sheet.specs.ObjectLists.{is_one_of, count_of, Listing, listings_in, listings}
-use Rattle.co_sheet.specs.ListingViews.{is_key_to, listing_at}
+use Rattle.co_sheet.specs.private.ListReadings.{is_key_to, listing_at, named_by, LinesRise}
 use Rattle.co_sheet.specs.Entries.{single_codes, compound_codes, object_code, ListedObject, listed_objects, Entry, sub_index_in, sub_indices, entries_in, entries_of}
 use Rattle.co_sheet.specs.Checks.{fault_if, listed_twice}
 use Rattle.co_value.specs.Keys.{is_key_before, same_key}
 use Rattle.co_sheet.specs.Content.{insert_before, in_order}
 use Rattle.co_text.specs.SectionLaws.{IsLikeNone, AllDiffer, is_read_twice, RisesFrom, property_lines, IsParsed}
-use Rattle.co_sheet.proofs.ListingLemmas.{from_1000, named_by, named-all, named-in, none-named-in}
+use Rattle.co_sheet.proofs.ListingLemmas.{from_1000, named-all, named-in, none-named-in}
 use Rattle.co_text.proofs.SectionLawLemmas.{rises-rest, rises-cons}
 use Rattle.co_sheet.proofs.AcceptedLemmas.{no_fault, both-empty}
 
@@ -91,7 +91,7 @@ rises-named [] low rises = tt
 rises-named (s ∷ ss) low rises =
     rises-list (is_list s.kind) s (property_lines ss) (flat_map (λ t. map line_of (named_by t)) ss) (rises-named ss) low rises
 
-listings-rise : (sections : List TextSection) → IsParsed sections → RisesFrom 1 (map line_of (listings sections))
+pub listings-rise : (sections : List TextSection) → IsParsed sections → LinesRise (listings sections)
 listings-rise sections parsed =
     subst (RisesFrom 1) (sym (ap (map line_of) (named-all sections) ∙ map-flat_map line_of named_by sections)) (rises-named sections 1 parsed.lines_rise)
 

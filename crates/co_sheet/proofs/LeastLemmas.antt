@@ -6,7 +6,7 @@ use Rattle.std.specs.Prelude.{flat_map, map}
 use Rattle.std.proofs.lemmas.List.Folds.{flat_map-map}
 use Rattle.co_sheet.specs.declared.fault.SheetFault.{SheetFault}
 use Rattle.co_sheet.specs.Accepted.{least_fault}
-use Rattle.co_sheet.specs.LeastFaults.{earlier}
+use Rattle.co_sheet.specs.private.LeastFaults.{earlier}
 
 -- the one of two with the smaller line
 abbrev lesser : SheetFault → SheetFault → SheetFault

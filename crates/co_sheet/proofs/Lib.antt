@@ -10,7 +10,11 @@ mod FindingLemmas
 mod EntryReadingLemmas
 mod ListLemmas
 mod ListingLemmas
+mod TwiceLemmas
+mod ListReadingLemmas
+mod ObjectReadingLemmas
 mod OrderLemmas
+mod PartLemmas
 mod FirstLemmas
 mod ContentLemmas
 mod AcceptedLemmas

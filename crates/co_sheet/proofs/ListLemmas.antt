@@ -2,17 +2,15 @@
 use Rattle.std.proofs.Common.{◌≡◌, ℕ, ◌+◌, ◌≤◌, ◌<◌, suc, Bool, true, false, cond, List, [], ◌∷◌, ◌++◌, Option, Some, None, refl, sym, ap, ◌∙◌, length, get_or, drop, drop-cons, add-one, append_assoc, map}
 use Rattle.std.proofs.lemmas.List.{drop_all}
 use Rattle.std.specs.List.{filter, filter_map, flat_map, cons_option}
-
--- the value, if there is one
-abbrev pub listed : {X : Type 0} → Option X → List X
-listed None = []
-listed (Some x) = x ∷ []
+use Rattle.std.specs.Prelude.{option_and_then}
+use Rattle.std.specs.Option.{option_map_or}
+use Rattle.co_sheet.specs.private.ListReadings.{listed}
 
 cons-listed : {X : Type 0} (o : Option X) (xs : List X) → cons_option o xs ≡ listed o ++ xs
 cons-listed None xs = refl
 cons-listed (Some x) xs = refl
 
-append-none : {X : Type 0} (xs : List X) → xs ++ [] ≡ xs
+pub append-none : {X : Type 0} (xs : List X) → xs ++ [] ≡ xs
 append-none [] = refl
 append-none (x ∷ xs) = ap (λ l. x ∷ l) (append-none xs)
 
@@ -67,3 +65,31 @@ filter-append p (x ∷ xs) ys = elim (p x) as (λ b. cond b (x ∷ filter p (xs 
 pub filter-flat_map : {X Y : Type 0} (p : Y → Bool) (f : X → List Y) (xs : List X) → filter p (flat_map f xs) ≡ flat_map (λ x. filter p (f x)) xs
 filter-flat_map p f [] = refl
 filter-flat_map p f (x ∷ xs) = filter-append p (f x) (flat_map f xs) ∙ ap (λ l. filter p (f x) ++ l) (filter-flat_map p f xs)
+
+-- of what some items have
+some_cons : {Y Z : Type 0} (o : Option Y) (f : Y → List Z) (rest : List Y) (tail : List Z) → flat_map f rest ≡ tail → flat_map f (cons_option o rest) ≡ option_map_or f o [] ++ tail
+some_cons None f rest tail e = e
+some_cons (Some y) f rest tail e = ap (λ l. f y ++ l) e
+
+pub flat_map-some : {X Y Z : Type 0} (f : Y → List Z) (g : X → Option Y) (xs : List X) → flat_map f (filter_map g xs) ≡ flat_map (λ x. option_map_or f (g x) []) xs
+flat_map-some f g [] = refl
+flat_map-some f g (x ∷ xs) = some_cons (g x) f (filter_map g xs) (flat_map (λ y. option_map_or f (g y) []) xs) (flat_map-some f g xs)
+
+-- where each item has a value, those are all
+pub all-some : {X Y Z : Type 0} (f : X → Option Y) (g : Z → Y) (xs : List X) (zs : List Z) → map f xs ≡ map (λ z. Some (g z)) zs → filter_map f xs ≡ map g zs
+all-some f g [] [] h = refl
+all-some f g [] (z ∷ zs) h = absurd (cc)
+all-some f g (x ∷ xs) [] h = absurd (cc)
+all-some f g (x ∷ xs) (z ∷ zs) h =
+    let head : f x ≡ Some (g z) = cc in
+    let tail : map f xs ≡ map (λ w. Some (g w)) zs = cc in
+    ap (λ o. cons_option o (filter_map f xs)) head ∙ ap (λ l. g z ∷ l) (all-some f g xs zs tail)
+
+-- one step after another
+then_cons : {X Y : Type 0} (o : Option X) (f : X → Option Y) (rest : List X) → filter_map f (cons_option o rest) ≡ cons_option (option_and_then f o) (filter_map f rest)
+then_cons None f rest = refl
+then_cons (Some x) f rest = refl
+
+pub filter_map-then : {X Y Z : Type 0} (f : Y → Option Z) (g : X → Option Y) (xs : List X) → filter_map f (filter_map g xs) ≡ filter_map (λ x. option_and_then f (g x)) xs
+filter_map-then f g [] = refl
+filter_map-then f g (x ∷ xs) = then_cons (g x) f (filter_map g xs) ∙ ap (cons_option (option_and_then f (g x))) (filter_map-then f g xs)

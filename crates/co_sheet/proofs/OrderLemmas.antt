@@ -75,6 +75,20 @@ in_order-ties : {X : Type 0} (lt : X → X → Bool) (order : IsStrictWeakOrder 
 in_order-ties lt order a [] = refl
 in_order-ties lt order a (x ∷ xs) = insert-ties lt order a x (in_order lt xs) ∙ ap (λ l. cond (ties lt a x) (x ∷ l) l) (in_order-ties lt order a xs)
 
+-- a filter whose elements all tie
+filter_cases : {X : Type 0} (lt : X → X → Bool) (p : X → Bool) → ((x y : X) → lt y x ≡ true → p y ≡ true → p x ≡ true → ⊥) → (b : Bool) (x y : X) (ys : List X) → lt y x ≡ b
+    → filter p (insert_before lt x ys) ≡ filter p (x ∷ ys) → filter p (cond b (y ∷ insert_before lt x ys) (x ∷ y ∷ ys)) ≡ filter p (x ∷ y ∷ ys)
+filter_cases lt p apart true x y ys e rest = swap_cases (p y) (p x) x y (filter p (insert_before lt x ys)) (filter p ys) rest (apart x y e)
+filter_cases lt p apart false x y ys e rest = refl
+
+insert-filter : {X : Type 0} (lt : X → X → Bool) (p : X → Bool) → ((x y : X) → lt y x ≡ true → p y ≡ true → p x ≡ true → ⊥) → (x : X) (ys : List X) → filter p (insert_before lt x ys) ≡ filter p (x ∷ ys)
+insert-filter lt p apart x [] = refl
+insert-filter lt p apart x (y ∷ ys) = filter_cases lt p apart (lt y x) x y ys refl (insert-filter lt p apart x ys)
+
+pub in_order-filter : {X : Type 0} (lt : X → X → Bool) (p : X → Bool) → ((x y : X) → lt y x ≡ true → p y ≡ true → p x ≡ true → ⊥) → (xs : List X) → filter p (in_order lt xs) ≡ filter p xs
+in_order-filter lt p apart [] = refl
+in_order-filter lt p apart (x ∷ xs) = insert-filter lt p apart x (in_order lt xs) ∙ ap (λ l. cond (p x) (x ∷ l) l) (in_order-filter lt p apart xs)
+
 self_cases : (b : Bool) → (b ≡ true → b ≡ false) → b ≡ false
 self_cases true h = h refl
 self_cases false h = refl

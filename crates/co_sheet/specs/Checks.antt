@@ -6,6 +6,7 @@ use Rattle.std.specs.Option.{option_map_or, option_or}
 use Rattle.co_value.specs.declared.data_type.DataType.{DataType}
 use Rattle.co_value.specs.declared.data_type.DataType.TheVariants.{Domain}
 use Rattle.co_value.specs.Types.{code_of, least_of, greatest_of}
+use Rattle.co_text.specs.declared.section_kind.SectionKind.{SectionKind}
 use Rattle.co_text.specs.declared.section_kind.SectionKind.TheVariants.{MandatoryObjects, DummyUsage, DeviceInfo, Object}
 use Rattle.co_sheet.specs.declared.fault.FaultKind.{FaultKind}
 use Rattle.co_sheet.specs.declared.fault.FaultKind.TheVariants.{MissingSection, BadNumber, AmbiguousNumber, BadList, ListedTwice, MissingKey, BadType, LeftOutType, BadAccess, BadLimits, BadDefault, MissingSub0, CompactForm, MissingMandatory}
@@ -46,11 +47,14 @@ unread_number k = unread (unsigned_number k.value) k.line
 abbrev pub missing_lists : List TextSection → List SheetFault
 missing_lists sections = fault_if (is_none (section_at MandatoryObjects sections)) MissingSection 0
 
--- check 2: a number in lists, DummyUsage and DeviceInfo, whose keys are all numbers
+-- sections whose values are all numbers
+abbrev pub has_numbers : SectionKind → Bool
+has_numbers kind = is_list kind || same_kind kind DummyUsage || same_kind kind DeviceInfo
+
+-- check 2: a number in lists, DummyUsage and DeviceInfo
 abbrev pub unread_list_numbers : List TextSection → List SheetFault
 unread_list_numbers sections =
-    flat_map (λ s. flat_map unread_number s.properties)
-    (filter (λ s. is_list s.kind || same_kind s.kind DummyUsage || same_kind s.kind DeviceInfo) sections)
+    flat_map (λ s. flat_map unread_number s.properties) (filter (λ s. has_numbers s.kind) sections)
 
 -- check 3: a list whose count isn't there or doesn't fit 16 bits, that lacks a place (it has fewer
 -- than it counts: CountsPlaces in PlaceLaws), or with an index there that doesn't fit 16 bits
@@ -65,10 +69,13 @@ bad_lists sections =
     (object_lists sections)
 
 -- check 4: an index that the lists name on an earlier line too
+abbrev pub is_listed_before : List Listing → Listing → Bool
+is_listed_before listings l =
+    list_any (λ other. (other.index == l.index) && nat_lt other.line l.line) listings
+
 abbrev pub listed_twice : List TextSection → Listing → List SheetFault
 listed_twice sections l =
-    fault_if (list_any (λ other. (other.index == l.index) && nat_lt other.line l.line) (listings sections))
-    ListedTwice l.line
+    fault_if (is_listed_before (listings sections) l) ListedTwice l.line
 
 -- check 5: a listed object without a section
 abbrev pub missing_section : List TextSection → Listing → List SheetFault
@@ -222,7 +229,8 @@ bad_default e =
 -- check 18: 1000h, 1001h or 1018h is in no list
 abbrev pub missing_mandatory : List TextSection → List SheetFault
 missing_mandatory sections =
-    fault_if (not (list_all (is_listed sections) (0x1000 ∷ 0x1001 ∷ 0x1018 ∷ []))) MissingMandatory 0
+    fault_if (not (list_all (is_listed sections) (0x1000 ∷ 0x1001 ∷ 0x1018 ∷ [])))
+    MissingMandatory 0
 
 -- a check of each listing, listed object or entry
 abbrev pub of_listings : (List TextSection → Listing → List SheetFault)
@@ -236,16 +244,15 @@ of_objects check sections = flat_map (check sections) (listed_objects sections)
 abbrev pub of_entries : (Entry → List SheetFault) → List TextSection → List SheetFault
 of_entries check sections = flat_map check (entries_of sections)
 
--- the checks of the object lists, of the listed objects, and of an entry
+-- the checks of the object lists, of what they name, and of an entry
 abbrev pub list_checks : List (List TextSection → List SheetFault)
 list_checks =
-    missing_lists ∷ unread_list_numbers ∷ bad_lists
-    ∷ of_listings listed_twice ∷ of_listings missing_section ∷ []
+    missing_lists ∷ unread_list_numbers ∷ bad_lists ∷ of_listings listed_twice ∷ []
 
 abbrev pub object_checks : List (List TextSection → List SheetFault)
 object_checks =
-    of_objects unread_object_numbers ∷ of_objects bad_object_types
-    ∷ compact_forms ∷ of_objects missing_sub_index_0 ∷ []
+    of_listings missing_section ∷ of_objects unread_object_numbers
+    ∷ of_objects bad_object_types ∷ compact_forms ∷ of_objects missing_sub_index_0 ∷ []
 
 abbrev pub entry_checks : List (Entry → List SheetFault)
 entry_checks =

@@ -77,7 +77,8 @@ object_row_with o t =
 
 -- the row of an object; in an accepted text each has one
 abbrev pub object_row_of : ListedObject → Option ObjectRow
-object_row_of o = option_map (object_row_with o) (option_and_then object_type_with (object_code o.section))
+object_row_of o =
+    option_map (object_row_with o) (option_and_then object_type_with (object_code o.section))
 
 -- objects in increasing index, and the rows of the listed objects so
 abbrev pub objects_in_order : List ObjectRow → List ObjectRow

@@ -34,4 +34,8 @@ fixed_types =
 
 -- the type that an entry of this key has to have, if it is fixed
 abbrev pub fixed_type_of : Key → Option DataType
-fixed_type_of key = option_map (λ f. f.0) (find (λ f. nat_le f.1 key.index && nat_le key.index f.2 && nat_le f.3 key.sub && nat_le key.sub f.4) fixed_types)
+fixed_type_of key =
+    option_map (λ f. f.0)
+    (find
+    (λ f. nat_le f.1 key.index && nat_le key.index f.2 && nat_le f.3 key.sub && nat_le key.sub f.4)
+    fixed_types)

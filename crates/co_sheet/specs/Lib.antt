@@ -12,15 +12,13 @@ pub mod Notes
 pub mod FaultTexts
 pub mod Checks
 pub mod Accepted
+pub mod AcceptedTexts
 pub mod Content
 pub mod Views
 pub mod OutOfMemory
-pub mod LeastFaults
-pub mod Findings
-pub mod EntryReadings
 pub mod SectionViews
-pub mod ListingViews
 pub mod SheetViews
 pub mod SheetLaws
 pub mod Faults
 pub mod PlaceLaws
+pub mod private

@@ -1,12 +1,12 @@
 -- What is odd in a data sheet, and no fault (CiA 306, object description).
-use Rattle.std.specs.Prelude.{ℕ, not, ◌&&◌, nat_le, if◌then◌else◌, List, [], ◌∷◌, ◌++◌, length, flat_map, codes}
+use Rattle.std.specs.Prelude.{ℕ, Bool, not, ◌&&◌, nat_le, if◌then◌else◌, List, [], ◌∷◌, ◌++◌, length, flat_map, codes}
 use Rattle.std.specs.Option.{option_map_or}
 use Rattle.co_text.specs.declared.section_kind.SectionKind.{SectionKind}
 use Rattle.co_text.specs.declared.section_kind.SectionKind.TheVariants.{Object}
 use Rattle.co_sheet.specs.declared.note.Note.{Note}
 use Rattle.co_sheet.specs.declared.note.NoteKind.{NoteKind}
 use Rattle.co_sheet.specs.declared.note.NoteKind.TheVariants.{SubNumber, Unlisted}
-use Rattle.co_text.specs.Sections.{TextSection, property_at}
+use Rattle.co_text.specs.Sections.{Property, TextSection, property_at}
 use Rattle.co_text.specs.Properties.{property_number}
 use Rattle.co_sheet.specs.ObjectLists.{is_one_of, is_listed}
 use Rattle.co_sheet.specs.Entries.{sub_indices}
@@ -15,16 +15,29 @@ use Rattle.co_sheet.specs.Entries.{sub_indices}
 abbrev pub note_at : ℕ → NoteKind → Note
 note_at line kind = record { kind = kind; line = line }
 
--- an object section from 1000h on that no list names; a SubNumber that isn't the number of the object's sub-index sections
+-- an object section from 1000h on that no list names
+abbrev pub note_unlisted : Bool → ℕ → ℕ → List Note
+note_unlisted is_listed line index =
+    if nat_le 0x1000 index && not is_listed then note_at line Unlisted ∷ [] else []
+
 abbrev pub unlisted_note : List TextSection → TextSection → ℕ → List Note
-unlisted_note sections section index = if nat_le 0x1000 index && not (is_listed sections index) then note_at section.line Unlisted ∷ [] else []
+unlisted_note sections section index =
+    note_unlisted (is_listed sections index) section.line index
+
+-- a SubNumber that isn't the number of the object's sub-index sections
+abbrev pub other_number : ℕ → Property → List Note
+other_number count k =
+    if is_one_of (count ∷ []) (property_number k) then [] else note_at k.line SubNumber ∷ []
 
 abbrev pub sub_number_note : TextSection → ℕ → List Note
-sub_number_note section count = option_map_or (λ k. if is_one_of (count ∷ []) (property_number k) then [] else note_at k.line SubNumber ∷ []) (property_at (codes "SubNumber") section) []
+sub_number_note section count =
+    option_map_or (other_number count) (property_at (codes "SubNumber") section) []
 
 -- the notes of a section; only an object section has any
 abbrev pub notes_at : List TextSection → TextSection → SectionKind → List Note
-notes_at sections section (Object index) = unlisted_note sections section index ++ sub_number_note section (length (sub_indices sections index))
+notes_at sections section (Object index) =
+    unlisted_note sections section index
+    ++ sub_number_note section (length (sub_indices sections index))
 notes_at sections section kind = []
 
 -- the notes of the text, in the order of their lines

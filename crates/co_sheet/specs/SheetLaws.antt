@@ -46,7 +46,8 @@ pub record IsSheetRow (row : Row) : Type 0 where
   pub text_at_string : (bytes : List ℕ) → row.default ≡ text bytes → row.data_type ≡ VisibleString
   pub pairs_at_octets : (digits : List ℕ) → row.default ≡ pairs digits → row.data_type ≡ OctetString
   pub pairs_paired : (digits : List ℕ) → row.default ≡ pairs digits → is_pairs digits ≡ true
-  pub pairs_digits : (digits : List ℕ) → row.default ≡ pairs digits → list_all is_hexadecimal_digit digits ≡ true
+  pub pairs_digits : (digits : List ℕ) → row.default ≡ pairs digits
+      → list_all is_hexadecimal_digit digits ≡ true
   pub text_short : (bytes : List ℕ) → row.default ≡ text bytes → length bytes ≤ 512
   pub pairs_short : (digits : List ℕ) → row.default ≡ pairs digits → length digits ≤ 512
   pub domain_absent : row.data_type ≡ Domain → row.default ≡ absent
@@ -77,4 +78,5 @@ pub record IsSheetContent (sheet : SheetContent) : Type 0 where
 -- no entry is left out: each has a row, of its key
 abbrev pub KeepsEntries : List TextSection → Type 0
 KeepsEntries sections =
-    map (λ r. r.key) (filter_map row_of (entries_of sections)) ≡ map (λ e. e.key) (entries_of sections)
+    map (λ r. r.key) (filter_map row_of (entries_of sections))
+    ≡ map (λ e. e.key) (entries_of sections)

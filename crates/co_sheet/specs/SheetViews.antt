@@ -24,13 +24,19 @@ row_view r = record {
 
 abbrev pub object_row_view : Object → ObjectRow
 object_row_view o =
-    record { index = o.index; object_type = o.object_type; name = option_copied o.name; line = o.line }
+    record {
+      index = o.index;
+      object_type = o.object_type;
+      name = option_copied o.name;
+      line = o.line;
+    }
 
 abbrev pub section_name_view : Section → SectionName
 section_name_view s = record { name = s.name.now; line = s.line }
 
 -- what a sheet holds, by its lists
-abbrev pub content_view : List Object → List EntryRow → List Section → List Note → List Bool → SheetContent
+abbrev pub content_view : List Object → List EntryRow → List Section → List Note → List Bool
+    → SheetContent
 content_view objects entries sections notes dummies = record {
   objects = map object_row_view objects;
   rows = map row_view entries;

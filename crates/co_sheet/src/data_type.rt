@@ -56,15 +56,22 @@ const FIXED_TYPES: [FixedType; 23] = [
     FixedType(DataType::Unsigned32, 0x1A00, 0x1BFF, 1, 64),
 ];
 
+// most entries of a large data sheet are past it
+const LAST_FIXED_INDEX: u16 = 0x1BFF;
+
 /// The type that the entry of this key has to have, if it is fixed (CiA 301, object dictionary).
 pub(crate) fn fixed_type(key: Key) -> Option<DataType>
     ensures { result ≡ fixed_type_of key }
 {
+    if key.index > LAST_FIXED_INDEX {
+        return None;
+    }
     type_among(&FIXED_TYPES, key)
 }
 
 fn type_among(types: &[FixedType], key: Key) -> Option<DataType>
-    ensures { result ≡ option_map (λ f. f.0) (find (λ f. nat_le f.1 key.index && nat_le key.index f.2 && nat_le f.3 key.sub && nat_le key.sub f.4) types.now) }
+    ensures { result ≡ option_map (λ f. f.0) (find (λ f. nat_le f.1 key.index
+        && nat_le key.index f.2 && nat_le f.3 key.sub && nat_le key.sub f.4) types.now) }
 {
     for fixed in types {
         if is_covered(fixed, key) {
@@ -75,7 +82,8 @@ fn type_among(types: &[FixedType], key: Key) -> Option<DataType>
 }
 
 fn is_covered(fixed: &FixedType, key: Key) -> bool
-    ensures { result ≡ (nat_le fixed.now.1 key.index && nat_le key.index fixed.now.2 && nat_le fixed.now.3 key.sub && nat_le key.sub fixed.now.4) }
+    ensures { result ≡ (nat_le fixed.now.1 key.index && nat_le key.index fixed.now.2
+        && nat_le fixed.now.3 key.sub && nat_le key.sub fixed.now.4) }
 {
     let FixedType(_, first, last, low, high) = *fixed;
     first <= key.index && key.index <= last && low <= key.sub && key.sub <= high

@@ -6,9 +6,8 @@ ghost use Rattle.co_sheet.specs.Entries.{access_with};
 ghost use Rattle.co_sheet.specs.Limits.{numeric_default, node_id_sum, is_node_id, is_pairs};
 ghost use Rattle.co_sheet.specs.Views.{default_view};
 
-use co_text::{
-    NumeralFault, all_digits, same_name, signed_numeral, split_at_first, trim, unsigned_number,
-};
+use co_lines::split_at_first;
+use co_text::{NumeralFault, all_digits, same_name, signed_numeral, trim, unsigned_number};
 use co_value::{DataType, Key};
 
 /// How an entry may be accessed, by the word of its AccessType (CiA 306, object description).

@@ -1,10 +1,10 @@
 //! A data sheet, read from its text.
 
-ghost use Rattle.std.specs.Prelude.{◌≡◌, ◌<◌, ◌≤◌, ◌⊎◌, length, map, Err, Some, None, IfOk, IfErr};
+ghost use Rattle.std.specs.Prelude.{◌≡◌, ◌<◌, ◌≤◌, ◌⊎◌, ℕ, List, length, Err, Some, None, IfOk, IfErr};
 ghost use Rattle.co_text.specs.SectionLaws.{IsParsed};
-ghost use Rattle.co_text.specs.Views.{section_view};
 ghost use Rattle.co_sheet.specs.declared.fault.FaultKind.TheVariants.{TooLarge};
-ghost use Rattle.co_sheet.specs.Accepted.{first_fault, first_bad_line, sections_in, IsAnswered};
+ghost use Rattle.co_sheet.specs.Accepted.{IsAccepted, first_fault, first_bad_line, sections_in, IsAnswered};
+ghost use Rattle.co_sheet.specs.AcceptedTexts.{IsFaultless};
 ghost use Rattle.co_sheet.specs.Content.{IsSheet, IsWhole};
 ghost use Rattle.co_sheet.specs.Faults.{fault_at};
 ghost use Rattle.co_sheet.specs.OutOfMemory.{out_of_memory};
@@ -12,7 +12,7 @@ ghost use Rattle.co_sheet.specs.PlaceLaws.{AllCountPlaces};
 
 use crate::fault::{FaultKind, SheetFault};
 use crate::sheet::{Sheet, sheet_of};
-use co_text::TextSection;
+use co_text::ParsedText;
 use std::alloc::Global;
 
 /// The greatest number of bytes of a data sheet.
@@ -34,17 +34,25 @@ pub fn read(alloc: Global, text: &[u8]) -> Result<Sheet<'_>, SheetFault>
             line: 0,
         });
     }
-    let sections = sections_in(alloc, text)?;
+    let parsed = sections_in(alloc, text)?;
+    let sections = parsed.sections(alloc)?;
     sheet_of(alloc, sections.as_slice())
 }
 
+/// A text is accepted exactly where it is not too large, no line has a fault, and no check finds anything. This is a law:
+/// a call of it changes nothing.
+pub fn accepted_texts()
+    ensures faultless { (text : List ℕ) → IsAccepted text → IsFaultless text }
+    ensures accepted { (text : List ℕ) → IsFaultless text → IsAccepted text }
+{}
+
 // the sections of a text whose lines have no fault
-fn sections_in(alloc: Global, text: &[u8]) -> Result<Vec<TextSection<'_>>, SheetFault>
+fn sections_in(alloc: Global, text: &[u8]) -> Result<ParsedText<'_>, SheetFault>
     requires { length text.now ≤ 1048576 }
     ensures ok { IfOk result (λ sections. (first_bad_line text.now ≡ None)
-        × (map section_view sections.items ≡ sections_in text.now)) }
-    ensures parsed { IfOk result (λ sections. IsParsed (map section_view sections.items)) }
-    ensures counted { IfOk result (λ sections. AllCountPlaces (map section_view sections.items)) }
+        × (sections ≡ sections_in text.now)) }
+    ensures parsed { IfOk result IsParsed }
+    ensures counted { IfOk result AllCountPlaces }
     ensures err { IfErr result (λ fault. (fault ≡ out_of_memory)
         ⊎ (first_bad_line text.now ≡ Some fault)) }
 {

@@ -1,24 +1,23 @@
 //! The rows of a text: its objects, its entries, its sections, its dummies.
 
-ghost use Rattle.std.specs.Prelude.{◌≡◌, map, filter_map, option_map, IfOk, OnOk};
+ghost use Rattle.std.specs.Prelude.{◌≡◌, ◌∷◌, [], map, IfOk, OnOk};
 ghost use Rattle.std.specs.Option.{option_copied};
+ghost use Rattle.co_text.specs.Properties.{number_at};
+ghost use Rattle.co_sheet.specs.ObjectLists.{is_one_of};
 ghost use Rattle.co_sheet.specs.Entries.{name_of};
-ghost use Rattle.co_sheet.specs.Content.{object_row_of, section_names_in, rows_in_order, objects_in_order, is_dummy_key, dummies_in};
+ghost use Rattle.co_sheet.specs.Content.{section_names_in, rows_in_order, objects_in_order, dummies_in};
 ghost use Rattle.co_text.specs.Views.{section_view};
-ghost use Rattle.co_sheet.specs.SectionViews.{object_view};
 ghost use Rattle.co_sheet.specs.SheetViews.{row_view, object_row_view, section_name_view};
 
-use crate::check_lists::section_at;
 use crate::entry::EntryRow;
-use crate::given::object_code;
-use crate::object::{Object, ObjectType};
+use crate::object::Object;
 use crate::section::Section;
-use crate::tables::ListedSection;
+use crate::sections::section_at;
 use co_text::{SectionKind, TextSection};
 use std::alloc::{AllocError, Global};
 
 // ParameterName
-pub(crate) fn name_of<'a>(section: &TextSection<'a>) -> Option<&'a [u8]>
+pub(crate) fn name_of<'a>(section: &TextSection<'_, 'a>) -> Option<&'a [u8]>
     ensures { option_copied result ≡ name_of (section_view section.now) }
 {
     let given = section.property(b"ParameterName")?;
@@ -37,64 +36,40 @@ pub(crate) fn ordered_rows<'a>(
     alloc: Global,
     mut rows: Vec<EntryRow<'a>>,
 ) -> Result<Vec<EntryRow<'a>>, AllocError>
-    ensures { IfOk result (λ ordered. map row_view ordered.items ≡ rows_in_order (map row_view rows.entry.items)) }
+    ensures { IfOk result
+        (λ ordered. map row_view ordered.items ≡ rows_in_order (map row_view rows.entry.items)) }
 {
     sort_rows(alloc, rows.as_mut_slice())?;
     Ok(rows)
 }
 
-fn object_row_of<'a>(object: &ListedSection<'_, 'a>) -> Option<Object<'a>>
-    ensures { option_map object_row_view result ≡ object_row_of (object_view object.now) }
-{
-    let object_type = ObjectType::of_code(object_code(object.section)?)?;
-    Some(Object {
-        index: object.index,
-        object_type,
-        name: name_of(object.section),
-        line: object.section.line,
-    })
-}
-
-fn object_rows<'a>(
-    alloc: Global,
-    objects: &[ListedSection<'_, 'a>],
-) -> Result<Vec<Object<'a>>, AllocError>
-    ensures { IfOk result (λ rows. map object_row_view rows.items ≡ filter_map object_row_of (map object_view objects.now)) }
-{
-    let mut rows = Vec::new(alloc);
-    for object in objects {
-        if let Some(row) = object_row_of(object) {
-            rows.push(row)?;
-        }
-    }
-    Ok(rows)
-}
-
 fn sort_objects(alloc: Global, objects: &mut [Object]) -> Result<(), AllocError>
-    ensures { OnOk result (map object_row_view objects.new ≡ objects_in_order (map object_row_view objects.old)) }
+    ensures { OnOk result
+        (map object_row_view objects.new ≡ objects_in_order (map object_row_view objects.old)) }
 {
     objects.sort_by_key(alloc, |object| object.index)?;
     Ok(())
 }
 
-// the rows of objects, in increasing index
+// objects in increasing index
 pub(crate) fn ordered_objects<'a>(
     alloc: Global,
-    objects: &[ListedSection<'_, 'a>],
+    mut objects: Vec<Object<'a>>,
 ) -> Result<Vec<Object<'a>>, AllocError>
-    ensures { IfOk result (λ rows. map object_row_view rows.items ≡ objects_in_order (filter_map object_row_of (map object_view objects.now))) }
+    ensures { IfOk result (λ ordered. map object_row_view ordered.items
+        ≡ objects_in_order (map object_row_view objects.entry.items)) }
 {
-    let mut rows = object_rows(alloc, objects)?;
-    sort_objects(alloc, rows.as_mut_slice())?;
-    Ok(rows)
+    sort_objects(alloc, objects.as_mut_slice())?;
+    Ok(objects)
 }
 
 // the section lines
 pub(crate) fn section_names<'a>(
     alloc: Global,
-    sections: &[TextSection<'a>],
+    sections: &[TextSection<'_, 'a>],
 ) -> Result<Vec<Section<'a>>, AllocError>
-    ensures { IfOk result (λ names. map section_name_view names.items ≡ section_names_in (map section_view sections.now)) }
+    ensures { IfOk result (λ names. map section_name_view names.items
+        ≡ section_names_in (map section_view sections.now)) }
 {
     let mut names = Vec::new(alloc);
     for section in sections {
@@ -106,26 +81,26 @@ pub(crate) fn section_names<'a>(
     Ok(names)
 }
 
-// whether DummyUsage has 1 at a key
-fn is_dummy_key(sections: &[TextSection], name: &[u8]) -> bool
-    ensures { result ≡ is_dummy_key (map section_view sections.now) name.now }
+// whether a section has 1 at a key
+fn is_one_at(section: &TextSection, name: &[u8]) -> bool
+    ensures { result ≡ is_one_of (1 ∷ []) (number_at name.now (section_view section.now)) }
 {
-    match section_at(sections, SectionKind::DummyUsage) {
-        Some(section) => matches!(section.number_at(name), Some(1)),
-        None => false,
-    }
+    matches!(section.number_at(name), Some(1))
 }
 
 // of the dummy entries 0002h to 0007h, which may be mapped
 pub(crate) fn dummies(sections: &[TextSection]) -> [bool; 6]
     ensures { result ≡ dummies_in (map section_view sections.now) }
 {
+    let Some(usage) = section_at(sections, SectionKind::DummyUsage) else {
+        return [false, false, false, false, false, false];
+    };
     [
-        is_dummy_key(sections, b"Dummy0002"),
-        is_dummy_key(sections, b"Dummy0003"),
-        is_dummy_key(sections, b"Dummy0004"),
-        is_dummy_key(sections, b"Dummy0005"),
-        is_dummy_key(sections, b"Dummy0006"),
-        is_dummy_key(sections, b"Dummy0007"),
+        is_one_at(usage, b"Dummy0002"),
+        is_one_at(usage, b"Dummy0003"),
+        is_one_at(usage, b"Dummy0004"),
+        is_one_at(usage, b"Dummy0005"),
+        is_one_at(usage, b"Dummy0006"),
+        is_one_at(usage, b"Dummy0007"),
     ]
 }

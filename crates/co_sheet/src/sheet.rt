@@ -1,36 +1,32 @@
 //! A data sheet, read.
 
-ghost use Rattle.std.specs.Prelude.{◌≡◌, ◌<◌, ℕ, map, filter_map, is_some, true, All, AllPairs, IfOk, IfErr, None};
-ghost use Rattle.std.specs.Ordering.{nat_cmp};
-ghost use Rattle.std.specs.BTreeMap.{get};
+ghost use Rattle.std.specs.Prelude.{◌≡◌, ◌<◌, ℕ, nat_eq, map, filter_map, true, All, AllPairs, IfOk, IfErr, None};
+ghost use Rattle.indexmap.specs.IndexSet.{contains};
 ghost use Rattle.co_sheet.specs.ObjectLists.{is_listed};
 ghost use Rattle.co_sheet.specs.Entries.{listed_objects, entries_of};
-ghost use Rattle.co_sheet.specs.SectionViews.{object_view};
 ghost use Rattle.co_sheet.specs.Checks.{checks};
 ghost use Rattle.co_sheet.specs.Accepted.{first_found, IsAnswered};
 ghost use Rattle.co_text.specs.Views.{section_view};
 ghost use Rattle.co_text.specs.SectionLaws.{IsParsed};
 ghost use Rattle.co_value.specs.Keys.{is_key_before};
-ghost use Rattle.co_sheet.specs.Content.{row_of, is_dummy, content_of};
+ghost use Rattle.co_sheet.specs.Content.{row_of, object_row_of, is_dummy, content_of};
 ghost use Rattle.co_sheet.specs.SheetViews.{row_view, object_row_view, section_name_view};
 ghost use Rattle.co_sheet.specs.SheetLaws.{IsSheetRow, IsSheetContent, KeepsEntries};
 
-use crate::check_lists::{listing_lines, missing_mandatory};
-use crate::checks::{list_fault, object_fault};
+use crate::checks::entries::read_entries;
+use crate::checks::lists::{listed_indices, missing_mandatory, read_lists};
+use crate::checks::objects::read_objects;
 use crate::entry::EntryRow;
-use crate::entry_reading::entry_rows;
-use crate::fault::{FaultKind, SheetFault};
-use crate::listing::listings;
+use crate::fault::SheetFault;
 use crate::note::Note;
 use crate::notes::notes;
 use crate::object::Object;
-use crate::objects::listed_objects;
 use crate::rows::{dummies, ordered_objects, ordered_rows, section_names};
 use crate::section::Section;
-use crate::tables::{ListedSection, Tables};
+use crate::tables::Tables;
 use co_text::TextSection;
+use indexmap::IndexSet;
 use std::alloc::{AllocError, Global};
-use std::collections::BTreeMap;
 use std::marker::Model;
 
 /// What a text that is a data sheet says (CiA 306).
@@ -112,24 +108,25 @@ impl<'a> Sheet<'a> {
 fn contents<'a>(
     alloc: Global,
     tables: &Tables<'_, 'a>,
-    lines: &BTreeMap<u64, usize>,
-    objects: &[ListedSection<'_, 'a>],
+    indices: &IndexSet<u64>,
+    objects: Vec<Object<'a>>,
     rows: Vec<EntryRow<'a>>,
 ) -> Result<Sheet<'a>, AllocError>
     requires laws { IsSheetContent (content_of tables.now) }
-    requires lines { (i : ℕ) → is_some (get nat_cmp lines.now i) ≡ is_listed tables.now i }
-    requires objects { map object_view objects.now ≡ listed_objects tables.now }
+    requires indices { (i : ℕ) → contains nat_eq indices.now i ≡ is_listed tables.now i }
+    requires objects { filter_map object_row_of (listed_objects tables.now)
+        ≡ map object_row_view objects.items }
     requires rows { filter_map row_of (entries_of tables.now) ≡ map row_view rows.items }
     ensures { IfOk result (λ sheet. sheet ≡ content_of tables.now) }
 {
-    let ordered_objects = ordered_objects(alloc, objects)?;
+    let objects = ordered_objects(alloc, objects)?;
     let rows = ordered_rows(alloc, rows)?;
     let sections = tables.sections();
     let names = section_names(alloc, sections)?;
-    let notes = notes(alloc, tables, lines)?;
+    let notes = notes(alloc, tables, indices)?;
     let usable = dummies(sections);
     Ok(Sheet {
-        objects: ordered_objects,
+        objects,
         entries: rows,
         sections: names,
         notes,
@@ -137,31 +134,27 @@ fn contents<'a>(
     })
 }
 
-// The sheet that the sections of a text say, or the first fault that the checks find; out of memory has no line.
+// The sheet that the sections of a text say, or the first fault that the checks find; out of
+// memory has no line.
 pub(crate) fn sheet_of<'a>(
     alloc: Global,
-    sections: &[TextSection<'a>],
+    sections: &[TextSection<'_, 'a>],
 ) -> Result<Sheet<'a>, SheetFault>
     requires { IsParsed (map section_view sections.now) }
-    ensures accepted { IfOk result (λ _. first_found checks (map section_view sections.now) ≡ None) }
+    ensures accepted { IfOk result
+        (λ _. first_found checks (map section_view sections.now) ≡ None) }
     ensures kept { IfOk result (λ _. KeepsEntries (map section_view sections.now)) }
     ensures content { IfOk result (λ sheet. sheet ≡ content_of (map section_view sections.now)) }
     ensures err { IfErr result (IsAnswered (first_found checks (map section_view sections.now))) }
 {
     let tables = Tables::new(alloc, sections)?;
-    let listed = listings(alloc, sections)?;
-    let lines = listing_lines(alloc, listed.as_slice())?;
-    if let Some(fault) = list_fault(&tables, listed.as_slice(), &lines) {
+    let named = read_lists(alloc, sections)?;
+    let listings = named.as_slice();
+    let indices = listed_indices(alloc, listings)?;
+    let listed = read_objects(alloc, &tables, listings)?;
+    let rows = read_entries(alloc, listed.entries.as_slice())?;
+    if let Some(fault) = missing_mandatory(&indices) {
         return Err(fault);
     }
-    let listed_objects = listed_objects(alloc, &tables, listed.as_slice())?;
-    if let Some(fault) = object_fault(&tables, listed_objects.as_slice()) {
-        return Err(fault);
-    }
-    let objects = listed_objects.as_slice();
-    let rows = entry_rows(alloc, &tables, objects)?;
-    if let Some(fault) = missing_mandatory(&tables, &lines) {
-        return Err(fault);
-    }
-    Ok(contents(alloc, &tables, &lines, objects, rows)?)
+    Ok(contents(alloc, &tables, &indices, listed.objects, rows)?)
 }

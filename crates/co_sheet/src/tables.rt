@@ -1,12 +1,11 @@
 //! Where a text has the sections of an object.
 
-ghost use Rattle.std.specs.Prelude.{◌≡◌, ℕ, map, option_map, IfOk, OnOk, [], ◌∷◌, ◌++◌, ◌==◌, if◌then◌else◌};
+ghost use Rattle.std.specs.Prelude.{◌≡◌, ℕ, map, option_map, IfOk, OnOk};
 ghost use Rattle.std.specs.Ordering.{nat_cmp};
 ghost use Rattle.std.specs.BTreeMap.{get};
-ghost use Rattle.std.specs.Option.{option_map_or};
 ghost use Rattle.co_sheet.specs.Entries.{sub_indices};
 ghost use Rattle.co_text.specs.Views.{section_view};
-ghost use Rattle.co_sheet.specs.SectionViews.{object_view, entry_view, object_at, parts_at};
+ghost use Rattle.co_sheet.specs.SectionViews.{object_view, entry_view, object_at, parts_at, AreByIndex};
 
 use co_text::{SectionKind, TextSection};
 use co_value::Key;
@@ -18,22 +17,23 @@ use std::marker::Model;
 #[derive(Clone, Copy, Debug)]
 pub(crate) struct ListedSection<'s, 'a> {
     pub(crate) index: u16,
-    pub(crate) section: &'s TextSection<'a>,
+    pub(crate) section: &'s TextSection<'s, 'a>,
 }
 
 /// An entry, and the section that describes it.
 #[derive(Clone, Copy, Debug)]
 pub(crate) struct EntrySection<'s, 'a> {
     pub(crate) key: Key,
-    pub(crate) section: &'s TextSection<'a>,
+    pub(crate) section: &'s TextSection<'s, 'a>,
 }
 
 // the first section of each object
 fn objects_by_index<'s, 'a>(
     alloc: Global,
-    sections: &'s [TextSection<'a>],
+    sections: &'s [TextSection<'s, 'a>],
 ) -> Result<BTreeMap<u64, ListedSection<'s, 'a>>, AllocError>
-    ensures { IfOk result (λ m. (i : ℕ) → option_map object_view (get nat_cmp m i) ≡ object_at i (map section_view sections.now)) }
+    ensures { IfOk result (λ m. (i : ℕ) → option_map object_view (get nat_cmp m i)
+        ≡ object_at i (map section_view sections.now)) }
 {
     let mut objects = BTreeMap::new(alloc);
     for section in sections {
@@ -46,43 +46,50 @@ fn objects_by_index<'s, 'a>(
     Ok(objects)
 }
 
-// a sub-index section after the others of its object
-fn add_part<'s, 'a>(
+// the sub-index sections, in the order of the text
+fn sub_index_sections<'s, 'a>(
     alloc: Global,
-    parts: &mut BTreeMap<u64, Vec<EntrySection<'s, 'a>>>,
-    part: EntrySection<'s, 'a>,
-) -> Result<(), AllocError>
-    ensures { OnOk result ((i : ℕ) → parts_at parts.new i ≡ parts_at parts.old i ++ (if part.entry.key.index == i then entry_view part.entry ∷ [] else [])) }
+    sections: &'s [TextSection<'s, 'a>],
+) -> Result<Vec<EntrySection<'s, 'a>>, AllocError>
+    ensures { IfOk result (λ parts. (i : ℕ) →
+        parts_at parts.items i ≡ sub_indices (map section_view sections.now) i) }
 {
-    let index = u64::from(part.key.index);
-    let mut of_object = parts.remove(&index).unwrap_or(Vec::new(alloc));
-    of_object.push(part)?;
-    parts.insert(index, of_object)?;
-    Ok(())
-}
-
-// the sub-index sections of each object, in the order of the text
-fn parts_by_index<'s, 'a>(
-    alloc: Global,
-    sections: &'s [TextSection<'a>],
-) -> Result<BTreeMap<u64, Vec<EntrySection<'s, 'a>>>, AllocError>
-    ensures { IfOk result (λ m. (i : ℕ) → parts_at m i ≡ sub_indices (map section_view sections.now) i) }
-{
-    let mut parts: BTreeMap<u64, Vec<EntrySection<'s, 'a>>> = BTreeMap::new(alloc);
+    let mut parts = Vec::new(alloc);
     for section in sections {
         if let SectionKind::SubIndex(key) = section.kind {
-            add_part(alloc, &mut parts, EntrySection { key, section })?;
+            parts.push(EntrySection { key, section })?;
         }
     }
     Ok(parts)
 }
 
+// those of an index stay in the order of the text
+fn sort_by_index(parts: &mut Vec<EntrySection>) -> Result<(), AllocError>
+    ensures sorted { OnOk result (AreByIndex parts.new.items) }
+    ensures same { OnOk result ((i : ℕ) → parts_at parts.new.items i ≡ parts_at parts.old.items i) }
+{
+    parts.sort_by_key(|part| part.key.index)?;
+    Ok(())
+}
+
+fn parts_with_index<'t, 's, 'a>(
+    parts: &'t [EntrySection<'s, 'a>],
+    index: u16,
+) -> &'t [EntrySection<'s, 'a>]
+    requires { AreByIndex parts.now }
+    ensures { map entry_view result.now ≡ parts_at parts.now index }
+{
+    let (_, rest) = parts.split_at(parts.partition_point(|part| part.key.index < index));
+    let (own, _) = rest.split_at(rest.partition_point(|part| part.key.index <= index));
+    own
+}
+
 /// The sections of a text, and where those of an object are among them.
 #[derive(Drop)]
 pub(crate) struct Tables<'s, 'a> {
-    sections: &'s [TextSection<'a>],
+    sections: &'s [TextSection<'s, 'a>],
     objects: BTreeMap<u64, ListedSection<'s, 'a>>,
-    parts: BTreeMap<u64, Vec<EntrySection<'s, 'a>>>,
+    parts: Vec<EntrySection<'s, 'a>>,
 }
 
 // the sections
@@ -96,19 +103,21 @@ impl<'s, 'a> Model for Tables<'s, 'a> {
 
     ghost view = { λ t. map section_view t.sections.now };
 
-    ghost invariant = { λ t. IsIndexed (map section_view t.sections.now) t.objects t.parts };
+    ghost invariant = { λ t. IsIndexed (map section_view t.sections.now) t.objects
+        t.parts.items };
 }
 
 impl<'s, 'a> Tables<'s, 'a> {
     // goes over the sections once
     pub(crate) fn new(
         alloc: Global,
-        sections: &'s [TextSection<'a>],
+        sections: &'s [TextSection<'s, 'a>],
     ) -> Result<Tables<'s, 'a>, AllocError>
         ensures { IfOk result (λ tables. tables ≡ map section_view sections.now) }
     {
         let objects = objects_by_index(alloc, sections)?;
-        let parts = parts_by_index(alloc, sections)?;
+        let mut parts = sub_index_sections(alloc, sections)?;
+        sort_by_index(&mut parts)?;
         Ok(Tables {
             sections,
             objects,
@@ -116,7 +125,7 @@ impl<'s, 'a> Tables<'s, 'a> {
         })
     }
 
-    pub(crate) fn sections(&self) -> &'s [TextSection<'a>]
+    pub(crate) fn sections(&self) -> &'s [TextSection<'s, 'a>]
         ensures { map section_view result.now ≡ self.now }
     {
         self.sections
@@ -129,10 +138,10 @@ impl<'s, 'a> Tables<'s, 'a> {
         self.objects.get(&index).copied()
     }
 
-    // the sub-index sections of an object, in the order of the text, if it has any
-    pub(crate) fn parts(&self, index: u16) -> Option<&Vec<EntrySection<'s, 'a>>>
-        ensures { option_map_or (λ parts. map entry_view parts.now.items) result [] ≡ sub_indices self.now index }
+    // the sub-index sections of an object, in the order of the text
+    pub(crate) fn parts(&self, index: u16) -> &[EntrySection<'s, 'a>]
+        ensures { map entry_view result.now ≡ sub_indices self.now index }
     {
-        self.parts.get(&u64::from(index))
+        parts_with_index(self.parts.as_slice(), index)
     }
 }

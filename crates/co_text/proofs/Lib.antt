@@ -1,11 +1,10 @@
 pub mod Words
 mod SectionLawExamples
-mod TextLemmas
 mod NumeralLemmas
-mod LineLemmas
 mod LinesReadLemmas
 mod PropertyLemmas
 mod SectionKindLemmas
+mod CutLemmas
 mod SectionsReadLemmas
 mod SectionsKeptLemmas
 mod PassLemmas

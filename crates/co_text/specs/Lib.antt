@@ -5,6 +5,8 @@ pub mod Numerals
 pub mod Properties
 pub mod Views
 pub mod LinesRead
+pub mod Cuts
+pub mod OpenSections
 pub mod SectionsKept
 pub mod OutOfMemory
 pub mod SectionsSoFar

@@ -16,7 +16,7 @@ section_view s = record {
   kind = s.kind;
   name = s.name.now;
   line = s.line;
-  properties = map property_view s.properties.items;
+  properties = map property_view s.properties.now;
 }
 
 -- the form of a line

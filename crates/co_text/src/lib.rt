@@ -3,11 +3,12 @@
 #![tactic(auto)]
 
 mod fault;
+mod header;
 mod line;
-mod lines;
 mod numeral;
 mod open_section;
 mod out_of_memory;
+mod parsed_text;
 mod pass;
 mod section_kind;
 mod sections_read;
@@ -15,9 +16,9 @@ mod text;
 mod text_section;
 
 pub use fault::{TextFault, TextFaultKind};
-pub use lines::{split_line, without_mark};
 pub use numeral::{Numeral, NumeralFault, all_digits, number_in, signed_numeral, unsigned_number};
+pub use parsed_text::ParsedText;
 pub use pass::sections_in;
 pub use section_kind::SectionKind;
-pub use text::{same_name, split_at_first, trim};
+pub use text::{same_name, trim, without_mark};
 pub use text_section::{Property, TextSection};

@@ -6,7 +6,8 @@ ghost use Rattle.co_text.specs.Text.{trim};
 ghost use Rattle.co_text.specs.Sections.{form_of, property_form, is_equals};
 ghost use Rattle.co_text.specs.Views.{form_view};
 
-use crate::text::{split_at_first, trim};
+use crate::text::trim;
+use co_lines::split_at_first;
 
 /// What a line is, by its bytes alone.
 #[derive(Clone, Copy, Debug, PartialEq, Eq, Hash)]

@@ -1,16 +1,16 @@
 //! One pass over the lines of a data sheet's text.
 
-ghost use Rattle.std.specs.Prelude.{◌≡◌, ◌≤◌, ◌⊎◌, [], map, length, Some, None, OnOk, IfOk, IfErr};
+ghost use Rattle.std.specs.Prelude.{◌≡◌, ◌≤◌, ◌⊎◌, [], length, Some, None, OnOk, IfOk, IfErr};
 ghost use Rattle.co_text.specs.Text.{lines_of};
 ghost use Rattle.co_text.specs.Sections.{sections_of, first_line_fault, HaveNoFault, IsFirstAtFault};
-ghost use Rattle.co_text.specs.Views.{section_view};
 ghost use Rattle.co_text.specs.OutOfMemory.{out_of_memory};
 ghost use Rattle.co_text.specs.SectionLaws.{IsParsed};
 
 use crate::fault::TextFault;
-use crate::lines::{split_line, without_mark};
+use crate::parsed_text::ParsedText;
 use crate::sections_read::SectionsRead;
-use crate::text_section::TextSection;
+use crate::text::without_mark;
+use co_lines::split_line;
 use std::alloc::Global;
 
 /// The sections of a text, in their order, each with its properties, or the fault of the first line that has one
@@ -18,11 +18,11 @@ use std::alloc::Global;
 ///
 /// A line's fault is `TooLarge`, `BadLine`, `KeyOutsideSection`, `DuplicateSection` or `DuplicateKey`, with the line's
 /// number from 1. Where memory is refused it fails with `Memory`, line 0.
-pub fn sections_in(alloc: Global, text: &[u8]) -> Result<Vec<TextSection<'_>>, TextFault>
+pub fn sections_in(alloc: Global, text: &[u8]) -> Result<ParsedText<'_>, TextFault>
     requires { length text.now ≤ 1048576 }
     ensures ok { IfOk result (λ sections. (first_line_fault [] (lines_of text.now) ≡ None)
-        × (map section_view sections.items ≡ sections_of (lines_of text.now))) }
-    ensures parsed { IfOk result (λ sections. IsParsed (map section_view sections.items)) }
+        × (sections ≡ sections_of (lines_of text.now))) }
+    ensures parsed { IfOk result IsParsed }
     ensures err { IfErr result (λ fault. (fault ≡ out_of_memory)
         ⊎ (first_line_fault [] (lines_of text.now) ≡ Some fault)) }
     // the same in words: no line has a fault, or the line has it and no earlier line has one
@@ -38,5 +38,5 @@ pub fn sections_in(alloc: Global, text: &[u8]) -> Result<Vec<TextSection<'_>>, T
         rest = others;
         number += 1;
     }
-    Ok(sections.into_sections()?)
+    Ok(sections.into_text(alloc)?)
 }

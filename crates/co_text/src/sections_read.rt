@@ -1,35 +1,38 @@
 //! The sections of the lines that are read so far.
 
-ghost use Rattle.std.specs.Prelude.{◌≡◌, [], map, is_some, option_map, Some, OnOk, IfOk, IfErr};
-ghost use Rattle.std.specs.Option.{ForNone};
+ghost use Rattle.std.specs.Prelude.{◌≡◌, [], is_some, option_map, Some, OnOk, IfOk, IfErr};
+ghost use Rattle.std.specs.Option.{ForNone, ForSome};
 ghost use Rattle.std.specs.List.{list_any};
 ghost use Rattle.co_text.specs.Text.{Line};
 ghost use Rattle.co_text.specs.Names.{same_kind};
 ghost use Rattle.co_text.specs.Sections.{section_line, name_value, malformed, section_at, fault_at};
 ghost use Rattle.co_text.specs.LinesRead.{TakesForm, RefusesForm, TakesLine, RefusesLine, form_fault};
-ghost use Rattle.co_text.specs.Views.{section_view};
+ghost use Rattle.co_text.specs.Cuts.{property_count};
 ghost use Rattle.co_text.specs.SectionsKept.{sections_kept};
 
 use crate::fault::{TextFault, TextFaultKind};
+use crate::header::Header;
 use crate::line::{LineForm, form_of};
 use crate::open_section::OpenSection;
+use crate::parsed_text::ParsedText;
 use crate::section_kind::SectionKind;
-use crate::text_section::TextSection;
 use indexmap::IndexSet;
 use std::alloc::{AllocError, Global};
 
 /// A line of a text may have so many bytes, without its end.
 const LONGEST_LINE: usize = 512;
 
-/// The sections of the lines that are read so far.
+/// The sections of the lines that are read so far: those that are whole, by their section lines, and the one that is
+/// being read, which has the properties of all.
 #[derive(Drop)]
 pub(crate) struct SectionsRead<'a> {
-    closed: Vec<TextSection<'a>>,
+    closed: Vec<Header<'a>>,
     current: Option<OpenSection<'a>>,
     kinds: IndexSet<SectionKind>,
     ghost indexed: { (k : _) → list_any (same_kind k) kinds.keys
         ≡ is_some (section_at k (sections_kept closed.items current)) },
     ghost begun: { ForNone current (closed.items ≡ []) },
+    ghost counted: { ForSome current (λ s. property_count closed.items ≡ s.first) },
 }
 
 impl<'a> SectionsRead<'a> {
@@ -63,9 +66,12 @@ impl<'a> SectionsRead<'a> {
                 line,
             });
         }
-        let begun = OpenSection::new(alloc, kind, name, line);
-        if let Some(whole) = self.current.replace(begun) {
-            self.closed.push_reserved(whole.into_section());
+        match &mut self.current {
+            Some(section) => {
+                self.closed.push_reserved(section.header());
+                section.begin(kind, name, line);
+            }
+            None => self.current = Some(OpenSection::new(alloc, kind, name, line)),
         }
         Ok(())
     }
@@ -138,18 +144,25 @@ impl<'a> SectionsRead<'a> {
         }
     }
 
-    /// The sections, each with its properties.
-    pub(crate) fn into_sections(self) -> Result<Vec<TextSection<'a>>, AllocError>
-        ensures { IfOk result (λ r. map section_view r.items ≡ sections_so_far self.entry) }
+    /// The sections, with one list of their properties.
+    pub(crate) fn into_text(self, alloc: Global) -> Result<ParsedText<'a>, AllocError>
+        ensures { IfOk result (λ text. text ≡ sections_so_far self.entry) }
     {
         let SectionsRead {
             mut closed,
             current,
             kinds: _,
         } = self;
-        if let Some(section) = current {
-            closed.push(section.into_section())?;
-        }
-        Ok(closed)
+        let Some(section) = current else {
+            return Ok(ParsedText {
+                headers: closed,
+                properties: Vec::new(alloc),
+            });
+        };
+        closed.push(section.header())?;
+        Ok(ParsedText {
+            headers: closed,
+            properties: section.into_properties(),
+        })
     }
 }

@@ -1,8 +1,7 @@
 //! The bytes of a data sheet's text.
 
-ghost use Rattle.std.specs.Prelude.{◌≡◌, ◌==◌, ◌≤◌, length, IfSome, is_some};
-ghost use Rattle.std.specs.List.{list_any, before_first, after_first, position_or_len};
-ghost use Rattle.co_text.specs.Text.{is_blank, trim_front, trim, same_name};
+ghost use Rattle.std.specs.Prelude.{◌≡◌, ◌≤◌, length};
+ghost use Rattle.co_text.specs.Text.{is_blank, trim_front, trim, same_name, without_mark};
 
 /// Whether a byte is a space or a tab.
 fn is_blank(byte: u8) -> bool
@@ -45,30 +44,13 @@ pub fn same_name(name: &[u8], other: &[u8]) -> bool
     name.eq_ignore_ascii_case(other)
 }
 
-// where the first of these bytes is, or the length
-fn place_of(text: &[u8], byte: u8) -> usize
-    ensures place { result ≡ position_or_len (λ b. b == byte) text.now }
-    ensures bound { result ≤ length text.now }
+/// The text without its byte order mark, if it has one.
+pub fn without_mark(text: &[u8]) -> &[u8]
+    ensures text { result.now ≡ without_mark text.now }
+    ensures bound { length result.now ≤ length text.now }
 {
-    for (place, b) in text.iter().enumerate() {
-        if *b == byte {
-            return place;
-        }
+    match text {
+        [0xEF, 0xBB, 0xBF, rest @ ..] => rest,
+        _ => text,
     }
-    text.len()
-}
-
-/// What is before and after the first of these bytes; `None` where the text has none.
-pub fn split_at_first(text: &[u8], byte: u8) -> Option<(&[u8], &[u8])>
-    ensures some { is_some result ≡ list_any (λ b. b == byte) text.now }
-    ensures before { IfSome result
-        (λ parts. parts.0.now ≡ before_first (λ b. b == byte) text.now) }
-    ensures after { IfSome result
-        (λ parts. parts.1.now ≡ after_first (λ b. b == byte) text.now) }
-{
-    let place = place_of(text, byte);
-    if place == text.len() {
-        return None;
-    }
-    Some((&text[..place], &text[place + 1..]))
 }

@@ -29,22 +29,22 @@ impl Property<'_> {
 }
 
 /// A section of a text, with the properties that are read in it in the order of their lines.
-#[derive(Debug, Drop)]
-pub struct TextSection<'a> {
+#[derive(Clone, Copy, Debug)]
+pub struct TextSection<'s, 'a> {
     pub kind: SectionKind,
     /// What is between `[` and the first `]`, without blanks at its ends.
     pub name: &'a [u8],
     /// From 1.
     pub line: usize,
-    pub properties: Vec<Property<'a>>,
+    pub properties: &'s [Property<'a>],
 }
 
-impl<'a> TextSection<'a> {
+impl<'s, 'a> TextSection<'s, 'a> {
     /// The property of this name, in any case of its letters; `None` where the section has none.
     pub fn property(&self, name: &[u8]) -> Option<Property<'a>>
         ensures { option_map property_view result ≡ property_at name.now (section_view self.now) }
     {
-        for property in &self.properties {
+        for property in self.properties {
             if same_name(property.name, name) {
                 return Some(*property);
             }

@@ -32,16 +32,16 @@ pub returns-clause-sheet : goal.returns-clause-sheet
 returns-clause-sheet c =
     let text = c.args.text.now in
     let sections = map section_view c.as_slice.result.now in
-    let same : sections ≡ sections_in text = ap (map section_view) c.as_slice.ensures.value ∙ c.in_ok-sections.ensures.ok.1 in
+    let same : sections ≡ sections_in text = ap (map section_view) c.as_slice.ensures.value ∙ c.in_ok-sections.ensures ∙ c.in_ok-parsed.ensures.ok.1 in
     ok-both (λ s. first_found checks sections ≡ None) (λ s. s ≡ content_of sections) (IsSheet text)
-    (sheet_read text sections same c.if-text-gt-GREATEST_SIZE.false c.in_ok-sections.ensures.ok.0) c.sheet_of.result c.sheet_of.ensures.accepted c.sheet_of.ensures.content
+    (sheet_read text sections same c.if-text-gt-GREATEST_SIZE.false c.in_ok-parsed.ensures.ok.0) c.sheet_of.result c.sheet_of.ensures.accepted c.sheet_of.ensures.content
 
 pub returns-clause-whole : goal.returns-clause-whole
 returns-clause-whole c =
     let text = c.args.text.now in
     let sections = map section_view c.as_slice.result.now in
-    let same : sections ≡ sections_in text = ap (map section_view) c.as_slice.ensures.value ∙ c.in_ok-sections.ensures.ok.1 in
+    let same : sections ≡ sections_in text = ap (map section_view) c.as_slice.ensures.value ∙ c.in_ok-sections.ensures ∙ c.in_ok-parsed.ensures.ok.1 in
     let small = c.if-text-gt-GREATEST_SIZE.false in
-    let lines = c.in_ok-sections.ensures.ok.0 in
+    let lines = c.in_ok-parsed.ensures.ok.0 in
     let sheet = ok-both (λ s. first_found checks sections ≡ None) (λ s. s ≡ content_of sections) (IsSheet text) (sheet_read text sections same small lines) c.sheet_of.result c.sheet_of.ensures.accepted c.sheet_of.ensures.content in
     ok-both (λ s. KeepsEntries sections) (IsSheet text) (IsWhole text) (whole_read text sections same small lines) c.sheet_of.result c.sheet_of.ensures.kept sheet

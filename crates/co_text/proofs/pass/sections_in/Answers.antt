@@ -27,7 +27,7 @@ returns-clause-parsed c =
     let text = c.args.text.now in
     let none : lines c.loop-line.rest.now ≡ [] = search rules in
     let whole = reads_end text c.loop-line.rest.now c.loop-line.number (sections_kept s.closed.items s.current) c.loop-line.invariant.reads none in
-    subst IsParsed (sym (c.in_ok-into_sections.ensures ∙ whole.1)) (parsed text whole.0)
+    subst IsParsed (sym (c.in_ok-into_text.ensures ∙ whole.1)) (parsed text whole.0)
 
 refused : (text rest tail bytes : List ℕ) (number : ℕ) (sections : List TextSection) (fault : TextFault) → Reads text sections number rest → lines rest ≡ bytes ∷ lines tail
     → RefusesLine sections (record { number = number; bytes = bytes }) fault → (fault ≡ out_of_memory) ⊎ IsFirstAtFault (lines_of text) fault

@@ -3,7 +3,7 @@ use Rattle.std.specs.Result.{result_err}
 use Rattle.std.specs.Prelude.{ok_or}
 use Rattle.co_sheet.specs.declared.fault.FaultKind.TheVariants.{BadType, LeftOutType}
 use Rattle.co_sheet.specs.Checks.{is_bad_type}
-use Rattle.co_sheet.specs.Findings.{found_by}
+use Rattle.co_sheet.specs.private.Findings.{found_by}
 use Rattle.co_sheet.specs.SectionViews.{entry_view}
 use Rattle.co_sheet.proofs.EntryReadingLemmas.{passed, no_fault-test, type-read}
 use Rattle.co_sheet.proofs.tables.EntrySection.data_type.Goals as goal

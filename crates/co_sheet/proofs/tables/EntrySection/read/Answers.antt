@@ -3,8 +3,8 @@ use Rattle.std.specs.Prelude.{option_map}
 use Rattle.std.specs.Result.{result_err}
 use Rattle.co_sheet.specs.Accepted.{least_fault}
 use Rattle.co_sheet.specs.Checks.{bad_access}
-use Rattle.co_sheet.specs.Findings.{found_by}
-use Rattle.co_sheet.specs.EntryReadings.{value_finding}
+use Rattle.co_sheet.specs.private.Findings.{found_by}
+use Rattle.co_sheet.specs.private.EntryReadings.{value_finding}
 use Rattle.co_text.specs.Views.{property_view}
 use Rattle.co_sheet.specs.SectionViews.{entry_view}
 use Rattle.co_sheet.proofs.EntryReadingLemmas.{checked-ok, checked-err, passed, stops, entry-steps, no_type-domain, no_access-domain}

@@ -5,8 +5,8 @@ use Rattle.std.specs.Result.{result_err}
 use Rattle.co_sheet.specs.Accepted.{least_fault}
 use Rattle.co_sheet.specs.Checks.{unread}
 use Rattle.co_sheet.specs.Limits.{number_at_type, numeric_default, is_numeric}
-use Rattle.co_sheet.specs.LeastFaults.{earlier}
-use Rattle.co_sheet.specs.EntryReadings.{IsLimitAt, IsDefaultAt}
+use Rattle.co_sheet.specs.private.LeastFaults.{earlier}
+use Rattle.co_sheet.specs.private.EntryReadings.{IsLimitAt, IsDefaultAt}
 use Rattle.co_text.specs.Sections.{Property}
 use Rattle.co_text.specs.Views.{property_view}
 use Rattle.co_sheet.specs.SectionViews.{entry_view}

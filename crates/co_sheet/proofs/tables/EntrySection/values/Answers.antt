@@ -4,8 +4,8 @@ use Rattle.std.specs.Option.{option_map_or}
 use Rattle.std.specs.Result.{result_err}
 use Rattle.co_sheet.specs.Accepted.{least_fault}
 use Rattle.co_sheet.specs.Checks.{in_numeric, bad_limits, bad_default}
-use Rattle.co_sheet.specs.Findings.{found_by}
-use Rattle.co_sheet.specs.EntryReadings.{AreValues, default_found}
+use Rattle.co_sheet.specs.private.Findings.{found_by}
+use Rattle.co_sheet.specs.private.EntryReadings.{AreValues, default_found}
 use Rattle.co_sheet.specs.SectionViews.{entry_view}
 use Rattle.co_sheet.proofs.EntryReadingLemmas.{at_ok, checked-ok, checked-err, passed, stops, value-steps, bad_default-read}
 use Rattle.co_sheet.proofs.tables.EntrySection.values.Goals as goal

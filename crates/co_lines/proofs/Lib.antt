@@ -1,0 +1,3 @@
+pub mod CutLemmas
+mod LineLemmas
+pub mod Examples

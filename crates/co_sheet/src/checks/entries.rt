@@ -1,0 +1,383 @@
+//! An entry, read from its section.
+
+ghost use Rattle.std.specs.Prelude.{◌≡◌, ◌==◌, not, true, false, codes, map, option_map, Some, None, IfOk, OnOk, IfErr, []};
+ghost use Rattle.std.specs.Option.{option_map_or, option_or};
+ghost use Rattle.std.specs.Result.{result_err};
+ghost use Rattle.co_value.specs.Types.{code_of};
+ghost use Rattle.co_sheet.specs.FixedTypes.{fixed_type_of};
+ghost use Rattle.co_sheet.specs.Entries.{is_domain, type_code, data_type_of, access_of, is_mappable};
+ghost use Rattle.co_sheet.specs.Limits.{at_most, is_in_type, is_numeric};
+ghost use Rattle.co_sheet.specs.Checks.{missing_key, unread_number, unread_limit, unread_default, unread_entry_numbers, type_line, is_bad_type, in_numeric, unread_limits, bad_access};
+ghost use Rattle.co_sheet.specs.Accepted.{least_fault, IsAnswered};
+ghost use Rattle.co_sheet.specs.private.EntryReadings.{IsGiven, fault_in, HaveRows, entry_finding, first_in, type_finding, value_finding, IsNumberAt, IsLimitAt, IsDefaultAt, AreValues, value_of, outside, crossed, limits_found, default_with_key, is_other_default, default_found};
+ghost use Rattle.co_sheet.specs.Content.{row_of};
+ghost use Rattle.co_text.specs.Views.{property_view};
+ghost use Rattle.co_sheet.specs.SectionViews.{entry_view};
+ghost use Rattle.co_sheet.specs.SheetViews.{row_view};
+ghost use Rattle.co_sheet.specs.Views.{default_view};
+
+use crate::checks::faults::{both, earlier, fault_if, unread};
+use crate::checks::findings::{Finding, checked, found, sooner};
+use crate::data_type::{data_type_with, fixed_type, is_left_out};
+use crate::entry::{Access, EntryRow, Preset, is_pairs, numeric_default};
+use crate::fault::{FaultKind, SheetFault};
+use crate::rows::name_of;
+use crate::tables::EntrySection;
+use co_text::{Property, signed_numeral, unsigned_number};
+use co_value::DataType;
+use std::alloc::Global;
+
+/// A limit of a numeric entry, and the line that states it.
+#[derive(Clone, Copy)]
+pub(crate) struct Limit {
+    value: i128,
+    line: usize,
+}
+
+/// What an entry states of its values.
+#[derive(Clone, Copy)]
+pub(crate) struct Values<'a> {
+    low: Option<Limit>,
+    high: Option<Limit>,
+    default: Preset<'a>,
+}
+
+// two numbers, where both are there, are in order
+fn at_most(low: Option<i128>, high: Option<i128>) -> bool
+    ensures { result ≡ at_most low high }
+{
+    match (low, high) {
+        (Some(low), Some(high)) => low <= high,
+        _ => true,
+    }
+}
+
+fn is_in_type(data_type: DataType, value: i128) -> bool
+    ensures { result ≡ is_in_type data_type value }
+{
+    at_most(data_type.least(), Some(value)) && at_most(Some(value), data_type.greatest())
+}
+
+// the number at a key, where it is given
+fn number_at(given: Option<Property>) -> Result<Option<u64>, SheetFault>
+    ensures fault { result_err result ≡ fault_in unread_number given.entry }
+    ensures value { IfOk result (IsNumberAt (option_map property_view given.entry)) }
+{
+    let Some(given) = given else {
+        return Ok(None);
+    };
+    match unsigned_number(given.value) {
+        Ok(number) => Ok(Some(number)),
+        Err(fault) => Err(unread(fault, given.line)),
+    }
+}
+
+// the limit at a key of a numeric entry, where it is given
+fn limit_at(data_type: DataType, given: Option<Property>) -> Result<Option<Limit>, SheetFault>
+    ensures fault { result_err result ≡ fault_in (unread_limit data_type) given.entry }
+    ensures value { IfOk result (IsLimitAt data_type (option_map property_view given.entry)) }
+{
+    let Some(given) = given else {
+        return Ok(None);
+    };
+    match signed_numeral(given.value) {
+        Ok(numeral) => Ok(Some(Limit {
+            value: numeral.value_at(data_type),
+            line: given.line,
+        })),
+        Err(fault) => Err(unread(fault, given.line)),
+    }
+}
+
+// the default at a key of a numeric entry, where it is given
+fn default_at(data_type: DataType, given: Option<Property>) -> Result<Preset<'static>, SheetFault>
+    ensures fault { result_err result ≡ fault_in (unread_default data_type) given.entry }
+    ensures value { IfOk result (IsDefaultAt data_type (option_map property_view given.entry)) }
+{
+    let Some(given) = given else {
+        return Ok(Preset::Absent);
+    };
+    match numeric_default(data_type, given.value) {
+        Ok(default) => Ok(default),
+        Err(fault) => Err(unread(fault, given.line)),
+    }
+}
+
+fn outside(data_type: DataType, limit: Option<Limit>) -> Option<SheetFault>
+    ensures { result ≡ least_fault (option_map_or (outside data_type) limit []) }
+{
+    let limit = limit?;
+    let is_inside = is_in_type(data_type, limit.value);
+    fault_if(!is_inside, FaultKind::BadLimits, limit.line)
+}
+
+fn value_of(limit: Option<Limit>) -> Option<i128>
+    ensures { result ≡ value_of limit }
+{
+    Some(limit?.value)
+}
+
+// a low limit above the high one, on the high one's line, or else the low one's
+fn crossed(data_type: DataType, low: Option<Limit>, high: Option<Limit>) -> Option<SheetFault>
+    ensures { result
+        ≡ least_fault (option_map_or (crossed data_type low high) (option_or high low) []) }
+{
+    let last = high.or(low)?;
+    let lowest = value_of(low).or(data_type.least());
+    let highest = value_of(high).or(data_type.greatest());
+    fault_if(!at_most(lowest, highest), FaultKind::BadLimits, last.line)
+}
+
+// the default at a key of a string or a domain; a domain's is passed over
+fn text_default(data_type: DataType, given: Option<Property<'_>>) -> Preset<'_>
+    requires { is_numeric data_type ≡ false }
+    ensures { default_view result
+        ≡ default_with_key data_type (option_map property_view given.entry) }
+{
+    let Some(given) = given else {
+        return Preset::Absent;
+    };
+    match data_type {
+        DataType::VisibleString => Preset::Text(given.value),
+        DataType::OctetString => Preset::Pairs(given.value),
+        _ => Preset::Absent,
+    }
+}
+
+impl Values<'_> {
+    // a limit outside the type's range, or a low limit above the high one
+    fn limits_fault(&self, data_type: DataType) -> Option<SheetFault>
+        ensures { result ≡ least_fault (limits_found data_type self.now.low self.now.high) }
+    {
+        let of_low = outside(data_type, self.low);
+        let of_high = outside(data_type, self.high);
+        let of_each = earlier(of_low, of_high);
+        let of_both = crossed(data_type, self.low, self.high);
+        earlier(of_each, of_both)
+    }
+
+    // whether the default is a number outside the type or the limits, or no pairs of digits
+    fn is_default_bad(&self, data_type: DataType) -> bool
+        ensures { result ≡ is_other_default data_type self.now }
+    {
+        match self.default {
+            Preset::Number(value) => {
+                !(is_in_type(data_type, value)
+                    && at_most(value_of(self.low), Some(value))
+                    && at_most(Some(value), value_of(self.high)))
+            }
+            Preset::Pairs(digits) => !is_pairs(digits),
+            Preset::Absent | Preset::NodeId(_) | Preset::Text(_) => false,
+        }
+    }
+
+    fn default_fault(&self, data_type: DataType, given: Option<Property>) -> Option<SheetFault>
+        ensures { result ≡ fault_in (default_found data_type self.now) given.entry }
+    {
+        let given = given?;
+        fault_if(
+            self.is_default_bad(data_type),
+            FaultKind::BadDefault,
+            given.line,
+        )
+    }
+}
+
+impl<'s, 'a> EntrySection<'s, 'a> {
+    // whether the entry is a DOMAIN by its object type
+    fn is_domain(&self) -> bool
+        ensures { result ≡ is_domain (entry_view self.now) }
+    {
+        match self.section.property(b"ObjectType") {
+            Some(given) => given.number() == Some(2),
+            None => false,
+        }
+    }
+
+    // an entry without DataType or AccessType, which object type 2 needs neither of
+    fn missing_key(
+        &self,
+        domain: bool,
+        type_given: Option<Property>,
+        access_given: Option<Property>,
+    ) -> Option<SheetFault>
+        requires domain { domain ≡ is_domain (entry_view self.now) }
+        requires type_given { IsGiven (codes "DataType") type_given (entry_view self.now) }
+        requires access_given { IsGiven (codes "AccessType") access_given (entry_view self.now) }
+        ensures { result ≡ least_fault (missing_key (entry_view self.now)) }
+    {
+        let is_missing = !domain && (type_given.is_none() || access_given.is_none());
+        fault_if(is_missing, FaultKind::MissingKey, self.section.line)
+    }
+
+    // the line of DataType, or of the section where there is none
+    fn type_line(&self, type_given: Option<Property>) -> usize
+        requires { IsGiven (codes "DataType") type_given (entry_view self.now) }
+        ensures { result ≡ type_line (entry_view self.now) }
+    {
+        match type_given {
+            Some(given) => given.line,
+            None => self.section.line,
+        }
+    }
+
+    // the numbers DataType, DOMAIN's where object type 2 states none, and PDOMapping
+    fn numbers(&self, type_given: Option<Property>) -> Result<(u64, bool), SheetFault>
+        requires given { IsGiven (codes "DataType") type_given (entry_view self.now) }
+        requires domain { type_given ≡ None → is_domain (entry_view self.now) ≡ true }
+        ensures fault { result_err result
+            ≡ least_fault (unread_entry_numbers (entry_view self.now)) }
+        ensures code { IfOk result (λ v. type_code (entry_view self.now) ≡ Some v.0) }
+        ensures mappable { IfOk result (λ v. is_mappable (entry_view self.now) ≡ v.1) }
+    {
+        let mapping_given = self.section.property(b"PDOMapping");
+        let (code, mapping) = both(number_at(type_given), number_at(mapping_given))?;
+        let is_mappable = match mapping {
+            Some(number) => number != 0,
+            None => false,
+        };
+        Ok((code.unwrap_or(0x0F), is_mappable))
+    }
+
+    fn is_bad_type(&self, domain: bool, code: u64) -> bool
+        requires { domain ≡ is_domain (entry_view self.now) }
+        ensures { result ≡ is_bad_type (entry_view self.now) code }
+    {
+        let is_other = match fixed_type(self.key) {
+            Some(fixed) => code != u64::from(fixed.code()),
+            None => false,
+        };
+        (data_type_with(code).is_none() && !is_left_out(code))
+            || (domain && code != 0x0F)
+            || is_other
+    }
+
+    // the data type of a code, which is supported, and the one that object type or key require
+    fn data_type(&self, domain: bool, code: u64, line: usize) -> Result<DataType, Finding>
+        requires domain { domain ≡ is_domain (entry_view self.now) }
+        requires code { type_code (entry_view self.now) ≡ Some code }
+        requires line { line ≡ type_line (entry_view self.now) }
+        ensures finding { result_err result ≡ type_finding (entry_view self.now) }
+        ensures read { IfOk result (λ t. data_type_of (entry_view self.now) ≡ Some t) }
+    {
+        let is_bad = self.is_bad_type(domain, code);
+        found(12, fault_if(is_bad, FaultKind::BadType, line))?;
+        data_type_with(code).ok_or(Finding {
+            check: 13,
+            fault: SheetFault {
+                kind: FaultKind::LeftOutType,
+                line,
+            },
+        })
+    }
+
+    // the access of a word, rw where object type 2 states none
+    fn access(&self, given: Option<Property>) -> Result<Access, SheetFault>
+        requires given { IsGiven (codes "AccessType") given (entry_view self.now) }
+        requires domain { given ≡ None → is_domain (entry_view self.now) ≡ true }
+        ensures fault { result_err result ≡ least_fault (bad_access (entry_view self.now)) }
+        ensures access { IfOk result (λ access. access_of (entry_view self.now) ≡ Some access) }
+    {
+        let Some(given) = given else {
+            return Ok(Access::Rw);
+        };
+        Access::of_word(given.value).ok_or(SheetFault {
+            kind: FaultKind::BadAccess,
+            line: given.line,
+        })
+    }
+
+    // the limits and the default of an entry; a string or a domain has no limits
+    fn stated(
+        &self,
+        data_type: DataType,
+        given: Option<Property<'a>>,
+    ) -> Result<Values<'a>, SheetFault>
+        requires given { IsGiven (codes "DefaultValue") given (entry_view self.now) }
+        requires read { data_type_of (entry_view self.now) ≡ Some data_type }
+        ensures fault { result_err result
+            ≡ least_fault (in_numeric unread_limits (entry_view self.now)) }
+        ensures values { IfOk result (AreValues data_type (entry_view self.now)) }
+    {
+        if data_type.width().is_none() {
+            return Ok(Values {
+                low: None,
+                high: None,
+                default: text_default(data_type, given),
+            });
+        }
+        let low_given = self.section.property(b"LowLimit");
+        let high_given = self.section.property(b"HighLimit");
+        let limits = both(
+            limit_at(data_type, low_given),
+            limit_at(data_type, high_given),
+        );
+        let ((low, high), default) = both(limits, default_at(data_type, given))?;
+        Ok(Values { low, high, default })
+    }
+
+    // the limits and the default, within the type and in order
+    fn values(&self, data_type: DataType) -> Result<Values<'a>, Finding>
+        requires { data_type_of (entry_view self.now) ≡ Some data_type }
+        ensures finding { result_err result ≡ value_finding (entry_view self.now) }
+        ensures values { IfOk result (AreValues data_type (entry_view self.now)) }
+    {
+        let given = self.section.property(b"DefaultValue");
+        let values = checked(15, self.stated(data_type, given))?;
+        found(16, values.limits_fault(data_type))?;
+        found(17, values.default_fault(data_type, given))?;
+        Ok(values)
+    }
+
+    /// The row of the entry, or what the first of its checks that finds anything finds (CiA 306,
+    /// object description).
+    pub(crate) fn read(&self) -> Result<EntryRow<'a>, Finding>
+        ensures finding { result_err result ≡ entry_finding (entry_view self.now) }
+        ensures row { IfOk result (λ row. row_of (entry_view self.now) ≡ Some (row_view row)) }
+    {
+        let section = self.section;
+        let is_domain = self.is_domain();
+        let type_given = section.property(b"DataType");
+        let access_given = section.property(b"AccessType");
+        found(10, self.missing_key(is_domain, type_given, access_given))?;
+        let (code, mappable) = checked(11, self.numbers(type_given))?;
+        let data_type = self.data_type(is_domain, code, self.type_line(type_given))?;
+        let access = checked(14, self.access(access_given))?;
+        let values = self.values(data_type)?;
+        Ok(EntryRow {
+            key: self.key,
+            data_type,
+            access,
+            low: value_of(values.low),
+            high: value_of(values.high),
+            default: values.default,
+            mappable,
+            name: name_of(section),
+            line: section.line,
+        })
+    }
+}
+
+/// The row of each entry, or the fault that is found first in any of them; out of memory has no
+/// line.
+pub(crate) fn read_entries<'a>(
+    alloc: Global,
+    entries: &[EntrySection<'_, 'a>],
+) -> Result<Vec<EntryRow<'a>>, SheetFault>
+    ensures rows { IfOk result (λ rows. HaveRows (map entry_view entries.now) rows.items) }
+    ensures none { OnOk result (first_in (map entry_view entries.now) ≡ None) }
+    ensures err { IfErr result (IsAnswered (first_in (map entry_view entries.now))) }
+{
+    let mut rows = Vec::new(alloc);
+    let mut first = None;
+    for entry in entries {
+        match entry.read() {
+            Ok(row) => rows.push(row)?,
+            Err(found) => first = sooner(first, Some(found)),
+        }
+    }
+    match first {
+        Some(found) => Err(found.fault),
+        None => Ok(rows),
+    }
+}

@@ -1,0 +1,199 @@
+//! The object lists: what they name, and what is checked of them.
+
+ghost use Rattle.std.specs.Prelude.{◌≡◌, ◌++◌, ℕ, nat_eq, map, flat_map, filter_map, option_and_then, IfOk, IfErr, OnOk, None};
+ghost use Rattle.indexmap.specs.IndexSet.{contains};
+ghost use Rattle.co_text.specs.Views.{property_view, section_view};
+ghost use Rattle.co_sheet.specs.ObjectLists.{listings};
+ghost use Rattle.co_sheet.specs.Checks.{unread_number, has_numbers, is_bad_list};
+ghost use Rattle.co_sheet.specs.Accepted.{least_fault, first_found, IsAnswered};
+ghost use Rattle.co_sheet.specs.private.ListReadings.{listing_view, listed, listing_at, listing_with, is_key_to, is_large, is_bad_section, named_in, list_finding, named_by, own_checks, is_listed_at, twice_in, LinesRise, unlisted_mandatory};
+
+use crate::checks::faults::{fault_if, least_over, number_of};
+use crate::checks::findings::{Finding, found, sooner};
+use crate::fault::{FaultKind, SheetFault};
+use crate::sections::section_at;
+use co_text::{Property, SectionKind, TextSection, number_in};
+use indexmap::IndexSet;
+use std::alloc::{AllocError, Global};
+
+/// An index that an object list names, and the line where it does.
+#[derive(Clone, Copy, Debug, PartialEq, Eq)]
+pub(crate) struct Listing {
+    pub(crate) index: u64,
+    /// From 1.
+    pub(crate) line: usize,
+}
+
+// whether a key is one of the places up to this: a number from 1, without leading zeros
+fn is_key_to(given: &Property, count: u64) -> bool
+    ensures { result ≡ is_key_to count (property_view given.now) }
+{
+    match given.name {
+        [b'0', ..] => false,
+        name => number_in(10, name).is_some_and(|number| number <= count),
+    }
+}
+
+// whether an index is above FFFFh
+fn is_large(index: Option<u64>) -> bool
+    ensures { result ≡ is_large index }
+{
+    index.is_some_and(|index| index > 0xFFFF)
+}
+
+// what a key of a list names, from 1000h on
+fn add_listing(
+    listings: &mut Vec<Listing>,
+    index: Option<u64>,
+    line: usize,
+) -> Result<(), AllocError>
+    ensures { OnOk result (map listing_view listings.new.items ≡ map listing_view listings.old.items
+        ++ listed (option_and_then (listing_with line) index)) }
+{
+    if let Some(index) = index {
+        if index >= 0x1000 {
+            listings.push(Listing { index, line })?;
+        }
+    }
+    Ok(())
+}
+
+// what the places of a list up to its count name, after what is there; whether one is missing, or
+// names an index above FFFFh
+fn add_listings(
+    listings: &mut Vec<Listing>,
+    section: &TextSection,
+    count: u64,
+) -> Result<bool, AllocError>
+    ensures bad { IfOk result (λ bad. bad ≡ is_bad_list (section_view section.now) count) }
+    ensures named { OnOk result (map listing_view listings.new.items
+        ≡ map listing_view listings.old.items
+        ++ filter_map (listing_at count) (section_view section.now).properties) }
+{
+    let mut places: u64 = 0;
+    let mut has_large = false;
+    for given in section.properties {
+        if is_key_to(given, count) {
+            places += 1;
+            let index = given.number();
+            has_large |= is_large(index);
+            add_listing(listings, index, given.line)?;
+        }
+    }
+    if count > 0xFFFF || places < count {
+        return Ok(true);
+    }
+    Ok(has_large)
+}
+
+// what a list names, after what is there; whether the list lacks its count, has one that is too
+// large, lacks a place up to it, or names an index that is too large
+fn read_list(listings: &mut Vec<Listing>, section: &TextSection) -> Result<bool, AllocError>
+    ensures bad { IfOk result (λ bad. bad ≡ is_bad_section (section_view section.now)) }
+    ensures named { OnOk result (map listing_view listings.new.items
+        ≡ map listing_view listings.old.items ++ named_in (section_view section.now)) }
+{
+    match section.number_at(b"SupportedObjects") {
+        Some(count) => add_listings(listings, section, count),
+        None => Ok(true),
+    }
+}
+
+// whether the values of a section are all numbers
+fn has_numbers(kind: SectionKind) -> bool
+    ensures { result ≡ has_numbers kind }
+{
+    kind.is_list() || matches!(kind, SectionKind::DummyUsage | SectionKind::DeviceInfo)
+}
+
+fn unread_numbers(section: &TextSection) -> Option<SheetFault>
+    ensures { result ≡ least_fault (flat_map unread_number (section_view section.now).properties) }
+{
+    least_over(section.properties, |given| number_of(given).err())
+}
+
+// what is found first in a section by itself; what it names, after what is there
+fn read_section(
+    listings: &mut Vec<Listing>,
+    section: &TextSection,
+) -> Result<Option<Finding>, AllocError>
+    ensures finding { IfOk result (λ found. found ≡ list_finding (section_view section.now)) }
+    ensures named { IfOk result (λ found. found ≡ None → map listing_view listings.new.items
+        ≡ map listing_view listings.old.items ++ named_by (section_view section.now)) }
+{
+    if !has_numbers(section.kind) {
+        return Ok(None);
+    }
+    if let Some(fault) = unread_numbers(section) {
+        return Ok(Some(Finding { check: 2, fault }));
+    }
+    if !section.kind.is_list() {
+        return Ok(None);
+    }
+    let is_bad = read_list(listings, section)?;
+    Ok(found(3, fault_if(is_bad, FaultKind::BadList, section.line)).err())
+}
+
+/// What the object lists name from 1000h on, in the order of the text (CiA 306, object lists), or
+/// the fault that is found first in the lists and in DummyUsage and DeviceInfo by themselves.
+pub(crate) fn read_lists(
+    alloc: Global,
+    sections: &[TextSection],
+) -> Result<Vec<Listing>, SheetFault>
+    ensures listings { IfOk result (λ all. map listing_view all.items
+        ≡ listings (map section_view sections.now)) }
+    ensures none { OnOk result (first_found own_checks (map section_view sections.now) ≡ None) }
+    ensures err { IfErr result
+        (IsAnswered (first_found own_checks (map section_view sections.now))) }
+{
+    if section_at(sections, SectionKind::MandatoryObjects).is_none() {
+        return Err(SheetFault {
+            kind: FaultKind::MissingSection,
+            line: 0,
+        });
+    }
+    let mut listings = Vec::new(alloc);
+    let mut first = None;
+    for section in sections {
+        first = sooner(first, read_section(&mut listings, section)?);
+    }
+    match first {
+        Some(found) => Err(found.fault),
+        None => Ok(listings),
+    }
+}
+
+/// The indices that the lists name, or the fault of the first line that names one again.
+pub(crate) fn listed_indices(
+    alloc: Global,
+    listings: &[Listing],
+) -> Result<IndexSet<u64>, SheetFault>
+    requires { LinesRise (map listing_view listings.now) }
+    ensures listed { IfOk result (λ indices. (i : ℕ) → contains nat_eq indices i
+        ≡ is_listed_at i (map listing_view listings.now)) }
+    ensures none { OnOk result (least_fault (twice_in (map listing_view listings.now)) ≡ None) }
+    ensures err { IfErr result
+        (IsAnswered (least_fault (twice_in (map listing_view listings.now)))) }
+{
+    let mut indices: IndexSet<u64> = IndexSet::new(alloc);
+    for listing in listings {
+        let is_new = indices.insert(listing.index)?;
+        if !is_new {
+            return Err(SheetFault {
+                kind: FaultKind::ListedTwice,
+                line: listing.line,
+            });
+        }
+    }
+    Ok(indices)
+}
+
+/// 1000h, 1001h or 1018h is in no list.
+pub(crate) fn missing_mandatory(indices: &IndexSet<u64>) -> Option<SheetFault>
+    ensures { result ≡ least_fault (unlisted_mandatory (contains nat_eq indices.now)) }
+{
+    let are_listed = indices.contains(&0x1000)
+        && indices.contains(&0x1001)
+        && indices.contains(&0x1018);
+    fault_if(!are_listed, FaultKind::MissingMandatory, 0)
+}
