@@ -1,8 +1,6 @@
 -- The segments that a client sends of its bytes (CiA 301, 7.2.4.3.4 and 7.2.4.3.10).
-use Rattle.std.specs.Prelude.{ℕ, ◌+◌, ◌-◌, ◌*◌, ◌/◌, ◌%◌, ◌==◌, ◌&&◌, Bool, max, min, nat_le, List, [], ◌∷◌, length, take, drop, map, Option, Some, None, if◌then◌else◌}
+use Rattle.std.specs.Prelude.{ℕ, ◌+◌, ◌-◌, ◌*◌, ◌/◌, ◌&&◌, Bool, max, nat_le, List, [], ◌∷◌, length, map, Option, Some, None, if◌then◌else◌}
 use Rattle.std.specs.List.{range_with_len}
-use Rattle.co_frame.specs.SdoFields.{padded}
-use Rattle.co_frame.specs.declared.block_segment.BlockSegment.{BlockSegment}
 use Rattle.co_frame.specs.declared.sdo_request.ExpeditedData.TheVariants.{Indicated}
 use Rattle.co_frame.specs.declared.sdo_request.SdoRequest.TheVariants.{DownloadExpedited, DownloadBegin, DownloadSegment, Upload as UploadRequest, BlockUploadBegin, BlockDownloadBegin, BlockDownloadEnd}
 use Rattle.co_client.specs.declared.mode.Mode.{Mode}
@@ -10,9 +8,7 @@ use Rattle.co_client.specs.declared.mode.Mode.TheVariants.{Plain, Segmented, Blo
 use Rattle.co_client.specs.declared.transfer.Transfer.{Transfer}
 use Rattle.co_client.specs.declared.transfer.Transfer.TheVariants.{ExpeditedDownload, SegmentedDownload, BlockDownload, SegmentedUpload, BlockUpload}
 use Rattle.co_client.specs.Calls.{Job, Download, Upload, Call, Message, Request, Segment}
-
-abbrev pub is_odd : ℕ → Bool
-is_odd n = n % 2 == 1
+pub use Rattle.co_frame.specs.Segments.{is_odd, part_after, segments_for, segment_count, block_segment, sub_block_length}
 
 -- the bytes of a download
 abbrev pub bytes_of : Job → List ℕ
@@ -61,10 +57,6 @@ begin_messages call = begin_request call (transfer_of call) ∷ []
 abbrev pub requests_needed : ℕ → ℕ
 requests_needed size = 1 + max 1 ((size + 6) / 7)
 
--- seven of the bytes, fewer at their end: those after so many segments
-abbrev pub part_after : ℕ → List ℕ → List ℕ
-part_after count bytes = take 7 (drop (7 * count) bytes)
-
 -- the segment after so many is the last: no bytes remain after it
 abbrev pub is_last_after : ℕ → List ℕ → Bool
 is_last_after count bytes = nat_le (length bytes) (7 * count + 7)
@@ -74,25 +66,6 @@ abbrev pub segment_after : ℕ → List ℕ → Message
 segment_after count bytes = Request (DownloadSegment (is_odd count) (record { items = part_after count bytes }) (is_last_after count bytes))
 
 -- ---- block downloads
-
--- how many segments so many bytes have: one for each seven or fewer, and one where there are none
-abbrev pub segments_for : ℕ → ℕ
-segments_for size = max 1 ((size + 6) / 7)
-
-abbrev pub segment_count : List ℕ → ℕ
-segment_count bytes = segments_for (length bytes)
-
--- segment `number` of a sub-block that begins after so many segments; unused bytes are 0
-abbrev pub block_segment : List ℕ → ℕ → ℕ → BlockSegment
-block_segment bytes position number = record {
-  last = position + number == segment_count bytes;
-  sequence = number;
-  bytes = padded 7 (part_after (position + number - 1) bytes);
-}
-
--- how many segments a sub-block has after so many: as many as it may have, or as are left
-abbrev pub sub_block_length : List ℕ → ℕ → ℕ → ℕ
-sub_block_length bytes position size = min size (segment_count bytes - position)
 
 -- the sub-block after so many segments, numbered from 1
 abbrev pub sub_block_sent : List ℕ → ℕ → ℕ → List Message

@@ -1,5 +1,5 @@
 -- What one more event makes a waiting client do (CiA 301, 7.2.4.3).
-use Rattle.std.specs.Prelude.{ℕ, ◌+◌, ◌-◌, ◌==◌, ◌&&◌, Bool, true, false, not, nat_lt, nat_le, List, [], ◌∷◌, ◌++◌, length, take, Option, Some, None, if◌then◌else◌}
+use Rattle.std.specs.Prelude.{ℕ, ◌+◌, ◌==◌, ◌&&◌, Bool, false, not, nat_lt, nat_le, List, [], ◌∷◌, ◌++◌, length, Option, Some, None, if◌then◌else◌}
 use Rattle.std.specs.Option.{option_map_or}
 use Rattle.co_value.specs.declared.key.Key.{Key}
 use Rattle.co_value.specs.Keys.{same_key}
@@ -21,6 +21,7 @@ use Rattle.co_client.specs.Calls.{Call, Message, Request, Event, Answered, Ticke
 use Rattle.co_client.specs.Segments.{is_odd, bytes_of, cap_of, transfer_of, segment_after, is_last_after, segment_count, sub_block_sent, block_download_end}
 use Rattle.co_client.specs.SubBlocks.{ends_sub_block, segment_taken, bytes_taken, is_last_taken}
 use Rattle.co_client.specs.Stages.{stage_after, held_after}
+pub use Rattle.co_frame.specs.Segments.{same_bool, without}
 
 pub data Verdict : Type 0 where
   -- the client goes on waiting, and sends these
@@ -44,10 +45,6 @@ unexpected = GivesUp unknown_command
 -- an answer has another key than the call
 abbrev pub other_key : Call → Key → Bool × ℕ
 other_key call key = (not (same_key key call.key), unknown_command)
-
-abbrev pub same_bool : Bool → Bool → Bool
-same_bool true b = b
-same_bool false b = not b
 
 -- a toggle isn't the expected one
 abbrev pub other_toggle : Bool → Bool → Bool × ℕ
@@ -164,10 +161,6 @@ abbrev pub sub_block_verdict : Call → ℕ → List ℕ → List ℕ → Verdic
 sub_block_verdict call taken held frame =
     if is_abort_in_sub_block frame then IsAborted (code_in frame).0
     else (if ends_sub_block frame then sub_block_end call taken held frame else GoesOn [])
-
--- the bytes without those that the last segment leaves unused
-abbrev pub without : ℕ → List ℕ → List ℕ
-without unused bytes = take (length bytes - unused) bytes
 
 -- the end of a block upload: the total is compared with the indicated size, and then with the room
 abbrev pub block_upload_complete : Call → Option ℕ → List ℕ → Verdict

@@ -9,10 +9,12 @@ pub mod Heartbeats
 pub mod Nmt
 pub mod Outboxes
 pub mod Scs
+pub mod Segments
 pub mod SdoFields
 pub mod SdoParts
 pub mod SdoRequests
 pub mod SdoResponses
+pub mod SubBlocks
 pub mod Subcommands
 pub mod Syncs
 pub use Rattle.co_value.specs.Types

@@ -1,5 +1,5 @@
 -- Whole downloads: expedited, segmented and in blocks (CiA 301, 7.2.4.3.3, 7.2.4.3.4 and 7.2.4.3.9 to 7.2.4.3.11).
-use Rattle.std.specs.Prelude.{ℕ, ◌-◌, ◌%◌, ◌==◌, ◌&&◌, Bool, true, false, not, List, [], ◌∷◌, ◌++◌, length, take, Option, Some, None, if◌then◌else◌}
+use Rattle.std.specs.Prelude.{ℕ, ◌==◌, ◌&&◌, Bool, true, false, List, [], ◌∷◌, ◌++◌, length, take, Option, Some, None, if◌then◌else◌}
 use Rattle.co_value.specs.declared.key.Key.{Key}
 use Rattle.co_frame.specs.declared.sdo_request.ExpeditedData.{ExpeditedData}
 use Rattle.co_frame.specs.declared.sdo_request.ExpeditedData.TheVariants.{Indicated, NotIndicated}
@@ -9,19 +9,13 @@ use Rattle.co_frame.specs.SdoRequests.{request_in}
 use Rattle.co_dict.specs.Rows.{Rows}
 use Rattle.co_sdo.specs.Refused.{capacity_at}
 use Rattle.co_sdo.specs.SubBlocks.{block_bytes, has_last}
+pub use Rattle.co_frame.specs.Segments.{is_odd, same_bool, without}
 
 -- a download that is complete: the key, the size where it was indicated, and the bytes
 pub record Download : Type 0 where
   pub key : Key
   pub indicated : Option ℕ
   pub bytes : List ℕ
-
-abbrev pub is_odd : ℕ → Bool
-is_odd n = n % 2 == 1
-
-abbrev pub same_bool : Bool → Bool → Bool
-same_bool true b = b
-same_bool false b = not b
 
 -- where a size was indicated, it is the number of bytes
 abbrev pub is_as_indicated : Option ℕ → ℕ → Bool
@@ -60,10 +54,6 @@ are_all_segments (frame ∷ older) = is_segment (is_odd (length older)) true (re
 abbrev pub segments_joined : List (List ℕ) → List ℕ
 segments_joined [] = []
 segments_joined (frame ∷ older) = segments_joined older ++ segment_part (request_in frame)
-
--- the bytes without those that the last segment leaves unused
-abbrev pub without : ℕ → List ℕ → List ℕ
-without unused bytes = take (length bytes - unused) bytes
 
 -- how many bytes the end of a block download says are unused
 abbrev pub unused_by : Option SdoRequest → ℕ

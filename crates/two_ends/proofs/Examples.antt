@@ -18,7 +18,7 @@ use Rattle.co_client.specs.declared.state.ClientState.TheVariants.{Waiting, Done
 use Rattle.co_client.specs.Calls.{Job, Download, Upload}
 use Rattle.co_client.specs.Outcomes.{outcome, sent, result}
 use Rattle.co_sdo.specs.Refused.{reading_refusal, begin_refusal, completion_refusal}
-use Rattle.two_ends.specs.Undisturbed.{is_expedited_download, is_segmented_download, upload_requests, block_frames, block_upload_frames, rounds_after, arrived}
+use Rattle.two_ends.specs.Undisturbed.{is_expedited_download, is_segmented_download, upload_requests, block_frames, block_upload_frames, block_download_requests, block_download_answers, block_upload_requests, block_upload_answers, answers_sent, rounds_after, arrived}
 use Rattle.two_ends.specs.World.{Setup, WorldEvent, Requests, Answers, Delivered, Lost, Repeated, ClientTicked, ChannelTicked, world_after}
 
 -- ---- a dictionary: the string 2001:00 of at most 16 bytes, and the domain 2100:00 of at most 20
@@ -208,6 +208,20 @@ some_requests = refl
 some_blocks : map block_frames (0 ∷ 7 ∷ 14 ∷ 889 ∷ 890 ∷ []) ≡ 6 ∷ 6 ∷ 7 ∷ 132 ∷ 134 ∷ []
 some_blocks = refl
 
+-- at the client of a block download, and at its server
+some_download_requests : map block_download_requests (0 ∷ 1 ∷ 7 ∷ 8 ∷ 889 ∷ 890 ∷ []) ≡ 3 ∷ 3 ∷ 3 ∷ 4 ∷ 129 ∷ 130 ∷ []
+some_download_requests = refl
+
+some_download_answers : map block_download_answers (0 ∷ 1 ∷ 7 ∷ 8 ∷ 889 ∷ 890 ∷ []) ≡ 3 ∷ 3 ∷ 3 ∷ 3 ∷ 3 ∷ 4 ∷ []
+some_download_answers = refl
+
+-- at the client of a block upload, and at its server
+some_upload_requests : map block_upload_requests (0 ∷ 1 ∷ 7 ∷ 8 ∷ 889 ∷ 890 ∷ []) ≡ 4 ∷ 4 ∷ 4 ∷ 4 ∷ 4 ∷ 5 ∷ []
+some_upload_requests = refl
+
+some_upload_answers : map block_upload_answers (0 ∷ 1 ∷ 7 ∷ 8 ∷ 889 ∷ 890 ∷ []) ≡ 3 ∷ 3 ∷ 3 ∷ 4 ∷ 129 ∷ 130 ∷ []
+some_upload_answers = refl
+
 some_uploads_in_blocks : map block_upload_frames (9 ∷ 890 ∷ []) ≡ 8 ∷ 135 ∷ []
 some_uploads_in_blocks = refl
 
@@ -233,3 +247,17 @@ ten_arrived = refl
 fourteen_arrived : arrived (world_after fourteen (rounds_after 7 [])) ≡ block_frames 14
 unfolding request_row_in response_row_in reading_refusal begin_refusal completion_refusal has_object
 fourteen_arrived = refl
+
+-- in which the channel sends three
+fourteen_sent : answers_sent (world_after fourteen (rounds_after 7 [])).log ≡ block_download_answers 14
+unfolding request_row_in response_row_in reading_refusal begin_refusal completion_refusal has_object
+fourteen_sent = refl
+
+-- an abort at the end of the channel's time counts too
+timed_out_sent : answers_sent (world_after ten (ChannelTicked ∷ ChannelTicked ∷ r ∷ [])).log ≡ 2
+unfolding request_row_in response_row_in reading_refusal begin_refusal completion_refusal has_object
+timed_out_sent = refl
+
+nine_sent : answers_sent (world_after (setup string_key Block (Upload 9)) (rounds_after 8 [])).log ≡ block_upload_answers 9
+unfolding request_row_in response_row_in reading_refusal begin_refusal completion_refusal has_object
+nine_sent = refl

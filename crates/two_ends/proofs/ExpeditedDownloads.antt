@@ -18,10 +18,10 @@ use Rattle.co_sdo.specs.OpenTransfers.{open_transfer}
 use Rattle.co_sdo.specs.Refused.{completion_refusal}
 use Rattle.co_sdo.specs.Log.{Ticked, Log}
 use Rattle.co_sdo.specs.Completed.{contents_with}
-use Rattle.co_sdo.specs.Steps.{set_next}
+use Rattle.co_sdo.specs.Steps.{opened_next, set_next}
 use Rattle.two_ends.specs.World.{Setup}
 use Rattle.two_ends.proofs.Frames.{expedited_read, expedited_long, done_read}
-use Rattle.two_ends.proofs.Server.{Serves, serves_first, served, serves_ticked}
+use Rattle.two_ends.proofs.Server.{Serves, serves_first, served, serves_ticked, moved}
 use Rattle.two_ends.proofs.Turns.{Turns, Takes}
 
 pub record MayDownload (s : Setup) : Type 0 where
@@ -39,11 +39,11 @@ request s = request_bytes (DownloadExpedited s.call.key (Indicated (record { ite
 abbrev pub answer : Setup → List ℕ
 answer s = response_bytes (DownloadDone s.call.key)
 
--- before its request, or after it
+-- before its request, or after it: nothing is open
 pub record AtChannel (s : Setup) (k : ℕ) (log : Log) (contents : Contents) : Type 0 where
-  pub idle : k ≡ 0 → Serves s.description.rows log None
   pub same : k ≡ 0 → contents ≡ s.contents
   pub sets : k ≡ 1 → contents ≡ written s.contents s.call.key (bytes_of s.call.job)
+  pub closed : Serves s.description.rows log None
 
 pub takes : (s : Setup) → MayDownload s → (k : ℕ) (log : Log) (contents : Contents) → k < 1 → AtChannel s k log contents → Takes s log contents (request s) (answer s) (AtChannel s (k + 1))
 takes s m k log contents first h =
@@ -51,20 +51,21 @@ takes s m k log contents first h =
     let same = h.same start in
     let lawful : IsDictionary s.description contents = rw same m.lawful in
     let read = expedited_read s.call.key (bytes_of s.call.job) m.index m.some m.few in
-    let step = served s.description contents log None (request s) (h.idle start) lawful (expedited_long s.call.key (bytes_of s.call.job) m.few) in
+    let step = served s.description contents log None (request s) h.closed lawful (expedited_long s.call.key (bytes_of s.call.job) m.few) in
     let free : completion_refusal s.description contents s.call.key None (bytes_of s.call.job) ≡ None = rw same m.may_complete in
     let sets : contents_with contents (set_next s.description contents None (request s)) ≡ written contents s.call.key (bytes_of s.call.job) = rw (read, free) refl in
+    let opens : opened_next s.description contents None (request s) ≡ None = rw read refl in
     record {
       replies = rw (step.replies, read, free) refl;
       next = record {
-        idle = λ e. absurd (omega arith);
         same = λ e. absurd (omega arith);
         sets = λ e. ap (contents_with contents) step.sets ∙ sets ∙ ap (λ (c : Contents). written c s.call.key (bytes_of s.call.job)) same;
+        closed = moved _ _ _ _ opens step.next;
       };
     }
 
 pub channel_ticks : (s : Setup) (k : ℕ) (log : Log) (contents : Contents) → AtChannel s k log contents → AtChannel s k (Ticked ∷ log) contents
-channel_ticks s k log contents h = record { idle = λ e. serves_ticked _ _ _ (h.idle e); same = h.same; sets = h.sets }
+channel_ticks s k log contents h = record { same = h.same; sets = h.sets; closed = serves_ticked _ _ _ h.closed }
 
 confirmed : (s : Setup) → MayDownload s → (xs : List (List ℕ)) (held : List ℕ) → length xs ≡ 0 → answer_verdict s.call (stage_since s.call (since_first xs)) held (answer s) ≡ Ends [] []
 confirmed s m [] held h = rw (done_read s.call.key m.index, m.transfer, same_key-refl s.call.key) refl
@@ -85,9 +86,9 @@ expedited_download s m = record {
   first_request = rw m.transfer refl;
   first_client = refl;
   first_channel = record {
-    idle = λ e. serves_first s.description.rows s.past m.idle;
     same = λ e. refl;
     sets = λ e. absurd (omega arith);
+    closed = serves_first s.description.rows s.past m.idle;
   };
   takes = takes s m;
   channel_ticks = channel_ticks s;

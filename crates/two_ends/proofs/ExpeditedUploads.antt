@@ -22,10 +22,10 @@ use Rattle.co_sdo.specs.Log.{Response, answer_bytes, Ticked, Log}
 use Rattle.co_sdo.specs.Uploads.{value_at}
 use Rattle.co_sdo.specs.Replies.{answers_to}
 use Rattle.co_sdo.specs.Completed.{contents_with}
-use Rattle.co_sdo.specs.Steps.{set_next}
+use Rattle.co_sdo.specs.Steps.{opened_next, set_next}
 use Rattle.two_ends.specs.World.{Setup}
 use Rattle.two_ends.proofs.Frames.{upload_read, expedited_sent_read}
-use Rattle.two_ends.proofs.Server.{Serves, serves_first, served, serves_ticked}
+use Rattle.two_ends.proofs.Server.{Serves, serves_first, served, serves_ticked, moved}
 use Rattle.two_ends.proofs.SegmentedUploads.{value}
 use Rattle.two_ends.proofs.Turns.{Turns, Takes}
 
@@ -47,28 +47,29 @@ request s = request_bytes (UploadRequest s.call.key)
 abbrev pub answer : Setup → List ℕ
 answer s = response_bytes (UploadExpedited s.call.key (Indicated (record { items = value s })))
 
--- before its request, or after it
+-- before its request, or after it: nothing is open
 pub record AtChannel (s : Setup) (k : ℕ) (log : Log) (contents : Contents) : Type 0 where
-  pub idle : k ≡ 0 → Serves s.description.rows log None
   pub same : contents ≡ s.contents
+  pub closed : Serves s.description.rows log None
 
 pub takes : (s : Setup) → MayUpload s → (k : ℕ) (log : Log) (contents : Contents) → k < 1 → AtChannel s k log contents → Takes s log contents (request s) (answer s) (AtChannel s (k + 1))
 takes s m k log contents first h =
     let same = h.same in
     let lawful : IsDictionary s.description contents = rw same m.lawful in
-    let step = served s.description contents log None (request s) (h.idle (omega arith)) lawful refl in
+    let step = served s.description contents log None (request s) h.closed lawful refl in
     let read = upload_read s.call.key m.index in
     let free : reading_refusal s.description contents s.call.key ≡ None = rw same m.may_read in
     let value_same : value_at contents s.call.key ≡ value s = rw same refl in
     let sets : contents_with contents (set_next s.description contents None (request s)) ≡ contents = rw read refl in
     let replies : answers_to s.description contents None (request s) ≡ Response (UploadExpedited s.call.key (Indicated (record { items = value s }))) ∷ [] = rw (read, free, value_same, m.short) refl in
+    let opens : opened_next s.description contents None (request s) ≡ None = rw (read, free, value_same, m.short) refl in
     record {
       replies = ap (map answer_bytes) (step.replies ∙ replies);
-      next = record { idle = λ e. absurd (omega arith); same = ap (contents_with contents) step.sets ∙ sets ∙ same };
+      next = record { same = ap (contents_with contents) step.sets ∙ sets ∙ same; closed = moved _ _ _ _ opens step.next };
     }
 
 pub channel_ticks : (s : Setup) (k : ℕ) (log : Log) (contents : Contents) → AtChannel s k log contents → AtChannel s k (Ticked ∷ log) contents
-channel_ticks s k log contents h = record { idle = λ e. serves_ticked _ _ _ (h.idle e); same = h.same }
+channel_ticks s k log contents h = record { same = h.same; closed = serves_ticked _ _ _ h.closed }
 
 sent : (s : Setup) → MayUpload s → (xs : List (List ℕ)) → length xs ≡ 0 → answer_verdict s.call (stage_since s.call (since_first xs)) (held_since s.call (since_first xs)) (answer s) ≡ Ends [] (value s)
 sent s m [] h =
@@ -90,7 +91,7 @@ expedited_upload s m = record {
   some = omega arith;
   first_request = rw m.transfer refl;
   first_client = refl;
-  first_channel = record { idle = λ e. serves_first s.description.rows s.past m.idle; same = refl };
+  first_channel = record { same = refl; closed = serves_first s.description.rows s.past m.idle };
   takes = takes s m;
   channel_ticks = channel_ticks s;
   goes_on = λ k events more h. absurd (omega arith);

@@ -12,11 +12,21 @@ pub mod SegmentedDownloads
 pub mod ExpeditedDownloads
 pub mod SegmentedUploads
 pub mod ExpeditedUploads
+pub mod SentFrames
 pub mod Scripts
 pub mod BlockSegments
+pub mod BlockDownloadPlaces
+pub mod BlockDownloadRequests
+pub mod BlockDownloadAnswers
 pub mod BlockDownloads
 pub mod BlockDownloadOutcomes
+pub mod BlockUploadPlaces
+pub mod BlockUploadRequests
+pub mod BlockUploadAnswers
 pub mod BlockUploads
 pub mod BlockUploadOutcomes
 pub mod Progress
 pub mod Transfers
+pub mod Endings
+pub mod Chains
+mod ChainExamples

@@ -1,7 +1,7 @@
 -- Transfers by positions: at each position it is known what is on its way. What holds of an undisturbed world after each list
 -- of events.
-use Rattle.std.proofs.Common.{◌≡◌, ℕ, suc, List, [], ◌∷◌, ◌++◌, map, refl, sym, ap, ◌∙◌, arith, subst, append-nil}
-use Rattle.co_client.specs.Calls.{message_bytes, Event as ClientEvent, Answered, Ticked as TickedAtClient}
+use Rattle.std.proofs.Common.{◌≡◌, ℕ, suc, List, [], ◌∷◌, ◌++◌, length, map, refl, sym, ap, ◌∙◌, arith, subst, append-nil}
+use Rattle.co_client.specs.Calls.{message_bytes, Event as ClientEvent, Answered, Ticked as TickedAtClient, answers as answers_of}
 use Rattle.co_client.specs.Outcomes.{asked}
 use Rattle.co_dict.specs.Rows.{Contents}
 use Rattle.co_sdo.specs.Log.{answer_bytes, Exchanged, Ticked, Log}
@@ -9,14 +9,15 @@ use Rattle.co_sdo.specs.Replies.{reply_to}
 use Rattle.co_sdo.specs.Completed.{set_by, contents_with}
 use Rattle.co_sdo.proofs.Beginnings.{exchange}
 use Rattle.two_ends.specs.World.{Setup, World, Requests, Answers, WorldEvent, Delivered, Lost, Repeated, ClientTicked, ChannelTicked, after_event, world_after}
-use Rattle.two_ends.specs.Undisturbed.{IsCalm, AreCalm, arrived}
+use Rattle.two_ends.specs.Undisturbed.{IsCalm, AreCalm}
 
--- what is on its way at each position, how many frames have arrived, and what holds at both ends
+-- what is on its way at each position, how many requests and answers have arrived, and what holds at both ends
 pub record Places (s : Setup) : Type 1 where
   pub Position : Type 0
   pub requests : Position → List (List ℕ)
   pub answers : Position → List (List ℕ)
-  pub count : Position → ℕ
+  pub received : Position → ℕ
+  pub answered : Position → ℕ
   pub Client : Position → List ClientEvent → Type 0
   pub Channel : Position → Log → Contents → Type 0
 
@@ -25,7 +26,8 @@ pub record RequestCame (s : Setup) (p : Places s) (at : p.Position) (frame : Lis
   pub next : p.Position
   pub requests : p.requests next ≡ later
   pub answers : p.answers next ≡ p.answers at ++ map answer_bytes (reply_to s.description contents log frame)
-  pub count : p.count next ≡ suc (p.count at)
+  pub received : p.received next ≡ suc (p.received at)
+  pub answered : p.answered next ≡ p.answered at
   pub client : p.Client next events
   pub channel : p.Channel next (Exchanged (exchange frame contents (reply_to s.description contents log frame)) ∷ log) (contents_with contents (set_by s.description contents log frame))
 
@@ -34,7 +36,8 @@ pub record AnswerCame (s : Setup) (p : Places s) (at : p.Position) (frame : List
   pub next : p.Position
   pub answers : p.answers next ≡ later
   pub requests : p.requests next ≡ p.requests at ++ map message_bytes (asked s.call (Answered frame ∷ events))
-  pub count : p.count next ≡ suc (p.count at)
+  pub received : p.received next ≡ p.received at
+  pub answered : p.answered next ≡ suc (p.answered at)
   pub client : p.Client next (Answered frame ∷ events)
   pub channel : p.Channel next log contents
 
@@ -48,7 +51,8 @@ pub record Script (s : Setup) (p : Places s) : Type 0 where
   pub first : p.Position
   pub first_requests : map message_bytes (asked s.call []) ≡ p.requests first
   pub first_answers : p.answers first ≡ []
-  pub first_count : p.count first ≡ 0
+  pub first_received : p.received first ≡ 0
+  pub first_answered : p.answered first ≡ 0
   pub first_client : p.Client first []
   pub first_channel : p.Channel first s.past s.contents
   pub request_comes : (at : p.Position) (frame : List ℕ) (later : List (List ℕ)) (events : List ClientEvent) (log : Log) (contents : Contents)
@@ -63,7 +67,8 @@ pub record IsAt (s : Setup) (p : Places s) (w : World) : Type 0 where
   pub at : p.Position
   pub requests : w.requests ≡ p.requests at
   pub answers : w.answers ≡ p.answers at
-  pub count : arrived w ≡ p.count at
+  pub received : w.received ≡ p.received at
+  pub answered : length (answers_of w.events) ≡ p.answered at
   pub client : p.Client at w.events
   pub channel : p.Channel at w.log w.contents
 
@@ -78,7 +83,8 @@ request_step s p r w h (frame ∷ later) q e =
       at = came.next;
       requests = sym came.requests;
       answers = rw h.answers (sym came.answers);
-      count = let n = h.count in let m = came.count in omega arith;
+      received = let n = h.received in let m = came.received in omega arith;
+      answered = h.answered ∙ sym came.answered;
       client = came.client;
       channel = came.channel;
     })
@@ -94,7 +100,8 @@ answer_step s p r w h (frame ∷ later) q e =
       at = came.next;
       requests = rw h.requests (sym came.requests);
       answers = sym came.answers;
-      count = let n = h.count in let m = came.count in omega arith;
+      received = h.received ∙ sym came.received;
+      answered = let n = h.answered in let m = came.answered in omega arith;
       client = came.client;
       channel = came.channel;
     })
@@ -113,7 +120,8 @@ step s p r ClientTicked w calm h =
       at = h.at;
       requests = no_more w.requests (map message_bytes (asked s.call (TickedAtClient ∷ w.events))) (ap (map message_bytes) came.asks) ∙ h.requests;
       answers = h.answers;
-      count = h.count;
+      received = h.received;
+      answered = h.answered;
       client = came.client;
       channel = h.channel;
     }
@@ -121,7 +129,8 @@ step s p r ChannelTicked w calm h = rw calm (record {
   at = h.at;
   requests = h.requests;
   answers = h.answers;
-  count = h.count;
+  received = h.received;
+  answered = h.answered;
   client = h.client;
   channel = r.channel_ticks h.at w.log w.contents h.channel;
 })
@@ -131,7 +140,8 @@ always s p r [] calm = record {
   at = r.first;
   requests = r.first_requests;
   answers = sym r.first_answers;
-  count = sym r.first_count;
+  received = sym r.first_received;
+  answered = sym r.first_answered;
   client = r.first_client;
   channel = r.first_channel;
 }

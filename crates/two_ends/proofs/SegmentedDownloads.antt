@@ -28,7 +28,7 @@ use Rattle.co_sdo.proofs.Beginnings.{exchange}
 use Rattle.co_sdo.proofs.Continuations.{not_odd, segmented}
 use Rattle.two_ends.specs.World.{Setup}
 use Rattle.two_ends.proofs.Frames.{segment_read, done_read, segment_done_read, segment_long}
-use Rattle.two_ends.proofs.Server.{Serves, serves_first, served, serves_ticked}
+use Rattle.two_ends.proofs.Server.{Serves, serves_first, served, serves_ticked, moved}
 use Rattle.two_ends.proofs.Segments.{last_is, not_last, needs_none, needs_more, same, joined, taken_all, part_small, some_exchanges}
 use Rattle.two_ends.proofs.Turns.{Turns, Takes, GoesOnWith}
 
@@ -121,6 +121,7 @@ pub record AtChannel (s : Setup) (k : ℕ) (log : Log) (contents : Contents) : T
   pub opens : (j : ℕ) → k ≡ suc j → k < requests_needed (length (bytes_of s.call.job)) → Serves s.description.rows log (Some (open_at s j))
   pub same : k < requests_needed (length (bytes_of s.call.job)) → contents ≡ s.contents
   pub sets : k ≡ requests_needed (length (bytes_of s.call.job)) → contents ≡ written s.contents s.call.key (bytes_of s.call.job)
+  pub closed : k ≡ requests_needed (length (bytes_of s.call.job)) → Serves s.description.rows log None
 
 has_room : (s : Setup) → MayDownload s → (k : ℕ) → nat_lt (capacity_at s.description.rows s.call.key) (length (take (7 * suc k) (bytes_of s.call.job))) ≡ false
 has_room s m k = let n = length-take (7 * suc k) (bytes_of s.call.job) in let r = m.room in grind (arith, nat_tests)
@@ -171,6 +172,7 @@ channel_begins s m log contents h =
         opens = λ j e more. let first : j ≡ 0 = omega arith in rw (first, ← opens) step.next;
         same = λ more. kept;
         sets = λ e. absurd (omega arith);
+        closed = λ e. absurd (omega arith);
       };
     }
 
@@ -192,6 +194,7 @@ channel_goes_on s m k log contents more h true l =
         opens = λ j e under. absurd (omega arith);
         same = λ under. absurd (omega arith);
         sets = λ e. ap (contents_with contents) step.sets ∙ taken.sets;
+        closed = λ e. moved _ _ _ _ taken.opens step.next;
       };
     }
 channel_goes_on s m k log contents more h false l =
@@ -208,6 +211,7 @@ channel_goes_on s m k log contents more h false l =
         opens = λ j e under. let next : j ≡ suc k = omega arith in rw (next, ← taken.opens) step.next;
         same = λ under. ap (contents_with contents) step.sets ∙ taken.sets ∙ same;
         sets = λ e. absurd (omega arith);
+        closed = λ e. absurd (omega arith);
       };
     }
 
@@ -222,6 +226,7 @@ channel_ticks s k log contents h = record {
   opens = λ j e more. serves_ticked _ _ _ (h.opens j e more);
   same = h.same;
   sets = h.sets;
+  closed = λ e. serves_ticked _ _ _ (h.closed e);
 }
 
 -- ---- the transfer
@@ -242,6 +247,7 @@ segmented_download s m = record {
     opens = λ j e more. absurd (omega arith);
     same = λ more. refl;
     sets = λ e. absurd (omega arith);
+    closed = λ e. absurd (omega arith);
   };
   takes = channel_takes s m;
   channel_ticks = channel_ticks s;

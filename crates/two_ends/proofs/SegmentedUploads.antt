@@ -27,7 +27,7 @@ use Rattle.co_sdo.proofs.Beginnings.{exchange}
 use Rattle.co_sdo.proofs.Continuations.{not_odd, uploading}
 use Rattle.two_ends.specs.World.{Setup}
 use Rattle.two_ends.proofs.Frames.{upload_read, next_read, upload_begun_read, segment_sent_read}
-use Rattle.two_ends.proofs.Server.{Serves, serves_first, served, serves_ticked}
+use Rattle.two_ends.proofs.Server.{Serves, serves_first, served, serves_ticked, moved}
 use Rattle.two_ends.proofs.Turns.{Turns, Takes, GoesOnWith}
 use Rattle.two_ends.proofs.Segments.{last_is, not_last, needs_none, needs_more, same, joined, taken_all, part_small, some_exchanges}
 
@@ -154,6 +154,7 @@ pub record AtChannel (s : Setup) (k : ℕ) (log : Log) (contents : Contents) : T
   pub idle : k ≡ 0 → Serves s.description.rows log None
   pub opens : (j : ℕ) → k ≡ suc j → k < requests_needed (length (value s)) → Serves s.description.rows log (Some (open_at s j))
   pub same : contents ≡ s.contents
+  pub closed : k ≡ requests_needed (length (value s)) → Serves s.description.rows log None
 
 channel_begins : (s : Setup) → MayUpload s → (log : Log) (contents : Contents) → AtChannel s 0 log contents → Takes s log contents (request s 0) (answer s 0) (AtChannel s 1)
 channel_begins s m log contents h =
@@ -172,6 +173,7 @@ channel_begins s m log contents h =
         idle = λ e. absurd (omega arith);
         opens = λ j e more. let first : j ≡ 0 = omega arith in rw (first, ← opens) step.next;
         same = ap (contents_with contents) step.sets ∙ sets ∙ same;
+        closed = λ e. absurd (omega arith);
       };
     }
 
@@ -205,6 +207,7 @@ channel_goes_on s m k log contents more h true l =
         idle = λ e. absurd (omega arith);
         opens = λ j e under. absurd (omega arith);
         same = ap (contents_with contents) step.sets ∙ taken.sets ∙ h.same;
+        closed = λ e. moved _ _ _ _ taken.opens step.next;
       };
     }
 channel_goes_on s m k log contents more h false l =
@@ -218,6 +221,7 @@ channel_goes_on s m k log contents more h false l =
         idle = λ e. absurd (omega arith);
         opens = λ j e under. let next : j ≡ suc k = omega arith in rw (next, ← taken.opens) step.next;
         same = ap (contents_with contents) step.sets ∙ taken.sets ∙ h.same;
+        closed = λ e. absurd (omega arith);
       };
     }
 
@@ -231,6 +235,7 @@ channel_ticks s k log contents h = record {
   idle = λ e. serves_ticked _ _ _ (h.idle e);
   opens = λ j e more. serves_ticked _ _ _ (h.opens j e more);
   same = h.same;
+  closed = λ e. serves_ticked _ _ _ (h.closed e);
 }
 
 -- ---- the transfer
@@ -250,6 +255,7 @@ segmented_upload s m = record {
     idle = λ e. serves_first s.description.rows s.past m.idle;
     opens = λ j e more. absurd (omega arith);
     same = refl;
+    closed = λ e. absurd (omega arith);
   };
   takes = channel_takes s m;
   channel_ticks = channel_ticks s;

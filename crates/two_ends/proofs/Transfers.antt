@@ -1,5 +1,5 @@
 -- What an undisturbed transfer is permitted, and where it ends.
-use Rattle.std.proofs.Common.{◌≡◌, ℕ, ◌*◌, ◌<◌, ◌≤◌, Bool, true, false, not, List, [], length, None, refl, ◌∙◌, arith, eqb}
+use Rattle.std.proofs.Common.{◌≡◌, ℕ, ◌<◌, ◌≤◌, Bool, true, false, not, List, [], length, None, refl, arith}
 use Rattle.std.specs.Prelude.{nat_le, ◌&&◌}
 use Rattle.std.proofs.lemmas.Bool.Decides.{nat_tests}
 use Rattle.co_value.specs.declared.key.Key.{Key}
@@ -16,22 +16,25 @@ use Rattle.co_sdo.specs.OpenTransfers.{open_transfer}
 use Rattle.co_sdo.specs.Refused.{reading_refusal}
 use Rattle.co_sdo.specs.Uploads.{value_at}
 use Rattle.two_ends.specs.World.{Setup, World, WorldEvent, world_after}
-use Rattle.two_ends.specs.Undisturbed.{AreCalm, IsUndisturbed, arrived, on_their_way, rounds_after, IsJob, IsPermitted, GoesInTurns, is_short, is_expedited_download, is_segmented_download, is_plain_upload, is_block_download, is_block_upload, GoesInBlocks, block_frames, block_upload_frames, upload_requests}
+use Rattle.two_ends.specs.Undisturbed.{IsUndisturbed, on_their_way, IsJob, IsPermitted, GoesInTurns, is_short, is_expedited_download, is_segmented_download, is_plain_upload, is_block_download, is_block_upload, GoesInBlocks, HaveSent, block_frames, block_upload_frames, upload_requests, block_download_requests, block_download_answers, block_upload_requests, block_upload_answers}
 use Rattle.two_ends.proofs.Frames.{begin_read, bare_begin_read, block_begin_read, bare_block_begin_read}
 use Rattle.two_ends.proofs.Permits.{may_begin}
+use Rattle.two_ends.proofs.Pasts.{unopened}
 use Rattle.two_ends.proofs.Turns.{always, goes_in_turns, when_done, channel_at}
 use Rattle.two_ends.proofs.SegmentedDownloads.{MayDownload, segmented_download}
 use Rattle.two_ends.proofs.SegmentedUploads.{MayUpload, segmented_upload}
 use Rattle.two_ends.proofs.ExpeditedDownloads as expedited
 use Rattle.two_ends.proofs.ExpeditedUploads as at_once
 use Rattle.two_ends.proofs.Scripts as scripts
-use Rattle.two_ends.proofs.Progress.{rounds_calm, all_arrive}
-use Rattle.two_ends.proofs.BlockDownloads as blocks
+use Rattle.two_ends.proofs.SentFrames.{all_there}
+use Rattle.two_ends.proofs.BlockDownloadPlaces as blocks
+use Rattle.two_ends.proofs.BlockDownloads.{block_download}
 use Rattle.two_ends.proofs.BlockDownloadOutcomes as blocks_outcome
-use Rattle.two_ends.proofs.BlockUploads as fetched
+use Rattle.two_ends.proofs.BlockUploadPlaces as fetched
+use Rattle.two_ends.proofs.BlockUploads.{block_upload}
 use Rattle.two_ends.proofs.BlockUploadOutcomes as fetched_outcome
 
-abbrev setup : Key → Mode → ℕ → Job → ℕ → Description → Contents → Log → Setup
+abbrev pub setup : Key → Mode → ℕ → Job → ℕ → Description → Contents → Log → Setup
 setup key mode client_time job time d contents past = record { call = record { key = key; mode = mode; time = client_time; job = job }; time = time; description = d; contents = contents; past = past }
 
 -- ---- segmented downloads
@@ -102,6 +105,19 @@ download_sets s events u t done =
     let turns = segmented_download s (may_download s events u t) in
     (when_done s turns (world_after s events) (always s turns events u.calm) done).channel.sets refl
 
+-- what is left when its client is done: nothing is open, and no bytes are given
+pub record Closes (s : Setup) (w : World) (value : List ℕ) : Type 0 where
+  pub gives : result s.call w.events ≡ value
+  pub idle : open_transfer w.log ≡ None
+
+pub download_closes : (s : Setup) (events : List WorldEvent) → IsUndisturbed s events → is_segmented_download s.call.mode s.call.job ≡ true
+    → outcome s.call (world_after s events).events ≡ Done → Closes s (world_after s events) []
+unfolding segmented_download
+download_closes s events u t done =
+    let turns = segmented_download s (may_download s events u t) in
+    let end = when_done s turns (world_after s events) (always s turns events u.calm) done in
+    record { gives = end.value; idle = unopened s.description.rows (world_after s events).log (end.channel.closed refl) }
+
 -- ---- expedited downloads
 
 both_true : (a b : Bool) → a && b ≡ true → (a ≡ true) × (b ≡ true)
@@ -140,6 +156,14 @@ expedited_sets s events u t done =
     let turns = expedited.expedited_download s (may_expedite s events u t) in
     (when_done s turns (world_after s events) (always s turns events u.calm) done).channel.sets refl
 
+pub expedited_closes : (s : Setup) (events : List WorldEvent) → IsUndisturbed s events → is_expedited_download s.call.mode s.call.job ≡ true
+    → outcome s.call (world_after s events).events ≡ Done → Closes s (world_after s events) []
+unfolding expedited.expedited_download
+expedited_closes s events u t done =
+    let turns = expedited.expedited_download s (may_expedite s events u t) in
+    let end = when_done s turns (world_after s events) (always s turns events u.calm) done in
+    record { gives = end.value; idle = unopened s.description.rows (world_after s events).log end.channel.closed }
+
 -- ---- uploads
 
 record IsUpload (s : Setup) : Type 0 where
@@ -174,7 +198,7 @@ may_upload_at_once s events u t room short =
 
 record Uploads (s : Setup) (w : World) : Type 0 where
   turns : GoesInTurns s.call (upload_requests (length (value_at s.contents s.call.key))) w
-  ends : outcome s.call w.events ≡ Done → result s.call w.events ≡ value_at s.contents s.call.key
+  ends : outcome s.call w.events ≡ Done → Closes s w (value_at s.contents s.call.key)
   same : w.contents ≡ s.contents
 
 uploads : (s : Setup) (events : List WorldEvent) → IsUndisturbed s events → is_plain_upload s.call.mode s.call.job ≡ true → length (value_at s.contents s.call.key) ≤ cap_of s.call.job
@@ -185,7 +209,10 @@ uploads s events u t room true short =
     let at = always s turns events u.calm in
     record {
       turns = rw short (goes_in_turns s turns (world_after s events) at);
-      ends = λ done. (when_done s turns (world_after s events) at done).value;
+      ends = λ done. record {
+        gives = (when_done s turns (world_after s events) at done).value;
+        idle = unopened s.description.rows (world_after s events).log (when_done s turns (world_after s events) at done).channel.closed;
+      };
       same = (channel_at s turns (world_after s events) at).channel.same;
     }
 uploads s events u t room false short =
@@ -193,7 +220,10 @@ uploads s events u t room false short =
     let at = always s turns events u.calm in
     record {
       turns = rw short (goes_in_turns s turns (world_after s events) at);
-      ends = λ done. (when_done s turns (world_after s events) at done).value;
+      ends = λ done. record {
+        gives = (when_done s turns (world_after s events) at done).value;
+        idle = unopened s.description.rows (world_after s events).log ((when_done s turns (world_after s events) at done).channel.closed refl);
+      };
       same = (channel_at s turns (world_after s events) at).channel.same;
     }
 
@@ -201,9 +231,13 @@ pub upload_goes : (s : Setup) (events : List WorldEvent) → IsUndisturbed s eve
     → GoesInTurns s.call (upload_requests (length (value_at s.contents s.call.key))) (world_after s events)
 upload_goes s events u t room = (uploads s events u t room _ refl).turns
 
+pub upload_closes : (s : Setup) (events : List WorldEvent) → IsUndisturbed s events → is_plain_upload s.call.mode s.call.job ≡ true → length (value_at s.contents s.call.key) ≤ cap_of s.call.job
+    → outcome s.call (world_after s events).events ≡ Done → Closes s (world_after s events) (value_at s.contents s.call.key)
+upload_closes s events u t room done = (uploads s events u t room _ refl).ends done
+
 pub upload_gives : (s : Setup) (events : List WorldEvent) → IsUndisturbed s events → is_plain_upload s.call.mode s.call.job ≡ true → length (value_at s.contents s.call.key) ≤ cap_of s.call.job
     → outcome s.call (world_after s events).events ≡ Done → result s.call (world_after s events).events ≡ value_at s.contents s.call.key
-upload_gives s events u t room done = (uploads s events u t room _ refl).ends done
+upload_gives s events u t room done = (upload_closes s events u t room done).gives
 
 pub upload_sets_nothing : (s : Setup) (events : List WorldEvent) → IsUndisturbed s events → is_plain_upload s.call.mode s.call.job ≡ true → length (value_at s.contents s.call.key) ≤ cap_of s.call.job
     → (world_after s events).contents ≡ s.contents
@@ -250,15 +284,25 @@ may_send_blocks : (s : Setup) (events : List WorldEvent) → IsUndisturbed s eve
 may_send_blocks s events u t = permitted_blocks s.call.key s.call.mode s.call.time s.call.job s.time s.description s.contents s.past t u.dictionary u.idle u.key u.job u.permitted
 
 blocks_at : (s : Setup) (events : List WorldEvent) → IsUndisturbed s events → is_block_download s.call.mode s.call.job ≡ true → scripts.IsAt s (blocks.places s) (world_after s events)
-blocks_at s events u t = scripts.always s (blocks.places s) (blocks.block_download s (may_send_blocks s events u t)) events u.calm
+blocks_at s events u t = scripts.always s (blocks.places s) (block_download s (may_send_blocks s events u t)) events u.calm
 
 pub block_download_goes : (s : Setup) (events : List WorldEvent) → IsUndisturbed s events → is_block_download s.call.mode s.call.job ≡ true
     → GoesInBlocks s.call (block_frames (length (bytes_of s.call.job))) (block_frames (length (bytes_of s.call.job))) (world_after s events)
 block_download_goes s events u t = blocks_outcome.goes_in_blocks s (world_after s events) (blocks_at s events u t)
 
+pub block_download_sends : (s : Setup) (events : List WorldEvent) → IsUndisturbed s events → is_block_download s.call.mode s.call.job ≡ true
+    → outcome s.call (world_after s events).events ≡ Done → HaveSent s (block_download_requests (length (bytes_of s.call.job))) (block_download_answers (length (bytes_of s.call.job))) (world_after s events)
+block_download_sends s events u t done = blocks_outcome.all_sent s (world_after s events) (all_there s events u.calm) (blocks_at s events u t) done
+
 pub block_download_sets : (s : Setup) (events : List WorldEvent) → IsUndisturbed s events → is_block_download s.call.mode s.call.job ≡ true
     → outcome s.call (world_after s events).events ≡ Done → (world_after s events).contents ≡ written s.contents s.call.key (bytes_of s.call.job)
-block_download_sets s events u t done = blocks_outcome.entry_is s (world_after s events) (blocks_at s events u t) done
+block_download_sets s events u t done = (blocks_outcome.ends s (world_after s events) (blocks_at s events u t) done).set.sets
+
+pub block_download_closes : (s : Setup) (events : List WorldEvent) → IsUndisturbed s events → is_block_download s.call.mode s.call.job ≡ true
+    → outcome s.call (world_after s events).events ≡ Done → Closes s (world_after s events) []
+block_download_closes s events u t done =
+    let end = blocks_outcome.ends s (world_after s events) (blocks_at s events u t) done in
+    record { gives = end.gives; idle = unopened s.description.rows (world_after s events).log end.set.serves }
 
 -- ---- uploads in blocks
 
@@ -283,11 +327,16 @@ may_fetch_blocks s events u t room =
 
 fetched_at : (s : Setup) (events : List WorldEvent) → IsUndisturbed s events → is_block_upload s.call.mode s.call.job ≡ true → length (value_at s.contents s.call.key) ≤ cap_of s.call.job
     → scripts.IsAt s (fetched.places s) (world_after s events)
-fetched_at s events u t room = scripts.always s (fetched.places s) (fetched.block_upload s (may_fetch_blocks s events u t room)) events u.calm
+fetched_at s events u t room = scripts.always s (fetched.places s) (block_upload s (may_fetch_blocks s events u t room)) events u.calm
 
 pub block_upload_goes : (s : Setup) (events : List WorldEvent) → IsUndisturbed s events → is_block_upload s.call.mode s.call.job ≡ true → length (value_at s.contents s.call.key) ≤ cap_of s.call.job
     → GoesInBlocks s.call (block_frames (length (value_at s.contents s.call.key))) (block_upload_frames (length (value_at s.contents s.call.key))) (world_after s events)
 block_upload_goes s events u t room = fetched_outcome.goes_in_blocks s (world_after s events) (fetched_at s events u t room)
+
+pub block_upload_sends : (s : Setup) (events : List WorldEvent) → IsUndisturbed s events → is_block_upload s.call.mode s.call.job ≡ true → length (value_at s.contents s.call.key) ≤ cap_of s.call.job
+    → outcome s.call (world_after s events).events ≡ Done
+    → HaveSent s (block_upload_requests (length (value_at s.contents s.call.key))) (block_upload_answers (length (value_at s.contents s.call.key))) (world_after s events)
+block_upload_sends s events u t room done = fetched_outcome.all_sent s (world_after s events) (all_there s events u.calm) (fetched_at s events u t room) done
 
 pub block_upload_gives : (s : Setup) (events : List WorldEvent) → IsUndisturbed s events → is_block_upload s.call.mode s.call.job ≡ true → length (value_at s.contents s.call.key) ≤ cap_of s.call.job
     → outcome s.call (world_after s events).events ≡ Done → result s.call (world_after s events).events ≡ value_at s.contents s.call.key
@@ -297,61 +346,6 @@ pub block_upload_sets_nothing : (s : Setup) (events : List WorldEvent) → IsUnd
     → (world_after s events).contents ≡ s.contents
 block_upload_sets_nothing s events u t room = fetched_outcome.contents_same s (world_after s events) (fetched_at s events u t room)
 
--- ---- whatever came before, so many rounds end it
-
-with_calm : (s : Setup) (events later : List WorldEvent) → IsUndisturbed s events → AreCalm s later → IsUndisturbed s later
-with_calm s events later u calm = record { dictionary = u.dictionary; key = u.key; job = u.job; permitted = u.permitted; idle = u.idle; calm = calm }
-
-turns_end : (s : Setup) (needed : ℕ) (events : List WorldEvent) → AreCalm s events → ((later : List WorldEvent) → AreCalm s later → GoesInTurns s.call needed (world_after s later))
-    → outcome s.call (world_after s (rounds_after (2 * needed) events)).events ≡ Done
-turns_end s needed events calm goes =
-    let end = goes (rounds_after (2 * needed) events) (rounds_calm s (2 * needed) events calm) in
-    let all = all_arrive s (2 * needed) events calm (λ later still less. moving (world_after s later) (goes later still) less) in
-    last (world_after s (rounds_after (2 * needed) events)) end all
-  where
-    moving : (w : World) → GoesInTurns s.call needed w → arrived w < 2 * needed → 1 ≤ on_their_way w
-    moving w g less =
-        let other : eqb (arrived w) (2 * needed) ≡ false = grind (arith, nat_tests) in
-        let one : on_their_way w ≡ 1 = g.moves ∙ rw other refl in
-        omega arith
-
-    last : (w : World) → GoesInTurns s.call needed w → 2 * needed ≤ arrived w → outcome s.call w.events ≡ Done
-    last w g all =
-        let within = g.within in
-        let same : eqb (arrived w) (2 * needed) ≡ true = grind (arith, nat_tests) in
-        g.state ∙ rw same refl
-
-blocks_end : (s : Setup) (needed frames : ℕ) (events : List WorldEvent) → needed ≤ frames → AreCalm s events → ((later : List WorldEvent) → AreCalm s later → GoesInBlocks s.call needed frames (world_after s later))
-    → outcome s.call (world_after s (rounds_after frames events)).events ≡ Done
-blocks_end s needed frames events few calm goes =
-    let end = goes (rounds_after frames events) (rounds_calm s frames events calm) in
-    let all = all_arrive s frames events calm (λ later still less. (goes later still).moves less) in
-    last (world_after s (rounds_after frames events)) end all
-  where
-    last : (w : World) → GoesInBlocks s.call needed frames w → frames ≤ arrived w → outcome s.call w.events ≡ Done
-    last w g all =
-        let enough : nat_le needed (arrived w) ≡ true = grind (arith, nat_tests) in
-        g.state ∙ rw enough refl
-
-pub download_ends : (s : Setup) (events : List WorldEvent) → IsUndisturbed s events → is_segmented_download s.call.mode s.call.job ≡ true
-    → outcome s.call (world_after s (rounds_after (2 * requests_needed (length (bytes_of s.call.job))) events)).events ≡ Done
-download_ends s events u t = turns_end s (requests_needed (length (bytes_of s.call.job))) events u.calm (λ later calm. download_goes s later (with_calm s events later u calm) t)
-
-pub expedited_ends : (s : Setup) (events : List WorldEvent) → IsUndisturbed s events → is_expedited_download s.call.mode s.call.job ≡ true
-    → outcome s.call (world_after s (rounds_after 2 events)).events ≡ Done
-expedited_ends s events u t = turns_end s 1 events u.calm (λ later calm. expedited_goes s later (with_calm s events later u calm) t)
-
-pub upload_ends : (s : Setup) (events : List WorldEvent) → IsUndisturbed s events → is_plain_upload s.call.mode s.call.job ≡ true → length (value_at s.contents s.call.key) ≤ cap_of s.call.job
-    → outcome s.call (world_after s (rounds_after (2 * upload_requests (length (value_at s.contents s.call.key))) events)).events ≡ Done
-upload_ends s events u t room = turns_end s (upload_requests (length (value_at s.contents s.call.key))) events u.calm (λ later calm. upload_goes s later (with_calm s events later u calm) t room)
-
-pub block_download_ends : (s : Setup) (events : List WorldEvent) → IsUndisturbed s events → is_block_download s.call.mode s.call.job ≡ true
-    → outcome s.call (world_after s (rounds_after (block_frames (length (bytes_of s.call.job))) events)).events ≡ Done
-block_download_ends s events u t =
-    blocks_end s (block_frames (length (bytes_of s.call.job))) (block_frames (length (bytes_of s.call.job))) events (omega arith) u.calm (λ later calm. block_download_goes s later (with_calm s events later u calm) t)
-
-pub block_upload_ends : (s : Setup) (events : List WorldEvent) → IsUndisturbed s events → is_block_upload s.call.mode s.call.job ≡ true → length (value_at s.contents s.call.key) ≤ cap_of s.call.job
-    → outcome s.call (world_after s (rounds_after (block_upload_frames (length (value_at s.contents s.call.key))) events)).events ≡ Done
-block_upload_ends s events u t room =
-    blocks_end s (block_frames (length (value_at s.contents s.call.key))) (block_upload_frames (length (value_at s.contents s.call.key))) events (omega arith) u.calm
-    (λ later calm. block_upload_goes s later (with_calm s events later u calm) t room)
+pub block_upload_closes : (s : Setup) (events : List WorldEvent) → IsUndisturbed s events → is_block_upload s.call.mode s.call.job ≡ true → length (value_at s.contents s.call.key) ≤ cap_of s.call.job
+    → on_their_way (world_after s events) ≡ 0 → open_transfer (world_after s events).log ≡ None
+block_upload_closes s events u t room none = unopened s.description.rows (world_after s events).log (fetched_outcome.closed s (world_after s events) (fetched_at s events u t room) none)

@@ -1,4 +1,5 @@
-use Rattle.two_ends.proofs.Transfers.{download_ends, download_goes, download_sets}
+use Rattle.two_ends.proofs.Transfers.{download_goes, download_sets}
+use Rattle.two_ends.proofs.Endings.{download_ends, download_over, download_rests, download_sends}
 use Rattle.two_ends.proofs.undisturbed.segmented_download.Goals as goal
 
 pub returns-clause-turns : goal.returns-clause-turns
@@ -9,3 +10,12 @@ returns-clause-entry c = download_sets
 
 pub returns-clause-ends : goal.returns-clause-ends
 returns-clause-ends c = download_ends
+
+pub returns-clause-frames : goal.returns-clause-frames
+returns-clause-frames c = download_sends
+
+pub returns-clause-over : goal.returns-clause-over
+returns-clause-over c = download_over
+
+pub returns-clause-rests : goal.returns-clause-rests
+returns-clause-rests c = download_rests

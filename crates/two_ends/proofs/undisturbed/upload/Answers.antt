@@ -1,4 +1,5 @@
-use Rattle.two_ends.proofs.Transfers.{upload_ends, upload_goes, upload_gives, upload_sets_nothing}
+use Rattle.two_ends.proofs.Transfers.{upload_goes, upload_gives, upload_sets_nothing}
+use Rattle.two_ends.proofs.Endings.{upload_ends, upload_over, upload_rests, upload_sends}
 use Rattle.two_ends.proofs.undisturbed.upload.Goals as goal
 
 pub returns-clause-turns : goal.returns-clause-turns
@@ -12,3 +13,12 @@ returns-clause-contents c = upload_sets_nothing
 
 pub returns-clause-ends : goal.returns-clause-ends
 returns-clause-ends c = upload_ends
+
+pub returns-clause-frames : goal.returns-clause-frames
+returns-clause-frames c = upload_sends
+
+pub returns-clause-over : goal.returns-clause-over
+returns-clause-over c = upload_over
+
+pub returns-clause-rests : goal.returns-clause-rests
+returns-clause-rests c = upload_rests
