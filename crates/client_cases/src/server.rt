@@ -4,7 +4,8 @@ ghost use Rattle.std.specs.Prelude.{◌≡◌, ◌≤◌};
 ghost use Rattle.co_value.specs.declared.key.Key.{Key};
 ghost use Rattle.co_sdo.specs.Refused.{capacity_at};
 
-use co_dict::{Limits, ListStore, ObjectStore, app_store, capacity_law};
+use co_build::{Limits, ListStore};
+use co_dict::{ObjectStore, app_store, capacity_law};
 use co_frame::{Frame, Ids, Outbox};
 use co_sdo::Channel;
 use co_sheet::read;

@@ -1,3 +1,4 @@
+pub mod Decoding
 pub mod Examples
 pub mod Finds
 pub mod SearchedKeys

@@ -1,3 +1,4 @@
+pub mod DecodedTraces
 pub mod Names
 pub mod Numbers
 pub mod SdoTexts

@@ -1,6 +1,9 @@
-//! The text of a CAN frame as an engineer reads it: its service, its node, and what it says (CiA 301).
+//! The text of a CAN frame as an engineer reads it: its service, its node, and what it says (CiA 301); and a trace of
+//! such frames, decoded line by line.
 #![tactic(auto)]
 
+mod decode_file;
+mod decoded_trace;
 mod line;
 mod names;
 mod node_services;
@@ -8,5 +11,7 @@ mod numbers;
 mod sdo_texts;
 mod service;
 
+pub use decode_file::{decode_files, decode_input};
+pub use decoded_trace::decode;
 pub use line::set_decoded_line;
 pub use names::Names;

@@ -1,5 +1,5 @@
 -- What follows for an entry's bytes from what holds of each store.
-use Rattle.std.proofs.Common.{◌≡◌, ℕ, List, length, Option, Some, None, true, false, refl, sym, ap, ◌∙◌, eqb-true, eq-eqb}
+use Rattle.std.proofs.Common.{◌≡◌, ◌≤◌, ℕ, List, length, Option, Some, None, true, false, refl, sym, ap, ◌∙◌, eqb-true, eq-eqb, arith}
 use Rattle.std.proofs.lemmas.Bool.{true≢false}
 use Rattle.std.specs.Prelude.{◌==◌, nat_le, is_some}
 use Rattle.std.specs.Option.{option_map_or}
@@ -8,7 +8,7 @@ use Rattle.co_value.specs.declared.data_type.DataType.{DataType}
 use Rattle.co_value.specs.Types.{width_of}
 use Rattle.co_sheet.specs.FixedTypes.{fixed_type_of}
 use Rattle.co_dict.specs.declared.row.Row.{Row}
-use Rattle.co_dict.specs.Rows.{Contents, fits, takes}
+use Rattle.co_dict.specs.Rows.{Contents, fits, takes, capacity_at}
 use Rattle.co_dict.specs.Stores.{Description, IsDescription, IsDictionary}
 
 -- where there is a row, its type is the fixed one, and the bytes are as many as it is wide
@@ -42,3 +42,12 @@ takes_at_row d h key t width (Some row) is fixed wide there =
 
 pub takes_width : (d : Description) → IsDescription d → (key : Key) (t : DataType) (width : ℕ) → fixed_type_of key ≡ Some t → width_of t ≡ Some width → is_some (d.rows key) ≡ true → takes d.rows key width ≡ true
 takes_width d h key t width fixed wide there = takes_at_row d h key t width (d.rows key) refl fixed wide there
+
+-- the room of a key, where it has an entry or not
+pub room_of : (row : Option Row) (size : ℕ) → ((r : Row) → row ≡ Some r → r.capacity ≤ size)
+    → option_map_or (λ row. row.capacity) row 0 ≤ size
+room_of None size h = omega arith
+room_of (Some r) size h = h r refl
+
+pub room_at : (d : Description) (contents : Contents) (key : Key) → IsDictionary d contents → capacity_at d.rows key ≤ 65535
+room_at d contents key s = room_of (d.rows key) 65535 (s.description.capacity key)

@@ -1,15 +1,7 @@
 pub mod Rows
 pub mod Stores
-pub mod ListedEntries
 pub mod Refusals
-pub mod Capacities
-pub mod EntryLimits
-pub mod InitialBytes
-pub mod BuildFaultTexts
 pub mod Objects
-pub mod Built
-pub mod BuildFaults
-pub mod SheetRows
 pub mod CobIds
 pub mod SdoChannels
 pub mod FreeIds
@@ -22,9 +14,7 @@ pub mod PdoRules
 pub mod OwnRules
 pub mod ReadRefusals
 pub mod WriteRefusals
-pub mod StoredEntries
 pub use Rattle.co_value.specs.Keys
 pub use Rattle.co_value.specs.Types
 pub use Rattle.co_value.specs.Numbers
 pub use Rattle.co_sheet.specs.FixedTypes
-pub mod LawfulLists

@@ -31,8 +31,8 @@ impl CobId {
         !self.has_bit_31() && self.0 != 0
     }
 
-    // whether bits 29 to 11 are 0
-    pub(crate) fn has_11_bits(self) -> bool
+    /// Whether bits 29 to 11 are 0: the identifier has 11 bits.
+    pub fn has_11_bits(self) -> bool
         ensures { result ≡ has_11_bits self.0 }
     {
         self.0 / 0x800 % 0x8_0000 == 0
@@ -46,8 +46,8 @@ impl CobId {
     }
 }
 
-// whether no COB-ID word may have the identifier
-pub(crate) fn is_restricted(identifier: u16) -> bool
+/// Whether no COB-ID word may have the identifier: 0 to 7Fh, 101h to 180h, or 6E0h to 7FFh (CiA 301, 7.3.5).
+pub fn is_restricted(identifier: u16) -> bool
     ensures { result ≡ is_restricted identifier }
 {
     matches!(identifier, 0..=0x7F | 0x101..=0x180 | 0x6E0..=0x7FF)

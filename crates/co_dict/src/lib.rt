@@ -2,18 +2,12 @@
 #![tactic(auto)]
 
 mod area;
-mod build;
-mod build_fault;
-mod capacity;
 mod cob_id;
 mod cob_id_rules;
 mod consumer_heartbeats;
 mod error_list;
 mod fitting;
 mod free_ids;
-mod initial_bytes;
-mod limits;
-mod list_store;
 mod mapping_words;
 mod numbers;
 mod objects;
@@ -25,19 +19,16 @@ mod row;
 mod sdo_channels;
 mod side;
 mod store;
-mod stored_entry;
 mod writing;
 
 pub use area::Area;
-pub use build_fault::BuildFault;
-pub use cob_id::CobId;
+pub use cob_id::{CobId, is_restricted};
 pub use consumer_heartbeats::{HeartbeatConsumer, heartbeat_consumer};
 pub use error_list::push_error;
 pub use free_ids::{is_free, is_good_sync_word, is_good_word};
-pub use limits::Limits;
-pub use list_store::ListStore;
 pub use mapping_words::{MappingWord, entry_width, mapping_width, usable_dummy, word_width};
 pub use numbers::{number_u8, number_u16, number_u32};
+pub use objects::{has_object, has_sub};
 pub use pdo_rules::{check_count, is_pdo_valid, mapping_word};
 pub use reading::may_read;
 pub use row::Row;

@@ -9,16 +9,16 @@ use crate::store::ObjectStore;
 use co_frame::AbortCode;
 use co_value::Key;
 
-// whether an object has an entry of a sub-index
-pub(crate) fn has_sub<S: ObjectStore>(store: &S, index: u16, sub: u8) -> bool
+/// Whether an object has an entry of a sub-index (CiA 301, 7.4.1).
+pub fn has_sub<S: ObjectStore>(store: &S, index: u16, sub: u8) -> bool
     ensures { result ≡ has_sub (S.description store.now).rows index sub }
 {
     store.row(Key { index, sub }).is_some()
 }
 
-// whether there is an entry of the index
+/// Whether there is an entry of the index, at any sub-index (CiA 301, 7.4.1).
 #[tactic(auto, unfolding(crate::specs::Objects::has_object))]
-pub(crate) fn has_object<S: ObjectStore>(store: &S, index: u16) -> bool
+pub fn has_object<S: ObjectStore>(store: &S, index: u16) -> bool
     ensures { result ≡ has_object (S.description store.now).rows index }
 {
     (0..256u16).any(|sub| has_sub(store, index, sub as u8))

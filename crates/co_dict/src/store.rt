@@ -59,7 +59,7 @@ pub fn store_laws<S: ObjectStore>(store: &S)
 {}
 
 /// No entry of a store has room for more than 65,535 bytes. This is a law: a call of it changes nothing.
-#[tactic(auto, using(crate::proofs::GreatestCapacity::room_at))]
+#[tactic(auto, using(crate::proofs::StoreLemmas::room_at))]
 pub fn capacity_law<S: ObjectStore>(store: &S)
     ensures { (key : Key) → capacity_at (S.description store.now).rows key ≤ 65535 }
 {

@@ -5,7 +5,6 @@ use Rattle.std.specs.Fmt.{digits}
 use Rattle.co_trace.specs.declared.trace_line.TraceLine.TheVariants.{Skipped, PassedOver, Data}
 use Rattle.co_trace.specs.Clocks.{ClockState, clock_at_start, clock_after}
 use Rattle.co_trace.specs.FrameLines.{line_in, stamp_at, identifier_at, body_in, frame_at, frame_line_in}
-use Rattle.co_trace.specs.Lines.{lines_of}
 use Rattle.co_trace.specs.Printed.{frame_line, frame_text, digits_text, seconds_text, stamp_text}
 
 -- ---- what a line says
@@ -199,17 +198,6 @@ blank_line = refl
 blank_at_front : line_in (codes " (0.000000) can0 605#") ≡ None
 unfolding line_in frame_line_in stamp_at
 blank_at_front = refl
-
--- ---- the lines of a text
-
--- one carriage return before a line feed is dropped, and no other one
-returns_and_feeds : lines_of (codes "a" ++ 13 ∷ 10 ∷ codes "b" ++ 13 ∷ 13 ∷ 10 ∷ 10 ∷ codes "c" ++ 13 ∷ []) ≡ codes "a" ∷ (codes "b" ++ 13 ∷ []) ∷ [] ∷ (codes "c" ++ 13 ∷ []) ∷ []
-unfolding lines_of
-returns_and_feeds = refl
-
-feed_at_end : lines_of (codes "a" ++ 10 ∷ []) ≡ codes "a" ∷ []
-unfolding lines_of
-feed_at_end = refl
 
 -- ---- the clock
 

@@ -3,7 +3,6 @@ pub mod EightDigits
 pub mod EventExamples
 pub mod Examples
 pub mod FewBytes
-pub mod FirstLine
 pub mod GrammarBodies
 pub mod GrammarFields
 pub mod GrammarLines

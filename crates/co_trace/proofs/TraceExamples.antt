@@ -5,7 +5,7 @@ use Rattle.co_trace.specs.declared.event_line.AppLine.TheVariants as app
 use Rattle.co_trace.specs.Clocks.{clock_at_start, move_to, move_by}
 use Rattle.co_trace.specs.Events.{event_of_one}
 use Rattle.co_trace.specs.FrameLines.{line_in, stamp_at, identifier_at, body_in, frame_at, frame_line_in}
-use Rattle.co_trace.specs.Lines.{lines_of}
+use Rattle.std.specs.Str.Lines.{lines}
 use Rattle.co_trace.specs.Traces.{Input, frame, tick, app as application, TimedInput, timed, ticks_after, trace_from, trace_of}
 
 abbrev at : ℕ → ℕ → Input → TimedInput
@@ -75,12 +75,12 @@ ticks_alone = refl
 -- ---- from the bytes of a text
 
 -- CR LF and LF end lines; a byte order mark, and a CR at the end of a last line without LF, belong to their lines
-returns : trace_of (lines_of (codes "!event 1" ++ 13 ∷ 10 ∷ codes "!event 2" ++ 13 ∷ []))
+returns : trace_of (lines (codes "!event 1" ++ 13 ∷ 10 ∷ codes "!event 2" ++ 13 ∷ []))
     ≡ record { inputs = at 1 0 (application (app.Event 1)) ∷ []; bad = Some 2 }
-unfolding trace_of trace_from timed ticks_after lines_of line_in event_of_one
+unfolding trace_of trace_from timed ticks_after line_in event_of_one
 returns = refl
 
-byte_order_mark : trace_of (lines_of (0xEF ∷ 0xBB ∷ 0xBF ∷ codes "!event 1" ++ 10 ∷ []))
+byte_order_mark : trace_of (lines (0xEF ∷ 0xBB ∷ 0xBF ∷ codes "!event 1" ++ 10 ∷ []))
     ≡ record { inputs = []; bad = Some 1 }
-unfolding trace_of trace_from timed lines_of line_in frame_line_in stamp_at
+unfolding trace_of trace_from timed line_in frame_line_in stamp_at
 byte_order_mark = refl

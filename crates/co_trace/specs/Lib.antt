@@ -3,7 +3,6 @@ pub mod Events
 pub mod FrameLines
 pub mod Grammar
 pub mod HexPairs
-pub mod Lines
 pub mod Printed
 pub mod Texts
 pub mod TraceLaws

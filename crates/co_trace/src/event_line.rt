@@ -7,7 +7,7 @@ ghost use Rattle.co_trace.specs.Events.{words, event_of_one, event_of_two, event
 
 use crate::hex_digit::is_digit;
 use crate::hex_pairs::{HexPairs, byte_in, five_bytes_in, key_in, word_in};
-use crate::lines::place_of;
+use co_lines::split_at_first;
 use co_value::Key;
 
 /// What an application does to a device.
@@ -39,11 +39,10 @@ pub enum EventLine<'a> {
 fn first_word(text: &[u8]) -> (&[u8], Option<&[u8]>)
     ensures { words text.now ≡ result.0.now ∷ option_map_or words (option_copied result.1) [] }
 {
-    let place = place_of(text, b' ');
-    if place == text.len() {
-        return (text, None);
+    match split_at_first(text, b' ') {
+        Some((word, rest)) => (word, Some(rest)),
+        None => (text, None),
     }
-    (&text[..place], Some(&text[place + 1..]))
 }
 
 // a decimal number from least to most, in digits alone, one at least

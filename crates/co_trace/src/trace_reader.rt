@@ -3,12 +3,12 @@
 ghost use Rattle.std.specs.Prelude.{◌≡◌, ◌+◌, ◌<◌, [], ◌∷◌, length, Some, None, IfSome, IfNone, IfOk, IfErr};
 ghost use Rattle.co_trace.specs.Clocks.{clock_at_start};
 ghost use Rattle.co_trace.specs.FrameLines.{WritesFewBytes};
-ghost use Rattle.co_trace.specs.Lines.{lines_of};
+ghost use Rattle.std.specs.Str.Lines.{lines};
 ghost use Rattle.co_trace.specs.Traces.{inputs_of, preceded, trace_of, trace_left, IsRead, IsBad};
 
 use crate::clock::Clock;
-use crate::lines::first_line;
 use crate::timed_line::TimedLine;
+use co_lines::split_line;
 use std::marker::Model;
 
 /// A line that is no line of a trace, or whose stamp is too far past the clock, by its number from 1.
@@ -26,12 +26,12 @@ pub struct TraceReader<'a> {
 
 impl<'a> Model for TraceReader<'a> {
     ghost use Rattle.co_trace.specs.Traces.{ReaderState};
-    ghost use Rattle.co_trace.specs.Lines.{lines_of};
+    ghost use Rattle.std.specs.Str.Lines.{lines};
     ghost use Rattle.std.specs.Prelude.{length, ◌+◌, ◌*◌, ◌<◌, ◌≤◌, ◌^◌};
 
     ghost Value = { ReaderState };
 
-    ghost view = { λ r. record { lines = lines_of r.rest.now; number = r.number; clock = r.clock } };
+    ghost view = { λ r. record { lines = lines r.rest.now; number = r.number; clock = r.clock } };
 
     ghost invariant = { λ r. (r.number + length r.rest.now < 2 ^ 64)
         × (r.clock.ms ≤ 2 ^ 64 + 2 ^ 32 * r.number) };
@@ -41,8 +41,8 @@ impl<'a> TraceReader<'a> {
     /// Before the first line of a text.
     #[tactic(auto, unfolding(crate::specs::Traces::trace_left, crate::specs::Traces::trace_of))]
     pub fn new(text: &'a [u8]) -> Self
-        ensures trace { trace_left result ≡ trace_of (lines_of text.now) }
-        ensures lines { result.lines ≡ lines_of text.now }
+        ensures trace { trace_left result ≡ trace_of (lines text.now) }
+        ensures lines { result.lines ≡ lines text.now }
         ensures start { (result.number ≡ 0) × (result.clock ≡ clock_at_start) }
     {
         TraceReader {
@@ -73,10 +73,7 @@ impl<'a> TraceReader<'a> {
         ensures none_left { IfNone result (self.old.lines ≡ []) }
         ensures end_stays { IfNone result (self.new ≡ self.old) }
     {
-        if self.rest.is_empty() {
-            return None;
-        }
-        let (line, after) = first_line(self.rest);
+        let (line, after) = split_line(self.rest)?;
         let number = self.number + 1;
         let mut clock = self.clock;
         let Some(timed) = TimedLine::read(number, &mut clock, line) else {

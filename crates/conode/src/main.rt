@@ -2,35 +2,21 @@
 //! answers the SDO requests of one.
 #![tactic(auto)]
 
-mod answer;
-mod check;
 mod command_line;
-mod decode;
-mod decode_file;
-mod fault;
 mod help;
-mod input;
-mod list_entry;
-mod message;
-mod output;
-mod run;
-mod sheet_file;
-mod sheet_text;
-mod stored_run;
 mod tasks;
 #[cfg(test)]
 mod tests;
 
-use co_dict::Limits;
+use co_answers::answer_input;
+use co_build::Limits;
+use co_check::check_file;
+use co_command::{CmdFault, stopped};
+use co_decode::decode_files;
 use command_line::task;
-use decode_file::decode_files;
-use fault::CmdFault;
-use output::stopped;
-use sheet_file::check_file;
 use std::io::{BufWriter, Write};
 use std::process::ExitCode;
 use std::{env, io};
-use stored_run::answer_input;
 use tasks::Task;
 
 /// Does what the words ask for; without a subcommand it answers standard input.
@@ -61,7 +47,7 @@ fn carry_out<O: Write, E: Write>(
         Ok(Some(Task::Decode { trace, sheet, node })) => {
             decode_files(rt, trace, sheet, node, out, err)
         }
-        Ok(None) => answer_input(rt.alloc(), &mut rt.reader(), out, err),
+        Ok(None) => answer_input(rt.alloc(), &mut rt.reader(), out, err).status(),
         Err(error) => {
             let _ = error.print(rt);
             ExitCode::from(error.exit_code() as u8)
@@ -87,7 +73,7 @@ fn main(rt: HostRuntime) -> ExitCode {
     match run_words(&rt, &mut err) {
         Ok(status) => status,
         Err(fault) if fault.kind() == io::ErrorKind::OutOfMemory => {
-            stopped(CmdFault::Memory, &mut io::writer(&rt), &mut err)
+            stopped(CmdFault::Memory, &mut io::writer(&rt), &mut err).status()
         }
         Err(_) => {
             let _ = eprintln!(rt; "error: a word of the command line isn't UTF-8");

@@ -1,9 +1,3 @@
-//! Whole runs over readers, writers and words in memory, and over files.
+//! Command lines.
 
-mod builds;
-mod decodes;
-mod edges;
-mod fakes;
-mod sheets;
-mod traces;
 mod words;

@@ -1,7 +1,8 @@
 //! Dictionaries that a data sheet makes, and the faults of those that it doesn't.
 
 use crate::sheet::{LARGE, LIMITS, built, key};
-use co_dict::{BuildFault, Limits, ListStore, ObjectStore};
+use co_build::{BuildFault, Limits, ListStore};
+use co_dict::ObjectStore;
 use co_sheet::read;
 use std::alloc::Global;
 use std::string::String;

@@ -4,11 +4,12 @@
 ghost use Rattle.std.specs.Prelude.{◌≡◌};
 
 use crate::sheet::{LIMITS, built, key};
+use co_build::{BuildFault, ListStore};
 use co_dict::{
-    Area, BuildFault, CobId, HeartbeatConsumer, ListStore, MappingWord, SdoChannel, Side,
-    check_count, entry_width, heartbeat_consumer, is_free, is_good_sync_word, is_good_word,
-    is_pdo_valid, is_sdo_id, mapping_width, mapping_word, number_u8, number_u16, number_u32,
-    sdo_channel, usable_dummy, word_width,
+    Area, CobId, HeartbeatConsumer, MappingWord, SdoChannel, Side, check_count, entry_width,
+    has_object, has_sub, heartbeat_consumer, is_free, is_good_sync_word, is_good_word,
+    is_pdo_valid, is_restricted, is_sdo_id, mapping_width, mapping_word, number_u8, number_u16,
+    number_u32, sdo_channel, usable_dummy, word_width,
 };
 use co_frame::AbortCode;
 use co_value::Key;
@@ -50,20 +51,21 @@ fn device(alloc: Global) -> Result<ListStore, Fail> {
 #[test]
 fn cob_id_words(rt: HostRuntime) -> Result<(), Fail> {
     let store = device(rt.alloc())?;
-    for (word, identifier, has_bit_31, is_valid, is_good, is_good_sync) in [
-        (0, 0, false, false, false, false),
-        (0x80, 0x80, false, true, true, true),
-        (0x880, 0x80, false, true, false, false),
-        (0x101, 0x101, false, true, false, false),
-        (0x680, 0x680, false, true, false, false),
-        (0x2000_0185, 0x185, false, true, false, false),
-        (0x4000_0185, 0x185, false, true, true, false),
-        (0x8000_0000, 0, true, false, true, false),
-        (0x8000_0185, 0x185, true, false, true, true),
-        (0xFFFF_FFFF, 0x7FF, true, false, true, false),
+    for (word, identifier, has_11_bits, has_bit_31, is_valid, is_good, is_good_sync) in [
+        (0, 0, true, false, false, false, false),
+        (0x80, 0x80, true, false, true, true, true),
+        (0x880, 0x80, false, false, true, false, false),
+        (0x101, 0x101, true, false, true, false, false),
+        (0x680, 0x680, true, false, true, false, false),
+        (0x2000_0185, 0x185, false, false, true, false, false),
+        (0x4000_0185, 0x185, true, false, true, true, false),
+        (0x8000_0000, 0, true, true, false, true, false),
+        (0x8000_0185, 0x185, true, true, false, true, true),
+        (0xFFFF_FFFF, 0x7FF, false, true, false, true, false),
     ] {
         let id = CobId(word);
         assert_eq!(rt; id.identifier(), identifier, "{word}");
+        assert_eq!(rt; id.has_11_bits(), has_11_bits, "{word}");
         assert_eq!(rt; id.has_bit_31(), has_bit_31, "{word}");
         assert_eq!(rt; id.is_valid(), is_valid, "{word}");
         assert_eq!(rt; is_good_word(&store, id), is_good, "{word}");
@@ -90,6 +92,33 @@ fn free_identifiers(rt: HostRuntime) -> Result<(), Fail> {
     ] {
         assert!(rt; !is_free(&store, taken), "{taken}");
         assert!(rt; is_free(&store, free), "{free}");
+    }
+    Ok(())
+}
+
+#[test]
+fn restricted_identifiers(rt: HostRuntime) -> Result<(), Fail> {
+    // a restricted identifier, and the nearest one that isn't
+    for (restricted, other) in [(0x7F, 0x80), (0x101, 0x100), (0x180, 0x181), (0x6E0, 0x6DF)] {
+        assert!(rt; is_restricted(restricted), "{restricted}");
+        assert!(rt; !is_restricted(other), "{other}");
+    }
+    Ok(())
+}
+
+#[test]
+fn objects_and_sub_indices(rt: HostRuntime) -> Result<(), Fail> {
+    let store = device(rt.alloc())?;
+    // the last sub-index of an array, and the one after it; a variable; no object
+    for (index, sub, has_entry, is_object) in [
+        (0x1016, 2, true, true),
+        (0x1016, 3, false, true),
+        (0x1017, 0, true, true),
+        (0x1017, 1, false, true),
+        (0x1013, 0, false, false),
+    ] {
+        assert_eq!(rt; has_sub(&store, index, sub), has_entry, "{index} {sub}");
+        assert_eq!(rt; has_object(&store, index), is_object, "{index}");
     }
     Ok(())
 }

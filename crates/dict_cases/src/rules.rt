@@ -1,9 +1,8 @@
 //! What reading and writing are refused with, entry by entry, on a dictionary of a data sheet.
 
 use crate::sheet::{LIMITS, built, key};
-use co_dict::{
-    ListStore, ObjectStore, app_store, may_begin, may_complete, may_read, may_store, push_error,
-};
+use co_build::ListStore;
+use co_dict::{ObjectStore, app_store, may_begin, may_complete, may_read, may_store, push_error};
 use co_frame::AbortCode;
 use std::alloc::Global;
 use std::test::Fail;

@@ -1,6 +1,6 @@
 //! A data sheet with PDOs, and changes of its text.
 
-use co_dict::{BuildFault, Limits, ListStore};
+use co_build::{BuildFault, Limits, ListStore};
 use co_sheet::read;
 use co_value::Key;
 use std::alloc::Global;

@@ -1,6 +1,7 @@
 //! A dictionary that was built of a data sheet, as a store.
 
-use co_dict::{Area, Limits, ListStore, ObjectStore, app_store};
+use co_build::{Limits, ListStore};
+use co_dict::{Area, ObjectStore, app_store};
 use co_frame::AbortCode;
 use co_sheet::read;
 use co_value::Key;

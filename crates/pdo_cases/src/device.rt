@@ -1,7 +1,7 @@
 //! The dictionary of the data sheet, with other defaults.
 
 use crate::sheet::SHEET;
-use co_dict::{Limits, ListStore};
+use co_build::{Limits, ListStore};
 use co_sheet::read;
 use std::alloc::Global;
 use std::test::Fail;

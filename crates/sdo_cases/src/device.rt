@@ -6,7 +6,8 @@ ghost use Rattle.co_sdo.specs.Refused.{capacity_at};
 
 use crate::large_sheet::LARGE;
 use crate::small_sheet::SMALL;
-use co_dict::{Area, Limits, ListStore, ObjectStore, app_store, capacity_law};
+use co_build::{Limits, ListStore};
+use co_dict::{Area, ObjectStore, app_store, capacity_law};
 use co_frame::{Frame, Outbox};
 use co_sdo::{Channel, Ids};
 use co_sheet::read;

@@ -1,0 +1,16 @@
+mod BuildExamples
+mod Changes
+mod CobIdKeys
+mod EntryBytes
+mod Faults
+mod GreatestCapacity
+mod InitialLemmas
+mod ListExamples
+mod Pairs
+mod Places
+mod Plans
+mod Ranges
+mod Readiness
+mod RowExamples
+mod Search
+mod Views

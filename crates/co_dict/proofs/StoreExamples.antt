@@ -1,0 +1,101 @@
+-- What fits an entry, and what a write and a reset change, computed from the definitions.
+use Rattle.std.proofs.Common.{◌≡◌, ℕ, true, false, List, [], ◌∷◌, Option, Some, refl}
+use Rattle.std.specs.Prelude.{pos, find, option_map}
+use Rattle.co_value.specs.declared.key.Key.{Key}
+use Rattle.co_value.specs.declared.data_type.DataType.TheVariants.{Unsigned16, VisibleString}
+use Rattle.co_value.specs.Keys.{same_key}
+use Rattle.co_sheet.specs.declared.entry.Access.TheVariants.{Rw}
+use Rattle.co_dict.specs.declared.row.Row.{Row}
+use Rattle.co_dict.specs.declared.area.Area.TheVariants.{Communication, All}
+use Rattle.co_dict.specs.Rows.{Rows, Contents, fits, takes, written, is_in_area, restored}
+
+abbrev at : ℕ → ℕ → Key
+at index sub = record { index = index; sub = sub }
+
+abbrev number : Row
+number = record { data_type = Unsigned16; access = Rw; low = pos 0; high = pos 65535; capacity = 2; mappable = false }
+
+abbrev text : Row
+text = record { data_type = VisibleString; access = Rw; low = pos 0; high = pos 0; capacity = 3; mappable = false }
+
+-- what a list has at a key
+abbrev listed : {A : Type 0} → List (Key × A) → Key → Option A
+listed pairs key = option_map (λ pair. pair.1) (find (λ pair. same_key key pair.0) pairs)
+
+-- a heartbeat time, and two entries of one object of the manufacturer's
+abbrev rows : Rows
+rows = listed ((at 0x1017 0, number) ∷ (at 0x2000 1, text) ∷ (at 0x2000 2, text) ∷ [])
+
+-- their bytes at first
+abbrev initial : Contents
+initial = listed ((at 0x1017 0, 0 ∷ 0 ∷ []) ∷ (at 0x2000 1, 65 ∷ []) ∷ (at 0x2000 2, []) ∷ [])
+
+-- the time and the last entry were changed
+abbrev contents : Contents
+contents = listed ((at 0x1017 0, 100 ∷ 0 ∷ []) ∷ (at 0x2000 1, 65 ∷ []) ∷ (at 0x2000 2, 66 ∷ 67 ∷ []) ∷ [])
+
+-- ---- what fits
+
+number_short : fits number 1 ≡ false
+number_short = refl
+
+number_exact : fits number 2 ≡ true
+number_exact = refl
+
+number_long : fits number 3 ≡ false
+number_long = refl
+
+text_empty : fits text 0 ≡ true
+text_empty = refl
+
+text_full : fits text 3 ≡ true
+text_full = refl
+
+text_long : fits text 4 ≡ false
+text_long = refl
+
+takes_two : takes rows (at 0x1017 0) 2 ≡ true
+takes_two = refl
+
+takes_nothing_where_absent : takes rows (at 0x1017 1) 2 ≡ false
+takes_nothing_where_absent = refl
+
+-- ---- areas
+
+below_communication : is_in_area Communication (at 0x0FFF 0) ≡ false
+below_communication = refl
+
+first_of_communication : is_in_area Communication (at 0x1000 0) ≡ true
+first_of_communication = refl
+
+last_of_communication : is_in_area Communication (at 0x1FFF 255) ≡ true
+last_of_communication = refl
+
+above_communication : is_in_area Communication (at 0x2000 0) ≡ false
+above_communication = refl
+
+all_below : is_in_area All (at 0x0FFF 0) ≡ true
+all_below = refl
+
+all_above : is_in_area All (at 0xFFFF 255) ≡ true
+all_above = refl
+
+-- ---- what changes
+
+writes_the_key : written contents (at 0x2000 1) (70 ∷ []) (at 0x2000 1) ≡ Some (70 ∷ [])
+writes_the_key = refl
+
+leaves_the_neighbour : written contents (at 0x2000 1) (70 ∷ []) (at 0x2000 2) ≡ Some (66 ∷ 67 ∷ [])
+leaves_the_neighbour = refl
+
+leaves_another_index : written contents (at 0x2000 0) (70 ∷ []) (at 0x1017 0) ≡ Some (100 ∷ 0 ∷ [])
+leaves_another_index = refl
+
+restores_communication : restored Communication initial contents (at 0x1017 0) ≡ Some (0 ∷ 0 ∷ [])
+restores_communication = refl
+
+leaves_the_manufacturer : restored Communication initial contents (at 0x2000 2) ≡ Some (66 ∷ 67 ∷ [])
+leaves_the_manufacturer = refl
+
+restores_all : restored All initial contents (at 0x2000 2) ≡ Some []
+restores_all = refl
