@@ -77,15 +77,16 @@ fn write_trace<W: Write>(
     Ok(())
 }
 
-/// Decodes a trace as `candump -L` writes it: the whole input is read first, then for each frame a line is written, with
-/// the number of its line in the trace, the frame and what it says (CiA 301, 7.2), as
+/// Decodes a trace as `candump -L` writes it: the whole input is read first, then for each frame a line is
+/// written, with the number of its line in the trace, the frame and what it says (CiA 301, 7.2), as
 /// `1 605#2B171000E8030000 SDO request node 5 download 1017:00 expedited E803`. With a data sheet (CiA 306) the
-/// ParameterName of an entry follows; with a node-ID too, for this node alone. Event lines and frames that are passed over
-/// are checked and write nothing.
+/// ParameterName of an entry follows; with a node-ID too, for this node alone. Event lines and frames that
+/// are passed over are checked and write nothing.
 ///
-/// `Read` and `NeverEnds` come before anything is written. `BadLine` is the first line that is no line of a trace, or whose
-/// stamp is more than a day past the clock; what comes before it has been written. After `Write` a part of the text has
-/// been written, and after `Memory` some of its lines, never all; or `Memory` came before anything was written.
+/// `Read` and `NeverEnds` come before anything is written. `BadLine` is the first line that is no line of a
+/// trace, or whose stamp is more than a day past the clock; what comes before it has been written. After
+/// `Write` a part of the text has been written, and after `Memory` some of its lines, never all; or `Memory`
+/// came before anything was written.
 pub fn decode<R: Read, W: Write>(
     alloc: Global,
     reader: &mut R,
