@@ -18,9 +18,9 @@ mkdir -p "$folder/crates/channel_time/src"
 cp "$root/HANDLES" "$folder"
 {
     grep -E '^co_(value|frame|lines|text|sheet|dict|build|sdo):' "$root/crates.txt"
-    echo 'channel_time: co_value co_frame co_sheet co_dict co_build co_sdo arrayvec anyhow'
+    echo 'channel_time: co_value co_frame co_sheet co_dict co_dict_list co_sdo arrayvec anyhow'
 } > "$folder/crates.txt"
-for crate in co_value co_frame co_lines co_text co_sheet co_dict co_build co_sdo; do cp -R "$root/crates/$crate" "$folder/crates"; done
+for crate in co_value co_frame co_text co_sheet_text co_sheet co_dict co_dict_list co_sdo; do cp -R "$root/crates/$crate" "$folder/crates"; done
 cat > "$folder/crates/channel_time/src/main.rt" << 'END'
 //! Downloads 65,535 bytes into the domain 2000h of the data sheet on standard input, segmented and by blocks, and copies
 //! the same frames into a list. Prints how many nanoseconds each took, and how many segments that were.
@@ -32,7 +32,7 @@ ghost use Rattle.co_sdo.specs.Refused.{capacity_at};
 
 use anyhow::{Context, Result, bail};
 use arrayvec::ArrayVec;
-use co_build::{Limits, ListStore};
+use co_dict_list::{Limits, ListStore};
 use co_dict::{ObjectStore, capacity_law};
 use co_frame::{BlockSegment, Frame, Outbox, SdoRequest};
 use co_sdo::{Channel, Ids};

@@ -42,9 +42,9 @@ mkdir -p "$folder/crates/dict_time/src"
 cp "$root/HANDLES" "$folder"
 {
     grep -E '^co_(value|frame|lines|text|sheet|dict|build):' "$root/crates.txt"
-    echo 'dict_time: co_value co_sheet co_dict co_build anyhow'
+    echo 'dict_time: co_value co_sheet co_dict co_dict_list anyhow'
 } > "$folder/crates.txt"
-for crate in co_value co_frame co_lines co_text co_sheet co_dict co_build; do cp -R "$root/crates/$crate" "$folder/crates"; done
+for crate in co_value co_frame co_text co_sheet_text co_sheet co_dict co_dict_list; do cp -R "$root/crates/$crate" "$folder/crates"; done
 cat > "$folder/crates/dict_time/src/main.rt" << 'END'
 //! Builds the dictionary of the data sheet on standard input, calls it for each of its numbers that may be written, many
 //! times in a mixed order, and prints how many nanoseconds each part took.
@@ -54,7 +54,7 @@ ghost use Rattle.std.specs.Prelude.{◌≡◌, true, All};
 ghost use Rattle.co_dict.specs.Rows.{takes};
 
 use anyhow::{Context, Result, bail};
-use co_build::{Limits, ListStore};
+use co_dict_list::{Limits, ListStore};
 use co_dict::{ObjectStore, may_store};
 use co_sheet::{Access, EntryRow, read};
 use co_value::{DataType, Key};

@@ -12,7 +12,7 @@ trap 'rm -rf "$folder"' EXIT
 mkdir -p "$folder/crates/refused/src"
 cp "$root/HANDLES" "$folder"
 { grep -E '^co_(value|frame|lines|text|sheet|dict|sdo):' "$root/crates.txt"; echo 'refused: co_sheet co_sdo'; } > "$folder/crates.txt"
-for crate in co_value co_frame co_lines co_text co_sheet co_dict co_sdo; do cp -R "$root/crates/$crate" "$folder/crates"; done
+for crate in co_value co_frame co_text co_sheet_text co_sheet co_dict co_sdo; do cp -R "$root/crates/$crate" "$folder/crates"; done
 {
     cat << 'END'
 //! Reads two data sheets and makes a channel, three times each. The status is 0 where all are right, 2 where one was

@@ -8,12 +8,12 @@ use Rattle.co_value.specs.declared.data_type.DataType.{DataType}
 use Rattle.co_sheet.specs.declared.entry.Access.{Access}
 use Rattle.co_sheet.specs.declared.object.ObjectType.{ObjectType}
 use Rattle.co_sheet.specs.declared.object.ObjectType.TheVariants.{Domain, Var, Array, Record}
-use Rattle.co_text.specs.declared.section_kind.SectionKind.TheVariants.{Object}
+use Rattle.co_sheet_text.specs.declared.section_kind.SectionKind.TheVariants.{Object}
 use Rattle.co_sheet.specs.declared.fault.FaultKind.{FaultKind}
 use Rattle.co_sheet.specs.declared.fault.FaultKind.TheVariants.{MissingSection, BadType}
 use Rattle.co_sheet.specs.declared.fault.SheetFault.{SheetFault}
-use Rattle.co_text.specs.Sections.{Property, TextSection, property_at, section_at}
-use Rattle.co_text.specs.Properties.{property_number}
+use Rattle.co_sheet_text.specs.Sections.{Property, TextSection, property_at, section_at}
+use Rattle.co_sheet_text.specs.Properties.{property_number}
 use Rattle.co_sheet.specs.ObjectLists.{is_one_of, Listing, listings}
 use Rattle.co_sheet.specs.Entries.{ListedObject, listed_objects, object_code, object_type_with, Entry, entries_of, data_type_of, access_of, name_of}
 use Rattle.co_sheet.specs.Checks.{fault_if, listed_twice, missing_section, bad_object_types, bad_type, in_numeric, bad_limits, bad_default, missing_mandatory, of_listings, of_objects, of_entries, checks}

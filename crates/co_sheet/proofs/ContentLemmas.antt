@@ -1,7 +1,7 @@
 -- What a sheet holds, part by part.
 use Rattle.std.proofs.Common.{◌≡◌, List, Bool}
 use Rattle.co_sheet.specs.declared.note.Note.{Note}
-use Rattle.co_text.specs.Sections.{TextSection}
+use Rattle.co_sheet_text.specs.Sections.{TextSection}
 use Rattle.co_sheet.specs.Content.{Row, ObjectRow, SectionName, SheetContent, content_of}
 
 same-parts : (objects other_objects : List ObjectRow) (rows other_rows : List Row) (names other_names : List SectionName) (notes other_notes : List Note) (dummies other_dummies : List Bool)

@@ -4,13 +4,13 @@ use Rattle.std.specs.Prelude.{map, flat_map, take, drop, replicate, pos, neg_ℤ
 use Rattle.co_sheet.specs.declared.fault.FaultKind.TheVariants.{TooLarge, BadLine, KeyOutsideSection, DuplicateSection, DuplicateKey, MissingSection, BadNumber, AmbiguousNumber, BadList, ListedTwice, MissingKey, BadType, LeftOutType, BadAccess, BadLimits, BadDefault, MissingSub0, CompactForm, MissingMandatory}
 use Rattle.co_sheet.specs.declared.note.NoteKind.TheVariants.{SubNumber, Unlisted}
 use Rattle.co_sheet.specs.declared.entry.Access.TheVariants.{Wo, Rw, Rwr, Rww, Constant}
-use Rattle.co_text.specs.declared.numeral.Numeral.TheVariants.{Decimal, Hexadecimal}
-use Rattle.co_text.specs.declared.numeral.NumeralFault.TheVariants.{Malformed, Ambiguous}
+use Rattle.co_sheet_text.specs.declared.numeral.Numeral.TheVariants.{Decimal, Hexadecimal}
+use Rattle.co_sheet_text.specs.declared.numeral.NumeralFault.TheVariants.{Malformed, Ambiguous}
 use Rattle.co_value.specs.declared.data_type.DataType.TheVariants.{Integer8, Integer16, Integer64, Unsigned16, Unsigned32, Unsigned64, VisibleString, OctetString, Domain as DomainType}
 use Rattle.co_sheet.specs.declared.object.ObjectType.TheVariants.{Var, Record}
-use Rattle.co_text.specs.Text.{lines_of}
+use Rattle.co_sheet_text.specs.Text.{lines_of}
 use Rattle.co_sheet.specs.Faults.{fault_at}
-use Rattle.co_text.specs.Numerals.{signed_numeral, unsigned_numeral}
+use Rattle.co_sheet_text.specs.Numerals.{signed_numeral, unsigned_numeral}
 use Rattle.co_sheet.specs.Notes.{notes_of, note_at}
 use Rattle.co_sheet.specs.Limits.{absent, number, node_id, text, pairs}
 use Rattle.co_sheet.specs.Accepted.{first_fault, sections_in}

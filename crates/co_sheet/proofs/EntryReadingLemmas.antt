@@ -13,8 +13,8 @@ use Rattle.co_sheet.specs.declared.fault.FaultKind.{FaultKind}
 use Rattle.co_sheet.specs.declared.fault.FaultKind.TheVariants.{MissingKey, LeftOutType, BadLimits, BadDefault}
 use Rattle.co_sheet.specs.declared.fault.SheetFault.{SheetFault}
 use Rattle.co_sheet.specs.declared.checks.findings.Finding.{Finding}
-use Rattle.co_text.specs.Sections.{Property, property_at}
-use Rattle.co_text.specs.Properties.{property_number}
+use Rattle.co_sheet_text.specs.Sections.{Property, property_at}
+use Rattle.co_sheet_text.specs.Properties.{property_number}
 use Rattle.co_sheet.specs.ObjectLists.{is_one_of}
 use Rattle.co_sheet.specs.FixedTypes.{fixed_type_of}
 use Rattle.co_sheet.specs.Entries.{Entry, is_domain, data_type_with, type_code, data_type_of}

@@ -7,7 +7,7 @@ use Rattle.std.specs.Option.{option_or}
 use Rattle.co_sheet.specs.declared.fault.SheetFault.{SheetFault}
 use Rattle.co_sheet.specs.declared.checks.findings.Finding.{Finding}
 use Rattle.co_sheet.specs.Accepted.{least_fault, first_found}
-use Rattle.co_text.specs.Sections.{TextSection}
+use Rattle.co_sheet_text.specs.Sections.{TextSection}
 use Rattle.co_sheet.specs.private.LeastFaults.{earlier}
 use Rattle.co_sheet.specs.private.Findings.{found_by, first_finding, is_before, sooner, soonest}
 use Rattle.co_sheet.proofs.LeastLemmas.{least-append}

@@ -6,21 +6,21 @@ use Rattle.std.specs.List.{cons_option, list_any, AllByRecursion}
 use Rattle.std.proofs.lemmas.List.Elements.{All-from_recursion}
 use Rattle.std.proofs.lemmas.List.Kept.{AllPairs-cons}
 use Rattle.co_value.specs.declared.key.Key.{Key}
-use Rattle.co_text.specs.declared.section_kind.SectionKind.{SectionKind}
-use Rattle.co_text.specs.declared.section_kind.SectionKind.TheVariants.{SubIndex}
+use Rattle.co_sheet_text.specs.declared.section_kind.SectionKind.{SectionKind}
+use Rattle.co_sheet_text.specs.declared.section_kind.SectionKind.TheVariants.{SubIndex}
 use Rattle.co_sheet.specs.declared.fault.FaultKind.TheVariants.{ListedTwice}
-use Rattle.co_text.specs.Names.{is_list}
-use Rattle.co_text.specs.Sections.{Property, TextSection}
-use Rattle.co_text.specs.Properties.{property_number}
+use Rattle.co_sheet_text.specs.Names.{is_list}
+use Rattle.co_sheet_text.specs.Sections.{Property, TextSection}
+use Rattle.co_sheet_text.specs.Properties.{property_number}
 use Rattle.co_sheet.specs.ObjectLists.{is_one_of, count_of, Listing, listings_in, listings}
 use Rattle.co_sheet.specs.private.ListReadings.{is_key_to, listing_at, named_by, LinesRise}
 use Rattle.co_sheet.specs.Entries.{single_codes, compound_codes, object_code, ListedObject, listed_objects, Entry, sub_index_in, sub_indices, entries_in, entries_of}
 use Rattle.co_sheet.specs.Checks.{fault_if, listed_twice}
 use Rattle.co_value.specs.Keys.{is_key_before, same_key}
 use Rattle.co_sheet.specs.Content.{insert_before, in_order}
-use Rattle.co_text.specs.SectionLaws.{IsLikeNone, AllDiffer, is_read_twice, RisesFrom, property_lines, IsParsed}
+use Rattle.co_sheet_text.specs.SectionLaws.{IsLikeNone, AllDiffer, is_read_twice, RisesFrom, property_lines, IsParsed}
 use Rattle.co_sheet.proofs.ListingLemmas.{from_1000, named-all, named-in, none-named-in}
-use Rattle.co_text.proofs.SectionLawLemmas.{rises-rest, rises-cons}
+use Rattle.co_sheet_text.proofs.SectionLawLemmas.{rises-rest, rises-cons}
 use Rattle.co_sheet.proofs.AcceptedLemmas.{no_fault, both-empty}
 
 -- ---- lists

@@ -5,12 +5,12 @@ use Rattle.std.proofs.lemmas.Bool.Decides.{nat_tests}
 use Rattle.std.proofs.lemmas.List.{drop_all}
 use Rattle.std.specs.List.{filter, list_any}
 use Rattle.std.specs.Option.{option_map_or, option_or, option_copied}
-use Rattle.co_text.specs.declared.text_section.Property.{Property as CodeProperty}
-use Rattle.co_text.specs.Properties.{property_number}
-use Rattle.co_text.specs.Views.{property_view}
-use Rattle.co_text.specs.declared.section_kind.SectionKind.TheVariants.{MandatoryObjects, DummyUsage, DeviceInfo}
-use Rattle.co_text.specs.Names.{is_list, same_kind}
-use Rattle.co_text.specs.Sections.{Property, TextSection, section_at}
+use Rattle.co_sheet_text.specs.declared.text_section.Property.{Property as CodeProperty}
+use Rattle.co_sheet_text.specs.Properties.{property_number}
+use Rattle.co_sheet_text.specs.Views.{property_view}
+use Rattle.co_sheet_text.specs.declared.section_kind.SectionKind.TheVariants.{MandatoryObjects, DummyUsage, DeviceInfo}
+use Rattle.co_sheet_text.specs.Names.{is_list, same_kind}
+use Rattle.co_sheet_text.specs.Sections.{Property, TextSection, section_at}
 use Rattle.co_sheet.specs.declared.checks.findings.Finding.{Finding}
 use Rattle.co_sheet.specs.declared.fault.FaultKind.TheVariants.{BadList, MissingSection}
 use Rattle.co_sheet.specs.declared.fault.SheetFault.{SheetFault}

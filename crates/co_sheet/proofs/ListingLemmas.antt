@@ -2,9 +2,9 @@
 use Rattle.std.proofs.Common.{◌≡◌, ℕ, Bool, true, false, cond, List, [], ◌∷◌, ◌++◌, Option, Some, None, refl, ap, ◌∙◌, leb}
 use Rattle.std.specs.Prelude.{option_map, option_and_then}
 use Rattle.std.specs.List.{filter, filter_map, flat_map}
-use Rattle.co_text.specs.Names.{is_list}
-use Rattle.co_text.specs.Sections.{Property, TextSection}
-use Rattle.co_text.specs.Properties.{property_number}
+use Rattle.co_sheet_text.specs.Names.{is_list}
+use Rattle.co_sheet_text.specs.Sections.{Property, TextSection}
+use Rattle.co_sheet_text.specs.Properties.{property_number}
 use Rattle.co_sheet.specs.ObjectLists.{Listing, count_of, listings_in, listings}
 use Rattle.co_sheet.specs.private.ListReadings.{is_key_to, listing_at, named_by}
 use Rattle.co_sheet.proofs.ListLemmas.{flat_map-filter, filter-flat_map}

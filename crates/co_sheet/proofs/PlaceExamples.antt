@@ -1,9 +1,9 @@
 -- The places of a list, counted and asked one by one.
 use Rattle.std.proofs.Common.{◌≡◌, ℕ, ◌+◌, List, [], ◌∷◌, refl, true, false, codes}
 use Rattle.std.specs.Prelude.{length, nat_lt}
-use Rattle.co_text.specs.declared.section_kind.SectionKind.{SectionKind}
-use Rattle.co_text.specs.declared.section_kind.SectionKind.TheVariants.{MandatoryObjects}
-use Rattle.co_text.specs.Sections.{Property, TextSection}
+use Rattle.co_sheet_text.specs.declared.section_kind.SectionKind.{SectionKind}
+use Rattle.co_sheet_text.specs.declared.section_kind.SectionKind.TheVariants.{MandatoryObjects}
+use Rattle.co_sheet_text.specs.Sections.{Property, TextSection}
 use Rattle.co_sheet.specs.ObjectLists.{keys_to, lacks_place}
 use Rattle.co_sheet.specs.PlaceLaws.{CountsPlaces}
 

@@ -7,11 +7,11 @@ use Rattle.std.proofs.lemmas.Str.{digit_value_digit}
 use Rattle.std.proofs.lemmas.Str.Parse.{digit_from_value}
 use Rattle.std.specs.List.{filter, list_any, list_all, range_with_len, AllByRecursion}
 use Rattle.std.specs.Char.{digit_value, is_digit}
-use Rattle.co_text.specs.Text.{same_name}
-use Rattle.co_text.specs.Names.{number_in, is_position}
-use Rattle.co_text.specs.Sections.{Property, TextSection}
+use Rattle.co_sheet_text.specs.Text.{same_name}
+use Rattle.co_sheet_text.specs.Names.{number_in, is_position}
+use Rattle.co_sheet_text.specs.Sections.{Property, TextSection}
 use Rattle.co_sheet.specs.ObjectLists.{keys_to, has_place}
-use Rattle.co_text.specs.SectionLaws.{IsLikeNone, AllDiffer, PropertiesDiffer}
+use Rattle.co_sheet_text.specs.SectionLaws.{IsLikeNone, AllDiffer, PropertiesDiffer}
 use Rattle.co_sheet.specs.PlaceLaws.{CountsPlaces}
 
 -- ---- a number is written in one way, without leading zeros

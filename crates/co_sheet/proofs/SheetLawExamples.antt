@@ -2,7 +2,7 @@
 use Rattle.std.proofs.Common.{◌≡◌, ℕ, false, true, List, [], ◌∷◌, Option, Some, None, refl, sym, subst, arith, ℤ, pos, neg_ℤ, codes, lit<, ◌≤◌, length, lit≤, replicate}
 use Rattle.std.proofs.lemmas.Int.{ints}
 use Rattle.std.specs.List.{list_all}
-use Rattle.co_text.specs.Names.{is_hexadecimal_digit}
+use Rattle.co_sheet_text.specs.Names.{is_hexadecimal_digit}
 use Rattle.std.specs.Prelude.{AllPairs}
 use Rattle.std.proofs.lemmas.List.Elements.{All-from_recursion}
 use Rattle.std.proofs.lemmas.List.Kept.{AllPairs-cons}

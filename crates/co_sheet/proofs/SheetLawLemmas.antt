@@ -9,16 +9,16 @@ use Rattle.std.proofs.lemmas.List.Elements.{All-from_recursion}
 use Rattle.co_value.specs.declared.data_type.DataType.{DataType}
 use Rattle.co_value.specs.declared.data_type.DataType.TheVariants.{Boolean, Integer8, Integer16, Integer24, Integer32, Integer40, Integer48, Integer56, Integer64, Unsigned8, Unsigned16, Unsigned24, Unsigned32, Unsigned40, Unsigned48, Unsigned56, Unsigned64, VisibleString, OctetString, Domain}
 use Rattle.co_value.specs.Types.{code_of, least_of, greatest_of, InRange}
-use Rattle.co_text.specs.declared.section_kind.SectionKind.{SectionKind}
-use Rattle.co_text.specs.declared.section_kind.SectionKind.TheVariants.{Object, SubIndex}
-use Rattle.co_text.specs.Names.{same_kind}
+use Rattle.co_sheet_text.specs.declared.section_kind.SectionKind.{SectionKind}
+use Rattle.co_sheet_text.specs.declared.section_kind.SectionKind.TheVariants.{Object, SubIndex}
+use Rattle.co_sheet_text.specs.Names.{same_kind}
 use Rattle.co_sheet.specs.declared.entry.Access.{Access}
 use Rattle.co_sheet.specs.declared.fault.FaultKind.TheVariants.{BadLimits, BadDefault, BadType, MissingMandatory}
 use Rattle.co_sheet.specs.declared.fault.SheetFault.{SheetFault}
-use Rattle.co_text.specs.declared.numeral.NumeralFault.{NumeralFault}
-use Rattle.co_text.specs.Text.{trim, same_name}
-use Rattle.co_text.specs.Sections.{Property, TextSection, property_at, section_at}
-use Rattle.co_text.specs.Numerals.{result_map, unsigned_number}
+use Rattle.co_sheet_text.specs.declared.numeral.NumeralFault.{NumeralFault}
+use Rattle.co_sheet_text.specs.Text.{trim, same_name}
+use Rattle.co_sheet_text.specs.Sections.{Property, TextSection, property_at, section_at}
+use Rattle.co_sheet_text.specs.Numerals.{result_map, unsigned_number}
 use Rattle.co_sheet.specs.ObjectLists.{is_one_of, Listing, listings, is_listed}
 use Rattle.co_sheet.specs.FixedTypes.{fixed_type_of}
 use Rattle.co_sheet.specs.Entries.{single_codes, compound_codes, object_code, sub_index_in, sub_indices, entries_in, ListedObject, is_domain, listed_objects, Entry, entries_of, data_type_with, type_code, data_type_of, access_of}
@@ -27,7 +27,7 @@ use Rattle.co_sheet.specs.Checks.{left_out_codes, fault_if, at_key, is_bad_type,
 use Rattle.co_sheet.specs.Accepted.{first_found}
 use Rattle.co_value.specs.Keys.{is_key_before, same_key}
 use Rattle.co_sheet.specs.Content.{Row, row_with, row_of, insert_before, in_order, ObjectRow, object_row_of, rows_in, objects_in, content_of}
-use Rattle.co_text.specs.SectionLaws.{AllDiffer, ValuesShort, IsParsed}
+use Rattle.co_sheet_text.specs.SectionLaws.{AllDiffer, ValuesShort, IsParsed}
 use Rattle.co_sheet.specs.SheetLaws.{limit_or, IsWithinRow, IsSheetRow, has_object, IsSheetContent, KeepsEntries}
 use Rattle.co_sheet.proofs.TypeLemmas.{data_type_with-code_of}
 use Rattle.co_sheet.proofs.AcceptedLemmas.{FindsNothing, finds-nothing, no_fault, both-empty, two-empty, denied, objects-all, listed-all}

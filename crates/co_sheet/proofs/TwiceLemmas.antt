@@ -4,7 +4,7 @@ use Rattle.std.proofs.lemmas.Bool.Decides.{nat_tests}
 use Rattle.std.proofs.lemmas.List.{drop_all}
 use Rattle.std.specs.Prelude.{flat_map}
 use Rattle.std.specs.List.{list_any, AllByRecursion}
-use Rattle.co_text.specs.SectionLaws.{RisesFrom}
+use Rattle.co_sheet_text.specs.SectionLaws.{RisesFrom}
 use Rattle.co_sheet.specs.declared.checks.lists.Listing.{Listing as ListingOfCode}
 use Rattle.co_sheet.specs.declared.fault.FaultKind.TheVariants.{ListedTwice}
 use Rattle.co_sheet.specs.declared.fault.SheetFault.{SheetFault}

@@ -3,8 +3,8 @@ use Rattle.std.specs.Prelude.{◌≡◌, ◌⊎◌, ℕ, nat_lt, nat_le, if◌th
 use Rattle.std.specs.Option.{option_or}
 use Rattle.co_sheet.specs.declared.fault.FaultKind.TheVariants.{TooLarge, Memory}
 use Rattle.co_sheet.specs.declared.fault.SheetFault.{SheetFault}
-use Rattle.co_text.specs.Text.{lines_of}
-use Rattle.co_text.specs.Sections.{TextSection, sections_of, first_line_fault}
+use Rattle.co_sheet_text.specs.Text.{lines_of}
+use Rattle.co_sheet_text.specs.Sections.{TextSection, sections_of, first_line_fault}
 use Rattle.co_sheet.specs.Faults.{fault_at, sheet_fault}
 use Rattle.co_sheet.specs.Checks.{checks}
 

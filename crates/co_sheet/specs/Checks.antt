@@ -6,18 +6,18 @@ use Rattle.std.specs.Option.{option_map_or, option_or}
 use Rattle.co_value.specs.declared.data_type.DataType.{DataType}
 use Rattle.co_value.specs.declared.data_type.DataType.TheVariants.{Domain}
 use Rattle.co_value.specs.Types.{code_of, least_of, greatest_of}
-use Rattle.co_text.specs.declared.section_kind.SectionKind.{SectionKind}
-use Rattle.co_text.specs.declared.section_kind.SectionKind.TheVariants.{MandatoryObjects, DummyUsage, DeviceInfo, Object}
+use Rattle.co_sheet_text.specs.declared.section_kind.SectionKind.{SectionKind}
+use Rattle.co_sheet_text.specs.declared.section_kind.SectionKind.TheVariants.{MandatoryObjects, DummyUsage, DeviceInfo, Object}
 use Rattle.co_sheet.specs.declared.fault.FaultKind.{FaultKind}
 use Rattle.co_sheet.specs.declared.fault.FaultKind.TheVariants.{MissingSection, BadNumber, AmbiguousNumber, BadList, ListedTwice, MissingKey, BadType, LeftOutType, BadAccess, BadLimits, BadDefault, MissingSub0, CompactForm, MissingMandatory}
 use Rattle.co_sheet.specs.declared.fault.SheetFault.{SheetFault}
-use Rattle.co_text.specs.declared.numeral.NumeralFault.{NumeralFault}
-use Rattle.co_text.specs.declared.numeral.NumeralFault.TheVariants.{Malformed, Ambiguous}
-use Rattle.co_text.specs.Names.{same_kind, is_list}
-use Rattle.co_text.specs.Sections.{Property, TextSection, property_at, section_at}
+use Rattle.co_sheet_text.specs.declared.numeral.NumeralFault.{NumeralFault}
+use Rattle.co_sheet_text.specs.declared.numeral.NumeralFault.TheVariants.{Malformed, Ambiguous}
+use Rattle.co_sheet_text.specs.Names.{same_kind, is_list}
+use Rattle.co_sheet_text.specs.Sections.{Property, TextSection, property_at, section_at}
 use Rattle.co_sheet.specs.Faults.{fault_at}
-use Rattle.co_text.specs.Numerals.{unsigned_number}
-use Rattle.co_text.specs.Properties.{property_number}
+use Rattle.co_sheet_text.specs.Numerals.{unsigned_number}
+use Rattle.co_sheet_text.specs.Properties.{property_number}
 use Rattle.co_sheet.specs.ObjectLists.{is_one_of, object_lists, count_of, keys_to, Listing, listings, is_listed}
 use Rattle.co_sheet.specs.FixedTypes.{fixed_type_of}
 use Rattle.co_sheet.specs.Entries.{object_code, single_codes, compound_codes, ListedObject, listed_objects, Entry, sub_indices, entries_of, is_domain, data_type_with, type_code, data_type_of, access_with, is_other_than_zero}

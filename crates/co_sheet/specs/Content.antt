@@ -3,12 +3,12 @@ use Rattle.std.specs.Prelude.{◌≡◌, ℕ, ◌-◌, Bool, false, ◌&&◌, na
 use Rattle.co_value.specs.declared.key.Key.{Key}
 use Rattle.co_value.specs.declared.data_type.DataType.{DataType}
 use Rattle.co_value.specs.Keys.{is_key_before}
-use Rattle.co_text.specs.declared.section_kind.SectionKind.TheVariants.{DummyUsage}
+use Rattle.co_sheet_text.specs.declared.section_kind.SectionKind.TheVariants.{DummyUsage}
 use Rattle.co_sheet.specs.declared.object.ObjectType.{ObjectType}
 use Rattle.co_sheet.specs.declared.entry.Access.{Access}
 use Rattle.co_sheet.specs.declared.note.Note.{Note}
-use Rattle.co_text.specs.Sections.{TextSection, section_at}
-use Rattle.co_text.specs.Properties.{number_at}
+use Rattle.co_sheet_text.specs.Sections.{TextSection, section_at}
+use Rattle.co_sheet_text.specs.Properties.{number_at}
 use Rattle.co_sheet.specs.ObjectLists.{is_one_of, listings}
 use Rattle.co_sheet.specs.Entries.{ListedObject, listed_objects, object_type_with, object_code, Entry, entries_of, data_type_of, access_of, is_mappable, name_of}
 use Rattle.co_sheet.specs.Limits.{Default, low_limit, high_limit, default_of}

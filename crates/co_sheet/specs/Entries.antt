@@ -5,15 +5,15 @@ use Rattle.co_value.specs.declared.key.Key.{Key}
 use Rattle.co_value.specs.declared.data_type.DataType.{DataType}
 use Rattle.co_value.specs.declared.data_type.DataType.TheVariants.{Boolean, Integer8, Integer16, Integer24, Integer32, Integer40, Integer48, Integer56, Integer64, Unsigned8, Unsigned16, Unsigned24, Unsigned32, Unsigned40, Unsigned48, Unsigned56, Unsigned64, VisibleString, OctetString, Domain as DomainType}
 use Rattle.co_value.specs.Types.{code_of}
-use Rattle.co_text.specs.declared.section_kind.SectionKind.{SectionKind}
-use Rattle.co_text.specs.declared.section_kind.SectionKind.TheVariants.{Object, SubIndex}
+use Rattle.co_sheet_text.specs.declared.section_kind.SectionKind.{SectionKind}
+use Rattle.co_sheet_text.specs.declared.section_kind.SectionKind.TheVariants.{Object, SubIndex}
 use Rattle.co_sheet.specs.declared.object.ObjectType.{ObjectType}
 use Rattle.co_sheet.specs.declared.object.ObjectType.TheVariants.{Domain, Var, Array, Record}
 use Rattle.co_sheet.specs.declared.entry.Access.{Access}
 use Rattle.co_sheet.specs.declared.entry.Access.TheVariants.{Ro, Wo, Rw, Rwr, Rww, Constant}
-use Rattle.co_text.specs.Text.{same_name}
-use Rattle.co_text.specs.Sections.{TextSection, property_at, section_at}
-use Rattle.co_text.specs.Properties.{property_number, number_at}
+use Rattle.co_sheet_text.specs.Text.{same_name}
+use Rattle.co_sheet_text.specs.Sections.{TextSection, property_at, section_at}
+use Rattle.co_sheet_text.specs.Properties.{property_number, number_at}
 use Rattle.co_sheet.specs.ObjectLists.{is_one_of, listings}
 
 -- the object type with this code

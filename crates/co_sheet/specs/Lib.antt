@@ -1,9 +1,9 @@
-pub use Rattle.co_text.specs.Text
-pub use Rattle.co_text.specs.Names
-pub use Rattle.co_text.specs.Sections
-pub use Rattle.co_text.specs.Numerals
-pub use Rattle.co_text.specs.Properties
-pub use Rattle.co_text.specs.SectionLaws
+pub use Rattle.co_sheet_text.specs.Text
+pub use Rattle.co_sheet_text.specs.Names
+pub use Rattle.co_sheet_text.specs.Sections
+pub use Rattle.co_sheet_text.specs.Numerals
+pub use Rattle.co_sheet_text.specs.Properties
+pub use Rattle.co_sheet_text.specs.SectionLaws
 pub mod ObjectLists
 pub mod FixedTypes
 pub mod Entries

@@ -2,15 +2,15 @@
 use Rattle.std.specs.Prelude.{ℕ, ◌%◌, Bool, true, ◌&&◌, ◌==◌, if◌then◌else◌, ℤ, int_le, List, length, codes, Option, Some, None, is_some, option_and_then, unwrap_or, Result, Ok, Err}
 use Rattle.std.specs.List.{list_any, list_all, before_first, after_first}
 use Rattle.std.specs.Result.{result_ok}
-use Rattle.co_text.specs.Names.{is_hexadecimal_digit}
+use Rattle.co_sheet_text.specs.Names.{is_hexadecimal_digit}
 use Rattle.co_value.specs.declared.data_type.DataType.{DataType}
 use Rattle.co_value.specs.declared.data_type.DataType.TheVariants.{VisibleString, OctetString}
 use Rattle.co_value.specs.Types.{width_of, least_of, greatest_of}
-use Rattle.co_text.specs.declared.numeral.NumeralFault.{NumeralFault}
-use Rattle.co_text.specs.declared.numeral.NumeralFault.TheVariants.{Malformed}
-use Rattle.co_text.specs.Text.{trim, same_name}
-use Rattle.co_text.specs.Sections.{property_at}
-use Rattle.co_text.specs.Numerals.{result_map, signed_numeral, unsigned_number, value_at}
+use Rattle.co_sheet_text.specs.declared.numeral.NumeralFault.{NumeralFault}
+use Rattle.co_sheet_text.specs.declared.numeral.NumeralFault.TheVariants.{Malformed}
+use Rattle.co_sheet_text.specs.Text.{trim, same_name}
+use Rattle.co_sheet_text.specs.Sections.{property_at}
+use Rattle.co_sheet_text.specs.Numerals.{result_map, signed_numeral, unsigned_number, value_at}
 use Rattle.co_sheet.specs.Entries.{Entry}
 
 -- A default, without where its bytes lie in memory: none; a number; the node-ID plus a number; bytes;

@@ -2,9 +2,9 @@
 use Rattle.std.specs.Prelude.{ℕ, Bool, false, not, ◌&&◌, ◌==◌, nat_le, List, [], filter, filter_map, flat_map, codes, Option, option_map}
 use Rattle.std.specs.List.{list_any, range_with_len}
 use Rattle.std.specs.Option.{option_map_or}
-use Rattle.co_text.specs.Names.{is_list, is_position, number_in}
-use Rattle.co_text.specs.Sections.{Property, TextSection}
-use Rattle.co_text.specs.Properties.{property_number, number_at}
+use Rattle.co_sheet_text.specs.Names.{is_list, is_position, number_in}
+use Rattle.co_sheet_text.specs.Sections.{Property, TextSection}
+use Rattle.co_sheet_text.specs.Properties.{property_number, number_at}
 
 -- a number that is there and is one of these
 abbrev pub is_one_of : List ℕ → Option ℕ → Bool

@@ -1,7 +1,7 @@
 -- Why a list with fewer places than it counts lacks one of them (CiA 306, object lists).
 use Rattle.std.specs.Prelude.{◌≡◌, ℕ, nat_lt, List, length}
 use Rattle.std.specs.List.{AllByRecursion}
-use Rattle.co_text.specs.Sections.{TextSection}
+use Rattle.co_sheet_text.specs.Sections.{TextSection}
 use Rattle.co_sheet.specs.ObjectLists.{keys_to, lacks_place}
 
 -- fewer keys from 1 to n than n are there exactly where one of them is missing

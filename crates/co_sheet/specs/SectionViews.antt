@@ -4,12 +4,12 @@ use Rattle.std.specs.List.{filter}
 use Rattle.std.specs.List.Sorted.{IsNonDecreasingBy}
 use Rattle.std.specs.Ordering.{nat_cmp}
 use Rattle.std.specs.BTreeMap.{BTreeMap, get}
-use Rattle.co_text.specs.declared.section_kind.SectionKind.TheVariants.{Object}
+use Rattle.co_sheet_text.specs.declared.section_kind.SectionKind.TheVariants.{Object}
 use Rattle.co_sheet.specs.declared.tables.ListedSection.{ListedSection}
 use Rattle.co_sheet.specs.declared.tables.EntrySection.{EntrySection}
-use Rattle.co_text.specs.Sections.{TextSection, section_at}
+use Rattle.co_sheet_text.specs.Sections.{TextSection, section_at}
 use Rattle.co_sheet.specs.Entries.{ListedObject, Entry, sub_indices}
-use Rattle.co_text.specs.Views.{section_view}
+use Rattle.co_sheet_text.specs.Views.{section_view}
 
 -- a listed object with its section
 abbrev pub object_view : ListedSection → ListedObject

@@ -1,13 +1,13 @@
 //! The entries of a data sheet's objects.
 
 ghost use Rattle.std.specs.Prelude.{◌≡◌};
-ghost use Rattle.co_text.specs.Numerals.{result_map};
+ghost use Rattle.co_sheet_text.specs.Numerals.{result_map};
 ghost use Rattle.co_sheet.specs.Entries.{access_with};
 ghost use Rattle.co_sheet.specs.Limits.{numeric_default, node_id_sum, is_node_id, is_pairs};
 ghost use Rattle.co_sheet.specs.Views.{default_view};
 
-use co_lines::split_at_first;
-use co_text::{NumeralFault, all_digits, same_name, signed_numeral, trim, unsigned_number};
+use co_sheet_text::{NumeralFault, all_digits, same_name, signed_numeral, trim, unsigned_number};
+use co_text::split_at_first;
 use co_value::{DataType, Key};
 
 /// How an entry may be accessed, by the word of its AccessType (CiA 306, object description).

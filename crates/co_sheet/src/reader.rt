@@ -1,7 +1,7 @@
 //! A data sheet, read from its text.
 
 ghost use Rattle.std.specs.Prelude.{◌≡◌, ◌<◌, ◌≤◌, ◌⊎◌, ℕ, List, length, Err, Some, None, IfOk, IfErr};
-ghost use Rattle.co_text.specs.SectionLaws.{IsParsed};
+ghost use Rattle.co_sheet_text.specs.SectionLaws.{IsParsed};
 ghost use Rattle.co_sheet.specs.declared.fault.FaultKind.TheVariants.{TooLarge};
 ghost use Rattle.co_sheet.specs.Accepted.{IsAccepted, first_fault, first_bad_line, sections_in, IsAnswered};
 ghost use Rattle.co_sheet.specs.AcceptedTexts.{IsFaultless};
@@ -12,7 +12,7 @@ ghost use Rattle.co_sheet.specs.PlaceLaws.{AllCountPlaces};
 
 use crate::fault::{FaultKind, SheetFault};
 use crate::sheet::{Sheet, sheet_of};
-use co_text::ParsedText;
+use co_sheet_text::ParsedText;
 use std::alloc::Global;
 
 /// The greatest number of bytes of a data sheet.
@@ -56,5 +56,5 @@ fn sections_in(alloc: Global, text: &[u8]) -> Result<ParsedText<'_>, SheetFault>
     ensures err { IfErr result (λ fault. (fault ≡ out_of_memory)
         ⊎ (first_bad_line text.now ≡ Some fault)) }
 {
-    Ok(co_text::sections_in(alloc, text)?)
+    Ok(co_sheet_text::sections_in(alloc, text)?)
 }

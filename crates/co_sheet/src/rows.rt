@@ -2,18 +2,18 @@
 
 ghost use Rattle.std.specs.Prelude.{◌≡◌, ◌∷◌, [], map, IfOk, OnOk};
 ghost use Rattle.std.specs.Option.{option_copied};
-ghost use Rattle.co_text.specs.Properties.{number_at};
+ghost use Rattle.co_sheet_text.specs.Properties.{number_at};
 ghost use Rattle.co_sheet.specs.ObjectLists.{is_one_of};
 ghost use Rattle.co_sheet.specs.Entries.{name_of};
 ghost use Rattle.co_sheet.specs.Content.{section_names_in, rows_in_order, objects_in_order, dummies_in};
-ghost use Rattle.co_text.specs.Views.{section_view};
+ghost use Rattle.co_sheet_text.specs.Views.{section_view};
 ghost use Rattle.co_sheet.specs.SheetViews.{row_view, object_row_view, section_name_view};
 
 use crate::entry::EntryRow;
 use crate::object::Object;
 use crate::section::Section;
 use crate::sections::section_at;
-use co_text::{SectionKind, TextSection};
+use co_sheet_text::{SectionKind, TextSection};
 use std::alloc::{AllocError, Global};
 
 // ParameterName

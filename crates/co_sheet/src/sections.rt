@@ -2,11 +2,11 @@
 
 ghost use Rattle.std.specs.Prelude.{◌≡◌, map, option_map};
 ghost use Rattle.std.specs.Option.{option_copied};
-ghost use Rattle.co_text.specs.Names.{same_kind};
-ghost use Rattle.co_text.specs.Sections.{section_at};
-ghost use Rattle.co_text.specs.Views.{section_view};
+ghost use Rattle.co_sheet_text.specs.Names.{same_kind};
+ghost use Rattle.co_sheet_text.specs.Sections.{section_at};
+ghost use Rattle.co_sheet_text.specs.Views.{section_view};
 
-use co_text::{SectionKind, TextSection};
+use co_sheet_text::{SectionKind, TextSection};
 
 // whether two sections are about the same
 fn same_kind(kind: SectionKind, other: SectionKind) -> bool

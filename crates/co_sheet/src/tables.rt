@@ -4,10 +4,10 @@ ghost use Rattle.std.specs.Prelude.{◌≡◌, ℕ, map, option_map, IfOk, OnOk}
 ghost use Rattle.std.specs.Ordering.{nat_cmp};
 ghost use Rattle.std.specs.BTreeMap.{get};
 ghost use Rattle.co_sheet.specs.Entries.{sub_indices};
-ghost use Rattle.co_text.specs.Views.{section_view};
+ghost use Rattle.co_sheet_text.specs.Views.{section_view};
 ghost use Rattle.co_sheet.specs.SectionViews.{object_view, entry_view, object_at, parts_at, AreByIndex};
 
-use co_text::{SectionKind, TextSection};
+use co_sheet_text::{SectionKind, TextSection};
 use co_value::Key;
 use std::alloc::{AllocError, Global};
 use std::collections::BTreeMap;
@@ -95,8 +95,8 @@ pub(crate) struct Tables<'s, 'a> {
 // the sections
 impl<'s, 'a> Model for Tables<'s, 'a> {
     ghost use Rattle.std.specs.Prelude.{List, map};
-    ghost use Rattle.co_text.specs.Sections.{TextSection};
-    ghost use Rattle.co_text.specs.Views.{section_view};
+    ghost use Rattle.co_sheet_text.specs.Sections.{TextSection};
+    ghost use Rattle.co_sheet_text.specs.Views.{section_view};
     ghost use Rattle.co_sheet.specs.SectionViews.{IsIndexed};
 
     ghost Value = { List TextSection };

@@ -4,7 +4,7 @@ ghost use Rattle.std.specs.Prelude.{◌≡◌};
 ghost use Rattle.co_sheet.specs.Faults.{line_fault_kind, sheet_fault};
 
 use crate::fault::{FaultKind, SheetFault};
-use co_text::{TextFault, TextFaultKind};
+use co_sheet_text::{TextFault, TextFaultKind};
 
 impl From<TextFault> for SheetFault {
     ghost from_gives = { λ fault e. e ≡ sheet_fault fault };

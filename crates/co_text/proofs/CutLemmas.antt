@@ -1,37 +1,37 @@
--- One list of properties, cut into those of each section.
-use Rattle.std.proofs.Common.{◌≡◌, ℕ, ◌+◌, ◌≤◌, List, [], ◌∷◌, ◌++◌, length, take, drop, refl, ◌∙◌, ap, arith}
-use Rattle.std.proofs.Math.Seq.{take-length}
-use Rattle.std.proofs.lemmas.List.{length-drop, take-append-le, drop-append-le}
-use Rattle.co_text.specs.declared.text_section.Property.{Property as CodeProperty}
-use Rattle.co_text.specs.declared.header.Header.{Header}
-use Rattle.co_text.specs.Sections.{TextSection}
-use Rattle.co_text.specs.Cuts.{section_with, cut, property_count}
+-- A text cut at the first byte of a kind.
+use Rattle.std.proofs.Common.{◌≡◌, ℕ, ◌+◌, ◌<◌, Bool, true, false, cond, not, ◌||◌, List, [], ◌∷◌, length, suc, refl, sym, ◌∙◌, arith, ltb}
+use Rattle.std.proofs.lemmas.Bool.Decides.{nat_tests}
+use Rattle.std.proofs.lemmas.List.Splits.{slice_split_first}
+use Rattle.std.specs.List.{list_any, position_or_len, before_first, after_first, slice_split, onto_first}
 
--- one more property is one of the last section
-pub earlier_pushed : (first : ℕ) (items more : List CodeProperty) (k : CodeProperty) → first ≤ length items → more ≡ items ++ k ∷ [] → take first more ≡ take first items
-earlier_pushed first items more k within pushed = ap (take first) pushed ∙ take-append-le first items (k ∷ []) within
+by_head : (head rest : Bool) (n m : ℕ) → rest ≡ ltb n m → (head || rest) ≡ ltb (cond (not head) (1 + n) 0) (suc m)
+by_head true rest n m h = grind (arith, nat_tests)
+by_head false true n m h = grind (arith, nat_tests)
+by_head false false n m h = grind (arith, nat_tests)
 
-pub own_pushed : (first : ℕ) (items more : List CodeProperty) (k : CodeProperty) → first ≤ length items → more ≡ items ++ k ∷ [] → drop first more ≡ drop first items ++ k ∷ []
-own_pushed first items more k within pushed = ap (drop first) pushed ∙ drop-append-le first items (k ∷ []) within
+-- whether some byte passes, by the place of the first
+pub list_any-position : (p : ℕ → Bool) (xs : List ℕ) → list_any p xs ≡ ltb (position_or_len p xs) (length xs)
+list_any-position p [] = refl
+list_any-position p (x ∷ xs) = by_head (p x) (list_any p xs) (position_or_len p xs) (length xs) (list_any-position p xs)
 
-pub count-append : (headers : List Header) (last : Header) → property_count (headers ++ last ∷ []) ≡ property_count headers + last.count
-count-append [] last = omega arith
-count-append (h ∷ headers) last = omega (arith, count-append headers last)
+neither : (a b : Bool) → (a || b) ≡ false → (a ≡ false) × (b ≡ false)
+neither false b h = (refl, h)
+neither true b h = cc
 
-none : (xs : List CodeProperty) → 0 ≡ length xs → xs ≡ []
-none [] h = refl
-none (x ∷ xs) h = absurd (omega arith)
+split_or : (p : ℕ → Bool) (x : ℕ) (xs : List ℕ) → p x ≡ false → slice_split p xs ≡ xs ∷ [] →
+    cond (p x) ([] ∷ slice_split p xs) (onto_first x (slice_split p xs)) ≡ (x ∷ xs) ∷ []
+split_or p x xs h e = rw (h, e) refl
 
--- the last section has the last properties
-pub cut-append : (headers : List Header) (last : Header) (xs ys : List CodeProperty) → property_count headers ≡ length xs → last.count ≡ length ys →
-    cut (headers ++ last ∷ []) (xs ++ ys) ≡ cut headers xs ++ section_with last ys ∷ []
-cut-append [] last xs ys h k =
-    ap (λ (zs : List CodeProperty). section_with last (take last.count (zs ++ ys)) ∷ []) (none xs h)
-    ∙ ap (λ (n : ℕ). section_with last (take n ys) ∷ []) k
-    ∙ ap (λ (zs : List CodeProperty). section_with last zs ∷ []) (take-length ys)
-cut-append (g ∷ headers) last xs ys h k =
-    let fits : g.count ≤ length xs = omega arith in
-    let rest : property_count headers ≡ length (drop g.count xs) = omega (arith, length-drop g.count xs) in
-    ap (λ (zs : List CodeProperty). section_with g zs ∷ cut (headers ++ last ∷ []) (drop g.count (xs ++ ys))) (take-append-le g.count xs ys fits)
-    ∙ ap (λ (zs : List CodeProperty). section_with g (take g.count xs) ∷ cut (headers ++ last ∷ []) zs) (drop-append-le g.count xs ys fits)
-    ∙ ap (λ (ss : List TextSection). section_with g (take g.count xs) ∷ ss) (cut-append headers last (drop g.count xs) ys rest k)
+-- a text where no byte passes is one part
+pub one_part : (p : ℕ → Bool) (text : List ℕ) → list_any p text ≡ false → slice_split p text ≡ text ∷ []
+one_part p [] h = refl
+one_part p (x ∷ xs) h = let both = neither (p x) (list_any p xs) h in split_or p x xs both.0 (one_part p xs both.1)
+
+within : (p : ℕ → Bool) (text : List ℕ) → list_any p text ≡ true → position_or_len p text < length text
+within p text h =
+    let e : ltb (position_or_len p text) (length text) ≡ true = sym (list_any-position p text) ∙ h in
+    grind (arith, nat_tests)
+
+-- the first part of any other, and the parts after it
+pub first_part : (p : ℕ → Bool) (text : List ℕ) → list_any p text ≡ true → slice_split p text ≡ before_first p text ∷ slice_split p (after_first p text)
+first_part p text h = slice_split_first p text 0 (within p text h)

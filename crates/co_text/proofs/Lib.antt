@@ -1,12 +1,3 @@
-pub mod Words
-mod SectionLawExamples
-mod NumeralLemmas
-mod LinesReadLemmas
-mod PropertyLemmas
-mod SectionKindLemmas
-mod CutLemmas
-mod SectionsReadLemmas
-mod SectionsKeptLemmas
-mod PassLemmas
-mod FirstFaultLemmas
-pub mod SectionLawLemmas
+pub mod CutLemmas
+mod LineLemmas
+pub mod Examples

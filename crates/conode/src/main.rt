@@ -8,12 +8,12 @@ mod tasks;
 #[cfg(test)]
 mod tests;
 
-use co_answers::answer_input;
-use co_build::Limits;
-use co_check::check_file;
-use co_command::{CmdFault, stopped};
-use co_decode::decode_files;
+use co_dict_list::Limits;
 use command_line::task;
+use conode_answers::answer_input;
+use conode_check::check_file;
+use conode_decode::decode_files;
+use conode_io::{CmdFault, stopped};
 use std::io::{BufWriter, Write};
 use std::process::ExitCode;
 use std::{env, io};

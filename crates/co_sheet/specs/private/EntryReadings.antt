@@ -8,14 +8,14 @@ use Rattle.co_sheet.specs.declared.checks.entries.Limit.{Limit}
 use Rattle.co_sheet.specs.declared.fault.FaultKind.TheVariants.{BadLimits}
 use Rattle.co_sheet.specs.declared.fault.SheetFault.{SheetFault}
 use Rattle.co_sheet.specs.declared.checks.findings.Finding.{Finding}
-use Rattle.co_text.specs.declared.text_section.Property.{Property as CodeProperty}
-use Rattle.co_text.specs.Sections.{Property, property_at}
-use Rattle.co_text.specs.Views.{property_view}
+use Rattle.co_sheet_text.specs.declared.text_section.Property.{Property as CodeProperty}
+use Rattle.co_sheet_text.specs.Sections.{Property, property_at}
+use Rattle.co_sheet_text.specs.Views.{property_view}
 use Rattle.co_sheet.specs.declared.entry.EntryRow.{EntryRow}
 use Rattle.co_sheet.specs.Accepted.{least_fault}
 use Rattle.co_sheet.specs.Content.{row_of}
 use Rattle.co_sheet.specs.SheetViews.{row_view}
-use Rattle.co_text.specs.Numerals.{unsigned_number}
+use Rattle.co_sheet_text.specs.Numerals.{unsigned_number}
 use Rattle.co_sheet.specs.Entries.{Entry}
 use Rattle.co_sheet.specs.declared.checks.entries.Values.{Values}
 use Rattle.co_sheet.specs.declared.fault.FaultKind.TheVariants.{BadDefault}

@@ -3,10 +3,10 @@
 use Rattle.std.specs.Prelude.{ℕ, Bool, ◌&&◌, ◌==◌, not, true, false, nat_le, nat_lt, List, [], ◌∷◌, Option, Some, None, filter, flat_map, map, option_and_then, if◌then◌else◌}
 use Rattle.std.specs.List.{list_any, list_all}
 use Rattle.std.specs.Option.{option_map_or}
-use Rattle.co_text.specs.Names.{is_list, is_position, number_in}
-use Rattle.co_text.specs.Sections.{Property, TextSection}
-use Rattle.co_text.specs.Properties.{property_number}
-use Rattle.co_text.specs.SectionLaws.{RisesFrom}
+use Rattle.co_sheet_text.specs.Names.{is_list, is_position, number_in}
+use Rattle.co_sheet_text.specs.Sections.{Property, TextSection}
+use Rattle.co_sheet_text.specs.Properties.{property_number}
+use Rattle.co_sheet_text.specs.SectionLaws.{RisesFrom}
 use Rattle.co_sheet.specs.declared.checks.findings.Finding.{Finding}
 use Rattle.co_sheet.specs.declared.checks.lists.Listing.{Listing as ListingOfCode}
 use Rattle.co_sheet.specs.declared.fault.FaultKind.TheVariants.{BadList, ListedTwice, MissingMandatory}

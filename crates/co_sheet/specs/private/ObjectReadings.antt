@@ -3,8 +3,8 @@
 use Rattle.std.specs.Prelude.{◌≡◌, ℕ, ◌==◌, not, List, [], ◌∷◌, ◌++◌, Option, Some, None, map, option_map, option_and_then, codes}
 use Rattle.std.specs.List.{list_any}
 use Rattle.std.specs.Option.{option_map_or}
-use Rattle.co_text.specs.declared.section_kind.SectionKind.TheVariants.{DeviceInfo}
-use Rattle.co_text.specs.Sections.{TextSection, section_at}
+use Rattle.co_sheet_text.specs.declared.section_kind.SectionKind.TheVariants.{DeviceInfo}
+use Rattle.co_sheet_text.specs.Sections.{TextSection, section_at}
 use Rattle.co_sheet.specs.Accepted.{least_fault}
 use Rattle.co_sheet.specs.declared.checks.objects.Listed.{Listed}
 use Rattle.co_sheet.specs.declared.fault.FaultKind.TheVariants.{MissingSub0}

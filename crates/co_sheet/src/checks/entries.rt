@@ -11,7 +11,7 @@ ghost use Rattle.co_sheet.specs.Checks.{missing_key, unread_number, unread_limit
 ghost use Rattle.co_sheet.specs.Accepted.{least_fault, IsAnswered};
 ghost use Rattle.co_sheet.specs.private.EntryReadings.{IsGiven, fault_in, HaveRows, entry_finding, first_in, type_finding, value_finding, IsNumberAt, IsLimitAt, IsDefaultAt, AreValues, value_of, outside, crossed, limits_found, default_with_key, is_other_default, default_found};
 ghost use Rattle.co_sheet.specs.Content.{row_of};
-ghost use Rattle.co_text.specs.Views.{property_view};
+ghost use Rattle.co_sheet_text.specs.Views.{property_view};
 ghost use Rattle.co_sheet.specs.SectionViews.{entry_view};
 ghost use Rattle.co_sheet.specs.SheetViews.{row_view};
 ghost use Rattle.co_sheet.specs.Views.{default_view};
@@ -23,7 +23,7 @@ use crate::entry::{Access, EntryRow, Preset, is_pairs, numeric_default};
 use crate::fault::{FaultKind, SheetFault};
 use crate::rows::name_of;
 use crate::tables::EntrySection;
-use co_text::{Property, signed_numeral, unsigned_number};
+use co_sheet_text::{Property, signed_numeral, unsigned_number};
 use co_value::DataType;
 use std::alloc::Global;
 

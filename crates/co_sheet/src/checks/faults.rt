@@ -3,8 +3,8 @@
 ghost use Rattle.std.specs.Prelude.{◌≡◌, List, flat_map, IfOk};
 ghost use Rattle.std.specs.Fn.{FnReturnsAt};
 ghost use Rattle.std.specs.Result.{result_ok, result_err};
-ghost use Rattle.co_text.specs.Properties.{property_number};
-ghost use Rattle.co_text.specs.Views.{property_view};
+ghost use Rattle.co_sheet_text.specs.Properties.{property_number};
+ghost use Rattle.co_sheet_text.specs.Views.{property_view};
 ghost use Rattle.co_sheet.specs.declared.fault.SheetFault.{SheetFault as Fault};
 ghost use Rattle.co_sheet.specs.Faults.{fault_at};
 ghost use Rattle.co_sheet.specs.Checks.{fault_if, numeral_fault, unread_number};
@@ -12,7 +12,7 @@ ghost use Rattle.co_sheet.specs.Accepted.{least_fault};
 ghost use Rattle.co_sheet.specs.private.LeastFaults.{earlier};
 
 use crate::fault::{FaultKind, SheetFault};
-use co_text::{NumeralFault, Property, unsigned_number};
+use co_sheet_text::{NumeralFault, Property, unsigned_number};
 
 // a fault at a line, where a test says so
 pub(crate) fn fault_if(test: bool, kind: FaultKind, line: usize) -> Option<SheetFault>

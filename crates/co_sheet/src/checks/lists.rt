@@ -2,7 +2,7 @@
 
 ghost use Rattle.std.specs.Prelude.{◌≡◌, ◌++◌, ℕ, nat_eq, map, flat_map, filter_map, option_and_then, IfOk, IfErr, OnOk, None};
 ghost use Rattle.indexmap.specs.IndexSet.{contains};
-ghost use Rattle.co_text.specs.Views.{property_view, section_view};
+ghost use Rattle.co_sheet_text.specs.Views.{property_view, section_view};
 ghost use Rattle.co_sheet.specs.ObjectLists.{listings};
 ghost use Rattle.co_sheet.specs.Checks.{unread_number, has_numbers, is_bad_list};
 ghost use Rattle.co_sheet.specs.Accepted.{least_fault, first_found, IsAnswered};
@@ -12,7 +12,7 @@ use crate::checks::faults::{fault_if, least_over, number_of};
 use crate::checks::findings::{Finding, found, sooner};
 use crate::fault::{FaultKind, SheetFault};
 use crate::sections::section_at;
-use co_text::{Property, SectionKind, TextSection, number_in};
+use co_sheet_text::{Property, SectionKind, TextSection, number_in};
 use indexmap::IndexSet;
 use std::alloc::{AllocError, Global};
 

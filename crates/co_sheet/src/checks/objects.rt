@@ -3,7 +3,7 @@
 ghost use Rattle.std.specs.Prelude.{◌≡◌, ◌==◌, ◌++◌, ◌∷◌, [], map, Some, None, IfOk, IfErr, OnOk};
 ghost use Rattle.std.specs.List.{list_any};
 ghost use Rattle.std.specs.Result.{result_ok, result_err};
-ghost use Rattle.co_text.specs.Views.{section_view};
+ghost use Rattle.co_sheet_text.specs.Views.{section_view};
 ghost use Rattle.co_sheet.specs.ObjectLists.{listings};
 ghost use Rattle.co_sheet.specs.Entries.{entries_in, entries_of};
 ghost use Rattle.co_sheet.specs.Checks.{object_checks};
@@ -23,7 +23,7 @@ use crate::object::{Object, ObjectType};
 use crate::rows::name_of;
 use crate::sections::section_at;
 use crate::tables::{EntrySection, ListedSection, Tables};
-use co_text::{SectionKind, TextSection};
+use co_sheet_text::{SectionKind, TextSection};
 use co_value::Key;
 use std::alloc::{AllocError, Global};
 

@@ -1,7 +1,7 @@
 use Rattle.std.proofs.Common.{◌≡◌, ◌++◌, drop, map}
 use Rattle.std.specs.List.{flat_map}
 use Rattle.co_sheet.specs.Notes.{notes_at}
-use Rattle.co_text.specs.Views.{section_view}
+use Rattle.co_sheet_text.specs.Views.{section_view}
 use Rattle.co_sheet.proofs.notes.notes.Given as goal
 
 -- those so far, and after them those of the rest

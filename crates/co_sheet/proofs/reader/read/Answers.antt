@@ -1,7 +1,7 @@
 use Rattle.std.proofs.Common.{◌≡◌, ℕ, ◌≤◌, List, None, Result, Ok, Err, length, map, sym, ap, ◌∙◌, subst}
 use Rattle.std.specs.Prelude.{IfOk}
-use Rattle.co_text.specs.Sections.{TextSection}
-use Rattle.co_text.specs.Views.{section_view}
+use Rattle.co_sheet_text.specs.Sections.{TextSection}
+use Rattle.co_sheet_text.specs.Views.{section_view}
 use Rattle.co_sheet.specs.Accepted.{first_bad_line, first_found, sections_in}
 use Rattle.co_sheet.specs.Checks.{checks}
 use Rattle.co_sheet.specs.Content.{Row, ObjectRow, SheetContent, content_of, IsSheet, IsWhole}

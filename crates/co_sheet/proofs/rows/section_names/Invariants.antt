@@ -1,5 +1,5 @@
 use Rattle.std.proofs.Common.{◌≡◌, ◌++◌, drop, map}
-use Rattle.co_text.specs.Views.{section_view}
+use Rattle.co_sheet_text.specs.Views.{section_view}
 use Rattle.co_sheet.specs.SheetViews.{section_name_view}
 use Rattle.co_sheet.proofs.rows.section_names.Given as goal
 

@@ -1,6 +1,6 @@
 use Rattle.std.proofs.Common.{◌≡◌, drop, map}
-use Rattle.co_text.specs.Sections.{section_at}
-use Rattle.co_text.specs.Views.{section_view}
+use Rattle.co_sheet_text.specs.Sections.{section_at}
+use Rattle.co_sheet_text.specs.Views.{section_view}
 use Rattle.co_sheet.proofs.sections.section_at.Given as goal
 
 -- what is found in the rest is found in all

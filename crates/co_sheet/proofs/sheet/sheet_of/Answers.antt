@@ -1,8 +1,8 @@
 use Rattle.std.proofs.Common.{◌≡◌, ℕ, Bool, Option, Some, None, Result, Ok, Err, ap, sym, ◌∙◌, subst, map, inr, refl, rules}
 use Rattle.std.specs.Prelude.{IfErr}
 use Rattle.std.specs.Result.{result_err}
-use Rattle.co_text.specs.SectionLaws.{IsParsed}
-use Rattle.co_text.specs.Views.{section_view}
+use Rattle.co_sheet_text.specs.SectionLaws.{IsParsed}
+use Rattle.co_sheet_text.specs.Views.{section_view}
 use Rattle.co_sheet.specs.declared.fault.SheetFault.{SheetFault}
 use Rattle.co_sheet.specs.ObjectLists.{is_listed, listings}
 use Rattle.co_sheet.specs.Entries.{entries_of}

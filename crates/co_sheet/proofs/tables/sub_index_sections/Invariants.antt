@@ -1,6 +1,6 @@
 use Rattle.std.proofs.Common.{◌≡◌, ℕ, drop, map, ◌++◌}
 use Rattle.co_sheet.specs.Entries.{sub_indices}
-use Rattle.co_text.specs.Views.{section_view}
+use Rattle.co_sheet_text.specs.Views.{section_view}
 use Rattle.co_sheet.specs.SectionViews.{parts_at}
 use Rattle.co_sheet.proofs.tables.sub_index_sections.Given as goal
 

@@ -1,9 +1,9 @@
 use Rattle.std.proofs.Common.{◌++◌, Bool, [], sym, ap, ◌∙◌, arith, map, length, get_or}
 use Rattle.std.specs.List.{filter, list_any}
-use Rattle.co_text.specs.declared.text_section.Property.{Property as CodeProperty}
-use Rattle.co_text.specs.Sections.{Property}
-use Rattle.co_text.specs.Properties.{property_number}
-use Rattle.co_text.specs.Views.{property_view, section_view}
+use Rattle.co_sheet_text.specs.declared.text_section.Property.{Property as CodeProperty}
+use Rattle.co_sheet_text.specs.Sections.{Property}
+use Rattle.co_sheet_text.specs.Properties.{property_number}
+use Rattle.co_sheet_text.specs.Views.{property_view, section_view}
 use Rattle.co_sheet.specs.private.ListReadings.{listing_view, listed, listing_at, is_key_to, is_large}
 use Rattle.co_sheet.proofs.ListLemmas.{append-none, collect-turn}
 use Rattle.co_sheet.proofs.ListReadingLemmas.{count-turn, count-end, any-turn, any-end, counts-one, counts-none, tests-one, tests-none, names-one, names-none, bad-counts, good-counts}

@@ -1,8 +1,8 @@
 use Rattle.std.proofs.Common.{◌≡◌, ◌+◌, ◌≤◌, ◌++◌, ◌||◌, drop, map, length, false, nat_lt}
 use Rattle.std.specs.List.{filter, filter_map, list_any}
 use Rattle.std.specs.Option.{option_map_or}
-use Rattle.co_text.specs.Properties.{property_number}
-use Rattle.co_text.specs.Views.{property_view}
+use Rattle.co_sheet_text.specs.Properties.{property_number}
+use Rattle.co_sheet_text.specs.Views.{property_view}
 use Rattle.co_sheet.specs.private.ListReadings.{listing_view, listing_at, is_key_to}
 use Rattle.co_sheet.proofs.checks.lists.add_listings.Given as goal
 

@@ -1,5 +1,5 @@
 use Rattle.std.proofs.Common.{◌≡◌, ◌++◌, OnOk, sym, map, subst}
-use Rattle.co_text.specs.Views.{section_view}
+use Rattle.co_sheet_text.specs.Views.{section_view}
 use Rattle.co_sheet.specs.private.ListReadings.{listing_view}
 use Rattle.co_sheet.proofs.ListingLemmas.{named-in}
 use Rattle.co_sheet.proofs.checks.lists.read_list.Goals as goal

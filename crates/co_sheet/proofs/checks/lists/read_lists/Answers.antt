@@ -1,7 +1,7 @@
 use Rattle.std.proofs.Common.{sym, ap, ◌∙◌, map, inr}
 use Rattle.std.specs.Prelude.{is_none, not, option_map}
 use Rattle.co_sheet.specs.declared.checks.findings.Finding.{Finding}
-use Rattle.co_text.specs.Views.{section_view}
+use Rattle.co_sheet_text.specs.Views.{section_view}
 use Rattle.co_sheet.specs.private.Findings.{sooner}
 use Rattle.co_sheet.specs.private.ListReadings.{listing_view, list_finding, named_by}
 use Rattle.co_sheet.proofs.FindingLemmas.{soonest-turn, soonest-end, sooner-neither}

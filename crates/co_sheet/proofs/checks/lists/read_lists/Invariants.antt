@@ -1,6 +1,6 @@
 use Rattle.std.proofs.Common.{◌≡◌, ◌++◌, None, drop, map}
 use Rattle.std.specs.List.{flat_map}
-use Rattle.co_text.specs.Views.{section_view}
+use Rattle.co_sheet_text.specs.Views.{section_view}
 use Rattle.co_sheet.specs.private.Findings.{sooner, soonest}
 use Rattle.co_sheet.specs.private.ListReadings.{listing_view, list_finding, named_by}
 use Rattle.co_sheet.proofs.checks.lists.read_lists.Given as goal

@@ -1,6 +1,6 @@
 use Rattle.std.proofs.Common.{sym, ap, ◌∙◌, map}
 use Rattle.std.specs.Prelude.{option_map}
-use Rattle.co_text.specs.Views.{section_view}
+use Rattle.co_sheet_text.specs.Views.{section_view}
 use Rattle.co_sheet.specs.private.Findings.{found_by}
 use Rattle.co_sheet.specs.private.ListReadings.{listing_view}
 use Rattle.co_sheet.proofs.ListReadingLemmas.{list-read, list-named}

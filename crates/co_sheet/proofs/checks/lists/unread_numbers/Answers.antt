@@ -1,6 +1,6 @@
 use Rattle.std.proofs.Common.{rules}
 use Rattle.co_sheet.specs.Checks.{unread_number}
-use Rattle.co_text.specs.Views.{property_view}
+use Rattle.co_sheet_text.specs.Views.{property_view}
 use Rattle.co_sheet.proofs.LeastLemmas.{least-views}
 use Rattle.co_sheet.proofs.checks.lists.unread_numbers.Goals as goal
 

@@ -3,7 +3,7 @@ use Rattle.std.specs.Prelude.{option_map, flat_map}
 use Rattle.co_sheet.specs.declared.checks.findings.Finding.{Finding}
 use Rattle.co_sheet.specs.declared.fault.SheetFault.{SheetFault}
 use Rattle.co_sheet.specs.declared.checks.lists.Listing.{Listing}
-use Rattle.co_text.specs.Sections.{TextSection}
+use Rattle.co_sheet_text.specs.Sections.{TextSection}
 use Rattle.co_sheet.specs.SectionViews.{entry_view}
 use Rattle.co_sheet.specs.Accepted.{least_fault}
 use Rattle.co_sheet.specs.private.Findings.{found_by, sooner}

@@ -5,7 +5,7 @@ use Rattle.co_sheet.specs.Accepted.{least_fault}
 use Rattle.co_sheet.specs.Checks.{bad_access}
 use Rattle.co_sheet.specs.private.Findings.{found_by}
 use Rattle.co_sheet.specs.private.EntryReadings.{value_finding}
-use Rattle.co_text.specs.Views.{property_view}
+use Rattle.co_sheet_text.specs.Views.{property_view}
 use Rattle.co_sheet.specs.SectionViews.{entry_view}
 use Rattle.co_sheet.proofs.EntryReadingLemmas.{checked-ok, checked-err, passed, stops, entry-steps, no_type-domain, no_access-domain}
 use Rattle.co_sheet.proofs.tables.EntrySection.read.Goals as goal

@@ -7,8 +7,8 @@ use Rattle.co_sheet.specs.Checks.{unread}
 use Rattle.co_sheet.specs.Limits.{number_at_type, numeric_default, is_numeric}
 use Rattle.co_sheet.specs.private.LeastFaults.{earlier}
 use Rattle.co_sheet.specs.private.EntryReadings.{IsLimitAt, IsDefaultAt}
-use Rattle.co_text.specs.Sections.{Property}
-use Rattle.co_text.specs.Views.{property_view}
+use Rattle.co_sheet_text.specs.Sections.{Property}
+use Rattle.co_sheet_text.specs.Views.{property_view}
 use Rattle.co_sheet.specs.SectionViews.{entry_view}
 use Rattle.co_sheet.proofs.EntryReadingLemmas.{at_ok, unread-read, numeric-unread, numeric-values}
 use Rattle.co_sheet.proofs.tables.EntrySection.stated.Goals as goal

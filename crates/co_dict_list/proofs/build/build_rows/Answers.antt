@@ -1,0 +1,22 @@
+-- Each row is ready, since no sum is out of range; the keys are those of the rows.
+use Rattle.std.proofs.Common.{rules, ◌≡◌, None, map, ap, ◌∙◌}
+use Rattle.co_sheet.specs.SheetViews.{row_view}
+use Rattle.co_dict.specs.Stores.{Description}
+use Rattle.co_dict_list.specs.Capacities.{limits_view}
+use Rattle.co_dict_list.specs.Built.{plan_in}
+use Rattle.co_dict_list.specs.BuildFaults.{value_out_of_range}
+use Rattle.co_dict_list.proofs.Plans.{all_ready, keys_built, begins_initially}
+use Rattle.co_dict_list.proofs.build.build_rows.Goals as goal
+
+pub store_of-requires-clause-ready : goal.store_of-requires-clause-ready
+store_of-requires-clause-ready c =
+    let none : value_out_of_range c.args.node_id (map row_view c.args.rows.now) ≡ None = search rules in
+    all_ready c.args.node_id c.args.rows.now c.if-node_id-gt127.false c.requires.sheet none
+
+pub dictionary_fault-requires-clause-keys : goal.dictionary_fault-requires-clause-keys
+dictionary_fault-requires-clause-keys c =
+    ap (λ (d : Description). d.keys) c.in-Ok.ensures.description ∙ keys_built c.args.node_id (limits_view c.args.limits.now) c.args.rows.now
+
+pub returns-in-None-clause-initial : goal.returns-in-None-clause-initial
+returns-in-None-clause-initial c =
+    begins_initially (plan_in c.args.node_id c.args.limits.now c.args.rows.now c.args.dummies) _ _ c.in-Ok.ensures.description c.in-Ok.ensures.contents

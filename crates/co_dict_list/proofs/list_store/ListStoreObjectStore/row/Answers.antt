@@ -1,0 +1,14 @@
+use Rattle.std.proofs.Common.{Some, ap, ◌∙◌}
+use Rattle.co_dict_list.specs.StoredEntries.{entry_view, entry_views}
+use Rattle.co_dict_list.proofs.Places.{part_at-place, part_at-no_place}
+use Rattle.co_dict_list.proofs.Views.{view_at}
+use Rattle.co_dict_list.proofs.list_store.ListStoreObjectStore.row.Goals as goal
+
+pub returns-in_err-at : goal.returns-in_err-at
+returns-in_err-at c = c.from_residual.ensures ∙ part_at-no_place (λ e. e.row) (entry_views c.args.self.now.entries.items) c.args.key c.in_err-at.ensures
+
+pub returns : goal.returns
+returns c =
+    let entries = c.args.self.now.entries.items in
+    let e = c.index.result.now in
+    ap (λ v. Some v.row) (view_at entries c.in_ok-at.at e c.index.ensures) ∙ part_at-place (λ e. e.row) (entry_views entries) c.args.key c.in_ok-at.at (entry_view e) c.in_ok-at.ensures

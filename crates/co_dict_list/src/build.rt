@@ -1,0 +1,183 @@
+//! From a data sheet, a node-ID and limits to a dictionary, or to the first fault.
+
+ghost use Rattle.std.specs.Prelude.{◌≡◌, option_map, ◌≤◌, map, All, AllPairs, true, Err, IfOk, IfErr, None, false};
+ghost use Rattle.co_sheet.specs.SheetViews.{row_view};
+ghost use Rattle.co_value.specs.declared.key.Key.{Key};
+ghost use Rattle.co_value.specs.Keys.{is_key_before};
+ghost use Rattle.co_sheet.specs.SheetLaws.{IsSheetRow};
+ghost use Rattle.co_dict_list.specs.SheetRows.{IsReady};
+ghost use Rattle.co_dict_list.specs.Capacities.{limits_view};
+ghost use Rattle.co_dict_list.specs.Built.{dummies_of, plan_of, plan_in, built_description, built_contents};
+ghost use Rattle.co_dict_list.specs.BuildFaults.{is_node, bad_cob_id, unpaired, bad_mapping, room_fault, dictionary_fault, build_fault, IsBuildFault};
+
+mod cob_ids;
+mod entries;
+mod mappings;
+mod pdo_pairs;
+mod room;
+mod value_range;
+
+use crate::build_fault::BuildFault;
+use crate::limits::Limits;
+use crate::list_store::ListStore;
+use co_dict::ObjectStore;
+use co_sheet::{EntryRow, Sheet};
+use cob_ids::bad_cob_id;
+use entries::entries;
+use mappings::bad_mapping;
+use pdo_pairs::unpaired;
+use room::is_too_many;
+use std::alloc::{AllocError, Global};
+use value_range::value_out_of_range;
+
+fn word_fault<S: ObjectStore>(store: &S, rows: &[EntryRow<'_>]) -> Option<BuildFault>
+    requires { (S.description store.now).keys ≡ map (λ row. row.key) rows.now }
+    ensures { result
+        ≡ option_map BuildFault.BadCobId (bad_cob_id (S.description store.now) (S.contents store.now)) }
+{
+    bad_cob_id(store, rows).map(BuildFault::BadCobId)
+}
+
+fn pair_fault<S: ObjectStore>(store: &S, rows: &[EntryRow<'_>]) -> Option<BuildFault>
+    requires { (S.description store.now).keys ≡ map (λ row. row.key) rows.now }
+    ensures { result ≡ option_map BuildFault.PdoPair (unpaired (S.description store.now)) }
+{
+    unpaired(store, rows).map(BuildFault::PdoPair)
+}
+
+fn mapping_fault<S: ObjectStore>(store: &S, rows: &[EntryRow<'_>]) -> Option<BuildFault>
+    requires { (S.description store.now).keys ≡ map (λ row. row.key) rows.now }
+    ensures { result
+        ≡ option_map BuildFault.BadMapping (bad_mapping (S.description store.now) (S.contents store.now)) }
+{
+    bad_mapping(store, rows).map(BuildFault::BadMapping)
+}
+
+fn room_fault(limits: &Limits<'_>, rows: &[EntryRow<'_>]) -> Option<BuildFault>
+    requires { All (λ row. IsSheetRow (row_view row)) rows.now }
+    ensures { result ≡ room_fault (limits_view limits.now) (map row_view rows.now) }
+{
+    if is_too_many(limits, rows) {
+        Some(BuildFault::TooMany)
+    } else {
+        None
+    }
+}
+
+// the first fault of a dictionary that was made from the rows of a sheet
+fn dictionary_fault<S: ObjectStore>(
+    store: &S,
+    limits: &Limits<'_>,
+    rows: &[EntryRow<'_>],
+) -> Option<BuildFault>
+    requires sheet { All (λ row. IsSheetRow (row_view row)) rows.now }
+    requires keys { (S.description store.now).keys ≡ map (λ row. row.key) rows.now }
+    ensures { result ≡ dictionary_fault (limits_view limits.now) (map row_view rows.now)
+        (S.description store.now) (S.contents store.now) }
+{
+    word_fault(store, rows)
+        .or(pair_fault(store, rows))
+        .or(mapping_fault(store, rows))
+        .or(room_fault(limits, rows))
+}
+
+// the dictionary of rows of a sheet
+fn store_of(
+    alloc: Global,
+    node_id: u8,
+    limits: &Limits<'_>,
+    rows: &[EntryRow<'_>],
+    dummies: [bool; 6],
+) -> Result<ListStore, AllocError>
+    requires first_node { 1 ≤ node_id }
+    requires last_node { node_id ≤ 127 }
+    requires ready { All (λ row. IsReady node_id (row_view row)) rows.now }
+    requires increase { AllPairs (λ e f. is_key_before e.key f.key ≡ true) rows.now }
+    ensures description { IfOk result (λ store. ⟦<ListStore as ObjectStore>⟧.description store
+        ≡ built_description (plan_in node_id limits.now rows.now dummies)) }
+    ensures contents { IfOk result (λ store. ⟦<ListStore as ObjectStore>⟧.contents store
+        ≡ built_contents (plan_in node_id limits.now rows.now dummies)) }
+{
+    let entries = entries(alloc, node_id, limits, rows)?;
+    Ok(ListStore::new(node_id, dummies, entries))
+}
+
+// The dictionary of rows of a sheet, or its first fault. Nothing asks for memory before a node-ID or a sum was at fault.
+fn build_rows(
+    alloc: Global,
+    node_id: u8,
+    limits: &Limits<'_>,
+    rows: &[EntryRow<'_>],
+    dummies: [bool; 6],
+) -> Result<ListStore, BuildFault>
+    requires sheet { All (λ row. IsSheetRow (row_view row)) rows.now }
+    requires increase { AllPairs (λ e f. is_key_before e.key f.key ≡ true) rows.now }
+    ensures ok { IfOk result (λ _. build_fault (plan_in node_id limits.now rows.now dummies) ≡ None) }
+    ensures description { IfOk result (λ store. ⟦<ListStore as ObjectStore>⟧.description store
+        ≡ built_description (plan_in node_id limits.now rows.now dummies)) }
+    ensures contents { IfOk result (λ store. ⟦<ListStore as ObjectStore>⟧.contents store
+        ≡ built_contents (plan_in node_id limits.now rows.now dummies)) }
+    ensures initial { IfOk result (λ store. (key : Key) → ⟦<ListStore as ObjectStore>⟧.contents store key
+        ≡ (⟦<ListStore as ObjectStore>⟧.description store).initial key) }
+    ensures err { IfErr result (IsBuildFault (plan_in node_id limits.now rows.now dummies)) }
+{
+    if node_id < 1 || node_id > 127 {
+        return Err(BuildFault::NodeId);
+    }
+    if let Some(key) = value_out_of_range(node_id, rows) {
+        return Err(BuildFault::ValueRange(key));
+    }
+    match store_of(alloc, node_id, limits, rows, dummies) {
+        Ok(store) => match dictionary_fault(&store, limits, rows) {
+            Some(fault) => Err(fault),
+            None => Ok(store),
+        },
+        Err(_) => Err(BuildFault::Memory),
+    }
+}
+
+// which of the dummy entries 0002h to 0007h may be mapped
+fn usable_dummies(sheet: &Sheet<'_>) -> [bool; 6]
+    ensures { result ≡ dummies_of sheet.now }
+{
+    [
+        sheet.dummy(2),
+        sheet.dummy(3),
+        sheet.dummy(4),
+        sheet.dummy(5),
+        sheet.dummy(6),
+        sheet.dummy(7),
+    ]
+}
+
+impl ListStore {
+    /// The dictionary that a data sheet makes for a node-ID and limits, with its initial bytes (CiA 301, 7.4; CiA 306):
+    /// each row of the sheet becomes an entry, `$NODEID` the node-ID.
+    ///
+    /// Of the faults that apply the one with the smallest number is answered, and of those with one number the one
+    /// with the smallest key. `Memory` may come in place of those from `BadCobId` on: nothing asks for memory before
+    /// the node-ID and the sums with `$NODEID` were looked at.
+    pub fn build(
+        alloc: Global,
+        sheet: &Sheet<'_>,
+        node_id: u8,
+        limits: &Limits<'_>,
+    ) -> Result<ListStore, BuildFault>
+        ensures ok { IfOk result (λ _. build_fault (plan_of node_id (limits_view limits.now) sheet.now) ≡ None) }
+        ensures description { IfOk result (λ store. ⟦<ListStore as ObjectStore>⟧.description store
+            ≡ built_description (plan_of node_id (limits_view limits.now) sheet.now)) }
+        ensures contents { IfOk result (λ store. ⟦<ListStore as ObjectStore>⟧.contents store
+            ≡ built_contents (plan_of node_id (limits_view limits.now) sheet.now)) }
+        ensures initial { IfOk result (λ store. (key : Key) → ⟦<ListStore as ObjectStore>⟧.contents store key
+            ≡ (⟦<ListStore as ObjectStore>⟧.description store).initial key) }
+        ensures err { IfErr result (IsBuildFault (plan_of node_id (limits_view limits.now) sheet.now)) }
+    {
+        build_rows(
+            alloc,
+            node_id,
+            limits,
+            sheet.entries(),
+            usable_dummies(sheet),
+        )
+    }
+}

@@ -1,0 +1,122 @@
+//! A store that keeps its entries in a list.
+
+ghost use Rattle.std.specs.Prelude.{◌≡◌, ◌≤◌, true, length, position, fold, max};
+ghost use Rattle.co_value.specs.Keys.{same_key};
+ghost use Rattle.co_value.specs.declared.key.Key.{Key};
+ghost use Rattle.co_dict.specs.Rows.{capacity_at};
+ghost use Rattle.co_dict_list.specs.ListedEntries.{keys_in, are_increasing};
+ghost use Rattle.co_dict_list.specs.StoredEntries.{entry_views};
+
+use crate::stored_entry::StoredEntry;
+use co_dict::{Area, ObjectStore, Row};
+use co_value::Key;
+
+/// An object dictionary as a list of its entries in increasing key. An entry is found by binary search.
+#[derive(Drop)]
+pub struct ListStore {
+    node_id: u8,
+    // whether the dummy entries 0002h to 0007h may be mapped
+    dummies: [bool; 6],
+    entries: Vec<StoredEntry>,
+    ghost first_node: { 1 ≤ node_id },
+    ghost last_node: { node_id ≤ 127 },
+    ghost six: { length dummies ≡ 6 },
+    ghost increasing: { are_increasing (keys_in (entry_views entries.items)) ≡ true },
+}
+
+// The greatest capacity of these entries; 0 where there is none.
+fn greatest_capacity(entries: &[StoredEntry]) -> u16
+    ensures { result ≡ fold (λ most entry. max most entry.row.capacity) 0 entries.now }
+{
+    entries
+        .iter()
+        .fold(0, |most, entry| most.max(entry.row.capacity))
+}
+
+impl ListStore {
+    ghost use Rattle.co_dict.specs.Stores.{IsGreatestCapacity};
+    ghost use Rattle.co_dict_list.specs.ListedEntries.{description_in, contents_in};
+
+    /// The dictionary of a node-ID, with which of the dummy entries 0002h to 0007h may be mapped, and its entries in
+    /// increasing key.
+    pub(crate) fn new(node_id: u8, dummies: [bool; 6], entries: Vec<StoredEntry>) -> Self
+        requires first_node { 1 ≤ node_id }
+        requires last_node { node_id ≤ 127 }
+        requires increasing { are_increasing (keys_in (entry_views entries.items)) ≡ true }
+        ensures description { ⟦<ListStore as ObjectStore>⟧.description result
+            ≡ description_in node_id dummies (entry_views entries.items) }
+        ensures contents { ⟦<ListStore as ObjectStore>⟧.contents result ≡ contents_in (entry_views entries.items) }
+    {
+        ListStore {
+            node_id,
+            dummies,
+            entries,
+        }
+    }
+
+    /// The greatest capacity of all entries, in bytes; 0 where there is no entry.
+    pub fn greatest_capacity(&self) -> u16
+        ensures greatest { IsGreatestCapacity (⟦<ListStore as ObjectStore>⟧.description self.now).rows result }
+        ensures enough { (key : Key) → capacity_at (⟦<ListStore as ObjectStore>⟧.description self.now).rows key ≤ result }
+    {
+        greatest_capacity(&self.entries)
+    }
+
+    // Where the entry of a key is in the list.
+    fn place(&self, key: Key) -> Option<usize>
+        ensures { result ≡ position (λ entry. same_key key entry.key) (entry_views self.now.entries.items) }
+    {
+        self.entries
+            .binary_search_by_key(&key, |entry| entry.key)
+            .ok()
+    }
+}
+
+impl ObjectStore for ListStore {
+    ghost use Rattle.co_dict_list.specs.ListedEntries.{description_in, contents_in};
+
+    ghost description = { λ store. description_in store.node_id store.dummies (entry_views store.entries.items) };
+
+    ghost contents = { λ store. contents_in (entry_views store.entries.items) };
+
+    fn node_id(&self) -> u8 {
+        self.node_id
+    }
+
+    fn row(&self, key: Key) -> Option<Row> {
+        let at = self.place(key)?;
+        Some(self.entries[at].row)
+    }
+
+    fn bytes(&self, key: Key) -> Option<&[u8]> {
+        let at = self.place(key)?;
+        Some(self.entries[at].bytes())
+    }
+
+    fn dummy(&self, index: u16) -> bool {
+        index >= 2
+            && self
+                .dummies
+                .get(usize::from(index) - 2)
+                .copied()
+                .unwrap_or(false)
+    }
+
+    fn set(&mut self, key: Key, bytes: &[u8]) {
+        let Some(at) = self.place(key) else {
+            unreachable!();
+        };
+        self.entries[at].fill(bytes);
+    }
+
+    fn reset(&mut self, area: Area) {
+        for entry in self.entries.iter_mut() {
+            entry.reset(area);
+        }
+    }
+
+    ghost use Rattle.co_dict_list.specs.LawfulLists.{lawful_list};
+    ghost use Rattle.co_dict_list.specs.StoredEntries.{are_entries};
+
+    ghost lawful = { λ store. lawful_list store.node_id store.dummies (entry_views store.entries.items) (are_entries store.entries.items) store.first_node store.last_node store.six };
+}

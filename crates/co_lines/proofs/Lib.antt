@@ -1,3 +1,0 @@
-pub mod CutLemmas
-mod LineLemmas
-pub mod Examples

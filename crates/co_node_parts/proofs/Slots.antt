@@ -1,0 +1,49 @@
+-- The slots of RPDOs after one event.
+use Rattle.std.proofs.Common.{◌≡◌, ℕ, ◌+◌, ◌<◌, ◌≤◌, zero, suc, List, [], ◌∷◌, ◌++◌, length, get_or, refl, sym, ap, ◌∙◌, arith, append-nil}
+use Rattle.std.specs.Prelude.{Option, Some, None}
+use Rattle.std.specs.List.{filter_map, cons_option, range_with_len}
+use Rattle.std.proofs.lemmas.List.{map-id, get_or_default}
+use Rattle.std.proofs.lemmas.List.Elements.{filter_map-append}
+use Rattle.std.proofs.lemmas.List.FromFn.{map-range_with_len_more}
+use Rattle.co_frame.specs.FrameContent.{FrameContent}
+use Rattle.co_node_parts.specs.declared.rpdo_slots.KeptFrame.{KeptFrame}
+use Rattle.co_node_parts.specs.RpdoSlots.{SlotLog, kept_of, numbered, all_kept, SlotContent, SlotsStand}
+
+-- a range has its last number at the end
+range_snoc : (n : ℕ) → range_with_len 0 (n + 1) ≡ range_with_len 0 n ++ n ∷ []
+range_snoc n = sym (map-id (range_with_len 0 (n + 1))) ∙ map-range_with_len_more (λ (x : ℕ). x) 0 n n (omega arith) ∙ ap (λ (xs : List ℕ). xs ++ n ∷ []) (map-id (range_with_len 0 n))
+
+-- one more slot
+collected_more : (h : ℕ → Option KeptFrame) (n : ℕ) → filter_map h (range_with_len 0 (n + 1)) ≡ filter_map h (range_with_len 0 n) ++ cons_option (h n) []
+collected_more h n = ap (filter_map h) (range_snoc n) ∙ filter_map-append h (range_with_len 0 n) (n ∷ [])
+
+-- the same is collected of what is the same in each slot
+same_collected : (f g : ℕ → Option KeptFrame) (a n : ℕ) → ((k : ℕ) → a ≤ k → k < a + n → f k ≡ g k) → filter_map f (range_with_len a n) ≡ filter_map g (range_with_len a n)
+same_collected f g a zero e = refl
+same_collected f g a (suc n) e =
+    ap (λ o. cons_option o (filter_map f (range_with_len (a + 1) n))) (e a (omega arith) (omega arith))
+    ∙ ap (cons_option (g a)) (same_collected f g (a + 1) n (λ k le lt. e k (omega arith) (omega arith)))
+
+-- what the slots have is what their logs give
+pub collected_all : (count : ℕ) (v : SlotContent) (log : SlotLog) → SlotsStand count v log → filter_map (λ k. numbered k (get_or v.slots k None)) (range_with_len 0 (length v.slots)) ≡ all_kept count log
+collected_all count v log h =
+    ap (λ (n : ℕ). filter_map (λ k. numbered k (get_or v.slots k None)) (range_with_len 0 n)) h.size
+    ∙ same_collected (λ k. numbered k (get_or v.slots k None)) (λ k. numbered k (kept_of k log)) 0 count (λ k le lt. ap (numbered k) (h.all k None (omega arith)))
+
+-- a frame is taken
+pub taken_more : (slots : List (Option FrameContent)) (k : ℕ) (d : Option FrameContent) (frame : FrameContent) (before after : List KeptFrame) → k < length slots → get_or slots k d ≡ Some frame
+    → before ≡ filter_map (λ j. numbered j (get_or slots j None)) (range_with_len 0 k) → after ≡ before ++ record { number = k; frame = frame } ∷ []
+    → after ≡ filter_map (λ j. numbered j (get_or slots j None)) (range_with_len 0 (k + 1))
+taken_more slots k d frame before after lt e b a =
+    let h : ℕ → Option KeptFrame = λ j. numbered j (get_or slots j None) in
+    let here : h k ≡ Some (record { number = k; frame = frame }) = ap (numbered k) (get_or_default slots k None d lt ∙ e) in
+    a ∙ ap (λ xs. xs ++ record { number = k; frame = frame } ∷ []) b ∙ ap (λ o. filter_map h (range_with_len 0 k) ++ cons_option o []) (sym here) ∙ sym (collected_more h k)
+
+-- there is no frame to take
+pub taken_same : (slots : List (Option FrameContent)) (k : ℕ) (d : Option FrameContent) (before after : List KeptFrame) → k < length slots → get_or slots k d ≡ None
+    → before ≡ filter_map (λ j. numbered j (get_or slots j None)) (range_with_len 0 k) → after ≡ before
+    → after ≡ filter_map (λ j. numbered j (get_or slots j None)) (range_with_len 0 (k + 1))
+taken_same slots k d before after lt e b a =
+    let h : ℕ → Option KeptFrame = λ j. numbered j (get_or slots j None) in
+    let here : h k ≡ None = ap (numbered k) (get_or_default slots k None d lt ∙ e) in
+    a ∙ b ∙ sym (append-nil (filter_map h (range_with_len 0 k))) ∙ ap (λ o. filter_map h (range_with_len 0 k) ++ cons_option o []) (sym here) ∙ sym (collected_more h k)

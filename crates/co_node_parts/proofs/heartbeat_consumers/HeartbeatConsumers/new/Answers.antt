@@ -1,0 +1,6 @@
+use Rattle.std.proofs.lemmas.List.{length-replicate}
+use Rattle.co_node_parts.proofs.Entries.{stand_new}
+use Rattle.co_node_parts.proofs.heartbeat_consumers.HeartbeatConsumers.new.Goals as goal
+
+pub returns : goal.returns
+returns c = record { count = length-replicate 127 c.new-entry.result; all = stand_new 127 c.new-entry.result c.new-entry.ensures }

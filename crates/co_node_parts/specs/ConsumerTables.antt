@@ -1,0 +1,52 @@
+-- The entries 1 to 127 of 1016h together, and which of them lose their heartbeat
+-- (CiA 301, 7.5.2.19).
+use Rattle.std.specs.Prelude.{◌≡◌, ℕ, ◌+◌, ◌-◌, ◌<◌, ◌==◌, if◌then◌else◌, List, length, map, slice_index}
+use Rattle.std.specs.List.{filter, range_with_len, slice_index_or}
+use Rattle.co_node_parts.specs.declared.heartbeat_consumer.ConsumerEvent.{ConsumerEvent}
+use Rattle.co_node_parts.specs.declared.heartbeat_consumer.ConsumerEvent.TheVariants as one
+use Rattle.co_node_parts.specs.declared.heartbeat_consumer.HeartbeatConsumer.{HeartbeatConsumer}
+use Rattle.co_node_parts.specs.declared.heartbeat_consumers.ConsumersEvent.{ConsumersEvent}
+use Rattle.co_node_parts.specs.declared.heartbeat_consumers.ConsumersEvent.TheVariants.{Begin, Heard, Tick, Quiet}
+use Rattle.co_node_parts.specs.Consumers.{ConsumerLog, ConsumerStands, is_lost}
+
+-- one call for all entries
+pub data ConsumersCall : Type 0 where
+  Noted : ConsumersEvent → ConsumersCall
+  -- all began, entry 1 with the first of these words; those past the last word are not used
+  AllBegun : List ℕ → ConsumersCall
+
+-- the newest first
+abbrev pub ConsumersLog : Type 0
+ConsumersLog = List ConsumersCall
+
+-- what a call is to the entry with a sub-index: a begin concerns the one that it names, all else
+-- concerns each
+abbrev pub event_of : ℕ → ConsumersCall → ConsumerEvent
+event_of sub (Noted (Begin begun word)) = if sub == begun then one.Begin word else one.Quiet
+event_of sub (Noted (Heard node)) = one.Heard node
+event_of sub (Noted Tick) = one.Tick
+event_of sub (Noted Quiet) = one.Quiet
+event_of sub (AllBegun words) = one.Begin (slice_index words (sub - 1))
+
+-- the log of the entry with a sub-index
+abbrev pub entry_log : ℕ → ConsumersLog → ConsumerLog
+entry_log sub log = map (event_of sub) log
+
+-- the sub-indices of the entries, increasing
+unfoldable pub entry_subs : List ℕ
+entry_subs = range_with_len 1 127
+
+-- the sub-indices of those that lose their heartbeat at an event after this log, increasing
+abbrev pub lost_at : ConsumersEvent → ConsumersLog → List ℕ
+lost_at event log =
+    filter (λ sub. is_lost (event_of sub (Noted event)) (entry_log sub log)) entry_subs
+
+-- each of these entries counts what its log gives; the first has sub-index 1
+abbrev pub AllStand : List HeartbeatConsumer → (ℕ → ConsumerLog) → Type 0
+AllStand entries logs = (i : ℕ) (d : HeartbeatConsumer) → i < length entries
+    → ConsumerStands (slice_index_or entries i d) (logs (i + 1))
+
+-- there are 127 entries, and each counts what its log gives
+pub record ConsumersStand (entries : List HeartbeatConsumer) (log : ConsumersLog) : Type 0 where
+  pub count : length entries ≡ 127
+  pub all : AllStand entries (λ sub. entry_log sub log)

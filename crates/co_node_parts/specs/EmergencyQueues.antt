@@ -1,0 +1,88 @@
+-- The queue of emergencies, and when its front is sent (CiA 301, 7.2.7, 7.5.2.17 and 7.5.2.18).
+-- A tick is 1 ms.
+use Rattle.std.specs.Prelude.{◌≡◌, ℕ, ◌+◌, ◌-◌, ◌/◌, ◌&&◌, Bool, nat_le, max, List, [], ◌∷◌, ◌++◌, drop, map, slice_get, Option, Some, None, if◌then◌else◌}
+use Rattle.std.specs.List.{list_all}
+use Rattle.circular_buffer.specs.Buffer.{keep_last}
+use Rattle.co_frame.specs.declared.emergency.Emergency.{Emergency}
+use Rattle.co_node_parts.specs.declared.emergencies.EmergencyEvent.{EmergencyEvent}
+use Rattle.co_node_parts.specs.declared.emergencies.EmergencyEvent.TheVariants.{Queue, Empty, Tick, Quiet}
+
+-- one thing that happened
+pub data EmergencyEntry : Type 0 where
+  Noted : EmergencyEvent → EmergencyEntry
+  -- the front was sent, with the inhibit time in 100 µs as it stood then
+  Sent : ℕ → EmergencyEntry
+
+-- the newest first
+abbrev pub EmergencyLog : Type 0
+EmergencyLog = List EmergencyEntry
+
+-- what waits to be sent, the oldest first: at most eight, of which a ninth overwrites the oldest; a
+-- sending takes the oldest, and a reset all
+abbrev pub queue_of : EmergencyLog → List Emergency
+queue_of [] = []
+queue_of (Noted (Queue emergency) ∷ log) = keep_last 8 (queue_of log ++ emergency ∷ [])
+queue_of (Noted Empty ∷ log) = []
+queue_of (Noted Tick ∷ log) = queue_of log
+queue_of (Noted Quiet ∷ log) = queue_of log
+queue_of (Sent inhibit ∷ log) = drop 1 (queue_of log)
+
+-- a sending: how many ticks ago it was, and the inhibit time in 100 µs as it stood then
+pub record Sending : Type 0 where
+  pub age : ℕ
+  pub inhibit : ℕ
+
+-- one tick later
+abbrev pub older : Sending → Sending
+older s = record { age = s.age + 1; inhibit = s.inhibit }
+
+-- the sendings since the last reset, the newest first
+abbrev pub sendings : EmergencyLog → List Sending
+sendings [] = []
+sendings (Noted (Queue emergency) ∷ log) = sendings log
+sendings (Noted Empty ∷ log) = []
+sendings (Noted Tick ∷ log) = map older (sendings log)
+sendings (Noted Quiet ∷ log) = sendings log
+sendings (Sent inhibit ∷ log) = record { age = 0; inhibit = inhibit } ∷ sendings log
+
+-- from 100 µs to ms, rounded up
+abbrev pub in_ms : ℕ → ℕ
+in_ms n = (n + 9) / 10
+
+-- a sending is as many ticks ago as its inhibit time has ms
+abbrev pub is_past : Sending → Bool
+is_past s = nat_le (in_ms s.inhibit) s.age
+
+-- no sending since the last reset is fewer ticks ago than its inhibit time has ms
+abbrev pub is_inhibit_over : EmergencyLog → Bool
+is_inhibit_over log = list_all is_past (sendings log)
+
+-- what is sent after this log: the front, where it may be sent and the inhibit time is over
+abbrev pub emergency_due : Bool → EmergencyLog → Option Emergency
+emergency_due may log = if may && is_inhibit_over log then slice_get (queue_of log) 0 else None
+
+-- the log after that
+abbrev pub with_sending : Option Emergency → ℕ → EmergencyLog → EmergencyLog
+with_sending None inhibit log = log
+with_sending (Some emergency) inhibit log = Sent inhibit ∷ log
+
+-- the log after several were queued, in order
+abbrev pub with_queued : List Emergency → EmergencyLog → EmergencyLog
+with_queued [] log = log
+with_queued (emergency ∷ emergencies) log =
+    with_queued emergencies (Noted (Queue emergency) ∷ log)
+
+-- how many ticks are left until each of these sendings is past
+abbrev pub inhibit_left : List Sending → ℕ
+inhibit_left [] = 0
+inhibit_left (s ∷ older) = max (in_ms s.inhibit - s.age) (inhibit_left older)
+
+-- what is kept: what waits, and how many ticks are left until the front may be sent
+pub record Pending : Type 0 where
+  pub queue : List Emergency
+  pub left : ℕ
+
+-- what is kept is what this log gives
+pub record EmergenciesStand (pending : Pending) (log : EmergencyLog) : Type 0 where
+  pub queue : pending.queue ≡ queue_of log
+  pub left : pending.left ≡ inhibit_left (sendings log)

@@ -1,0 +1,99 @@
+//! The emergencies that wait to be sent.
+
+ghost use Rattle.std.specs.Prelude.{◌≡◌, [], ◌∷◌, IfOk};
+ghost use Rattle.co_node_parts.specs.EmergencyQueues.{EmergencyLog, Noted, EmergenciesStand, emergency_due, with_sending, with_queued};
+
+use circular_buffer::HeapCircularBuffer;
+use co_frame::Emergency;
+use std::alloc::{AllocError, Global};
+use std::marker::Model;
+
+/// How many emergencies wait at most.
+const ROOM: usize = 8;
+
+/// What happened, as far as emergencies are concerned.
+#[derive(Clone, Copy, Debug, PartialEq, Eq, Hash)]
+pub enum EmergencyEvent {
+    /// An emergency is to be sent. Where eight wait, it overwrites the oldest.
+    Queue(Emergency),
+    /// A reset: nothing waits, and the inhibit time is over.
+    Empty,
+    /// 1 ms went by.
+    Tick,
+    /// Nothing that concerns emergencies.
+    Quiet,
+}
+
+/// The emergencies that wait to be sent, and the inhibit time between two of them (CiA 301, 7.2.7 and
+/// 7.5.2.18). It asks for no memory after `new`.
+#[derive(Drop)]
+pub struct Emergencies {
+    queue: HeapCircularBuffer<Emergency>,
+    left: u16,
+}
+
+impl Model for Emergencies {
+    ghost use Rattle.std.specs.Prelude.{◌≡◌};
+    ghost use Rattle.co_node_parts.specs.EmergencyQueues.{Pending};
+
+    ghost Value = { Pending };
+
+    ghost view = { λ e. record { queue = e.queue.items; left = e.left } };
+
+    ghost invariant = { λ e. e.queue.capacity ≡ 8 };
+}
+
+impl Emergencies {
+    /// No emergency waits. `AllocError` where there is no memory.
+    pub fn new(alloc: Global) -> Result<Emergencies, AllocError>
+        ensures { IfOk result (λ emergencies. EmergenciesStand emergencies []) }
+    {
+        let queue = HeapCircularBuffer::with_capacity(alloc, ROOM)?;
+        Ok(Emergencies { queue, left: 0 })
+    }
+
+    /// Takes note of an event.
+    pub fn note(&mut self, event: EmergencyEvent)
+        ensures { (log : EmergencyLog) → EmergenciesStand self.old log →
+            EmergenciesStand self.new (Noted event ∷ log) }
+    {
+        match event {
+            EmergencyEvent::Queue(emergency) => {
+                self.queue.push_back(emergency);
+            }
+            EmergencyEvent::Empty => {
+                self.queue.clear();
+                self.left = 0;
+            }
+            EmergencyEvent::Tick => self.left = self.left.saturating_sub(1),
+            EmergencyEvent::Quiet => {}
+        }
+    }
+
+    /// Queues several emergencies, in order.
+    pub fn queue_all(&mut self, emergencies: &[Emergency])
+        ensures { (log : EmergencyLog) → EmergenciesStand self.old log →
+            EmergenciesStand self.new (with_queued emergencies.now log) }
+    {
+        for emergency in emergencies {
+            self.note(EmergencyEvent::Queue(*emergency));
+        }
+    }
+
+    /// Takes the emergency that is sent now, if one is: the oldest, where it may be sent and the
+    /// inhibit time is over. `inhibit` is the inhibit time of 1015h in 100 µs. It runs from this
+    /// sending on, rounded up to ms, also where 1015h is written meanwhile.
+    pub fn send(&mut self, may: bool, inhibit: u16) -> Option<Emergency>
+        ensures due { (log : EmergencyLog) → EmergenciesStand self.old log →
+            result ≡ emergency_due may log }
+        ensures stands { (log : EmergencyLog) → EmergenciesStand self.old log →
+            EmergenciesStand self.new (with_sending result inhibit log) }
+    {
+        if !may || self.left > 0 {
+            return None;
+        }
+        let emergency = self.queue.pop_front()?;
+        self.left = inhibit.div_ceil(10);
+        Some(emergency)
+    }
+}

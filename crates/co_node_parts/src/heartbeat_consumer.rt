@@ -1,0 +1,93 @@
+//! The heartbeat of one other node: one entry of 1016h.
+
+ghost use Rattle.std.specs.Prelude.{◌≡◌, [], ◌∷◌};
+ghost use Rattle.co_node_parts.specs.Consumers.{ConsumerLog, ConsumerStands, is_lost, monitored_by};
+
+/// What an entry that is used monitors.
+#[derive(Clone, Copy, Debug)]
+pub struct Monitored {
+    /// The node-ID of the other node, 1 to 127.
+    pub node: u8,
+    /// In ms, above 0.
+    pub time: u16,
+}
+
+impl Monitored {
+    /// What the word of an entry says is monitored. `None` where its time is 0, or its node-ID is
+    /// not 1 to 127.
+    fn from_word(word: u32) -> Option<Monitored>
+        ensures { result ≡ monitored_by word }
+    {
+        let time = (word % 0x10000) as u16;
+        let node = (word / 0x10000 % 0x100) as u8;
+        if time > 0 && node >= 1 && node <= 127 {
+            Some(Monitored { node, time })
+        } else {
+            None
+        }
+    }
+}
+
+/// What happened, as far as one entry is concerned.
+#[derive(Clone, Copy, Debug)]
+pub enum ConsumerEvent {
+    /// It begins with this word.
+    Begin(u32),
+    /// The heartbeat of the node with this node-ID came.
+    Heard(u8),
+    /// 1 ms went by.
+    Tick,
+    /// Nothing that concerns the entry.
+    Quiet,
+}
+
+/// What is counted for one entry.
+#[derive(Clone, Copy, Debug)]
+pub struct HeartbeatConsumer {
+    /// `None` where the entry is not used.
+    pub monitored: Option<Monitored>,
+    /// How many ticks are left until the heartbeat is lost; 0 where the time doesn't run.
+    pub left: u16,
+}
+
+impl HeartbeatConsumer {
+    /// An entry that didn't begin.
+    pub(crate) fn new() -> HeartbeatConsumer
+        ensures { ConsumerStands result [] }
+    {
+        HeartbeatConsumer {
+            monitored: None,
+            left: 0,
+        }
+    }
+
+    /// Takes note of an event, and answers whether the heartbeat is lost at it.
+    pub(crate) fn note(&mut self, event: ConsumerEvent) -> bool
+        ensures lost { (log : ConsumerLog) → ConsumerStands self.old log →
+            result ≡ is_lost event log }
+        ensures stands { (log : ConsumerLog) → ConsumerStands self.old log →
+            ConsumerStands self.new (event ∷ log) }
+    {
+        match event {
+            ConsumerEvent::Begin(word) => {
+                self.monitored = Monitored::from_word(word);
+                self.left = 0;
+                false
+            }
+            ConsumerEvent::Heard(node) => {
+                if let Some(monitored) = self.monitored {
+                    if monitored.node == node {
+                        self.left = monitored.time;
+                    }
+                }
+                false
+            }
+            ConsumerEvent::Tick => {
+                let is_lost = self.left == 1;
+                self.left = self.left.saturating_sub(1);
+                is_lost
+            }
+            ConsumerEvent::Quiet => false,
+        }
+    }
+}

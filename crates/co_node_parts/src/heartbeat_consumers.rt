@@ -1,0 +1,131 @@
+//! The heartbeats of other nodes: the entries of 1016h.
+
+ghost use Rattle.std.specs.Prelude.{◌≡◌, ℕ, ◌≤◌, [], ◌∷◌, length, slice_index};
+ghost use Rattle.std.specs.List.{filter, range_with_len};
+ghost use Rattle.co_node_parts.specs.Consumers.{ConsumerLog, is_lost};
+ghost use Rattle.co_node_parts.specs.ConsumerTables.{ConsumersLog, Noted, AllBegun, ConsumersStand, AllStand, event_of, lost_at};
+
+use crate::heartbeat_consumer::{ConsumerEvent, HeartbeatConsumer};
+use arrayvec::ArrayVec;
+use std::marker::Model;
+
+/// How many entries of 1016h there may be: sub-indices 1 to 127.
+const ENTRIES: usize = 127;
+
+/// The sub-indices of the entries of 1016h whose heartbeat is lost, increasing.
+pub type LostHeartbeats = ArrayVec<u8, 127>;
+
+/// What happened, as far as the heartbeat consumers are concerned.
+#[derive(Clone, Copy, Debug, PartialEq, Eq, Hash)]
+pub enum ConsumersEvent {
+    /// The entry with this sub-index, 1 to 127, begins with this word: at each accepted write of it,
+    /// also of the same word. Any other sub-index concerns no entry.
+    Begin(u8, u32),
+    /// The heartbeat of the node with this node-ID came.
+    Heard(u8),
+    /// 1 ms went by.
+    Tick,
+    /// Nothing that concerns heartbeat consumers.
+    Quiet,
+}
+
+impl ConsumersEvent {
+    /// What it is to the entry with a sub-index.
+    fn for_entry(self, sub: u8) -> ConsumerEvent
+        ensures { result ≡ event_of sub (Noted self) }
+    {
+        match self {
+            ConsumersEvent::Begin(begun, word) if begun == sub => ConsumerEvent::Begin(word),
+            ConsumersEvent::Heard(node) => ConsumerEvent::Heard(node),
+            ConsumersEvent::Tick => ConsumerEvent::Tick,
+            ConsumersEvent::Begin(_, _) | ConsumersEvent::Quiet => ConsumerEvent::Quiet,
+        }
+    }
+}
+
+/// Notes an event for each of some entries, and answers which of them lose their heartbeat.
+fn note_all(entries: &mut [HeartbeatConsumer], event: ConsumersEvent) -> LostHeartbeats
+    requires { length entries.old ≤ 127 }
+    ensures lost { (logs : ℕ → ConsumerLog) → AllStand entries.old logs →
+        result.items ≡ filter (λ sub. is_lost (event_of sub (Noted event)) (logs sub))
+        (range_with_len 1 (length entries.old)) }
+    ensures stand { (logs : ℕ → ConsumerLog) → AllStand entries.old logs →
+        AllStand entries.new (λ sub. event_of sub (Noted event) ∷ logs sub) }
+{
+    let mut lost = LostHeartbeats::new();
+    for i in 0..entries.len() {
+        let sub = i as u8 + 1;
+        if entries[i].note(event.for_entry(sub)) {
+            lost.push(sub);
+        }
+    }
+    lost
+}
+
+/// The word at a place, 0 past the last one.
+fn word_at(words: &[u32], place: usize) -> u32
+    ensures { result ≡ slice_index words.now place }
+{
+    words.get(place).copied().unwrap_or(0)
+}
+
+/// Begins each of some entries with its word.
+fn begin_each(entries: &mut [HeartbeatConsumer], words: &[u32])
+    ensures { (logs : ℕ → ConsumerLog) → AllStand entries.old logs →
+        AllStand entries.new (λ sub. event_of sub (AllBegun words.now) ∷ logs sub) }
+{
+    for i in 0..entries.len() {
+        entries[i].note(ConsumerEvent::Begin(word_at(words, i)));
+    }
+}
+
+/// The heartbeat consumers: which nodes are monitored by 1016h, and whose heartbeat is lost (CiA 301,
+/// 7.2.8.3.2 and 7.5.2.19). Monitoring begins with the first heartbeat after the entry began, and
+/// ends when the heartbeat is lost, until the next one.
+#[derive(Drop)]
+pub struct HeartbeatConsumers {
+    entries: [HeartbeatConsumer; ENTRIES],
+}
+
+impl Model for HeartbeatConsumers {
+    ghost use Rattle.std.specs.Prelude.{List};
+    ghost use Rattle.co_node_parts.specs.declared.heartbeat_consumer.HeartbeatConsumer.{HeartbeatConsumer};
+
+    ghost Value = { List HeartbeatConsumer };
+
+    ghost view = { λ c. c.entries };
+}
+
+impl HeartbeatConsumers {
+    /// No entry began: nothing is monitored.
+    pub fn new() -> HeartbeatConsumers
+        ensures { ConsumersStand result [] }
+    {
+        let entry = HeartbeatConsumer::new();
+        HeartbeatConsumers {
+            entries: [entry; ENTRIES],
+        }
+    }
+
+    /// All entries begin, as the device is built and at each reset: the one with sub-index 1 with the
+    /// first of these words, and so on. Those past the last word are not used.
+    pub fn begin_all(&mut self, words: &[u32])
+        ensures { (log : ConsumersLog) → ConsumersStand self.old log →
+            ConsumersStand self.new (AllBegun words.now ∷ log) }
+    {
+        begin_each(&mut self.entries, words);
+    }
+
+    /// Takes note of an event, and answers which entries lose their heartbeat at it.
+    pub fn note(&mut self, event: ConsumersEvent) -> LostHeartbeats
+        ensures lost { (log : ConsumersLog) → ConsumersStand self.old log →
+            result.items ≡ lost_at event log }
+        ensures stands { (log : ConsumersLog) → ConsumersStand self.old log →
+            ConsumersStand self.new (Noted event ∷ log) }
+    {
+        match event {
+            ConsumersEvent::Quiet => LostHeartbeats::new(),
+            _ => note_all(&mut self.entries, event),
+        }
+    }
+}

@@ -1,0 +1,138 @@
+//! The RPDO frames that wait for a SYNC.
+
+ghost use Rattle.std.specs.Prelude.{◌≡◌, ℕ, ◌<◌, ◌≤◌, [], ◌∷◌, length, slice_set, slice_index, Option, None, IfOk, vec_capacity};
+ghost use Rattle.std.specs.List.{filter_map, range_with_len, slice_index_or};
+ghost use Rattle.co_frame.specs.FrameContent.{FrameContent};
+ghost use Rattle.co_node_parts.specs.RpdoSlots.{SlotLog, SlotsStand, taken_at, numbered};
+
+use co_frame::Frame;
+use std::alloc::{AllocError, Global};
+use std::marker::Model;
+
+/// A frame of an RPDO.
+#[derive(Clone, Copy, Debug, PartialEq, Eq, Hash)]
+pub struct KeptFrame {
+    /// k of 1400h + k.
+    pub number: u16,
+    /// The frame, whose data the RPDO maps.
+    pub frame: Frame,
+}
+
+/// What happened, as far as the frames that wait are concerned.
+#[derive(Clone, Copy, Debug, PartialEq, Eq, Hash)]
+pub enum SlotEvent {
+    /// A frame came for the RPDO with this number, which takes effect at a SYNC. It replaces the one
+    /// that waits.
+    Keep(u16, Frame),
+    /// The COB-ID or the transmission type of the RPDO with this number was written: its frame is
+    /// dropped.
+    Empty(u16),
+    /// The NMT state operational was left, or there was a reset: all frames are dropped.
+    EmptyAll,
+    /// A SYNC came: all frames are taken.
+    Sync,
+    /// Nothing that concerns the frames that wait.
+    Quiet,
+}
+
+#[tactic(auto, using(std::proofs::lemmas::List::set_past))]
+/// Puts a frame or none into a slot, if there is that slot.
+fn put(slots: &mut [Option<Frame>], k: u16, kept: Option<Frame>)
+    ensures { slots.new ≡ slice_set slots.old k kept }
+{
+    let k = k as usize;
+    if k < slots.len() {
+        slots[k] = kept;
+    }
+}
+
+/// Drops all frames.
+fn empty_all(slots: &mut [Option<Frame>])
+    ensures { (k : ℕ) (d : Option FrameContent) → k < length slots.old →
+        slice_index_or slots.new k d ≡ None }
+{
+    for slot in slots.iter_mut() {
+        *slot = None;
+    }
+}
+
+/// Appends all frames, in increasing number.
+fn collect(slots: &[Option<Frame>], taken: &mut Vec<KeptFrame>)
+    requires numbers { length slots.now < 65536 }
+    requires empty { taken.old.items ≡ [] }
+    requires room { length slots.now ≤ vec_capacity taken.old }
+    ensures taken { taken.new.items ≡
+        filter_map (λ k. numbered k (slice_index_or slots.now k None))
+        (range_with_len 0 (length slots.now)) }
+    ensures capacity { vec_capacity taken.new ≡ vec_capacity taken.old }
+{
+    for k in 0..slots.len() {
+        match slots[k] {
+            Some(frame) => taken.push_reserved(KeptFrame {
+                number: k as u16,
+                frame,
+            }),
+            None => {}
+        }
+    }
+}
+
+/// A slot for each RPDO, with the last frame that waits for a SYNC (CiA 301, 7.2.2.2 and 7.5.2.35). It
+/// asks for no memory after `new`.
+#[derive(Drop)]
+pub struct RpdoSlots {
+    slots: Vec<Option<Frame>>,
+    taken: Vec<KeptFrame>,
+}
+
+impl Model for RpdoSlots {
+    ghost use Rattle.std.specs.Prelude.{◌<◌, ◌≤◌, length, vec_capacity};
+    ghost use Rattle.co_node_parts.specs.RpdoSlots.{SlotContent};
+
+    ghost Value = { SlotContent };
+
+    ghost view = { λ s. record { slots = s.slots.items; taken = s.taken.items } };
+
+    ghost invariant = { λ s. (length s.slots.items < 65536)
+        × (length s.slots.items ≤ vec_capacity s.taken) };
+}
+
+impl RpdoSlots {
+    /// Empty slots for the RPDOs with numbers below `count`; the others have none. `AllocError` where
+    /// there is no memory.
+    pub fn new(alloc: Global, count: u16) -> Result<RpdoSlots, AllocError>
+        ensures { IfOk result (λ slots. SlotsStand count slots []) }
+    {
+        let slots = vec![in alloc; None; usize::from(count)]?;
+        let taken = Vec::with_capacity(alloc, usize::from(count))?;
+        Ok(RpdoSlots { slots, taken })
+    }
+
+    /// The frames that the last event took: at a SYNC those that waited, in increasing number, else
+    /// none.
+    pub fn taken(&self) -> &[KeptFrame]
+        ensures { result.now ≡ self.now.taken }
+    {
+        &self.taken
+    }
+
+    /// Takes note of an event. What it takes is in `taken` until the next one.
+    pub fn note(&mut self, event: SlotEvent)
+        ensures taken { (count : ℕ) (log : SlotLog) → SlotsStand count self.old log →
+            self.new.taken ≡ taken_at count event log }
+        ensures stands { (count : ℕ) (log : SlotLog) → SlotsStand count self.old log →
+            SlotsStand count self.new (event ∷ log) }
+    {
+        self.taken.clear();
+        match event {
+            SlotEvent::Keep(k, frame) => put(&mut self.slots, k, Some(frame)),
+            SlotEvent::Empty(k) => put(&mut self.slots, k, None),
+            SlotEvent::EmptyAll => empty_all(&mut self.slots),
+            SlotEvent::Sync => {
+                collect(&self.slots, &mut self.taken);
+                empty_all(&mut self.slots);
+            }
+            SlotEvent::Quiet => {}
+        }
+    }
+}

@@ -1,0 +1,48 @@
+-- What the fields of a client are seen as, and what holds of them.
+use Rattle.std.specs.Prelude.{◌≡◌, ℕ, ◌+◌, ◌*◌, ◌≤◌, ◌<◌, List, [], length}
+use Rattle.co_value.specs.declared.key.Key.{Key}
+use Rattle.co_sdo_client.specs.declared.mode.Mode.{Mode}
+use Rattle.co_sdo_client.specs.declared.direction.Direction.{Direction}
+use Rattle.co_sdo_client.specs.declared.direction.Direction.TheVariants.{Download as Writes, Upload as Reads}
+use Rattle.co_sdo_client.specs.declared.stage.Stage.{Stage}
+use Rattle.co_sdo_client.specs.declared.stage.Stage.TheVariants.{Begun, Download, Upload, BlockDownload, BlockDownloadEnded, SubBlock, LastTaken}
+use Rattle.co_sdo_client.specs.declared.transfer.Transfer.{Transfer}
+use Rattle.co_sdo_client.specs.declared.transfer.Transfer.TheVariants.{SegmentedUpload, BlockUpload}
+use Rattle.co_sdo_client.specs.Calls.{Job, Download as Write, Upload as Read, Call}
+use Rattle.co_sdo_client.specs.Segments.{bytes_of, cap_of, segments_for, transfer_of}
+
+-- which way the bytes go, and those of a download
+abbrev pub job_of : Direction → List ℕ → Job
+job_of (Writes tells) bytes = Write bytes tells
+job_of (Reads cap) bytes = Read cap
+
+abbrev pub call_of : Key → Mode → ℕ → Direction → List ℕ → Call
+call_of key mode time direction bytes = record { key = key; mode = mode; time = time; job = job_of direction bytes }
+
+-- the bytes that a transfer needs room for
+abbrev pub room_for : Transfer → ℕ → ℕ
+room_for SegmentedUpload cap = cap
+room_for BlockUpload cap = cap + 889
+room_for _ cap = 0
+
+-- before the first answer nothing is held; an expedited upload is done with the first
+abbrev pub begun_room : Transfer → List ℕ → Type 0
+begun_room SegmentedUpload held = Unit {0}
+begun_room _ held = held ≡ []
+
+-- positions are within the bytes, and the buffer has room for what may still come
+abbrev pub stage_room : Call → Stage → List ℕ → ℕ → Type 0
+stage_room call Begun held room = begun_room (transfer_of call) held
+stage_room call (Download confirmed) held room = (held ≡ []) × (7 * confirmed ≤ length (bytes_of call.job))
+stage_room call (Upload size toggle) held room = (length held ≤ cap_of call.job) × (cap_of call.job ≤ room)
+stage_room call (BlockDownload count sent) held room = (held ≡ []) × (count + sent ≤ segments_for (length (bytes_of call.job))) × (sent ≤ 127)
+stage_room call BlockDownloadEnded held room = held ≡ []
+stage_room call (SubBlock size taken) held room = (length held ≤ cap_of call.job + 7 * taken) × (taken < 127) × (cap_of call.job + 889 ≤ room)
+stage_room call (LastTaken size) held room = length held ≤ cap_of call.job + 889
+
+-- the bytes are those of the call, and there is room for what it may bring
+pub record IsFit (call : Call) (bytes : List ℕ) (stage : Stage) (held : List ℕ) (room : ℕ) : Type 0 where
+  pub len : length bytes ≤ 65535
+  pub given : bytes ≡ bytes_of call.job
+  pub reserved : room_for (transfer_of call) (cap_of call.job) ≤ room
+  pub within : stage_room call stage held room

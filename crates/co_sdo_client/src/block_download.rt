@@ -1,0 +1,168 @@
+//! Block downloads.
+
+ghost use Rattle.std.specs.Prelude.{◌≡◌, ◌+◌, ◌*◌, ◌<◌, ◌≤◌, ◌++◌, [], ◌∷◌, Some, length};
+ghost use Rattle.arrayvec.specs.ArrayVec.{array_vec_len};
+ghost use Rattle.co_frame.specs.declared.sdo_response.SdoResponse.TheVariants.{BlockDownloadBegun, BlockDownloadDone, BlockDownloadAcknowledge};
+ghost use Rattle.co_sdo_client.specs.declared.stage.Stage.TheVariants.{BlockDownload};
+ghost use Rattle.co_sdo_client.specs.Calls.{frames_on};
+ghost use Rattle.co_sdo_client.specs.Segments.{bytes_of, segment_count, block_segment, sub_block_length, sub_block_sent};
+ghost use Rattle.co_sdo_client.specs.Standing.{counted};
+ghost use Rattle.co_sdo_client.specs.Steps.{messages_to, after_response, after_sub_block};
+
+use crate::client::Client;
+use crate::sending::part_after;
+use crate::stage::Stage;
+use crate::state::ClientState;
+use crate::transfer::Transfer;
+use co_frame::{AbortCode, BlockSegment, Outbox, SdoRequest};
+use co_value::Key;
+
+// How many segments so many bytes have.
+fn segment_count(bytes: &[u8]) -> usize
+    requires { length bytes.now ≤ 65535 }
+    ensures count { result ≡ segment_count bytes.now }
+    ensures bytes { length bytes.now ≤ 7 * result }
+    ensures segments { 7 * result ≤ length bytes.now + 7 }
+    ensures some { 1 ≤ result }
+{
+    ((bytes.len() + 6) / 7).max(1)
+}
+
+// A segment of a sub-block that begins after so many segments.
+fn block_segment(bytes: &[u8], position: usize, number: u8) -> BlockSegment
+    requires len { length bytes.now ≤ 65535 }
+    requires first { 1 ≤ number }
+    requires last { number ≤ 127 }
+    requires start { 7 * (position + number) ≤ length bytes.now + 7 }
+    ensures segment { result ≡ block_segment bytes.now position number }
+    ensures number { result.sequence ≡ number }
+{
+    let count = position + number as usize;
+    let part = part_after(bytes, count - 1);
+    let mut cells = [0; 7];
+    cells[..part.len()].copy_from_slice(part);
+    BlockSegment {
+        last: count == segment_count(bytes),
+        sequence: number,
+        bytes: cells,
+    }
+}
+
+// Sends a sub-block on an identifier, and gives the number of its segments.
+fn send_segments(id: u16, bytes: &[u8], position: usize, block_size: u8, outbox: &mut Outbox) -> u8
+    requires id { id < 2048 }
+    requires room { array_vec_len outbox.old + 127 ≤ 514 }
+    requires len { length bytes.now ≤ 65535 }
+    requires few { block_size ≤ 127 }
+    requires position { position ≤ segment_count bytes.now }
+    ensures few { array_vec_len outbox.new ≤ array_vec_len outbox.old + 127 }
+    ensures messages { outbox.new.items ≡ outbox.old.items ++ frames_on id (sub_block_sent
+        bytes.now position block_size) }
+    ensures count { result ≡ sub_block_length bytes.now position block_size }
+    ensures frames { length (sub_block_sent bytes.now position block_size) ≡ result }
+    ensures most { result ≤ 127 }
+    ensures within { position + result ≤ segment_count bytes.now }
+{
+    let left = segment_count(bytes) - position;
+    let number = (block_size as usize).min(left) as u8;
+    for k in 0..number {
+        outbox.push(block_segment(bytes, position, k + 1).write(id));
+    }
+    number
+}
+
+impl<'a> Client<'a> {
+    // Sends the sub-block after so many acknowledged segments.
+    fn send_sub_block(&mut self, position: usize, block_size: u8, outbox: &mut Outbox)
+        requires room { array_vec_len outbox.old + 127 ≤ 514 }
+        requires size { block_size ≤ 127 }
+        requires position { position ≤ segment_count (bytes_of self.old.call.job) }
+        requires held { self.old.held ≡ [] }
+        ensures few { array_vec_len outbox.new ≤ array_vec_len outbox.old + 127 }
+        ensures messages { outbox.new.items ≡ outbox.old.items ++ frames_on self.old.request
+            (sub_block_sent (bytes_of self.old.call.job) position block_size) }
+        ensures client { self.new ≡ after_sub_block self.old position block_size }
+    {
+        let sent = send_segments(self.ids.request, self.bytes, position, block_size, outbox);
+        self.sent = self.sent.saturating_add(u64::from(sent));
+        self.stage = Stage::BlockDownload {
+            acknowledged: position as u16,
+            sent,
+        };
+    }
+
+    // The confirmation of a block download's begin: initiate SDO block download, scs = 5, ss = 0.
+    pub(crate) fn confirm_block_download(&mut self, key: Key, block_size: u8, outbox: &mut Outbox)
+        requires room { array_vec_len outbox.old + 127 ≤ 514 }
+        ensures few { array_vec_len outbox.new ≤ array_vec_len outbox.old + 127 }
+        ensures messages { outbox.new.items ≡ outbox.old.items ++ frames_on self.old.request
+            (messages_to self.old (Some (BlockDownloadBegun key block_size))) }
+        ensures client { self.new ≡ after_response self.old (Some (BlockDownloadBegun key
+            block_size)) }
+    {
+        let Stage::Begun = self.stage else {
+            self.give_up(AbortCode::UNKNOWN_COMMAND, outbox);
+            return;
+        };
+        let Transfer::BlockDownload = self.transfer() else {
+            self.give_up(AbortCode::UNKNOWN_COMMAND, outbox);
+            return;
+        };
+        if !self.has_key(key) {
+            self.give_up(AbortCode::UNKNOWN_COMMAND, outbox);
+            return;
+        }
+        if block_size < 1 || 127 < block_size {
+            self.give_up(AbortCode::INVALID_BLOCK_SIZE, outbox);
+            return;
+        }
+        self.send_sub_block(0, block_size, outbox);
+    }
+
+    // An acknowledgement of a sub-block: SDO block download, scs = 5, ss = 2.
+    pub(crate) fn take_acknowledge(&mut self, sequence: u8, block_size: u8, outbox: &mut Outbox)
+        requires room { array_vec_len outbox.old + 127 ≤ 514 }
+        ensures few { array_vec_len outbox.new ≤ array_vec_len outbox.old + 127 }
+        ensures messages { outbox.new.items ≡ outbox.old.items ++ frames_on self.old.request
+            (messages_to self.old (Some (BlockDownloadAcknowledge sequence block_size))) }
+        ensures client { self.new ≡ after_response self.old (Some (BlockDownloadAcknowledge
+            sequence block_size)) }
+    {
+        let Stage::BlockDownload { acknowledged, sent } = self.stage else {
+            self.give_up(AbortCode::UNKNOWN_COMMAND, outbox);
+            return;
+        };
+        if sent < sequence {
+            self.give_up(AbortCode::INVALID_SEQUENCE_NUMBER, outbox);
+            return;
+        }
+        let position = usize::from(acknowledged) + usize::from(sequence);
+        let count = segment_count(self.bytes);
+        if position == count {
+            let unused = (7 * count - self.bytes.len()) as u8;
+            self.stage = Stage::BlockDownloadEnded;
+            self.send(SdoRequest::BlockDownloadEnd { unused }, outbox);
+            return;
+        }
+        if block_size < 1 || 127 < block_size {
+            self.give_up(AbortCode::INVALID_BLOCK_SIZE, outbox);
+            return;
+        }
+        self.send_sub_block(position, block_size, outbox);
+    }
+
+    // The confirmation of a block download's end: end SDO block download, scs = 5, ss = 1.
+    pub(crate) fn finish_block_download(&mut self, outbox: &mut Outbox)
+        requires room { array_vec_len outbox.old + 127 ≤ 514 }
+        ensures few { array_vec_len outbox.new ≤ array_vec_len outbox.old + 127 }
+        ensures messages { outbox.new.items ≡ outbox.old.items ++ frames_on self.old.request
+            (messages_to self.old (Some BlockDownloadDone)) }
+        ensures client { self.new ≡ after_response self.old (Some BlockDownloadDone) }
+    {
+        let Stage::BlockDownloadEnded = self.stage else {
+            self.give_up(AbortCode::UNKNOWN_COMMAND, outbox);
+            return;
+        };
+        self.state = ClientState::Done;
+    }
+}

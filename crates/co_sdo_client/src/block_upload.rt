@@ -1,0 +1,166 @@
+//! Block uploads.
+
+ghost use Rattle.std.specs.Prelude.{◌≡◌, ◌+◌, ◌*◌, ◌<◌, ◌≤◌, ◌++◌, [], ◌∷◌, Some, length};
+ghost use Rattle.std.specs.Option.{option_map_or};
+ghost use Rattle.arrayvec.specs.ArrayVec.{array_vec_len};
+ghost use Rattle.co_frame.specs.declared.sdo_response.SdoResponse.TheVariants.{BlockUploadBegun, BlockUploadEnd};
+ghost use Rattle.co_sdo_client.specs.declared.stage.Stage.TheVariants.{SubBlock};
+ghost use Rattle.co_sdo_client.specs.Calls.{frames_on};
+ghost use Rattle.co_sdo_client.specs.SubBlocks.{segment_taken, bytes_taken};
+ghost use Rattle.co_sdo_client.specs.Verdicts.{sub_block_verdict, held_with};
+ghost use Rattle.co_sdo_client.specs.Outcomes.{messages_by};
+ghost use Rattle.co_sdo_client.specs.Steps.{messages_to, after_response, after, sub_block_stage};
+
+use crate::buffer::Buffer;
+use crate::client::Client;
+use crate::stage::Stage;
+use crate::state::ClientState;
+use crate::transfer::Transfer;
+use crate::upload::{is_above_size, is_below_size};
+use co_frame::{AbortCode, BlockSegment, Frame, Outbox, SdoRequest, SdoResponse, abort_byte};
+use co_value::Key;
+
+// Appends a segment, if it is the next of its sub-block, and gives how many are then taken in it.
+fn append_next(buffer: &mut Buffer, taken: u8, segment: BlockSegment) -> u8
+    requires room { length buffer.old.items + 7 ≤ buffer.old.room }
+    requires few { taken < 127 }
+    ensures buffer { buffer.new ≡ record buffer.old {
+      items = buffer.old.items ++ bytes_taken (segment_taken taken (Some segment));
+    } }
+    ensures taken { result ≡ option_map_or (λ next. taken + 1) (segment_taken taken (Some
+        segment)) taken }
+    ensures len { length buffer.new.items + 7 * taken ≡ length buffer.old.items + 7 * result }
+{
+    if segment.sequence != taken + 1 {
+        return taken;
+    }
+    buffer.append(&segment.bytes);
+    taken + 1
+}
+
+impl<'a> Client<'a> {
+    // The confirmation of a block upload's begin: initiate SDO block upload, scs = 6, ss = 0.
+    pub(crate) fn confirm_block_upload(&mut self, key: Key, size: Option<u32>, outbox: &mut Outbox)
+        requires room { array_vec_len outbox.old < 514 }
+        ensures few { array_vec_len outbox.new ≤ array_vec_len outbox.old + 127 }
+        ensures messages { outbox.new.items ≡ outbox.old.items ++ frames_on self.old.request
+            (messages_to self.old (Some (BlockUploadBegun key size))) }
+        ensures client { self.new ≡ after_response self.old (Some (BlockUploadBegun key size)) }
+    {
+        let Stage::Begun = self.stage else {
+            self.give_up(AbortCode::UNKNOWN_COMMAND, outbox);
+            return;
+        };
+        let Transfer::BlockUpload = self.transfer() else {
+            self.give_up(AbortCode::UNKNOWN_COMMAND, outbox);
+            return;
+        };
+        if !self.has_key(key) {
+            self.give_up(AbortCode::UNKNOWN_COMMAND, outbox);
+            return;
+        }
+        if self.cap() < size.unwrap_or(0) as usize {
+            self.give_up(AbortCode::OUT_OF_MEMORY, outbox);
+            return;
+        }
+        self.stage = Stage::SubBlock {
+            indicated: size,
+            taken: 0,
+        };
+        self.send(SdoRequest::BlockUploadStart, outbox);
+    }
+
+    // A frame inside a sub-block: upload SDO block segment.
+    pub(crate) fn take_block_segment(
+        &mut self,
+        indicated: Option<u32>,
+        taken: u8,
+        frame: &Frame,
+        outbox: &mut Outbox,
+    )
+        requires room { array_vec_len outbox.old < 514 }
+        requires eight { length frame.now.bytes ≡ 8 }
+        requires stage { self.old.stage ≡ SubBlock indicated taken }
+        ensures few { array_vec_len outbox.new ≤ array_vec_len outbox.old + 127 }
+        ensures messages { outbox.new.items ≡ outbox.old.items ++ frames_on self.old.request
+            (messages_by self.old.call (sub_block_verdict self.old.call taken self.old.held
+            frame.now.bytes)) }
+        ensures client { self.new ≡ after self.old (sub_block_verdict self.old.call taken
+            self.old.held frame.now.bytes) (sub_block_stage indicated taken frame.now.bytes)
+            (held_with self.old.held taken frame.now.bytes) }
+    {
+        if frame.is_abort_in_sub_block() {
+            abort_byte();
+            if let Some(SdoResponse::Abort { key: _, code }) = SdoResponse::read(frame) {
+                self.state = ClientState::Failed(code);
+            }
+            return;
+        }
+        let Some(segment) = BlockSegment::read(frame) else {
+            return;
+        };
+        let is_next = segment.sequence == taken + 1;
+        let is_last = segment.last && is_next;
+        let ends = segment.last || segment.sequence == 127;
+        let total = if is_next {
+            self.buffer.len() + 7
+        } else {
+            self.buffer.len()
+        };
+        if ends && !is_last && self.cap() < total {
+            self.give_up(AbortCode::OUT_OF_MEMORY, outbox);
+            return;
+        }
+        let count = append_next(&mut self.buffer, taken, segment);
+        if !ends {
+            self.stage = Stage::SubBlock {
+                indicated,
+                taken: count,
+            };
+            return;
+        }
+        self.stage = if is_last {
+            Stage::LastTaken { indicated }
+        } else {
+            Stage::SubBlock {
+                indicated,
+                taken: 0,
+            }
+        };
+        let acknowledge = SdoRequest::BlockUploadAcknowledge {
+            sequence: count,
+            block_size: 127,
+        };
+        self.send(acknowledge, outbox);
+    }
+
+    // The end of a block upload: end SDO block upload, scs = 6, ss = 1.
+    pub(crate) fn end_block_upload(&mut self, unused: u8, outbox: &mut Outbox)
+        requires room { array_vec_len outbox.old < 514 }
+        ensures few { array_vec_len outbox.new ≤ array_vec_len outbox.old + 127 }
+        ensures messages { outbox.new.items ≡ outbox.old.items ++ frames_on self.old.request
+            (messages_to self.old (Some (BlockUploadEnd unused))) }
+        ensures client { self.new ≡ after_response self.old (Some (BlockUploadEnd unused)) }
+    {
+        let Stage::LastTaken { indicated } = self.stage else {
+            self.give_up(AbortCode::UNKNOWN_COMMAND, outbox);
+            return;
+        };
+        let total = self.buffer.len().saturating_sub(usize::from(unused));
+        if is_above_size(indicated, total) {
+            self.give_up(AbortCode::TOO_LONG, outbox);
+            return;
+        }
+        if is_below_size(indicated, total) {
+            self.give_up(AbortCode::TOO_SHORT, outbox);
+            return;
+        }
+        if self.cap() < total {
+            self.give_up(AbortCode::OUT_OF_MEMORY, outbox);
+            return;
+        }
+        self.buffer.truncate(total);
+        self.state = ClientState::Done;
+        self.send(SdoRequest::BlockUploadEnd, outbox);
+    }
+}

@@ -1,0 +1,158 @@
+//! The calls of a client: its begin, the answers and the time.
+
+ghost use Rattle.std.specs.Prelude.{◌≡◌, ℕ, ◌+◌, ◌-◌, ◌<◌, ◌≤◌, ◌++◌, [], ◌∷◌, true, false, length, List};
+ghost use Rattle.arrayvec.specs.ArrayVec.{array_vec_len};
+ghost use Rattle.co_frame.specs.SdoRequests.{IsSdoRequest};
+ghost use Rattle.co_sdo_client.specs.Calls.{Call, Event, Ticked, Request, frames_on};
+ghost use Rattle.co_sdo_client.specs.Segments.{begin_messages, size_sent};
+ghost use Rattle.co_sdo_client.specs.Outcomes.{asked_by};
+ghost use Rattle.co_sdo_client.specs.Standing.{ClientStands, IsReady, counted, waits, events_with, asked_with};
+ghost use Rattle.co_sdo_client.specs.Steps.{messages_to_tick, after_tick};
+
+use crate::client::Client;
+use crate::direction::Direction;
+use crate::state::ClientState;
+use crate::transfer::Transfer;
+use arrayvec::ArrayVec;
+use co_frame::{AbortCode, ExpeditedData, Frame, Outbox, SdoRequest};
+
+impl<'a> Client<'a> {
+    // The size that a begin indicates.
+    fn size_sent(&self) -> Option<u32>
+        ensures { result ≡ size_sent self.now.call.job }
+    {
+        match self.direction {
+            Direction::Download { tell_size: true } => Some(self.bytes.len() as u32),
+            _ => None,
+        }
+    }
+
+    // What is sent at the begin.
+    fn begin_request(&self) -> SdoRequest
+        ensures request { Request result ∷ [] ≡ begin_messages self.now.call }
+        ensures spellable { IsSdoRequest result }
+    {
+        let key = self.key;
+        match self.transfer() {
+            Transfer::ExpeditedDownload => SdoRequest::DownloadExpedited {
+                key,
+                data: ExpeditedData::Indicated(expedited(self.bytes)),
+            },
+            Transfer::SegmentedDownload => SdoRequest::DownloadBegin {
+                key,
+                size: self.size_sent(),
+            },
+            Transfer::BlockDownload => SdoRequest::BlockDownloadBegin {
+                key,
+                size: self.size_sent(),
+            },
+            Transfer::SegmentedUpload => SdoRequest::Upload { key },
+            Transfer::BlockUpload => SdoRequest::BlockUploadBegin {
+                key,
+                block_size: 127,
+                threshold: 0,
+            },
+        }
+    }
+
+    // Whether the transfer goes on.
+    fn waits(&self) -> bool
+        ensures { result ≡ waits self.now.state }
+    {
+        match self.state {
+            ClientState::Waiting => true,
+            _ => false,
+        }
+    }
+
+    // A tick while the client waits.
+    fn count_tick(&mut self, outbox: &mut Outbox)
+        requires room { array_vec_len outbox.old < 514 }
+        ensures few { array_vec_len outbox.new ≤ array_vec_len outbox.old + 127 }
+        ensures messages { outbox.new.items ≡ outbox.old.items ++ frames_on self.old.request
+            (messages_to_tick self.old) }
+        ensures client { self.new ≡ after_tick self.old }
+    {
+        self.left = self.left.saturating_sub(1);
+        if self.time > 0 && self.left == 0 {
+            self.give_up(AbortCode::TIMED_OUT, outbox);
+        }
+    }
+
+    /// Begins the transfer, with one frame. A second call does nothing.
+    pub fn begin(&mut self, outbox: &mut Outbox)
+        requires room { array_vec_len outbox.old < 514 }
+        ensures few { array_vec_len outbox.new ≤ array_vec_len outbox.old + 127 }
+        ensures messages { (call : Call) → IsReady call self.old → outbox.new.items ≡
+            outbox.old.items ++ frames_on self.old.request (begin_messages call) }
+        ensures begun { (call : Call) → IsReady call self.old → ClientStands call [] self.new }
+        ensures silent { self.old.begun ≡ true → outbox.new.items ≡ outbox.old.items }
+        ensures idle { self.old.begun ≡ true → self.new ≡ self.old }
+        ensures ids { (self.new.request ≡ self.old.request) × (self.new.answer ≡ self.old.answer) }
+    {
+        if self.begun {
+            return;
+        }
+        self.begun = true;
+        self.left = self.time;
+        let request = self.begin_request();
+        self.send(request, outbox);
+    }
+
+    /// Takes a frame. Before the begin, when the transfer is done or has failed, and where it hasn't eight bytes or has
+    /// another identifier than the client's answers, it is passed over. Else what is asked next is put into the outbox, at
+    /// most 127 frames; for an answer that isn't the awaited one that is an abort.
+    pub fn take(&mut self, frame: &Frame, outbox: &mut Outbox)
+        requires room { array_vec_len outbox.old + 127 ≤ 514 }
+        ensures few { array_vec_len outbox.new ≤ array_vec_len outbox.old + 127 }
+        ensures messages { (call : Call) (events : List Event) → ClientStands call events self.old
+            → outbox.new.items ≡ outbox.old.items ++ frames_on self.old.request (asked_with
+            self.old.answer call events frame.now) }
+        ensures stands { (call : Call) (events : List Event) → ClientStands call events self.old →
+            ClientStands call (events_with self.old.answer events frame.now) self.new }
+        ensures silent { self.old.begun ≡ false → outbox.new.items ≡ outbox.old.items }
+        ensures idle { self.old.begun ≡ false → self.new ≡ self.old }
+        ensures ids { (self.new.request ≡ self.old.request) × (self.new.answer ≡ self.old.answer) }
+    {
+        if frame.id() != self.ids.answer || frame.bytes().len() != 8 {
+            return;
+        }
+        if !self.begun || !self.waits() {
+            return;
+        }
+        self.take_answer(frame, outbox);
+    }
+
+    /// A tick of 1 ms. Where the time for an answer is over, the transfer is given up with an abort (05040000h, SDO protocol
+    /// timed out). Before the begin, and when the transfer is done or has failed, it does nothing.
+    pub fn tick(&mut self, outbox: &mut Outbox)
+        requires room { array_vec_len outbox.old + 127 ≤ 514 }
+        ensures few { array_vec_len outbox.new ≤ array_vec_len outbox.old + 127 }
+        ensures messages { (call : Call) (events : List Event) → ClientStands call events self.old
+            → outbox.new.items ≡ outbox.old.items ++ frames_on self.old.request (asked_by call
+            events Ticked) }
+        ensures stands { (call : Call) (events : List Event) → ClientStands call events self.old →
+            ClientStands call (Ticked ∷ events) self.new }
+        ensures silent { self.old.begun ≡ false → outbox.new.items ≡ outbox.old.items }
+        ensures idle { self.old.begun ≡ false → self.new ≡ self.old }
+        ensures ids { (self.new.request ≡ self.old.request) × (self.new.answer ≡ self.old.answer) }
+    {
+        if !self.begun || !self.waits() {
+            return;
+        }
+        self.count_tick(outbox);
+    }
+}
+
+// The bytes of an expedited download.
+fn expedited(bytes: &[u8]) -> ArrayVec<u8, 4>
+    requires { length bytes.now ≤ 4 }
+    ensures { result.items ≡ bytes.now }
+{
+    let mut data = ArrayVec::new();
+    match data.try_extend_from_slice(bytes) {
+        Ok(()) => {}
+        Err(_) => unreachable!(),
+    }
+    data
+}

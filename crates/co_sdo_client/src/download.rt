@@ -1,0 +1,90 @@
+//! Downloads: expedited and segmented.
+
+ghost use Rattle.std.specs.Prelude.{◌≡◌, ◌+◌, ◌*◌, ◌<◌, ◌≤◌, ◌++◌, [], ◌∷◌, Some, length};
+ghost use Rattle.arrayvec.specs.ArrayVec.{array_vec_len};
+ghost use Rattle.co_frame.specs.declared.sdo_response.SdoResponse.TheVariants.{DownloadDone, DownloadSegmentDone};
+ghost use Rattle.co_sdo_client.specs.Calls.{frames_on};
+ghost use Rattle.co_sdo_client.specs.Segments.{bytes_of, segment_after};
+ghost use Rattle.co_sdo_client.specs.Standing.{counted};
+ghost use Rattle.co_sdo_client.specs.Steps.{messages_to, after_response};
+
+use crate::client::Client;
+use crate::sending::{part_after, segment_of};
+use crate::stage::Stage;
+use crate::state::ClientState;
+use crate::transfer::Transfer;
+use co_frame::{AbortCode, Outbox, SdoRequest};
+use co_value::Key;
+
+impl<'a> Client<'a> {
+    // Sends the segment after so many: download SDO segment, ccs = 0.
+    fn send_segment(&mut self, count: u16, outbox: &mut Outbox)
+        requires room { array_vec_len outbox.old < 514 }
+        requires within { 7 * count ≤ length (bytes_of self.old.call.job) }
+        ensures few { array_vec_len outbox.new ≤ array_vec_len outbox.old + 127 }
+        ensures messages { outbox.new.items ≡ outbox.old.items ++ frames_on self.old.request
+            (segment_after count (bytes_of self.old.call.job) ∷ []) }
+        ensures client { self.new ≡ record self.old { sent = counted (self.old.sent + 1) } }
+    {
+        let position = usize::from(count);
+        let segment = SdoRequest::DownloadSegment {
+            toggle: count % 2 == 1,
+            data: segment_of(part_after(self.bytes, position)),
+            last: self.bytes.len() <= 7 * position + 7,
+        };
+        self.send(segment, outbox);
+    }
+
+    // The confirmation of a download's begin: initiate SDO download, scs = 3.
+    pub(crate) fn confirm_download(&mut self, key: Key, outbox: &mut Outbox)
+        requires room { array_vec_len outbox.old < 514 }
+        ensures few { array_vec_len outbox.new ≤ array_vec_len outbox.old + 127 }
+        ensures messages { outbox.new.items ≡ outbox.old.items ++ frames_on self.old.request
+            (messages_to self.old (Some (DownloadDone key))) }
+        ensures client { self.new ≡ after_response self.old (Some (DownloadDone key)) }
+    {
+        let Stage::Begun = self.stage else {
+            self.give_up(AbortCode::UNKNOWN_COMMAND, outbox);
+            return;
+        };
+        let transfer = self.transfer();
+        if !self.has_key(key) {
+            self.give_up(AbortCode::UNKNOWN_COMMAND, outbox);
+            return;
+        }
+        match transfer {
+            Transfer::ExpeditedDownload => self.state = ClientState::Done,
+            Transfer::SegmentedDownload => {
+                self.stage = Stage::Download { confirmed: 0 };
+                self.send_segment(0, outbox);
+            }
+            _ => self.give_up(AbortCode::UNKNOWN_COMMAND, outbox),
+        }
+    }
+
+    // The confirmation of a segment: download SDO segment, scs = 1.
+    pub(crate) fn confirm_segment(&mut self, toggle: bool, outbox: &mut Outbox)
+        requires room { array_vec_len outbox.old < 514 }
+        ensures few { array_vec_len outbox.new ≤ array_vec_len outbox.old + 127 }
+        ensures messages { outbox.new.items ≡ outbox.old.items ++ frames_on self.old.request
+            (messages_to self.old (Some (DownloadSegmentDone toggle))) }
+        ensures client { self.new ≡ after_response self.old (Some (DownloadSegmentDone toggle)) }
+    {
+        let Stage::Download { confirmed } = self.stage else {
+            self.give_up(AbortCode::UNKNOWN_COMMAND, outbox);
+            return;
+        };
+        if toggle != (confirmed % 2 == 1) {
+            self.give_up(AbortCode::TOGGLE_NOT_ALTERNATED, outbox);
+            return;
+        }
+        if self.bytes.len() <= 7 * usize::from(confirmed) + 7 {
+            self.state = ClientState::Done;
+            return;
+        }
+        self.stage = Stage::Download {
+            confirmed: confirmed + 1,
+        };
+        self.send_segment(confirmed + 1, outbox);
+    }
+}

@@ -1,0 +1,84 @@
+//! What a client sends.
+
+ghost use Rattle.std.specs.Prelude.{◌≡◌, ◌+◌, ◌*◌, ◌<◌, ◌≤◌, ◌++◌, [], ◌∷◌, length};
+ghost use Rattle.arrayvec.specs.ArrayVec.{array_vec_len};
+ghost use Rattle.co_value.specs.Keys.{same_key};
+ghost use Rattle.co_frame.specs.SdoRequests.{IsSdoRequest};
+ghost use Rattle.co_sdo_client.specs.Calls.{Request, frames_on};
+ghost use Rattle.co_sdo_client.specs.Segments.{bytes_of, part_after};
+ghost use Rattle.co_sdo_client.specs.Verdicts.{GivesUp};
+ghost use Rattle.co_sdo_client.specs.Outcomes.{messages_by};
+ghost use Rattle.co_sdo_client.specs.Standing.{counted};
+ghost use Rattle.co_sdo_client.specs.declared.state.ClientState.TheVariants.{Done, Failed};
+
+use crate::client::Client;
+use crate::state::ClientState;
+use arrayvec::ArrayVec;
+use co_frame::{AbortCode, Outbox, SdoRequest};
+use co_value::Key;
+
+// The seven bytes of a value after so many segments, fewer at its end.
+pub(crate) fn part_after(value: &[u8], count: usize) -> &[u8]
+    requires { 7 * count ≤ length value.now }
+    ensures part { result.now ≡ part_after count value.now }
+    ensures few { length result.now ≤ 7 }
+{
+    let rest = &value[7 * count..];
+    if rest.len() < 7 { rest } else { &rest[..7] }
+}
+
+// The bytes of a segment.
+pub(crate) fn segment_of(part: &[u8]) -> ArrayVec<u8, 7>
+    requires { length part.now ≤ 7 }
+    ensures { result.items ≡ part.now }
+{
+    let mut data = ArrayVec::new();
+    match data.try_extend_from_slice(part) {
+        Ok(()) => {}
+        Err(_) => unreachable!(),
+    }
+    data
+}
+
+impl<'a> Client<'a> {
+    // Sends a request.
+    pub(crate) fn send(&mut self, request: SdoRequest, outbox: &mut Outbox)
+        requires room { array_vec_len outbox.old < 514 }
+        requires spellable { IsSdoRequest request }
+        ensures few { array_vec_len outbox.new ≤ array_vec_len outbox.old + 127 }
+        ensures messages { outbox.new.items ≡ outbox.old.items ++ frames_on self.old.request
+            (Request request ∷ []) }
+        ensures client { self.new ≡ record self.old { sent = counted (self.old.sent + 1) } }
+    {
+        outbox.push(request.write(self.ids.request));
+        self.sent = self.sent.saturating_add(1);
+    }
+
+    // Gives the transfer up, with an abort.
+    pub(crate) fn give_up(&mut self, code: AbortCode, outbox: &mut Outbox)
+        requires room { array_vec_len outbox.old < 514 }
+        ensures few { array_vec_len outbox.new ≤ array_vec_len outbox.old + 127 }
+        ensures messages { outbox.new.items ≡ outbox.old.items ++ frames_on self.old.request
+            (messages_by self.old.call (GivesUp code.0)) }
+        ensures client { self.new ≡ record self.old {
+          state = Failed code;
+          sent = counted (self.old.sent + 1);
+        } }
+    {
+        self.state = ClientState::Failed(code);
+        self.send(
+            SdoRequest::Abort {
+                key: self.key,
+                code,
+            },
+            outbox,
+        );
+    }
+
+    // Whether an answer has the client's key.
+    pub(crate) fn has_key(&self, key: Key) -> bool
+        ensures { result ≡ same_key key self.now.call.key }
+    {
+        key.comparisons(self.key).0
+    }
+}

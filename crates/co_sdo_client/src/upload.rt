@@ -1,0 +1,175 @@
+//! Uploads: expedited and segmented.
+
+ghost use Rattle.std.specs.Prelude.{◌≡◌, ◌+◌, ◌<◌, ◌≤◌, ◌++◌, [], ◌∷◌, Some, length};
+ghost use Rattle.arrayvec.specs.ArrayVec.{array_vec_len};
+ghost use Rattle.co_frame.specs.declared.sdo_response.SdoResponse.TheVariants.{UploadExpedited, UploadBegun, UploadSegment};
+ghost use Rattle.co_sdo_client.specs.Calls.{frames_on};
+ghost use Rattle.co_sdo_client.specs.Segments.{cap_of};
+ghost use Rattle.co_sdo_client.specs.Verdicts.{expedited_value, is_above_size, is_below_size};
+ghost use Rattle.co_sdo_client.specs.Steps.{messages_to, after_response};
+
+use crate::client::Client;
+use crate::direction::Direction;
+use crate::stage::Stage;
+use crate::state::ClientState;
+use crate::transfer::Transfer;
+use arrayvec::ArrayVec;
+use co_frame::{AbortCode, ExpeditedData, Outbox, SdoRequest};
+use co_value::Key;
+
+// The data of an expedited upload.
+fn expedited_value(value: &ExpeditedData) -> &[u8]
+    ensures value { result.now ≡ expedited_value value.now }
+{
+    match value {
+        ExpeditedData::Indicated(counted) => counted.as_slice(),
+        ExpeditedData::NotIndicated(four) => four,
+    }
+}
+
+// Whether there are more bytes than were indicated.
+pub(crate) fn is_above_size(indicated: Option<u32>, total: usize) -> bool
+    ensures { result ≡ is_above_size indicated total }
+{
+    match indicated {
+        Some(size) => (size as usize) < total,
+        None => false,
+    }
+}
+
+// Whether there are fewer bytes than were indicated.
+pub(crate) fn is_below_size(indicated: Option<u32>, total: usize) -> bool
+    ensures { result ≡ is_below_size indicated total }
+{
+    match indicated {
+        Some(size) => total < size as usize,
+        None => false,
+    }
+}
+
+impl<'a> Client<'a> {
+    // How many bytes an upload may have.
+    pub(crate) fn cap(&self) -> usize
+        ensures { result ≡ cap_of self.now.call.job }
+    {
+        match self.direction {
+            Direction::Download { tell_size: _ } => 0,
+            Direction::Upload { cap } => usize::from(cap),
+        }
+    }
+
+    // A whole upload: initiate SDO upload, scs = 2, e = 1.
+    pub(crate) fn take_expedited(&mut self, key: Key, value: &ExpeditedData, outbox: &mut Outbox)
+        requires room { array_vec_len outbox.old < 514 }
+        ensures few { array_vec_len outbox.new ≤ array_vec_len outbox.old + 127 }
+        ensures messages { outbox.new.items ≡ outbox.old.items ++ frames_on self.old.request
+            (messages_to self.old (Some (UploadExpedited key value.now))) }
+        ensures client { self.new ≡ after_response self.old (Some (UploadExpedited key value.now)) }
+    {
+        let Stage::Begun = self.stage else {
+            self.give_up(AbortCode::UNKNOWN_COMMAND, outbox);
+            return;
+        };
+        let Transfer::SegmentedUpload = self.transfer() else {
+            self.give_up(AbortCode::UNKNOWN_COMMAND, outbox);
+            return;
+        };
+        if !self.has_key(key) {
+            self.give_up(AbortCode::UNKNOWN_COMMAND, outbox);
+            return;
+        }
+        let bytes = expedited_value(value);
+        if self.cap() < bytes.len() {
+            self.give_up(AbortCode::OUT_OF_MEMORY, outbox);
+            return;
+        }
+        self.buffer.fill(bytes);
+        self.state = ClientState::Done;
+    }
+
+    // The confirmation of an upload's begin: initiate SDO upload, scs = 2, e = 0.
+    pub(crate) fn confirm_upload(&mut self, key: Key, size: Option<u32>, outbox: &mut Outbox)
+        requires room { array_vec_len outbox.old < 514 }
+        ensures few { array_vec_len outbox.new ≤ array_vec_len outbox.old + 127 }
+        ensures messages { outbox.new.items ≡ outbox.old.items ++ frames_on self.old.request
+            (messages_to self.old (Some (UploadBegun key size))) }
+        ensures client { self.new ≡ after_response self.old (Some (UploadBegun key size)) }
+    {
+        let Stage::Begun = self.stage else {
+            self.give_up(AbortCode::UNKNOWN_COMMAND, outbox);
+            return;
+        };
+        let Transfer::SegmentedUpload = self.transfer() else {
+            self.give_up(AbortCode::UNKNOWN_COMMAND, outbox);
+            return;
+        };
+        if !self.has_key(key) {
+            self.give_up(AbortCode::UNKNOWN_COMMAND, outbox);
+            return;
+        }
+        if self.cap() < size.unwrap_or(0) as usize {
+            self.give_up(AbortCode::OUT_OF_MEMORY, outbox);
+            return;
+        }
+        self.buffer.fill(&[]);
+        self.stage = Stage::Upload {
+            indicated: size,
+            toggle: false,
+        };
+        self.send(SdoRequest::UploadSegment { toggle: false }, outbox);
+    }
+
+    // A segment: upload SDO segment, scs = 0.
+    pub(crate) fn take_segment(
+        &mut self,
+        toggle: bool,
+        segment: &ArrayVec<u8, 7>,
+        last: bool,
+        outbox: &mut Outbox,
+    )
+        requires room { array_vec_len outbox.old < 514 }
+        ensures few { array_vec_len outbox.new ≤ array_vec_len outbox.old + 127 }
+        ensures messages { outbox.new.items ≡ outbox.old.items ++ frames_on self.old.request
+            (messages_to self.old (Some (UploadSegment toggle segment.now last))) }
+        ensures client { self.new ≡ after_response self.old (Some (UploadSegment toggle segment.now
+            last)) }
+    {
+        let Stage::Upload {
+            indicated,
+            toggle: expected,
+        } = self.stage
+        else {
+            self.give_up(AbortCode::UNKNOWN_COMMAND, outbox);
+            return;
+        };
+        if toggle != expected {
+            self.give_up(AbortCode::TOGGLE_NOT_ALTERNATED, outbox);
+            return;
+        }
+        let total = self.buffer.len() + segment.len();
+        if self.cap() < total {
+            self.give_up(AbortCode::OUT_OF_MEMORY, outbox);
+            return;
+        }
+        if last {
+            if is_above_size(indicated, total) {
+                self.give_up(AbortCode::TOO_LONG, outbox);
+                return;
+            }
+            if is_below_size(indicated, total) {
+                self.give_up(AbortCode::TOO_SHORT, outbox);
+                return;
+            }
+            self.buffer.append(segment.as_slice());
+            self.state = ClientState::Done;
+            return;
+        }
+        self.buffer.append(segment.as_slice());
+        self.stage = Stage::Upload {
+            indicated,
+            toggle: !expected,
+        };
+        let toggle = !expected;
+        self.send(SdoRequest::UploadSegment { toggle }, outbox);
+    }
+}

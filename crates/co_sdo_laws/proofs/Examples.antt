@@ -1,0 +1,263 @@
+-- Worked transfers between a client and a channel, computed from the definitions over a dictionary of two entries.
+use Rattle.std.proofs.Common.{map, ◌≡◌, ℕ, List, [], ◌∷◌, refl, codes, Some, None, Option, true, false, reverse}
+use Rattle.std.specs.Prelude.{pos, ◌+◌, ◌-◌, ◌*◌, nat_lt, if◌then◌else◌}
+use Rattle.co_value.specs.declared.key.Key.{Key}
+use Rattle.co_value.specs.Keys.{same_key}
+use Rattle.co_value.specs.declared.data_type.DataType.TheVariants.{VisibleString, Domain}
+use Rattle.co_value.specs.declared.data_type.DataType.{DataType}
+use Rattle.co_sheet.specs.declared.entry.Access.TheVariants.{Rw}
+use Rattle.co_frame.specs.SdoRequests.{request_row_in}
+use Rattle.co_frame.specs.SdoResponses.{response_row_in}
+use Rattle.co_dict.specs.declared.row.Row.{Row}
+use Rattle.co_dict.specs.Objects.{has_object}
+use Rattle.co_dict.specs.Stores.{Description}
+use Rattle.co_sdo_client.specs.declared.mode.Mode.{Mode}
+use Rattle.co_sdo_client.specs.declared.mode.Mode.TheVariants.{Plain, Segmented, Block}
+use Rattle.co_sdo_client.specs.declared.state.ClientState.{ClientState}
+use Rattle.co_sdo_client.specs.declared.state.ClientState.TheVariants.{Waiting, Done, Failed}
+use Rattle.co_sdo_client.specs.Calls.{Job, Download, Upload}
+use Rattle.co_sdo_client.specs.Outcomes.{outcome, sent, result}
+use Rattle.co_sdo.specs.Refused.{reading_refusal, begin_refusal, completion_refusal}
+use Rattle.co_sdo_laws.specs.Undisturbed.{is_expedited_download, is_segmented_download, upload_requests, block_frames, block_upload_frames, block_download_requests, block_download_answers, block_upload_requests, block_upload_answers, answers_sent, rounds_after, arrived}
+use Rattle.co_sdo_laws.specs.World.{Setup, WorldEvent, Requests, Answers, Delivered, Lost, Repeated, ClientTicked, ChannelTicked, world_after}
+
+-- ---- a dictionary: the string 2001:00 of at most 16 bytes, and the domain 2100:00 of at most 20
+
+abbrev pub string_key : Key
+string_key = record { index = 0x2001; sub = 0 }
+
+abbrev pub domain_key : Key
+domain_key = record { index = 0x2100; sub = 0 }
+
+abbrev pub row : DataType → ℕ → Row
+row data_type capacity = record { data_type = data_type; access = Rw; low = pos 0; high = pos 0; capacity = capacity; mappable = false }
+
+abbrev pub row_in : Key → Option Row
+row_in key = if same_key key string_key then Some (row VisibleString 16) else (if same_key key domain_key then Some (row Domain 20) else None)
+
+abbrev pub bytes_in : Key → Option (List ℕ)
+bytes_in key = if same_key key string_key then Some (codes "ABCDEFGHI") else (if same_key key domain_key then Some [] else None)
+
+abbrev pub dictionary : Description
+dictionary = record { node = 5; rows = row_in; initial = bytes_in; dummies = λ _. false; keys = string_key ∷ domain_key ∷ [] }
+
+-- the client waits 3 ms for an answer, the channel 2 ms for a request
+abbrev pub setup : Key → Mode → Job → Setup
+setup key mode job = record { call = record { key = key; mode = mode; time = 3; job = job }; time = 2; description = dictionary; contents = bytes_in; past = [] }
+
+-- ---- what is shown of a world
+
+abbrev digit : ℕ → ℕ
+digit code = if nat_lt code 65 then code - 48 else code - 55
+
+abbrev hex : List ℕ → List ℕ
+hex [] = []
+hex (high ∷ []) = []
+hex (high ∷ low ∷ digits) = (16 * digit high + digit low) ∷ hex digits
+
+pub record Report : Type 0 where
+  pub requests : List (List ℕ)
+  pub answers : List (List ℕ)
+  pub entry : Option (List ℕ)
+  pub state : ClientState
+  pub sent : ℕ
+  pub value : List ℕ
+
+-- the frames on their way, the entry's bytes and the client, after events, the first one first
+abbrev pub report : Setup → List WorldEvent → Report
+report s events = record {
+  requests = (world_after s (reverse events)).requests;
+  answers = (world_after s (reverse events)).answers;
+  entry = (world_after s (reverse events)).contents s.call.key;
+  state = outcome s.call (world_after s (reverse events)).events;
+  sent = sent s.call (world_after s (reverse events)).events;
+  value = result s.call (world_after s (reverse events)).events;
+}
+
+abbrev pub r : WorldEvent
+r = Delivered Requests
+
+abbrev pub a : WorldEvent
+a = Delivered Answers
+
+-- ---- ten bytes to the string, in segments
+
+abbrev pub ten : Setup
+ten = setup string_key Segmented (Download (codes "0123456789") true)
+
+ten_begins : report ten [] ≡ record { requests = hex (codes "210120000A000000") ∷ []; answers = []; entry = Some (codes "ABCDEFGHI"); state = Waiting; sent = 1; value = [] }
+unfolding request_row_in response_row_in reading_refusal begin_refusal completion_refusal has_object
+ten_begins = refl
+
+ten_confirmed : report ten (r ∷ []) ≡ record { requests = []; answers = hex (codes "6001200000000000") ∷ []; entry = Some (codes "ABCDEFGHI"); state = Waiting; sent = 1; value = [] }
+unfolding request_row_in response_row_in reading_refusal begin_refusal completion_refusal has_object
+ten_confirmed = refl
+
+ten_goes_on : report ten (r ∷ a ∷ []) ≡ record { requests = hex (codes "0030313233343536") ∷ []; answers = []; entry = Some (codes "ABCDEFGHI"); state = Waiting; sent = 2; value = [] }
+unfolding request_row_in response_row_in reading_refusal begin_refusal completion_refusal has_object
+ten_goes_on = refl
+
+ten_is_set : report ten (r ∷ a ∷ r ∷ a ∷ r ∷ []) ≡ record { requests = []; answers = hex (codes "3000000000000000") ∷ []; entry = Some (codes "0123456789"); state = Waiting; sent = 3; value = [] }
+unfolding request_row_in response_row_in reading_refusal begin_refusal completion_refusal has_object
+ten_is_set = refl
+
+ten_is_done : report ten (r ∷ a ∷ r ∷ a ∷ r ∷ a ∷ []) ≡ record { requests = []; answers = []; entry = Some (codes "0123456789"); state = Done; sent = 3; value = [] }
+unfolding request_row_in response_row_in reading_refusal begin_refusal completion_refusal has_object
+ten_is_done = refl
+
+-- nothing is on its way in the queue: nothing happens
+ten_waits : report ten (a ∷ r ∷ r ∷ a ∷ []) ≡ report ten (r ∷ a ∷ [])
+unfolding request_row_in response_row_in reading_refusal begin_refusal completion_refusal has_object
+ten_waits = refl
+
+-- the first segment is lost
+ten_loses : report ten (r ∷ a ∷ Lost Requests ∷ r ∷ []) ≡ record { requests = []; answers = []; entry = Some (codes "ABCDEFGHI"); state = Waiting; sent = 2; value = [] }
+unfolding request_row_in response_row_in reading_refusal begin_refusal completion_refusal has_object
+ten_loses = refl
+
+-- the confirmation of its begin comes twice: the second isn't awaited
+ten_is_repeated : report ten (r ∷ Repeated Answers ∷ a ∷ []) ≡ record {
+  requests = hex (codes "0030313233343536") ∷ hex (codes "8001200001000405") ∷ [];
+  answers = [];
+  entry = Some (codes "ABCDEFGHI");
+  state = Failed (record { 0 = 0x05040001 });
+  sent = 3;
+  value = [];
+}
+unfolding request_row_in response_row_in reading_refusal begin_refusal completion_refusal has_object
+ten_is_repeated = refl
+
+-- the first segment comes twice: the second has the wrong toggle
+ten_repeats : report ten (r ∷ a ∷ Repeated Requests ∷ r ∷ []) ≡ record {
+  requests = [];
+  answers = hex (codes "2000000000000000") ∷ hex (codes "8001200000000305") ∷ [];
+  entry = Some (codes "ABCDEFGHI");
+  state = Waiting;
+  sent = 2;
+  value = [];
+}
+unfolding request_row_in response_row_in reading_refusal begin_refusal completion_refusal has_object
+ten_repeats = refl
+
+-- the channel's time is over after two of its ticks, the client's after three of its own
+ten_at_the_channel : report ten (ChannelTicked ∷ ChannelTicked ∷ r ∷ ChannelTicked ∷ ChannelTicked ∷ []) ≡ record {
+  requests = [];
+  answers = hex (codes "6001200000000000") ∷ hex (codes "8001200000000405") ∷ [];
+  entry = Some (codes "ABCDEFGHI");
+  state = Waiting;
+  sent = 1;
+  value = [];
+}
+unfolding request_row_in response_row_in reading_refusal begin_refusal completion_refusal has_object
+ten_at_the_channel = refl
+
+ten_at_the_client : report ten (r ∷ ClientTicked ∷ ClientTicked ∷ ClientTicked ∷ []) ≡ record {
+  requests = hex (codes "8001200000000405") ∷ [];
+  answers = hex (codes "6001200000000000") ∷ [];
+  entry = Some (codes "ABCDEFGHI");
+  state = Failed (record { 0 = 0x05040000 });
+  sent = 2;
+  value = [];
+}
+unfolding request_row_in response_row_in reading_refusal begin_refusal completion_refusal has_object
+ten_at_the_client = refl
+
+-- ---- the nine bytes of the string, read in segments
+
+nine_are_done : report (setup string_key Segmented (Upload 9)) (r ∷ a ∷ r ∷ a ∷ r ∷ a ∷ []) ≡ record { requests = []; answers = []; entry = Some (codes "ABCDEFGHI"); state = Done; sent = 3; value = codes "ABCDEFGHI" }
+unfolding request_row_in response_row_in reading_refusal begin_refusal completion_refusal has_object
+nine_are_done = refl
+
+-- ---- fourteen bytes to the domain, in blocks
+
+abbrev pub fourteen : Setup
+fourteen = setup domain_key Block (Download (codes "0123456789ABCD") true)
+
+fourteen_are_sent : report fourteen (r ∷ a ∷ []) ≡ record {
+  requests = hex (codes "0130313233343536") ∷ hex (codes "8237383941424344") ∷ [];
+  answers = [];
+  entry = Some [];
+  state = Waiting;
+  sent = 3;
+  value = [];
+}
+unfolding request_row_in response_row_in reading_refusal begin_refusal completion_refusal has_object
+fourteen_are_sent = refl
+
+fourteen_are_taken : report fourteen (r ∷ a ∷ r ∷ r ∷ []) ≡ record { requests = []; answers = hex (codes "A2027F0000000000") ∷ []; entry = Some []; state = Waiting; sent = 3; value = [] }
+unfolding request_row_in response_row_in reading_refusal begin_refusal completion_refusal has_object
+fourteen_are_taken = refl
+
+fourteen_are_done : report fourteen (r ∷ a ∷ r ∷ r ∷ a ∷ r ∷ a ∷ []) ≡ record { requests = []; answers = []; entry = Some (codes "0123456789ABCD"); state = Done; sent = 4; value = [] }
+unfolding request_row_in response_row_in reading_refusal begin_refusal completion_refusal has_object
+fourteen_are_done = refl
+
+-- ---- and read in blocks
+
+nine_in_blocks : report (setup string_key Block (Upload 9)) (r ∷ a ∷ r ∷ a ∷ a ∷ r ∷ a ∷ r ∷ []) ≡ record { requests = []; answers = []; entry = Some (codes "ABCDEFGHI"); state = Done; sent = 4; value = codes "ABCDEFGHI" }
+unfolding request_row_in response_row_in reading_refusal begin_refusal completion_refusal has_object
+nine_in_blocks = refl
+
+-- ---- how many frames there are
+
+-- an expedited upload needs one request, of 0 or 5 to 7 bytes two, of 8 three
+some_requests : map upload_requests (0 ∷ 1 ∷ 4 ∷ 5 ∷ 7 ∷ 8 ∷ []) ≡ 2 ∷ 1 ∷ 1 ∷ 2 ∷ 2 ∷ 3 ∷ []
+some_requests = refl
+
+-- one sub-block up to 889 bytes, then two
+some_blocks : map block_frames (0 ∷ 7 ∷ 14 ∷ 889 ∷ 890 ∷ []) ≡ 6 ∷ 6 ∷ 7 ∷ 132 ∷ 134 ∷ []
+some_blocks = refl
+
+-- at the client of a block download, and at its server
+some_download_requests : map block_download_requests (0 ∷ 1 ∷ 7 ∷ 8 ∷ 889 ∷ 890 ∷ []) ≡ 3 ∷ 3 ∷ 3 ∷ 4 ∷ 129 ∷ 130 ∷ []
+some_download_requests = refl
+
+some_download_answers : map block_download_answers (0 ∷ 1 ∷ 7 ∷ 8 ∷ 889 ∷ 890 ∷ []) ≡ 3 ∷ 3 ∷ 3 ∷ 3 ∷ 3 ∷ 4 ∷ []
+some_download_answers = refl
+
+-- at the client of a block upload, and at its server
+some_upload_requests : map block_upload_requests (0 ∷ 1 ∷ 7 ∷ 8 ∷ 889 ∷ 890 ∷ []) ≡ 4 ∷ 4 ∷ 4 ∷ 4 ∷ 4 ∷ 5 ∷ []
+some_upload_requests = refl
+
+some_upload_answers : map block_upload_answers (0 ∷ 1 ∷ 7 ∷ 8 ∷ 889 ∷ 890 ∷ []) ≡ 3 ∷ 3 ∷ 3 ∷ 4 ∷ 129 ∷ 130 ∷ []
+some_upload_answers = refl
+
+some_uploads_in_blocks : map block_upload_frames (9 ∷ 890 ∷ []) ≡ 8 ∷ 135 ∷ []
+some_uploads_in_blocks = refl
+
+-- a plain download is expedited from 1 to 4 bytes
+plain_download : map (λ bytes. is_expedited_download Plain (Download bytes false)) ([] ∷ codes "a" ∷ codes "abcd" ∷ codes "abcde" ∷ []) ≡ false ∷ true ∷ true ∷ false ∷ []
+plain_download = refl
+
+in_segments : map (λ bytes. is_segmented_download Plain (Download bytes true)) ([] ∷ codes "a" ∷ codes "abcd" ∷ codes "abcde" ∷ []) ≡ true ∷ false ∷ false ∷ true ∷ []
+in_segments = refl
+
+always_in_segments : is_segmented_download Segmented (Download (codes "a") true) ≡ true
+always_in_segments = refl
+
+-- six rounds are more than enough for the three requests of ten bytes
+ten_in_rounds : outcome ten.call (world_after ten (rounds_after 6 [])).events ≡ Done
+unfolding request_row_in response_row_in reading_refusal begin_refusal completion_refusal has_object
+ten_in_rounds = refl
+
+ten_arrived : map (λ n. arrived (world_after ten (rounds_after n []))) (0 ∷ 1 ∷ 2 ∷ 3 ∷ 4 ∷ []) ≡ 0 ∷ 2 ∷ 4 ∷ 6 ∷ 6 ∷ []
+unfolding request_row_in response_row_in reading_refusal begin_refusal completion_refusal has_object
+ten_arrived = refl
+
+fourteen_arrived : arrived (world_after fourteen (rounds_after 7 [])) ≡ block_frames 14
+unfolding request_row_in response_row_in reading_refusal begin_refusal completion_refusal has_object
+fourteen_arrived = refl
+
+-- in which the channel sends three
+fourteen_sent : answers_sent (world_after fourteen (rounds_after 7 [])).log ≡ block_download_answers 14
+unfolding request_row_in response_row_in reading_refusal begin_refusal completion_refusal has_object
+fourteen_sent = refl
+
+-- an abort at the end of the channel's time counts too
+timed_out_sent : answers_sent (world_after ten (ChannelTicked ∷ ChannelTicked ∷ r ∷ [])).log ≡ 2
+unfolding request_row_in response_row_in reading_refusal begin_refusal completion_refusal has_object
+timed_out_sent = refl
+
+nine_sent : answers_sent (world_after (setup string_key Block (Upload 9)) (rounds_after 8 [])).log ≡ block_upload_answers 9
+unfolding request_row_in response_row_in reading_refusal begin_refusal completion_refusal has_object
+nine_sent = refl

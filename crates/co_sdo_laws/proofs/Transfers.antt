@@ -1,0 +1,351 @@
+-- What an undisturbed transfer is permitted, and where it ends.
+use Rattle.std.proofs.Common.{◌≡◌, ℕ, ◌<◌, ◌≤◌, Bool, true, false, not, List, [], length, None, refl, arith}
+use Rattle.std.specs.Prelude.{nat_le, ◌&&◌}
+use Rattle.std.proofs.lemmas.Bool.Decides.{nat_tests}
+use Rattle.co_value.specs.declared.key.Key.{Key}
+use Rattle.co_sdo_client.specs.declared.mode.Mode.{Mode}
+use Rattle.co_sdo_client.specs.declared.mode.Mode.TheVariants.{Plain, Segmented, Block}
+use Rattle.co_sdo_client.specs.declared.state.ClientState.TheVariants.{Done}
+use Rattle.co_sdo_client.specs.Calls.{Job, Download, Upload}
+use Rattle.co_sdo_client.specs.Segments.{bytes_of, cap_of, transfer_of, transfer_by, requests_needed}
+use Rattle.co_sdo_client.specs.Outcomes.{outcome, result}
+use Rattle.co_dict.specs.Rows.{Contents, written}
+use Rattle.co_dict.specs.Stores.{Description, IsDictionary}
+use Rattle.co_sdo.specs.Log.{Log}
+use Rattle.co_sdo.specs.OpenTransfers.{open_transfer}
+use Rattle.co_sdo.specs.Refused.{reading_refusal}
+use Rattle.co_sdo.specs.Uploads.{value_at}
+use Rattle.co_sdo_laws.specs.World.{Setup, World, WorldEvent, world_after}
+use Rattle.co_sdo_laws.specs.Undisturbed.{IsUndisturbed, on_their_way, IsJob, IsPermitted, GoesInTurns, is_short, is_expedited_download, is_segmented_download, is_plain_upload, is_block_download, is_block_upload, GoesInBlocks, HaveSent, block_frames, block_upload_frames, upload_requests, block_download_requests, block_download_answers, block_upload_requests, block_upload_answers}
+use Rattle.co_sdo_laws.proofs.Frames.{begin_read, bare_begin_read, block_begin_read, bare_block_begin_read}
+use Rattle.co_sdo_laws.proofs.Permits.{may_begin}
+use Rattle.co_sdo_laws.proofs.Pasts.{unopened}
+use Rattle.co_sdo_laws.proofs.Turns.{always, goes_in_turns, when_done, channel_at}
+use Rattle.co_sdo_laws.proofs.SegmentedDownloads.{MayDownload, segmented_download}
+use Rattle.co_sdo_laws.proofs.SegmentedUploads.{MayUpload, segmented_upload}
+use Rattle.co_sdo_laws.proofs.ExpeditedDownloads as expedited
+use Rattle.co_sdo_laws.proofs.ExpeditedUploads as at_once
+use Rattle.co_sdo_laws.proofs.Scripts as scripts
+use Rattle.co_sdo_laws.proofs.SentFrames.{all_there}
+use Rattle.co_sdo_laws.proofs.BlockDownloadPlaces as blocks
+use Rattle.co_sdo_laws.proofs.BlockDownloads.{block_download}
+use Rattle.co_sdo_laws.proofs.BlockDownloadOutcomes as blocks_outcome
+use Rattle.co_sdo_laws.proofs.BlockUploadPlaces as fetched
+use Rattle.co_sdo_laws.proofs.BlockUploads.{block_upload}
+use Rattle.co_sdo_laws.proofs.BlockUploadOutcomes as fetched_outcome
+
+abbrev pub setup : Key → Mode → ℕ → Job → ℕ → Description → Contents → Log → Setup
+setup key mode client_time job time d contents past = record { call = record { key = key; mode = mode; time = client_time; job = job }; time = time; description = d; contents = contents; past = past }
+
+-- ---- segmented downloads
+
+not_true : (b : Bool) → not b ≡ true → b ≡ false
+not_true true h = cc
+not_true false h = refl
+
+-- which protocol a segmented download is
+in_segments : (mode : Mode) (job : Job) → is_segmented_download mode job ≡ true → transfer_by mode job ≡ transfer_by Segmented (Download [] true)
+in_segments Plain (Download bytes tells) h = rw (not_true (is_short (length bytes)) h) refl
+in_segments Segmented (Download bytes tells) h = refl
+in_segments Block (Download bytes tells) h = cc
+in_segments Plain (Upload cap) h = cc
+in_segments Segmented (Upload cap) h = cc
+in_segments Block (Upload cap) h = cc
+
+no_upload : (mode : Mode) (cap : ℕ) → is_segmented_download mode (Upload cap) ≡ true → ⊥
+no_upload Plain cap h = cc
+no_upload Segmented cap h = cc
+no_upload Block cap h = cc
+
+permitted_download : (key : Key) (mode : Mode) (client_time : ℕ) (job : Job) (time : ℕ) (d : Description) (contents : Contents) (past : Log)
+    → is_segmented_download mode job ≡ true → IsDictionary d contents → open_transfer past ≡ None → key.index < 65536 → IsJob job → IsPermitted d contents key job
+    → MayDownload (setup key mode client_time job time d contents past)
+permitted_download key mode client_time (Download bytes true) time d contents past t lawful idle index small free =
+    let may = may_begin d contents key bytes free in
+    record {
+      transfer = in_segments mode (Download bytes true) t;
+      lawful = lawful;
+      idle = idle;
+      index = index;
+      may_begin = may.begin_indicated;
+      may_complete = may.complete_indicated;
+      room = may.room;
+      begin_read = begin_read key (length bytes) index (omega arith);
+      begin_long = refl;
+    }
+permitted_download key mode client_time (Download bytes false) time d contents past t lawful idle index small free =
+    let may = may_begin d contents key bytes free in
+    record {
+      transfer = in_segments mode (Download bytes false) t;
+      lawful = lawful;
+      idle = idle;
+      index = index;
+      may_begin = may.begin;
+      may_complete = free;
+      room = may.room;
+      begin_read = bare_begin_read key index;
+      begin_long = refl;
+    }
+permitted_download key mode client_time (Upload cap) time d contents past t lawful idle index small free = absurd (no_upload mode cap t)
+
+may_download : (s : Setup) (events : List WorldEvent) → IsUndisturbed s events → is_segmented_download s.call.mode s.call.job ≡ true → MayDownload s
+may_download s events u t = permitted_download s.call.key s.call.mode s.call.time s.call.job s.time s.description s.contents s.past t u.dictionary u.idle u.key u.job u.permitted
+
+pub download_goes : (s : Setup) (events : List WorldEvent) → IsUndisturbed s events → is_segmented_download s.call.mode s.call.job ≡ true
+    → GoesInTurns s.call (requests_needed (length (bytes_of s.call.job))) (world_after s events)
+unfolding segmented_download
+download_goes s events u t =
+    let turns = segmented_download s (may_download s events u t) in
+    goes_in_turns s turns (world_after s events) (always s turns events u.calm)
+
+pub download_sets : (s : Setup) (events : List WorldEvent) → IsUndisturbed s events → is_segmented_download s.call.mode s.call.job ≡ true
+    → outcome s.call (world_after s events).events ≡ Done → (world_after s events).contents ≡ written s.contents s.call.key (bytes_of s.call.job)
+unfolding segmented_download
+download_sets s events u t done =
+    let turns = segmented_download s (may_download s events u t) in
+    (when_done s turns (world_after s events) (always s turns events u.calm) done).channel.sets refl
+
+-- what is left when its client is done: nothing is open, and no bytes are given
+pub record Closes (s : Setup) (w : World) (value : List ℕ) : Type 0 where
+  pub gives : result s.call w.events ≡ value
+  pub idle : open_transfer w.log ≡ None
+
+pub download_closes : (s : Setup) (events : List WorldEvent) → IsUndisturbed s events → is_segmented_download s.call.mode s.call.job ≡ true
+    → outcome s.call (world_after s events).events ≡ Done → Closes s (world_after s events) []
+unfolding segmented_download
+download_closes s events u t done =
+    let turns = segmented_download s (may_download s events u t) in
+    let end = when_done s turns (world_after s events) (always s turns events u.calm) done in
+    record { gives = end.value; idle = unopened s.description.rows (world_after s events).log (end.channel.closed refl) }
+
+-- ---- expedited downloads
+
+both_true : (a b : Bool) → a && b ≡ true → (a ≡ true) × (b ≡ true)
+both_true true true h = (refl, refl)
+both_true true false h = cc
+both_true false b h = cc
+
+short_bytes : (n : ℕ) → is_short n ≡ true → (1 ≤ n) × (n ≤ 4)
+short_bytes n h = let both = both_true (nat_le 1 n) (nat_le n 4) h in let low = both.0 in let high = both.1 in (grind (arith, nat_tests), grind (arith, nat_tests))
+
+permitted_expedited : (key : Key) (mode : Mode) (client_time : ℕ) (job : Job) (time : ℕ) (d : Description) (contents : Contents) (past : Log)
+    → is_expedited_download mode job ≡ true → IsDictionary d contents → open_transfer past ≡ None → key.index < 65536 → IsPermitted d contents key job
+    → expedited.MayDownload (setup key mode client_time job time d contents past)
+permitted_expedited key Plain client_time (Download bytes tells) time d contents past t lawful idle index free =
+    let short = short_bytes (length bytes) t in
+    record { transfer = rw t refl; lawful = lawful; idle = idle; index = index; some = short.0; few = short.1; may_complete = free }
+permitted_expedited key Segmented client_time (Download bytes tells) time d contents past t lawful idle index free = cc
+permitted_expedited key Block client_time (Download bytes tells) time d contents past t lawful idle index free = cc
+permitted_expedited key Plain client_time (Upload cap) time d contents past t lawful idle index free = cc
+permitted_expedited key Segmented client_time (Upload cap) time d contents past t lawful idle index free = cc
+permitted_expedited key Block client_time (Upload cap) time d contents past t lawful idle index free = cc
+
+may_expedite : (s : Setup) (events : List WorldEvent) → IsUndisturbed s events → is_expedited_download s.call.mode s.call.job ≡ true → expedited.MayDownload s
+may_expedite s events u t = permitted_expedited s.call.key s.call.mode s.call.time s.call.job s.time s.description s.contents s.past t u.dictionary u.idle u.key u.permitted
+
+pub expedited_goes : (s : Setup) (events : List WorldEvent) → IsUndisturbed s events → is_expedited_download s.call.mode s.call.job ≡ true → GoesInTurns s.call 1 (world_after s events)
+unfolding expedited.expedited_download
+expedited_goes s events u t =
+    let turns = expedited.expedited_download s (may_expedite s events u t) in
+    goes_in_turns s turns (world_after s events) (always s turns events u.calm)
+
+pub expedited_sets : (s : Setup) (events : List WorldEvent) → IsUndisturbed s events → is_expedited_download s.call.mode s.call.job ≡ true
+    → outcome s.call (world_after s events).events ≡ Done → (world_after s events).contents ≡ written s.contents s.call.key (bytes_of s.call.job)
+unfolding expedited.expedited_download
+expedited_sets s events u t done =
+    let turns = expedited.expedited_download s (may_expedite s events u t) in
+    (when_done s turns (world_after s events) (always s turns events u.calm) done).channel.sets refl
+
+pub expedited_closes : (s : Setup) (events : List WorldEvent) → IsUndisturbed s events → is_expedited_download s.call.mode s.call.job ≡ true
+    → outcome s.call (world_after s events).events ≡ Done → Closes s (world_after s events) []
+unfolding expedited.expedited_download
+expedited_closes s events u t done =
+    let turns = expedited.expedited_download s (may_expedite s events u t) in
+    let end = when_done s turns (world_after s events) (always s turns events u.calm) done in
+    record { gives = end.value; idle = unopened s.description.rows (world_after s events).log end.channel.closed }
+
+-- ---- uploads
+
+record IsUpload (s : Setup) : Type 0 where
+  transfer : transfer_of s.call ≡ transfer_by Segmented (Upload 0)
+  may_read : reading_refusal s.description s.contents s.call.key ≡ None
+  cap : cap_of s.call.job ≤ 65535
+
+permitted_upload : (key : Key) (mode : Mode) (client_time : ℕ) (job : Job) (time : ℕ) (d : Description) (contents : Contents) (past : Log)
+    → is_plain_upload mode job ≡ true → IsJob job → IsPermitted d contents key job → IsUpload (setup key mode client_time job time d contents past)
+permitted_upload key Plain client_time (Upload cap) time d contents past t small free = record { transfer = refl; may_read = free; cap = small }
+permitted_upload key Segmented client_time (Upload cap) time d contents past t small free = record { transfer = refl; may_read = free; cap = small }
+permitted_upload key Block client_time (Upload cap) time d contents past t small free = cc
+permitted_upload key Plain client_time (Download bytes tells) time d contents past t small free = cc
+permitted_upload key Segmented client_time (Download bytes tells) time d contents past t small free = cc
+permitted_upload key Block client_time (Download bytes tells) time d contents past t small free = cc
+
+is_upload : (s : Setup) (events : List WorldEvent) → IsUndisturbed s events → is_plain_upload s.call.mode s.call.job ≡ true → IsUpload s
+is_upload s events u t = permitted_upload s.call.key s.call.mode s.call.time s.call.job s.time s.description s.contents s.past t u.job u.permitted
+
+may_upload : (s : Setup) (events : List WorldEvent) → IsUndisturbed s events → is_plain_upload s.call.mode s.call.job ≡ true → length (value_at s.contents s.call.key) ≤ cap_of s.call.job
+    → is_short (length (value_at s.contents s.call.key)) ≡ false → MayUpload s
+may_upload s events u t room short =
+    let job = is_upload s events u t in
+    record { transfer = job.transfer; lawful = u.dictionary; idle = u.idle; index = u.key; may_read = job.may_read; not_short = short; fits = room; cap = job.cap }
+
+may_upload_at_once : (s : Setup) (events : List WorldEvent) → IsUndisturbed s events → is_plain_upload s.call.mode s.call.job ≡ true → length (value_at s.contents s.call.key) ≤ cap_of s.call.job
+    → is_short (length (value_at s.contents s.call.key)) ≡ true → at_once.MayUpload s
+may_upload_at_once s events u t room short =
+    let job = is_upload s events u t in
+    let few = short_bytes (length (value_at s.contents s.call.key)) short in
+    record { transfer = job.transfer; lawful = u.dictionary; idle = u.idle; index = u.key; may_read = job.may_read; short = short; some = few.0; few = few.1; fits = room }
+
+record Uploads (s : Setup) (w : World) : Type 0 where
+  turns : GoesInTurns s.call (upload_requests (length (value_at s.contents s.call.key))) w
+  ends : outcome s.call w.events ≡ Done → Closes s w (value_at s.contents s.call.key)
+  same : w.contents ≡ s.contents
+
+uploads : (s : Setup) (events : List WorldEvent) → IsUndisturbed s events → is_plain_upload s.call.mode s.call.job ≡ true → length (value_at s.contents s.call.key) ≤ cap_of s.call.job
+    → (short : Bool) → is_short (length (value_at s.contents s.call.key)) ≡ short → Uploads s (world_after s events)
+unfolding segmented_upload at_once.expedited_upload
+uploads s events u t room true short =
+    let turns = at_once.expedited_upload s (may_upload_at_once s events u t room short) in
+    let at = always s turns events u.calm in
+    record {
+      turns = rw short (goes_in_turns s turns (world_after s events) at);
+      ends = λ done. record {
+        gives = (when_done s turns (world_after s events) at done).value;
+        idle = unopened s.description.rows (world_after s events).log (when_done s turns (world_after s events) at done).channel.closed;
+      };
+      same = (channel_at s turns (world_after s events) at).channel.same;
+    }
+uploads s events u t room false short =
+    let turns = segmented_upload s (may_upload s events u t room short) in
+    let at = always s turns events u.calm in
+    record {
+      turns = rw short (goes_in_turns s turns (world_after s events) at);
+      ends = λ done. record {
+        gives = (when_done s turns (world_after s events) at done).value;
+        idle = unopened s.description.rows (world_after s events).log ((when_done s turns (world_after s events) at done).channel.closed refl);
+      };
+      same = (channel_at s turns (world_after s events) at).channel.same;
+    }
+
+pub upload_goes : (s : Setup) (events : List WorldEvent) → IsUndisturbed s events → is_plain_upload s.call.mode s.call.job ≡ true → length (value_at s.contents s.call.key) ≤ cap_of s.call.job
+    → GoesInTurns s.call (upload_requests (length (value_at s.contents s.call.key))) (world_after s events)
+upload_goes s events u t room = (uploads s events u t room _ refl).turns
+
+pub upload_closes : (s : Setup) (events : List WorldEvent) → IsUndisturbed s events → is_plain_upload s.call.mode s.call.job ≡ true → length (value_at s.contents s.call.key) ≤ cap_of s.call.job
+    → outcome s.call (world_after s events).events ≡ Done → Closes s (world_after s events) (value_at s.contents s.call.key)
+upload_closes s events u t room done = (uploads s events u t room _ refl).ends done
+
+pub upload_gives : (s : Setup) (events : List WorldEvent) → IsUndisturbed s events → is_plain_upload s.call.mode s.call.job ≡ true → length (value_at s.contents s.call.key) ≤ cap_of s.call.job
+    → outcome s.call (world_after s events).events ≡ Done → result s.call (world_after s events).events ≡ value_at s.contents s.call.key
+upload_gives s events u t room done = (upload_closes s events u t room done).gives
+
+pub upload_sets_nothing : (s : Setup) (events : List WorldEvent) → IsUndisturbed s events → is_plain_upload s.call.mode s.call.job ≡ true → length (value_at s.contents s.call.key) ≤ cap_of s.call.job
+    → (world_after s events).contents ≡ s.contents
+upload_sets_nothing s events u t room = (uploads s events u t room _ refl).same
+
+-- ---- downloads in blocks
+
+permitted_blocks : (key : Key) (mode : Mode) (client_time : ℕ) (job : Job) (time : ℕ) (d : Description) (contents : Contents) (past : Log)
+    → is_block_download mode job ≡ true → IsDictionary d contents → open_transfer past ≡ None → key.index < 65536 → IsJob job → IsPermitted d contents key job
+    → blocks.MayDownload (setup key mode client_time job time d contents past)
+permitted_blocks key Block client_time (Download bytes true) time d contents past t lawful idle index small free =
+    let may = may_begin d contents key bytes free in
+    record {
+      transfer = refl;
+      lawful = lawful;
+      idle = idle;
+      index = index;
+      may_begin = may.begin_indicated;
+      may_complete = may.complete_indicated;
+      room = may.room;
+      begin_read = block_begin_read key (length bytes) index (omega arith);
+      begin_long = refl;
+    }
+permitted_blocks key Block client_time (Download bytes false) time d contents past t lawful idle index small free =
+    let may = may_begin d contents key bytes free in
+    record {
+      transfer = refl;
+      lawful = lawful;
+      idle = idle;
+      index = index;
+      may_begin = may.begin;
+      may_complete = free;
+      room = may.room;
+      begin_read = bare_block_begin_read key index;
+      begin_long = refl;
+    }
+permitted_blocks key Plain client_time (Download bytes tells) time d contents past t lawful idle index small free = cc
+permitted_blocks key Segmented client_time (Download bytes tells) time d contents past t lawful idle index small free = cc
+permitted_blocks key Plain client_time (Upload cap) time d contents past t lawful idle index small free = cc
+permitted_blocks key Segmented client_time (Upload cap) time d contents past t lawful idle index small free = cc
+permitted_blocks key Block client_time (Upload cap) time d contents past t lawful idle index small free = cc
+
+may_send_blocks : (s : Setup) (events : List WorldEvent) → IsUndisturbed s events → is_block_download s.call.mode s.call.job ≡ true → blocks.MayDownload s
+may_send_blocks s events u t = permitted_blocks s.call.key s.call.mode s.call.time s.call.job s.time s.description s.contents s.past t u.dictionary u.idle u.key u.job u.permitted
+
+blocks_at : (s : Setup) (events : List WorldEvent) → IsUndisturbed s events → is_block_download s.call.mode s.call.job ≡ true → scripts.IsAt s (blocks.places s) (world_after s events)
+blocks_at s events u t = scripts.always s (blocks.places s) (block_download s (may_send_blocks s events u t)) events u.calm
+
+pub block_download_goes : (s : Setup) (events : List WorldEvent) → IsUndisturbed s events → is_block_download s.call.mode s.call.job ≡ true
+    → GoesInBlocks s.call (block_frames (length (bytes_of s.call.job))) (block_frames (length (bytes_of s.call.job))) (world_after s events)
+block_download_goes s events u t = blocks_outcome.goes_in_blocks s (world_after s events) (blocks_at s events u t)
+
+pub block_download_sends : (s : Setup) (events : List WorldEvent) → IsUndisturbed s events → is_block_download s.call.mode s.call.job ≡ true
+    → outcome s.call (world_after s events).events ≡ Done → HaveSent s (block_download_requests (length (bytes_of s.call.job))) (block_download_answers (length (bytes_of s.call.job))) (world_after s events)
+block_download_sends s events u t done = blocks_outcome.all_sent s (world_after s events) (all_there s events u.calm) (blocks_at s events u t) done
+
+pub block_download_sets : (s : Setup) (events : List WorldEvent) → IsUndisturbed s events → is_block_download s.call.mode s.call.job ≡ true
+    → outcome s.call (world_after s events).events ≡ Done → (world_after s events).contents ≡ written s.contents s.call.key (bytes_of s.call.job)
+block_download_sets s events u t done = (blocks_outcome.ends s (world_after s events) (blocks_at s events u t) done).set.sets
+
+pub block_download_closes : (s : Setup) (events : List WorldEvent) → IsUndisturbed s events → is_block_download s.call.mode s.call.job ≡ true
+    → outcome s.call (world_after s events).events ≡ Done → Closes s (world_after s events) []
+block_download_closes s events u t done =
+    let end = blocks_outcome.ends s (world_after s events) (blocks_at s events u t) done in
+    record { gives = end.gives; idle = unopened s.description.rows (world_after s events).log end.set.serves }
+
+-- ---- uploads in blocks
+
+record IsBlockUpload (s : Setup) : Type 0 where
+  transfer : transfer_of s.call ≡ transfer_by Block (Upload 0)
+  may_read : reading_refusal s.description s.contents s.call.key ≡ None
+  cap : cap_of s.call.job ≤ 65535
+
+permitted_block_upload : (key : Key) (mode : Mode) (client_time : ℕ) (job : Job) (time : ℕ) (d : Description) (contents : Contents) (past : Log)
+    → is_block_upload mode job ≡ true → IsJob job → IsPermitted d contents key job → IsBlockUpload (setup key mode client_time job time d contents past)
+permitted_block_upload key Block client_time (Upload cap) time d contents past t small free = record { transfer = refl; may_read = free; cap = small }
+permitted_block_upload key Plain client_time (Upload cap) time d contents past t small free = cc
+permitted_block_upload key Segmented client_time (Upload cap) time d contents past t small free = cc
+permitted_block_upload key Plain client_time (Download bytes tells) time d contents past t small free = cc
+permitted_block_upload key Segmented client_time (Download bytes tells) time d contents past t small free = cc
+permitted_block_upload key Block client_time (Download bytes tells) time d contents past t small free = cc
+
+may_fetch_blocks : (s : Setup) (events : List WorldEvent) → IsUndisturbed s events → is_block_upload s.call.mode s.call.job ≡ true → length (value_at s.contents s.call.key) ≤ cap_of s.call.job → fetched.MayUpload s
+may_fetch_blocks s events u t room =
+    let job = permitted_block_upload s.call.key s.call.mode s.call.time s.call.job s.time s.description s.contents s.past t u.job u.permitted in
+    record { transfer = job.transfer; lawful = u.dictionary; idle = u.idle; index = u.key; may_read = job.may_read; fits = room; cap = job.cap }
+
+fetched_at : (s : Setup) (events : List WorldEvent) → IsUndisturbed s events → is_block_upload s.call.mode s.call.job ≡ true → length (value_at s.contents s.call.key) ≤ cap_of s.call.job
+    → scripts.IsAt s (fetched.places s) (world_after s events)
+fetched_at s events u t room = scripts.always s (fetched.places s) (block_upload s (may_fetch_blocks s events u t room)) events u.calm
+
+pub block_upload_goes : (s : Setup) (events : List WorldEvent) → IsUndisturbed s events → is_block_upload s.call.mode s.call.job ≡ true → length (value_at s.contents s.call.key) ≤ cap_of s.call.job
+    → GoesInBlocks s.call (block_frames (length (value_at s.contents s.call.key))) (block_upload_frames (length (value_at s.contents s.call.key))) (world_after s events)
+block_upload_goes s events u t room = fetched_outcome.goes_in_blocks s (world_after s events) (fetched_at s events u t room)
+
+pub block_upload_sends : (s : Setup) (events : List WorldEvent) → IsUndisturbed s events → is_block_upload s.call.mode s.call.job ≡ true → length (value_at s.contents s.call.key) ≤ cap_of s.call.job
+    → outcome s.call (world_after s events).events ≡ Done
+    → HaveSent s (block_upload_requests (length (value_at s.contents s.call.key))) (block_upload_answers (length (value_at s.contents s.call.key))) (world_after s events)
+block_upload_sends s events u t room done = fetched_outcome.all_sent s (world_after s events) (all_there s events u.calm) (fetched_at s events u t room) done
+
+pub block_upload_gives : (s : Setup) (events : List WorldEvent) → IsUndisturbed s events → is_block_upload s.call.mode s.call.job ≡ true → length (value_at s.contents s.call.key) ≤ cap_of s.call.job
+    → outcome s.call (world_after s events).events ≡ Done → result s.call (world_after s events).events ≡ value_at s.contents s.call.key
+block_upload_gives s events u t room done = fetched_outcome.value_is s (world_after s events) (fetched_at s events u t room) done
+
+pub block_upload_sets_nothing : (s : Setup) (events : List WorldEvent) → IsUndisturbed s events → is_block_upload s.call.mode s.call.job ≡ true → length (value_at s.contents s.call.key) ≤ cap_of s.call.job
+    → (world_after s events).contents ≡ s.contents
+block_upload_sets_nothing s events u t room = fetched_outcome.contents_same s (world_after s events) (fetched_at s events u t room)
+
+pub block_upload_closes : (s : Setup) (events : List WorldEvent) → IsUndisturbed s events → is_block_upload s.call.mode s.call.job ≡ true → length (value_at s.contents s.call.key) ≤ cap_of s.call.job
+    → on_their_way (world_after s events) ≡ 0 → open_transfer (world_after s events).log ≡ None
+block_upload_closes s events u t room none = unopened s.description.rows (world_after s events).log (fetched_outcome.closed s (world_after s events) (fetched_at s events u t room) none)

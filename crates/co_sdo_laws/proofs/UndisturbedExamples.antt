@@ -1,0 +1,234 @@
+-- Transfers that nothing disturbs over the dictionary of two entries: there are some, and what is none.
+use Rattle.std.proofs.Common.{◌≡◌, ℕ, ◌≤◌, Bool, true, false, List, [], ◌∷◌, length, codes, Some, None, refl, sym, ap, ◌∙◌, arith}
+use Rattle.std.proofs.lemmas.Int.{ints}
+use Rattle.std.specs.Prelude.{is_some}
+use Rattle.std.specs.List.{list_any}
+use Rattle.co_value.specs.declared.key.Key.{Key}
+use Rattle.co_value.specs.Keys.{same_key, same_key-is}
+use Rattle.co_value.specs.Numbers.{AreBytes}
+use Rattle.co_value.specs.declared.data_type.DataType.TheVariants.{VisibleString, Domain}
+use Rattle.co_value.specs.declared.data_type.DataType.{DataType}
+use Rattle.co_sheet.specs.FixedTypes.{fixed_type_of}
+use Rattle.co_value.specs.Types.{width_of}
+use Rattle.co_frame.specs.SdoRequests.{request_row_in}
+use Rattle.co_frame.specs.SdoResponses.{response_row_in}
+use Rattle.co_dict.specs.declared.row.Row.{Row}
+use Rattle.co_dict.specs.Rows.{fits}
+use Rattle.co_dict.specs.Objects.{has_object}
+use Rattle.co_dict.specs.Stores.{IsFilled, IsKey, HasLimits, IsDescription, IsDictionary}
+use Rattle.co_sdo_client.specs.declared.mode.Mode.TheVariants.{Segmented, Block}
+use Rattle.co_sdo_client.specs.declared.state.ClientState.TheVariants.{Done}
+use Rattle.co_sdo_client.specs.Calls.{Download, Upload}
+use Rattle.co_sdo_client.specs.Outcomes.{outcome}
+use Rattle.co_sdo.specs.Refused.{reading_refusal, begin_refusal, completion_refusal}
+use Rattle.co_sdo.specs.Opened.{opened_after}
+use Rattle.co_sdo_laws.specs.World.{Setup, World, WorldEvent, Requests, Answers, Lost, Repeated, ClientTicked, ChannelTicked, world_after}
+use Rattle.co_sdo_laws.specs.Undisturbed.{IsCalm, AreCalm, IsPermitted, IsUndisturbed, rounds_after, GoesInTurns}
+use Rattle.co_sdo_laws.proofs.Server.{tick_opens}
+use Rattle.co_sdo_laws.proofs.Progress.{rounds_calm}
+use Rattle.co_sdo_laws.proofs.Transfers.{download_goes}
+use Rattle.co_sdo_laws.proofs.Examples.{string_key, domain_key, row, row_in, bytes_in, dictionary, setup, r, a, ten, fourteen}
+
+-- ---- the example's dictionary is one
+
+data Entry (key : Key) : Type 0 where
+  is_string : key ≡ string_key → Entry key
+  is_domain : key ≡ domain_key → Entry key
+  is_none : row_in key ≡ None → bytes_in key ≡ None → Entry key
+
+entry_of : (key : Key) → Entry key
+entry_of key = by (same_key key string_key) (same_key key domain_key) refl refl
+  where
+    by : (first second : Bool) → same_key key string_key ≡ first → same_key key domain_key ≡ second → Entry key
+    by true second e f = is_string (same_key-is key string_key e)
+    by false true e f = is_domain (same_key-is key domain_key f)
+    by false false e f = is_none (rw (e, f) refl) (rw (e, f) refl)
+
+-- a row, and where it is
+data Has (key : Key) (held : Row) : Type 0 where
+  has_string : key ≡ string_key → held ≡ row VisibleString 16 → Has key held
+  has_domain : key ≡ domain_key → held ≡ row Domain 20 → Has key held
+
+has_row : (key : Key) (held : Row) → row_in key ≡ Some held → Entry key → Has key held
+has_row key held h (is_string e) = has_string e (taken (ap row_in (sym e) ∙ h))
+  where
+    taken : row_in string_key ≡ Some held → held ≡ row VisibleString 16
+    taken e = cc
+has_row key held h (is_domain e) = has_domain e (taken (ap row_in (sym e) ∙ h))
+  where
+    taken : row_in domain_key ≡ Some held → held ≡ row Domain 20
+    taken e = cc
+has_row key held h (is_none e f) = cc
+
+row_at : (key : Key) (held : Row) → row_in key ≡ Some held → Has key held
+row_at key held h = has_row key held h (entry_of key)
+
+filled : IsFilled row_in bytes_in
+filled = record {
+  present = λ key. present key (entry_of key);
+  fitting = λ key held bytes h g. fitting key held bytes (row_at key held h) g;
+  bytes = λ key bytes g. small key bytes g (entry_of key);
+}
+  where
+    present : (key : Key) → Entry key → is_some (bytes_in key) ≡ is_some (row_in key)
+    present key (is_string e) = rw e refl
+    present key (is_domain e) = rw e refl
+    present key (is_none e f) = rw (e, f) refl
+
+    fitting : (key : Key) (held : Row) (bytes : List ℕ) → Has key held → bytes_in key ≡ Some bytes → fits held (length bytes) ≡ true
+    fitting key held bytes (has_string e f) g =
+        let is : Some (codes "ABCDEFGHI") ≡ Some bytes = ap bytes_in (sym e) ∙ g in
+        let is_bytes : bytes ≡ codes "ABCDEFGHI" = cc in
+        rw (f, is_bytes) refl
+    fitting key held bytes (has_domain e f) g =
+        let is : Some [] ≡ Some bytes = ap bytes_in (sym e) ∙ g in
+        let is_bytes : bytes ≡ [] = cc in
+        rw (f, is_bytes) refl
+
+    small : (key : Key) (bytes : List ℕ) → bytes_in key ≡ Some bytes → Entry key → AreBytes bytes
+    small key bytes g (is_string e) =
+        let is : Some (codes "ABCDEFGHI") ≡ Some bytes = ap bytes_in (sym e) ∙ g in
+        let is_bytes : bytes ≡ codes "ABCDEFGHI" = cc in
+        rw is_bytes (omega arith)
+    small key bytes g (is_domain e) =
+        let is : Some [] ≡ Some bytes = ap bytes_in (sym e) ∙ g in
+        let is_bytes : bytes ≡ [] = cc in
+        rw is_bytes tt
+    small key bytes g (is_none e f) = cc
+
+described : IsDescription dictionary
+described = record {
+  first_node = omega arith;
+  last_node = omega arith;
+  finite = λ key. finite key (entry_of key);
+  width = λ key held width h. wide key held width (row_at key held h);
+  fixed = λ key held t h. fixed key held t (row_at key held h);
+  key = λ key held h. keyed key held (row_at key held h);
+  capacity = λ key held h. small key held (row_at key held h);
+  limits = λ key held h. limits key held (row_at key held h);
+  dummies = λ index h. cc;
+}
+  where
+    finite : (key : Key) → Entry key → is_some (row_in key) ≡ list_any (same_key key) (string_key ∷ domain_key ∷ [])
+    finite key (is_string e) = rw e refl
+    finite key (is_domain e) = rw e refl
+    finite key (is_none e f) = none (same_key key string_key) (same_key key domain_key) refl refl
+      where
+        none : (first second : Bool) → same_key key string_key ≡ first → same_key key domain_key ≡ second → is_some (row_in key) ≡ list_any (same_key key) (string_key ∷ domain_key ∷ [])
+        none true second i j = rw i refl
+        none false true i j = rw (i, j) refl
+        none false false i j = rw (i, j) refl
+
+    wide : (key : Key) (held : Row) (width : ℕ) → Has key held → width_of held.data_type ≡ Some width → held.capacity ≡ width
+    wide key held width (has_string e f) g = let none : None ≡ Some width = ap (λ (r : Row). width_of r.data_type) (sym f) ∙ g in cc
+    wide key held width (has_domain e f) g = let none : None ≡ Some width = ap (λ (r : Row). width_of r.data_type) (sym f) ∙ g in cc
+
+    fixed : (key : Key) (held : Row) (t : DataType) → Has key held → fixed_type_of key ≡ Some t → held.data_type ≡ t
+    fixed key held t (has_string e f) g = let none : None ≡ Some t = ap fixed_type_of (sym e) ∙ g in cc
+    fixed key held t (has_domain e f) g = let none : None ≡ Some t = ap fixed_type_of (sym e) ∙ g in cc
+
+    keyed : (key : Key) (held : Row) → Has key held → IsKey key
+    keyed key held (has_string e f) = rw e (record { index = omega arith; sub = omega arith })
+    keyed key held (has_domain e f) = rw e (record { index = omega arith; sub = omega arith })
+
+    small : (key : Key) (held : Row) → Has key held → held.capacity ≤ 65535
+    small key held (has_string e f) = rw f (omega arith)
+    small key held (has_domain e f) = rw f (omega arith)
+
+    limits : (key : Key) (held : Row) → Has key held → HasLimits held
+    limits key held (has_string e f) = rw f (record { ordered = omega (arith, ints); low = λ width g. cc; high = λ width g. cc })
+    limits key held (has_domain e f) = rw f (record { ordered = omega (arith, ints); low = λ width g. cc; high = λ width g. cc })
+
+pub is_dictionary : IsDictionary dictionary bytes_in
+is_dictionary = record { description = described; initially = filled; filled = filled }
+
+-- ---- ten bytes to the string, in segments: the client waits 3 ms, the channel 2 ms
+
+-- the begin arrives, each end ticks without its time being over, its answer arrives, and then all the rest; newest first
+abbrev ten_events : List WorldEvent
+ten_events = a ∷ r ∷ a ∷ r ∷ a ∷ ChannelTicked ∷ ClientTicked ∷ ClientTicked ∷ r ∷ []
+
+ten_calm : AreCalm ten ten_events
+unfolding request_row_in response_row_in reading_refusal begin_refusal completion_refusal has_object
+ten_calm = (tt, (tt, (tt, (tt, (tt, (refl, ((λ waits. refl), ((λ waits. refl), (tt, tt)))))))))
+
+ten_permitted : IsPermitted dictionary bytes_in string_key ten.call.job
+unfolding reading_refusal begin_refusal completion_refusal has_object
+ten_permitted = refl
+
+ten_undisturbed : IsUndisturbed ten ten_events
+ten_undisturbed = record { dictionary = is_dictionary; key = omega arith; job = omega arith; permitted = ten_permitted; idle = refl; calm = ten_calm }
+
+ten_done : outcome ten.call (world_after ten ten_events).events ≡ Done
+unfolding request_row_in response_row_in reading_refusal begin_refusal completion_refusal has_object
+ten_done = refl
+
+-- so that the law says how it goes
+ten_goes : GoesInTurns ten.call 3 (world_after ten ten_events)
+ten_goes = download_goes ten ten_events ten_undisturbed refl
+
+-- ---- and in blocks: any number of rounds
+
+fourteen_undisturbed : (n : ℕ) → IsUndisturbed fourteen (rounds_after n [])
+unfolding reading_refusal begin_refusal completion_refusal has_object
+fourteen_undisturbed n = record { dictionary = is_dictionary; key = omega arith; job = omega arith; permitted = refl; idle = refl; calm = rounds_calm fourteen n [] tt }
+
+nine_undisturbed : (n : ℕ) → IsUndisturbed (setup string_key Block (Upload 9)) (rounds_after n [])
+unfolding reading_refusal begin_refusal completion_refusal has_object
+nine_undisturbed n = record { dictionary = is_dictionary; key = omega arith; job = omega arith; permitted = refl; idle = refl; calm = rounds_calm (setup string_key Block (Upload 9)) n [] tt }
+
+-- ---- what disturbs it
+
+over : true ≡ false → ⊥
+over e = cc
+
+-- a third tick of the client while it waits
+third_tick : IsCalm ten ClientTicked (world_after ten (ClientTicked ∷ ClientTicked ∷ r ∷ [])) → ⊥
+unfolding request_row_in response_row_in reading_refusal begin_refusal completion_refusal has_object
+third_tick calm = over (calm refl)
+
+-- a second tick of the channel while the transfer is open
+second_tick : IsCalm ten ChannelTicked (world_after ten (ChannelTicked ∷ r ∷ [])) → ⊥
+unfolding request_row_in response_row_in reading_refusal begin_refusal completion_refusal has_object
+second_tick calm = over calm
+
+-- a lost or a repeated frame
+lost_frame : IsCalm ten (Lost Requests) (world_after ten []) → ⊥
+lost_frame calm = calm
+
+repeated_frame : IsCalm ten (Repeated Answers) (world_after ten (r ∷ [])) → ⊥
+repeated_frame calm = calm
+
+-- ---- ticks after it
+
+-- any tick of a client that is done
+done_ticks : (s : Setup) (w : World) → outcome s.call w.events ≡ Done → IsCalm s ClientTicked w
+done_ticks s w done waits = cc
+
+-- any tick of a channel where no transfer is open
+idle_ticks : (s : Setup) (w : World) → opened_after w.log ≡ None → IsCalm s ChannelTicked w
+idle_ticks s w idle = rw (tick_opens w.log, idle) refl
+
+-- as with ten bytes, when all have arrived
+ten_ticks_later : AreCalm ten (ClientTicked ∷ ClientTicked ∷ ClientTicked ∷ ClientTicked ∷ ChannelTicked ∷ ChannelTicked ∷ ChannelTicked ∷ ten_events)
+unfolding request_row_in response_row_in reading_refusal begin_refusal completion_refusal has_object
+ten_ticks_later = ((λ waits. cc), ((λ waits. cc), ((λ waits. cc), ((λ waits. cc), (refl, (refl, (refl, ten_calm)))))))
+
+-- ---- what isn't permitted
+
+refused : (code : ℕ) → Some code ≡ None → ⊥
+refused code e = cc
+
+-- 17 bytes don't fit the string
+too_long : IsPermitted dictionary bytes_in string_key (Download (codes "0123456789ABCDEFG") true) → ⊥
+unfolding reading_refusal begin_refusal completion_refusal has_object
+too_long h = refused 0x06070012 h
+
+-- there is no entry 2002:00
+not_there : IsPermitted dictionary bytes_in (record { index = 0x2002; sub = 0 }) (Upload 9) → ⊥
+unfolding reading_refusal begin_refusal completion_refusal has_object
+not_there h = refused 0x06020000 h
+
+-- so that nothing is an undisturbed transfer of 17 bytes
+never_undisturbed : (events : List WorldEvent) → IsUndisturbed (setup string_key Segmented (Download (codes "0123456789ABCDEFG") true)) events → ⊥
+never_undisturbed events u = too_long u.permitted

@@ -1,0 +1,123 @@
+-- A client and a channel with a queue of frames each way (CiA 301, 7.2.4.2): what is on its way, and what each end has
+-- received. All frames have eight bytes.
+use Rattle.std.specs.Prelude.{ℕ, ◌+◌, List, [], ◌∷◌, ◌++◌, drop, map, if◌then◌else◌}
+use Rattle.co_sdo_client.specs.Calls.{Call, message_bytes, Event as ClientEvent, Answered, Ticked as TickedAtClient}
+use Rattle.co_sdo_client.specs.Outcomes.{asked}
+use Rattle.co_dict.specs.Rows.{Contents}
+use Rattle.co_dict.specs.Stores.{Description}
+use Rattle.co_sdo.specs.Log.{Answer, answer_bytes, Exchanged, Ticked, TimedOut, Log}
+use Rattle.co_sdo.specs.Opened.{is_time_over}
+use Rattle.co_sdo.specs.Replies.{reply_to, time_out_reply}
+use Rattle.co_sdo.specs.Completed.{set_by, contents_with}
+
+-- what the client is called for, the channel's time (in ms; 0 is for ever), the dictionary, and at the client's begin its
+-- contents and what has happened to the channel, newest first
+pub record Setup : Type 0 where
+  pub call : Call
+  pub time : ℕ
+  pub description : Description
+  pub contents : Contents
+  pub past : Log
+
+-- both ends, and what is between them
+pub record World : Type 0 where
+  -- what happened to the client, newest first
+  pub events : List ClientEvent
+  -- what happened to the channel, newest first
+  pub log : Log
+  -- how many requests have come to it since the client's begin
+  pub received : ℕ
+  -- the bytes of the entries
+  pub contents : Contents
+  -- the requests that are on their way, oldest first
+  pub requests : List (List ℕ)
+  -- the answers that are on their way, oldest first
+  pub answers : List (List ℕ)
+
+-- the way to the channel, and the way back
+pub data Queue : Type 0 where
+  Requests : Queue
+  Answers : Queue
+
+-- what may happen
+pub data WorldEvent : Type 0 where
+  -- the oldest frame of a queue arrives
+  Delivered : Queue → WorldEvent
+  -- it is lost
+  Lost : Queue → WorldEvent
+  -- it arrives, and will arrive again
+  Repeated : Queue → WorldEvent
+  -- a millisecond passes at the client
+  ClientTicked : WorldEvent
+  -- a millisecond passes at the channel
+  ChannelTicked : WorldEvent
+
+-- the client has begun, and nothing has happened since
+abbrev pub first_world : Setup → World
+first_world s = record { events = []; log = s.past; received = 0; contents = s.contents; requests = map message_bytes (asked s.call []); answers = [] }
+
+-- something happens to the client: what it sends then follows the requests that are on their way
+abbrev pub at_client : Setup → ClientEvent → World → World
+at_client s event w = record w {
+  events = event ∷ w.events;
+  requests = w.requests ++ map message_bytes (asked s.call (event ∷ w.events));
+}
+
+-- answers follow those that are on their way
+abbrev pub with_answers : List Answer → World → World
+with_answers answers w = record w { answers = w.answers ++ map answer_bytes answers }
+
+-- a request comes to the channel: its answers follow those that are on their way
+abbrev pub at_channel : Setup → List ℕ → World → World
+at_channel s frame w =
+    let answers = reply_to s.description w.contents w.log frame in
+    with_answers answers (record w {
+      log = Exchanged (record { request = frame; contents = w.contents; answers = answers }) ∷ w.log;
+      received = w.received + 1;
+      contents = contents_with w.contents (set_by s.description w.contents w.log frame);
+    })
+
+-- the channel's time is over: it gives the transfer up
+abbrev pub timed_out : World → World
+timed_out w = with_answers (time_out_reply w.log) (record w { log = TimedOut (time_out_reply w.log) ∷ w.log })
+
+-- a tick at the channel alone
+abbrev pub ticked : World → World
+ticked w = record w { log = Ticked ∷ w.log }
+
+-- a millisecond passes at the channel
+abbrev pub channel_ticked : Setup → World → World
+channel_ticked s w = if is_time_over s.time (Ticked ∷ w.log) then timed_out (ticked w) else ticked w
+
+-- the frames of a queue
+abbrev pub on_way : Queue → World → List (List ℕ)
+on_way Requests w = w.requests
+on_way Answers w = w.answers
+
+-- a queue without its oldest frame
+abbrev pub without_front : Queue → World → World
+without_front Requests w = record w { requests = drop 1 w.requests }
+without_front Answers w = record w { answers = drop 1 w.answers }
+
+-- a frame comes to the end that its queue leads to
+abbrev pub arrives : Setup → Queue → List ℕ → World → World
+arrives s Requests frame w = at_channel s frame w
+arrives s Answers frame w = at_client s (Answered frame) w
+
+-- the oldest of these frames arrives; where there is none nothing happens
+abbrev pub front_arrives : Setup → Queue → List (List ℕ) → World → World
+front_arrives s queue [] w = w
+front_arrives s queue (frame ∷ later) w = arrives s queue frame w
+
+-- one more event
+abbrev pub after_event : Setup → WorldEvent → World → World
+after_event s (Delivered queue) w = front_arrives s queue (on_way queue w) (without_front queue w)
+after_event s (Lost queue) w = without_front queue w
+after_event s (Repeated queue) w = front_arrives s queue (on_way queue w) w
+after_event s ClientTicked w = at_client s TickedAtClient w
+after_event s ChannelTicked w = channel_ticked s w
+
+-- the world after events, newest first
+abbrev pub world_after : Setup → List WorldEvent → World
+world_after s [] = first_world s
+world_after s (event ∷ older) = after_event s event (world_after s older)

@@ -1,0 +1,205 @@
+-- A download in blocks from which frames may be lost: its frames, what a channel inside a sub-block makes of each of its segments,
+-- the next or another, and what it makes of the end.
+use Rattle.std.proofs.Common.{◌≡◌, ℕ, ◌+◌, ◌-◌, ◌*◌, ◌<◌, ◌≤◌, Bool, true, false, cond, List, [], ◌∷◌, ◌++◌, length, map, Option, Some, None, refl, ap, arith, eqb, append-nil}
+use Rattle.std.specs.Prelude.{◌||◌, nat_lt}
+use Rattle.std.specs.List.{range_with_len}
+use Rattle.std.proofs.lemmas.Bool.Decides.{nat_tests}
+use Rattle.co_value.specs.declared.key.Key.{Key}
+use Rattle.co_value.specs.Numbers.{unsigned_of, low_bytes}
+use Rattle.co_frame.specs.BlockSegments.{block_segment_in, block_segment_bytes}
+use Rattle.co_frame.specs.SdoFields.{padded}
+use Rattle.co_frame.specs.declared.sdo_request.SdoRequest.TheVariants.{BlockDownloadBegin, BlockDownloadEnd}
+use Rattle.co_frame.specs.declared.sdo_response.SdoResponse.TheVariants.{BlockDownloadBegun, BlockDownloadDone, BlockDownloadAcknowledge}
+use Rattle.co_frame.specs.SdoRequests.{request_row_in, request_in, request_bytes}
+use Rattle.co_frame.specs.SdoResponses.{response_bytes}
+use Rattle.co_sdo_client.specs.Segments.{bytes_of, size_sent, part_after, segment_count, block_segment, sub_block_length}
+use Rattle.co_dict.specs.Rows.{Contents, written}
+use Rattle.co_dict.specs.Stores.{Description}
+use Rattle.co_sdo.specs.declared.stage.Stage.TheVariants.{SubBlock, LastTaken}
+use Rattle.co_sdo.specs.Refused.{capacity_at, begin_refusal, completion_refusal}
+use Rattle.co_sdo.specs.Downloads.{without}
+use Rattle.co_sdo.specs.Log.{Response}
+use Rattle.co_sdo.specs.Opened.{OpenTransfer}
+use Rattle.co_sdo.specs.Replies.{aborted}
+use Rattle.co_sdo_laws.specs.World.{Setup}
+use Rattle.co_sdo_laws.proofs.Frames.{bare_block_begin_read, block_end_read, block_segment_read}
+use Rattle.co_sdo_laws.proofs.Segments.{part_small}
+use Rattle.co_sdo_laws.proofs.BlockSegments.{segment_with, padded_long}
+use Rattle.co_sdo_loss_laws.proofs.Channel.{Steps}
+
+-- ---- frames
+
+abbrev pub bytes : Setup → List ℕ
+bytes s = bytes_of s.call.job
+
+-- how many segments the bytes have, and how many a sub-block after so many
+abbrev pub total : Setup → ℕ
+total s = segment_count (bytes s)
+
+abbrev pub size_after : Setup → ℕ → ℕ
+size_after s a = sub_block_length (bytes s) a 127
+
+abbrev pub begin : Setup → List ℕ
+begin s = request_bytes (BlockDownloadBegin s.call.key (size_sent s.call.job))
+
+abbrev pub confirmation : Setup → List ℕ
+confirmation s = response_bytes (BlockDownloadBegun s.call.key 127)
+
+abbrev pub acknowledgement : ℕ → List ℕ
+acknowledgement count = response_bytes (BlockDownloadAcknowledge count 127)
+
+abbrev pub unused : Setup → ℕ
+unused s = 7 * total s - length (bytes s)
+
+abbrev pub client_end : Setup → List ℕ
+client_end s = request_bytes (BlockDownloadEnd (unused s))
+
+abbrev pub all_done : List ℕ
+all_done = response_bytes BlockDownloadDone
+
+-- segment n of the sub-block after so many
+abbrev pub segment_at : Setup → ℕ → ℕ → List ℕ
+segment_at s a n = block_segment_bytes (block_segment (bytes s) a n)
+
+-- so many of them, from segment n on
+abbrev pub segments : Setup → ℕ → ℕ → ℕ → List (List ℕ)
+segments s a n more = map (segment_at s a) (range_with_len n more)
+
+-- the bytes of segment n, with c or without
+abbrev pub data_at : Setup → ℕ → ℕ → List ℕ
+data_at s a n = padded 7 (part_after (a + n - 1) (bytes s))
+
+abbrev pub frame_with : Setup → ℕ → ℕ → Bool → List ℕ
+frame_with s a n last = block_segment_bytes (segment_with last n (data_at s a n))
+
+data_long : (s : Setup) (a n : ℕ) → length (data_at s a n) ≡ 7
+data_long s a n = padded_long (part_after (a + n - 1) (bytes s)) (part_small (a + n - 1) (bytes s))
+
+pub frame_is : (s : Setup) (a n : ℕ) (last : Bool) → eqb (a + n) (total s) ≡ last → segment_at s a n ≡ frame_with s a n last
+frame_is s a n last l = rw l refl
+
+pub frame_long : (s : Setup) (a n : ℕ) (last : Bool) → length (frame_with s a n last) ≡ 8
+frame_long s a n last = let m = data_long s a n in omega (arith, m)
+
+frame_read : (s : Setup) (a n : ℕ) (last : Bool) → 1 ≤ n → n < 128 → block_segment_in (frame_with s a n last) ≡ Some (segment_with last n (data_at s a n))
+frame_read s a n last some few = block_segment_read (segment_with last n (data_at s a n)) some few (data_long s a n)
+
+-- its first byte isn't that of an abort
+other_byte : (last : Bool) (n : ℕ) → 1 ≤ n → n < 128 → eqb (cond last 128 0 + n) 128 ≡ false
+other_byte true n some few = grind (arith, nat_tests)
+other_byte false n some few = grind (arith, nat_tests)
+
+-- the size that a begin is read to indicate
+abbrev pub size_read : Option ℕ → Option ℕ
+size_read None = None
+size_read (Some size) = Some (unsigned_of (low_bytes 4 size))
+
+two_bytes : (x : ℕ) → x < 65536 → unsigned_of (low_bytes 2 x) ≡ x
+two_bytes x h = omega arith
+
+sized_begin_read : (key : Key) (size : ℕ) → key.index < 65536 → request_in (request_bytes (BlockDownloadBegin key (Some size))) ≡ Some (BlockDownloadBegin key (Some (unsigned_of (low_bytes 4 size))))
+unfolding request_row_in
+sized_begin_read key size k = rw (two_bytes key.index k) refl
+
+begin_read : (key : Key) (size : Option ℕ) → key.index < 65536 → request_in (request_bytes (BlockDownloadBegin key size)) ≡ Some (BlockDownloadBegin key (size_read size))
+begin_read key None k = bare_block_begin_read key k
+begin_read key (Some size) k = sized_begin_read key size k
+
+pub begin_long : (key : Key) (size : Option ℕ) → length (request_bytes (BlockDownloadBegin key size)) ≡ 8
+begin_long key None = refl
+begin_long key (Some size) = refl
+
+-- ---- the begin at an idle channel
+
+-- inside a sub-block after so many of its segments, and after the last of all
+abbrev pub inside : Key → Option ℕ → ℕ → List ℕ → OpenTransfer
+inside key size taken held = record { key = key; stage = SubBlock size taken; bytes = held }
+
+abbrev pub at_last : Key → Option ℕ → List ℕ → OpenTransfer
+at_last key size held = record { key = key; stage = LastTaken size; bytes = held }
+
+pub begin_taken : (d : Description) (contents : Contents) (key : Key) (size : Option ℕ) → key.index < 65536 → begin_refusal d key (size_read size) ≡ None
+    → Steps d contents None (request_bytes (BlockDownloadBegin key size)) (Response (BlockDownloadBegun key 127) ∷ []) (Some (inside key (size_read size) 0 [])) contents
+begin_taken d contents key size k free = let read = begin_read key size k in record { replies = rw (read, free) refl; opens = rw (read, free) refl; sets = rw read refl }
+
+pub begin_refused : (d : Description) (contents : Contents) (key : Key) (size : Option ℕ) (code : ℕ) → key.index < 65536 → begin_refusal d key (size_read size) ≡ Some code
+    → Steps d contents None (request_bytes (BlockDownloadBegin key size)) (aborted key code) None contents
+begin_refused d contents key size code k refused = let read = begin_read key size k in record { replies = rw (read, refused) refl; opens = rw (read, refused) refl; sets = rw read refl }
+
+-- ---- a segment at a channel inside a sub-block
+
+-- it doesn't end the sub-block, and is the next one
+pub inside_next : (s : Setup) (d : Description) (contents : Contents) (key : Key) (size : Option ℕ) (t : ℕ) (held : List ℕ) (a n : ℕ) → 1 ≤ n → n < 128 → eqb n 127 ≡ false → eqb n (t + 1) ≡ true
+    → Steps d contents (Some (inside key size t held)) (frame_with s a n false) [] (Some (inside key size (t + 1) (held ++ data_at s a n))) contents
+inside_next s d contents key size t held a n some few other next = record {
+  replies = rw (frame_read s a n false some few, other) refl;
+  opens = rw (frame_read s a n false some few, other_byte false n some few, other, next) refl;
+  sets = refl;
+}
+
+-- or another one
+pub inside_other : (s : Setup) (d : Description) (contents : Contents) (key : Key) (size : Option ℕ) (t : ℕ) (held : List ℕ) (a n : ℕ) → 1 ≤ n → n < 128 → eqb n 127 ≡ false → eqb n (t + 1) ≡ false
+    → Steps d contents (Some (inside key size t held)) (frame_with s a n false) [] (Some (inside key size t held)) contents
+inside_other s d contents key size t held a n some few other next = record {
+  replies = rw (frame_read s a n false some few, other) refl;
+  opens = rw (frame_read s a n false some few, other_byte false n some few, other, next) (ap (λ (xs : List ℕ). Some (inside key size t xs)) (append-nil held));
+  sets = refl;
+}
+
+-- the last of all, and the next one
+pub last_next : (s : Setup) (d : Description) (contents : Contents) (key : Key) (size : Option ℕ) (t : ℕ) (held : List ℕ) (a n : ℕ) → 1 ≤ n → n < 128 → eqb n (t + 1) ≡ true
+    → Steps d contents (Some (inside key size t held)) (frame_with s a n true) (Response (BlockDownloadAcknowledge (t + 1) 127) ∷ []) (Some (at_last key size (held ++ data_at s a n))) contents
+last_next s d contents key size t held a n some few next = record {
+  replies = rw (frame_read s a n true some few, next) refl;
+  opens = rw (frame_read s a n true some few, other_byte true n some few, next) refl;
+  sets = refl;
+}
+
+-- the last of a whole sub-block, and the next one: there is room for what is held, or not
+pub full_next : (s : Setup) (d : Description) (contents : Contents) (key : Key) (size : Option ℕ) (t : ℕ) (held : List ℕ) (a n : ℕ) → 1 ≤ n → n < 128 → eqb n 127 ≡ true → eqb n (t + 1) ≡ true
+    → nat_lt (capacity_at d.rows key) (length (held ++ data_at s a n)) ≡ false
+    → Steps d contents (Some (inside key size t held)) (frame_with s a n false) (Response (BlockDownloadAcknowledge (t + 1) 127) ∷ []) (Some (inside key size 0 (held ++ data_at s a n))) contents
+full_next s d contents key size t held a n some few full next room = record {
+  replies = rw (frame_read s a n false some few, full, next, room) refl;
+  opens = rw (frame_read s a n false some few, other_byte false n some few, full, next, room) refl;
+  sets = refl;
+}
+
+pub full_refused : (s : Setup) (d : Description) (contents : Contents) (key : Key) (size : Option ℕ) (t : ℕ) (held : List ℕ) (a n : ℕ) → 1 ≤ n → n < 128 → eqb n 127 ≡ true → eqb n (t + 1) ≡ true
+    → nat_lt (capacity_at d.rows key) (length (held ++ data_at s a n)) ≡ true
+    → Steps d contents (Some (inside key size t held)) (frame_with s a n false) (aborted key 0x06070012) None contents
+full_refused s d contents key size t held a n some few full next room = record {
+  replies = rw (frame_read s a n false some few, full, next, room) refl;
+  opens = rw (frame_read s a n false some few, other_byte false n some few, full, next, room) refl;
+  sets = refl;
+}
+
+-- the last of a sub-block, and not the next one
+pub end_other : (s : Setup) (d : Description) (contents : Contents) (key : Key) (size : Option ℕ) (t : ℕ) (held : List ℕ) (a n : ℕ) (last : Bool) → 1 ≤ n → n < 128 → last || eqb n 127 ≡ true → eqb n (t + 1) ≡ false
+    → nat_lt (capacity_at d.rows key) (length (held ++ [])) ≡ false
+    → Steps d contents (Some (inside key size t held)) (frame_with s a n last) (Response (BlockDownloadAcknowledge t 127) ∷ []) (Some (inside key size 0 held)) contents
+end_other s d contents key size t held a n last some few ends next room = record {
+  replies = rw (frame_read s a n last some few, ends, next, room) refl;
+  opens = rw (frame_read s a n last some few, other_byte last n some few, ends, next, room) (ap (λ (xs : List ℕ). Some (inside key size 0 xs)) (append-nil held));
+  sets = refl;
+}
+
+pub end_refused : (s : Setup) (d : Description) (contents : Contents) (key : Key) (size : Option ℕ) (t : ℕ) (held : List ℕ) (a n : ℕ) (last : Bool) → 1 ≤ n → n < 128 → last || eqb n 127 ≡ true → eqb n (t + 1) ≡ false
+    → nat_lt (capacity_at d.rows key) (length (held ++ [])) ≡ true
+    → Steps d contents (Some (inside key size t held)) (frame_with s a n last) (aborted key 0x06070012) None contents
+end_refused s d contents key size t held a n last some few ends next room = record {
+  replies = rw (frame_read s a n last some few, ends, next, room) refl;
+  opens = rw (frame_read s a n last some few, other_byte last n some few, ends, next, room) refl;
+  sets = refl;
+}
+
+-- ---- the end
+
+pub end_taken : (d : Description) (contents : Contents) (key : Key) (size : Option ℕ) (held value : List ℕ) (m : ℕ) → m ≤ 7 → without m held ≡ value → completion_refusal d contents key size value ≡ None
+    → Steps d contents (Some (at_last key size held)) (request_bytes (BlockDownloadEnd m)) (Response BlockDownloadDone ∷ []) None (written contents key value)
+end_taken d contents key size held value m few whole free = let read = block_end_read m few in record { replies = rw (read, whole, free) refl; opens = rw read refl; sets = rw (read, whole, free) refl }
+
+pub completion_refused : (d : Description) (contents : Contents) (key : Key) (size : Option ℕ) (held value : List ℕ) (m code : ℕ) → m ≤ 7 → without m held ≡ value → completion_refusal d contents key size value ≡ Some code
+    → Steps d contents (Some (at_last key size held)) (request_bytes (BlockDownloadEnd m)) (aborted key code) None contents
+completion_refused d contents key size held value m code few whole refused =
+    let read = block_end_read m few in record { replies = rw (read, whole, refused) refl; opens = rw read refl; sets = rw (read, whole, refused) refl }

@@ -1,0 +1,238 @@
+-- Worked transfers that are disturbed, computed from the definitions over the dictionary of two entries: the client waits 3 ms
+-- for an answer, the channel 2 ms for a request. The first event stands first.
+use Rattle.std.proofs.Common.{map, ◌≡◌, ℕ, List, [], ◌∷◌, refl, codes, Some, true, false, reverse}
+use Rattle.std.specs.Prelude.{◌+◌, ◌-◌, ◌*◌, nat_lt, if◌then◌else◌}
+use Rattle.co_value.specs.Numbers.{AreBytes}
+use Rattle.co_frame.specs.SdoRequests.{request_row_in}
+use Rattle.co_frame.specs.SdoResponses.{response_row_in}
+use Rattle.co_dict.specs.Objects.{has_object}
+use Rattle.co_sdo_client.specs.declared.mode.Mode.TheVariants.{Plain, Segmented, Block}
+use Rattle.co_sdo_client.specs.declared.state.ClientState.TheVariants.{Waiting, Done, Failed}
+use Rattle.co_sdo_client.specs.Calls.{Download, Upload}
+use Rattle.co_sdo_client.specs.Segments.{bytes_of}
+use Rattle.co_sdo_client.specs.Outcomes.{outcome, result}
+use Rattle.co_sdo.specs.Refused.{reading_refusal, begin_refusal, completion_refusal}
+use Rattle.co_sdo_laws.specs.Undisturbed.{IsUndisturbed}
+use Rattle.co_sdo_laws.specs.World.{Setup, WorldEvent, Requests, Answers, Delivered, Lost, Repeated, ClientTicked, ChannelTicked, world_after}
+use Rattle.co_sdo_laws.proofs.Examples.{string_key, setup, report, r, a, ten, fourteen}
+use Rattle.co_sdo_loss_laws.specs.Disturbed.{IsAlone, is_plain_download, is_repeat}
+use Rattle.co_sdo_loss_laws.proofs.Laws.{download_sets, upload_gives, block_upload_gives, block_download_sets}
+
+-- ---- frames as their hexadecimal digits
+
+abbrev digit : ℕ → ℕ
+digit code = if nat_lt code 65 then code - 48 else code - 55
+
+abbrev hex : List ℕ → List ℕ
+hex [] = []
+hex (high ∷ []) = []
+hex (high ∷ low ∷ digits) = (16 * digit high + digit low) ∷ hex digits
+
+-- ---- which laws speak of which transfers
+
+which : map (λ mode. is_plain_download mode (Download (codes "a") true)) (Plain ∷ Segmented ∷ Block ∷ []) ≡ true ∷ true ∷ false ∷ []
+which = refl
+
+no_download : map (λ mode. is_plain_download mode (Upload 9)) (Plain ∷ Segmented ∷ Block ∷ []) ≡ false ∷ false ∷ false ∷ []
+no_download = refl
+
+-- each transfer that the laws of undisturbed ones speak of is alone
+alone : (s : Setup) (events : List WorldEvent) → IsUndisturbed s events → AreBytes (bytes_of s.call.job) → IsAlone s
+alone s events u small = record { dictionary = u.dictionary; key = u.key; bytes = small; idle = u.idle }
+
+-- ---- ten bytes to the string, in segments
+
+-- the first segment is lost, and the channel's time is over: the client fails, and the entry is as it was
+lost_request : report ten (r ∷ a ∷ Lost Requests ∷ ChannelTicked ∷ ChannelTicked ∷ a ∷ []) ≡ record {
+  requests = [];
+  answers = [];
+  entry = Some (codes "ABCDEFGHI");
+  state = Failed (record { 0 = 0x05040000 });
+  sent = 2;
+  value = [];
+}
+unfolding request_row_in response_row_in reading_refusal begin_refusal completion_refusal has_object
+lost_request = refl
+
+-- the answer to the first segment comes again: its toggle isn't the awaited one
+repeated_answer : report ten (r ∷ a ∷ r ∷ Repeated Answers ∷ a ∷ []) ≡ record {
+  requests = hex (codes "1937383900000000") ∷ hex (codes "8001200000000305") ∷ [];
+  answers = [];
+  entry = Some (codes "ABCDEFGHI");
+  state = Failed (record { 0 = 0x05030000 });
+  sent = 4;
+  value = [];
+}
+unfolding request_row_in response_row_in reading_refusal begin_refusal completion_refusal has_object
+repeated_answer = refl
+
+-- the last answer is lost, and the client's time is over: it fails, though the entry is set. So it is of a client that is done
+-- alone that the law can speak.
+lost_answer : report ten (r ∷ a ∷ r ∷ a ∷ r ∷ Lost Answers ∷ ClientTicked ∷ ClientTicked ∷ ClientTicked ∷ []) ≡ record {
+  requests = hex (codes "8001200000000405") ∷ [];
+  answers = [];
+  entry = Some (codes "0123456789");
+  state = Failed (record { 0 = 0x05040000 });
+  sent = 4;
+  value = [];
+}
+unfolding request_row_in response_row_in reading_refusal begin_refusal completion_refusal has_object
+lost_answer = refl
+
+-- the begin comes twice, and one of its two answers is lost; the channel ticks; the last segment comes twice, and the second is
+-- refused: the client is done, and an abort is left
+abbrev disturbed : List WorldEvent
+disturbed = Repeated Requests ∷ r ∷ a ∷ Lost Answers ∷ r ∷ ChannelTicked ∷ a ∷ Repeated Requests ∷ r ∷ a ∷ []
+
+disturbed_ten : report ten disturbed ≡ record {
+  requests = [];
+  answers = hex (codes "8000000001000405") ∷ [];
+  entry = Some (codes "0123456789");
+  state = Done;
+  sent = 3;
+  value = [];
+}
+unfolding request_row_in response_row_in reading_refusal begin_refusal completion_refusal has_object
+disturbed_ten = refl
+
+disturbed_is_done : outcome ten.call (world_after ten (reverse disturbed)).events ≡ Done
+unfolding request_row_in response_row_in reading_refusal begin_refusal completion_refusal has_object
+disturbed_is_done = refl
+
+-- so that the law says what the entry has
+disturbed_entry : IsAlone ten → (world_after ten (reverse disturbed)).contents string_key ≡ Some (codes "0123456789")
+disturbed_entry h = download_sets ten (reverse disturbed) h refl disturbed_is_done
+
+-- ---- the nine bytes of the string, read in segments
+
+abbrev nine : Setup
+nine = setup string_key Segmented (Upload 9)
+
+-- the request of the first segment comes twice: the second has the wrong toggle, and nothing is open after it
+repeated_request : report nine (r ∷ a ∷ Repeated Requests ∷ r ∷ a ∷ r ∷ a ∷ []) ≡ record {
+  requests = [];
+  answers = hex (codes "8000000001000405") ∷ [];
+  entry = Some (codes "ABCDEFGHI");
+  state = Failed (record { 0 = 0x05030000 });
+  sent = 3;
+  value = [];
+}
+unfolding request_row_in response_row_in reading_refusal begin_refusal completion_refusal has_object
+repeated_request = refl
+
+-- the begin comes twice, and the second is lost on its way: the client is done
+abbrev disturbed_reading : List WorldEvent
+disturbed_reading = Repeated Requests ∷ Lost Requests ∷ a ∷ r ∷ ClientTicked ∷ a ∷ r ∷ a ∷ []
+
+disturbed_nine : report nine disturbed_reading ≡ record { requests = []; answers = []; entry = Some (codes "ABCDEFGHI"); state = Done; sent = 3; value = codes "ABCDEFGHI" }
+unfolding request_row_in response_row_in reading_refusal begin_refusal completion_refusal has_object
+disturbed_nine = refl
+
+disturbed_is_read : outcome nine.call (world_after nine (reverse disturbed_reading)).events ≡ Done
+unfolding request_row_in response_row_in reading_refusal begin_refusal completion_refusal has_object
+disturbed_is_read = refl
+
+disturbed_value : IsAlone nine → result nine.call (world_after nine (reverse disturbed_reading)).events ≡ codes "ABCDEFGHI"
+disturbed_value h = upload_gives nine (reverse disturbed_reading) h refl disturbed_is_read
+
+-- ---- the nine bytes of the string, read in blocks
+
+is_repeat_rows : map is_repeat (Delivered Requests ∷ Lost Answers ∷ Repeated Answers ∷ Repeated Requests ∷ ClientTicked ∷ ChannelTicked ∷ []) ≡ false ∷ false ∷ true ∷ true ∷ false ∷ false ∷ []
+is_repeat_rows = refl
+
+abbrev nine_in_blocks : Setup
+nine_in_blocks = setup string_key Block (Upload 9)
+
+-- the first of two segments is lost: the second isn't taken, and the sub-block is acknowledged as of none
+lost_segment : report nine_in_blocks (r ∷ a ∷ r ∷ Lost Answers ∷ a ∷ []) ≡ record {
+  requests = hex (codes "A2007F0000000000") ∷ [];
+  answers = [];
+  entry = Some (codes "ABCDEFGHI");
+  state = Waiting;
+  sent = 3;
+  value = [];
+}
+unfolding request_row_in response_row_in reading_refusal begin_refusal completion_refusal has_object
+lost_segment = refl
+
+-- then both are sent again, and the client is done
+abbrev disturbed_blocks : List WorldEvent
+disturbed_blocks = r ∷ a ∷ r ∷ Lost Answers ∷ a ∷ r ∷ ClientTicked ∷ a ∷ a ∷ r ∷ a ∷ []
+
+disturbed_blocks_done : report nine_in_blocks disturbed_blocks ≡ record {
+  requests = hex (codes "A100000000000000") ∷ [];
+  answers = [];
+  entry = Some (codes "ABCDEFGHI");
+  state = Done;
+  sent = 5;
+  value = codes "ABCDEFGHI";
+}
+unfolding request_row_in response_row_in reading_refusal begin_refusal completion_refusal has_object
+disturbed_blocks_done = refl
+
+blocks_are_read : outcome nine_in_blocks.call (world_after nine_in_blocks (reverse disturbed_blocks)).events ≡ Done
+unfolding request_row_in response_row_in reading_refusal begin_refusal completion_refusal has_object
+blocks_are_read = refl
+
+disturbed_blocks_value : IsAlone nine_in_blocks → result nine_in_blocks.call (world_after nine_in_blocks (reverse disturbed_blocks)).events ≡ codes "ABCDEFGHI"
+disturbed_blocks_value h = block_upload_gives nine_in_blocks (reverse disturbed_blocks) h refl refl blocks_are_read
+
+-- the last segment is lost: the sub-block doesn't end, and the channel's time is over
+lost_last_segment : report nine_in_blocks (r ∷ a ∷ r ∷ a ∷ Lost Answers ∷ ChannelTicked ∷ ChannelTicked ∷ a ∷ []) ≡ record {
+  requests = [];
+  answers = [];
+  entry = Some (codes "ABCDEFGHI");
+  state = Failed (record { 0 = 0x05040000 });
+  sent = 2;
+  value = [];
+}
+unfolding request_row_in response_row_in reading_refusal begin_refusal completion_refusal has_object
+lost_last_segment = refl
+
+-- ---- fourteen bytes to the domain, in blocks
+
+-- the first of two segments is lost: the second isn't taken, and the sub-block is acknowledged as of none
+lost_first : report fourteen (r ∷ a ∷ Lost Requests ∷ r ∷ []) ≡ record {
+  requests = [];
+  answers = hex (codes "A2007F0000000000") ∷ [];
+  entry = Some [];
+  state = Waiting;
+  sent = 3;
+  value = [];
+}
+unfolding request_row_in response_row_in reading_refusal begin_refusal completion_refusal has_object
+lost_first = refl
+
+-- then both are sent again, and the client is done
+abbrev disturbed_fourteen : List WorldEvent
+disturbed_fourteen = r ∷ a ∷ Lost Requests ∷ r ∷ a ∷ r ∷ ChannelTicked ∷ r ∷ a ∷ r ∷ a ∷ []
+
+fourteen_done : report fourteen disturbed_fourteen ≡ record {
+  requests = [];
+  answers = [];
+  entry = Some (codes "0123456789ABCD");
+  state = Done;
+  sent = 6;
+  value = [];
+}
+unfolding request_row_in response_row_in reading_refusal begin_refusal completion_refusal has_object
+fourteen_done = refl
+
+fourteen_is_done : outcome fourteen.call (world_after fourteen (reverse disturbed_fourteen)).events ≡ Done
+unfolding request_row_in response_row_in reading_refusal begin_refusal completion_refusal has_object
+fourteen_is_done = refl
+
+fourteen_entry : IsAlone fourteen → (world_after fourteen (reverse disturbed_fourteen)).contents fourteen.call.key ≡ Some (codes "0123456789ABCD")
+fourteen_entry h = block_download_sets fourteen (reverse disturbed_fourteen) h refl refl fourteen_is_done
+
+-- the channel's time is over before the segments come: it hears them as requests, and none of its answers is awaited
+given_up : report fourteen (r ∷ a ∷ ChannelTicked ∷ ChannelTicked ∷ Lost Answers ∷ r ∷ a ∷ []) ≡ record {
+  requests = hex (codes "8237383941424344") ∷ [];
+  answers = [];
+  entry = Some [];
+  state = Failed (record { 0 = 0x05040001 });
+  sent = 3;
+  value = [];
+}
+unfolding request_row_in response_row_in reading_refusal begin_refusal completion_refusal has_object
+given_up = refl

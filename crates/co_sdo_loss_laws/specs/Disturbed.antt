@@ -1,0 +1,29 @@
+-- Transfers that anything may disturb (CiA 301, 7.2.4.2): frames are lost and come again, and each end's time may be over.
+use Rattle.std.specs.Prelude.{◌≡◌, ◌<◌, Bool, true, false, None}
+use Rattle.co_value.specs.Numbers.{AreBytes}
+use Rattle.co_sdo_client.specs.declared.mode.Mode.{Mode}
+use Rattle.co_sdo_client.specs.declared.mode.Mode.TheVariants.{Block}
+use Rattle.co_sdo_client.specs.Calls.{Job, Download}
+use Rattle.co_sdo_client.specs.Segments.{bytes_of}
+use Rattle.co_dict.specs.Stores.{IsDictionary}
+use Rattle.co_sdo.specs.OpenTransfers.{open_transfer}
+use Rattle.co_sdo_laws.specs.World.{Setup, WorldEvent, Repeated}
+
+-- one transfer alone: the channel has no other open when the client begins, and no frame of another is on its way, since the
+-- first world has none; nothing else writes to the dictionary. Nothing is said of rights: what is refused is given up.
+pub record IsAlone (s : Setup) : Type 0 where
+  pub dictionary : IsDictionary s.description s.contents
+  pub key : s.call.key.index < 65536
+  pub bytes : AreBytes (bytes_of s.call.job)
+  pub idle : open_transfer s.past ≡ None
+
+-- a download that isn't in blocks: at once, or in segments
+abbrev pub is_plain_download : Mode → Job → Bool
+is_plain_download Block (Download bytes tells) = false
+is_plain_download mode (Download bytes tells) = true
+is_plain_download mode job = false
+
+-- a frame comes, and will come again
+abbrev pub is_repeat : WorldEvent → Bool
+is_repeat (Repeated queue) = true
+is_repeat event = false

@@ -1,6 +1,0 @@
-use Rattle.std.proofs.lemmas.List.{length-replicate}
-use Rattle.co_service.proofs.Entries.{stand_new}
-use Rattle.co_service.proofs.heartbeat_consumers.HeartbeatConsumers.new.Goals as goal
-
-pub returns : goal.returns
-returns c = record { count = length-replicate 127 c.new-entry.result; all = stand_new 127 c.new-entry.result c.new-entry.ensures }

@@ -1,0 +1,42 @@
+//! One pass over the lines of a data sheet's text.
+
+ghost use Rattle.std.specs.Prelude.{◌≡◌, ◌≤◌, ◌⊎◌, [], length, Some, None, OnOk, IfOk, IfErr};
+ghost use Rattle.co_sheet_text.specs.Text.{lines_of};
+ghost use Rattle.co_sheet_text.specs.Sections.{sections_of, first_line_fault, HaveNoFault, IsFirstAtFault};
+ghost use Rattle.co_sheet_text.specs.OutOfMemory.{out_of_memory};
+ghost use Rattle.co_sheet_text.specs.SectionLaws.{IsParsed};
+
+use crate::fault::TextFault;
+use crate::parsed_text::ParsedText;
+use crate::sections_read::SectionsRead;
+use crate::text::without_mark;
+use co_text::split_line;
+use std::alloc::Global;
+
+/// The sections of a text, in their order, each with its properties, or the fault of the first line that has one
+/// (CiA 306, structure of an EDS).
+///
+/// A line's fault is `TooLarge`, `BadLine`, `KeyOutsideSection`, `DuplicateSection` or `DuplicateKey`, with the line's
+/// number from 1. Where memory is refused it fails with `Memory`, line 0.
+pub fn sections_in(alloc: Global, text: &[u8]) -> Result<ParsedText<'_>, TextFault>
+    requires { length text.now ≤ 1048576 }
+    ensures ok { IfOk result (λ sections. (first_line_fault [] (lines_of text.now) ≡ None)
+        × (sections ≡ sections_of (lines_of text.now))) }
+    ensures parsed { IfOk result IsParsed }
+    ensures err { IfErr result (λ fault. (fault ≡ out_of_memory)
+        ⊎ (first_line_fault [] (lines_of text.now) ≡ Some fault)) }
+    // the same in words: no line has a fault, or the line has it and no earlier line has one
+    ensures good { OnOk result (HaveNoFault (lines_of text.now)) }
+    ensures first { IfErr result (λ fault. (fault ≡ out_of_memory)
+        ⊎ IsFirstAtFault (lines_of text.now) fault) }
+{
+    let mut sections = SectionsRead::new(alloc);
+    let mut rest = without_mark(text);
+    let mut number = 1;
+    while let Some((line, others)) = split_line(rest) {
+        sections.take_line(alloc, line, number)?;
+        rest = others;
+        number += 1;
+    }
+    Ok(sections.into_text(alloc)?)
+}

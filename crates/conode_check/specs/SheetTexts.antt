@@ -1,0 +1,57 @@
+-- What is written of a data sheet that is checked.
+use Rattle.std.specs.Prelude.{◌&&◌, ℕ, Bool, List, [], ◌∷◌, ◌++◌, map, length, Option, option_and_then, is_none, codes, decimal}
+use Rattle.std.specs.Option.{option_map_or}
+use Rattle.co_sheet.specs.declared.fault.SheetFault.{SheetFault}
+use Rattle.co_sheet.specs.declared.note.Note.{Note}
+use Rattle.co_sheet.specs.Accepted.{first_fault, sections_in}
+use Rattle.co_sheet.specs.Content.{SheetContent, content_of}
+use Rattle.co_sheet.specs.FaultTexts.{fault_text, note_text}
+use Rattle.co_dict_list.specs.declared.build_fault.BuildFault.{BuildFault}
+use Rattle.co_dict_list.specs.BuildFaults.{build_fault}
+use Rattle.co_dict_list.specs.BuildFaultTexts.{fault_text as build_fault_text}
+use Rattle.co_dict_list.specs.Built.{plan_of}
+use Rattle.co_dict_list.specs.Capacities.{Limits}
+
+-- the line of a sheet that is refused
+unfoldable pub fault_line : SheetFault → List ℕ
+fault_line fault = fault_text fault ++ 10 ∷ []
+
+-- the line of a note
+unfoldable pub note_line : Note → List ℕ
+note_line note = note_text note ++ 10 ∷ []
+
+-- the first line of a sheet that is accepted: how many objects, entries and notes it has
+unfoldable pub summary_line : SheetContent → List ℕ
+summary_line sheet =
+    codes "ok: " ++ decimal (length sheet.objects) ++ codes " objects, " ++ decimal (length sheet.rows)
+    ++ codes " entries, " ++ decimal (length sheet.notes) ++ codes " notes" ++ 10 ∷ []
+
+-- the line of a sheet that makes no dictionary
+unfoldable pub build_fault_line : BuildFault → List ℕ
+build_fault_line fault = build_fault_text fault ++ 10 ∷ []
+
+-- why a sheet makes no dictionary for a node-ID and limits; without a node-ID none is made
+abbrev pub sheet_build_fault : Option ℕ → Limits → SheetContent → Option BuildFault
+sheet_build_fault node limits sheet = option_and_then (λ id. build_fault (plan_of id limits sheet)) node
+
+-- the lines of a build fault, where there is one
+abbrev pub build_lines : Option BuildFault → List (List ℕ)
+build_lines fault = option_map_or (λ fault. build_fault_line fault ∷ []) fault []
+
+-- the lines of a sheet that is accepted: what it has, its notes, and its build fault
+abbrev pub sheet_lines : SheetContent → Option BuildFault → List (List ℕ)
+sheet_lines sheet fault = summary_line sheet ∷ (map note_line sheet.notes ++ build_lines fault)
+
+-- the sheet that a text is, where it is accepted
+abbrev pub text_sheet : List ℕ → SheetContent
+text_sheet text = content_of (sections_in text)
+
+-- the lines of a text: those of the sheet that it is, or of its first fault
+abbrev pub checked_lines : List ℕ → Option ℕ → Limits → List (List ℕ)
+checked_lines text node limits =
+    option_map_or (λ fault. fault_line fault ∷ [])
+    (first_fault text) (sheet_lines (text_sheet text) (sheet_build_fault node limits (text_sheet text)))
+
+-- a text has neither a fault as a sheet nor, with a node-ID, a build fault
+abbrev pub is_good : List ℕ → Option ℕ → Limits → Bool
+is_good text node limits = is_none (first_fault text) && is_none (sheet_build_fault node limits (text_sheet text))

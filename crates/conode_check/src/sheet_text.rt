@@ -1,0 +1,54 @@
+//! The lines that are written of a data sheet.
+
+ghost use Rattle.std.specs.Prelude.{◌≡◌, OnOk, string_bytes};
+ghost use Rattle.conode_check.specs.SheetTexts.{build_fault_line, fault_line, note_line, summary_line};
+
+use co_dict_list::BuildFault;
+use co_sheet::{Note, Sheet, SheetFault};
+use std::alloc::AllocError;
+
+/// Makes the text the line of a fault: its number, its name and its line. On an `Err` memory ran out, and the text
+/// holds a part of the line.
+#[tactic(auto, unfolding(crate::specs::SheetTexts::fault_line))]
+pub(crate) fn set_fault_line(text: &mut String, fault: SheetFault) -> Result<(), AllocError>
+    ensures { OnOk result (string_bytes text.new ≡ fault_line fault) }
+{
+    text.clear();
+    writeln!(text, "{fault}")
+}
+
+/// Makes the text the line of a build fault, as `build fault 3 BadCobId 1800:01`. On an `Err` memory ran out, and the
+/// text holds a part of the line.
+#[tactic(auto, unfolding(crate::specs::SheetTexts::build_fault_line))]
+pub(crate) fn set_build_fault_line(text: &mut String, fault: BuildFault) -> Result<(), AllocError>
+    ensures { OnOk result (string_bytes text.new ≡ build_fault_line fault) }
+{
+    text.clear();
+    writeln!(text, "{fault}")
+}
+
+/// Makes the text the line of a note: its line and its name. On an `Err` memory ran out, and the text holds a part of
+/// the line.
+#[tactic(auto, unfolding(crate::specs::SheetTexts::note_line))]
+pub(crate) fn set_note_line(text: &mut String, note: Note) -> Result<(), AllocError>
+    ensures { OnOk result (string_bytes text.new ≡ note_line note) }
+{
+    text.clear();
+    writeln!(text, "{note}")
+}
+
+/// Makes the text the first line of a sheet that is accepted: how many objects, entries and notes it has. On an `Err`
+/// memory ran out, and the text holds a part of the line.
+#[tactic(auto, unfolding(crate::specs::SheetTexts::summary_line))]
+pub(crate) fn set_summary_line(text: &mut String, sheet: &Sheet<'_>) -> Result<(), AllocError>
+    ensures { OnOk result (string_bytes text.new ≡ summary_line sheet.now) }
+{
+    let objects = sheet.objects().len();
+    let entries = sheet.entries().len();
+    let notes = sheet.notes().len();
+    text.clear();
+    writeln!(
+        text,
+        "ok: {objects} objects, {entries} entries, {notes} notes"
+    )
+}

@@ -1,0 +1,45 @@
+-- The names of entries in a data sheet (CiA 306, ParameterName).
+use Rattle.std.specs.Prelude.{ℕ, ◌==◌, Bool, true, if◌then◌else◌, List, [], ◌∷◌, ◌++◌, codes, find, Option, Some, None, option_and_then}
+use Rattle.std.specs.Option.{option_map_or, option_copied}
+use Rattle.std.specs.Str.{is_utf8}
+use Rattle.co_value.specs.declared.key.Key.{Key}
+use Rattle.co_value.specs.Keys.{same_key}
+use Rattle.co_sheet.specs.Content.{Row, SheetContent}
+use Rattle.conode_decode.specs.declared.names.Names.{Names as NamesOfCode}
+
+-- where names come from: a data sheet, if there is one, for one node alone or for all
+pub record Names : Type 0 where
+  pub sheet : Option SheetContent
+  pub only : Option ℕ
+
+abbrev pub names_view : NamesOfCode → Names
+names_view names = record { sheet = option_copied names.sheet; only = names.only }
+
+-- a text if it is UTF-8
+abbrev pub if_utf8 : List ℕ → Option (List ℕ)
+if_utf8 text = if is_utf8 text then Some text else None
+
+-- the entry of a key
+abbrev pub row_at : List Row → Key → Option Row
+row_at rows key = find (λ row. same_key row.key key) rows
+
+-- the name of the entry of a key, where it is UTF-8
+abbrev pub name_at : List Row → Key → Option (List ℕ)
+name_at rows key = option_and_then if_utf8 (option_and_then (λ row. row.name) (row_at rows key))
+
+-- whether names are for a node
+abbrev pub are_for : Option ℕ → ℕ → Bool
+are_for only node = option_map_or (λ one. one == node) only true
+
+-- the name of a node's entry
+unfoldable pub name_of : Names → ℕ → Key → Option (List ℕ)
+name_of names node key =
+    if are_for names.only node then option_and_then (λ sheet. name_at sheet.rows key) names.sheet else None
+
+-- a name in double quotes, where there is one
+abbrev pub quoted : Option (List ℕ) → List ℕ
+quoted name = option_map_or (λ text. codes " " ++ 34 ∷ (text ++ 34 ∷ [])) name []
+
+-- what follows a text with a key
+unfoldable pub name_text : Names → ℕ → Option Key → List ℕ
+name_text names node key = quoted (option_and_then (name_of names node) key)

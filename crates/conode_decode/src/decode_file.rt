@@ -1,0 +1,136 @@
+//! The file of a trace, decoded.
+
+ghost use Rattle.std.specs.Prelude.{◌≡◌, ◌⊎◌, ℕ, [], IfSome, Some, None};
+ghost use Rattle.std.specs.Option.{option_copied};
+ghost use Rattle.std.specs.Process.{exit_status};
+ghost use Rattle.conode_decode.specs.DecodedTraces.{names_in, trace_in, trace_lines};
+ghost use Rattle.conode_io.specs.Endings.{SomeStopped, WritesStopped};
+ghost use Rattle.conode_io.specs.Written.{WritesFrontOrLines, WritesLines};
+
+use crate::decoded_trace::decode;
+use co_sheet::{Sheet, read};
+use conode_io::{CmdFault, Ending, Message, file_text, flushed, out_of_memory, say, stopped};
+use std::alloc::Global;
+use std::fs;
+use std::io::{Read, Write};
+use std::process::ExitCode;
+use std::rt::Files;
+
+/// Decodes an input, a trace, on `out`, and says why it stopped where it did: on `out`, after what was decoded before, or
+/// where that can't be written on `err`.
+pub fn decode_input<R: Read, O: Write, E: Write>(
+    alloc: Global,
+    input: &mut R,
+    sheet: Option<&Sheet<'_>>,
+    node: Option<u8>,
+    out: &mut O,
+    err: &mut E,
+) -> Ending
+    // All of the trace is good, and the lines of its frames are written.
+    ensures good { result ≡ Ending.Whole →
+        IfSome (R.remaining input.old) (λ text. (trace_in text).bad ≡ None) }
+    ensures decoded { result ≡ Ending.Whole → IfSome (R.remaining input.old) (λ text.
+        WritesLines (O.contents out.old) (O.contents out.new)
+        (trace_lines (names_in (option_copied sheet.entry) node) text)) }
+
+    // A line is the first bad one; the lines of the frames before it are written, and then it is named.
+    ensures bad_line { (number : ℕ) → result ≡ Ending.Said (CmdFault.BadLine number) →
+        IfSome (R.remaining input.old) (λ text. (trace_in text).bad ≡ Some number) }
+    ensures before { (number : ℕ) → result ≡ Ending.Said (CmdFault.BadLine number) →
+        IfSome (R.remaining input.old) (λ text.
+        WritesStopped (O.contents out.old) (O.contents out.new)
+        (trace_lines (names_in (option_copied sheet.entry) node) text) (CmdFault.BadLine number)) }
+
+    // Memory ran out: some of these lines are written, never all, and then that it ran out.
+    ensures memory { result ≡ Ending.Said CmdFault.Memory →
+        WritesStopped (O.contents out.old) (O.contents out.new) [] CmdFault.Memory
+        ⊎ IfSome (R.remaining input.old) (λ text.
+        SomeStopped (O.contents out.old) (O.contents out.new)
+        (trace_lines (names_in (option_copied sheet.entry) node) text) CmdFault.Memory) }
+
+    // The input is not read to its end: only this is written.
+    ensures unread { (fault : CmdFault) → (fault ≡ CmdFault.Read) ⊎ (fault ≡ CmdFault.NeverEnds) →
+        result ≡ Ending.Said fault →
+        WritesStopped (O.contents out.old) (O.contents out.new) [] fault }
+
+    // Some or all of these lines are written, perhaps a part of the next, and `err` has why.
+    ensures write { result ≡ Ending.Said CmdFault.Write →
+        IfSome (R.remaining input.old) (λ text.
+        WritesFrontOrLines (O.contents out.old) (O.contents out.new)
+        (trace_lines (names_in (option_copied sheet.entry) node) text)) }
+    ensures write_said { result ≡ Ending.Said CmdFault.Write →
+        WritesStopped (E.contents err.old) (E.contents err.new) [] CmdFault.Write }
+{
+    let outcome = decode(alloc, input, sheet, node, out);
+    match flushed(out, outcome) {
+        Ok(()) => Ending::Whole,
+        Err(fault) => stopped(fault, out, err),
+    }
+}
+
+// names a file that can't be read
+fn cannot_read<E: Write>(path: &str, err: &mut E) -> ExitCode
+    ensures { exit_status result ≡ 1 }
+{
+    let _ = say(Message::CannotRead(path), err);
+    ExitCode::FAILURE
+}
+
+// decodes the trace of a path
+fn decode_trace<R: Files + AllocGlobal, O: Write, E: Write>(
+    rt: &R,
+    path: &str,
+    sheet: Option<&Sheet<'_>>,
+    node: Option<u8>,
+    out: &mut O,
+    err: &mut E,
+) -> ExitCode
+    ensures { (exit_status result ≡ 0) ⊎ (exit_status result ≡ 1) }
+{
+    match fs::open(rt, path) {
+        Ok(mut file) => decode_input(rt.alloc(), &mut file, sheet, node, out, err).status(),
+        Err(_) => cannot_read(path, err),
+    }
+}
+
+// decodes the trace of a path with the names of a sheet, if the text is one
+fn decode_named<R: Files + AllocGlobal, O: Write, E: Write>(
+    rt: &R,
+    path: &str,
+    text: &[u8],
+    node: Option<u8>,
+    out: &mut O,
+    err: &mut E,
+) -> ExitCode
+    ensures { (exit_status result ≡ 0) ⊎ (exit_status result ≡ 1) }
+{
+    match read(rt.alloc(), text) {
+        Ok(sheet) => decode_trace(rt, path, Some(&sheet), node, out, err),
+        Err(fault) => {
+            let _ = say(Message::Fault(fault), out);
+            ExitCode::FAILURE
+        }
+    }
+}
+
+/// Decodes the trace of a path, with the names of the data sheet of another path, as `decode_input` does. The sheet is read
+/// first: its fault goes to `out`. A file that can't be read is named on `err`. The status is then 1.
+pub fn decode_files<R: Files + AllocGlobal, O: Write, E: Write>(
+    rt: &R,
+    trace: &str,
+    sheet: Option<&str>,
+    node: Option<u8>,
+    out: &mut O,
+    err: &mut E,
+) -> ExitCode
+    ensures { (exit_status result ≡ 0) ⊎ (exit_status result ≡ 1) }
+{
+    let Some(sheet) = sheet else {
+        return decode_trace(rt, trace, None, node, out, err);
+    };
+    match file_text(rt, sheet) {
+        Ok(text) => decode_named(rt, trace, text.as_slice(), node, out, err),
+        Err(CmdFault::Memory) => out_of_memory(out),
+        Err(_) => cannot_read(sheet, err),
+    }
+}

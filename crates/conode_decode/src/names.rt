@@ -1,0 +1,86 @@
+//! The names of entries.
+
+ghost use Rattle.std.specs.Prelude.{◌≡◌, ◌++◌, OnOk, Option, Some, map, option_map, string_bytes, All, AllPairs, List, true};
+ghost use Rattle.std.specs.Option.{option_copied};
+ghost use Rattle.co_value.specs.Keys.{is_key_before};
+ghost use Rattle.co_sheet.specs.SheetViews.{row_view};
+ghost use Rattle.conode_decode.specs.Names.{names_view, if_utf8, row_at, name_at, are_for, name_of, name_text};
+
+use crate::numbers::push_words;
+use co_sheet::{EntryRow, Sheet};
+use co_value::Key;
+use std::alloc::AllocError;
+use std::str;
+
+/// Where the names of entries come from.
+#[derive(Clone, Copy)]
+pub struct Names<'s, 'a> {
+    /// The data sheet that has them, as ParameterName (CiA 306); `None`: no entry has a name.
+    pub sheet: Option<&'s Sheet<'a>>,
+    /// The node whose data sheet it is; `None`: the data sheet is that of each node.
+    pub only: Option<u8>,
+}
+
+// the row of a key among rows in increasing key
+fn row_at<'r, 'a>(rows: &'r [EntryRow<'a>], key: Key) -> Option<&'r EntryRow<'a>>
+    requires { AllPairs (λ e f. is_key_before e.key f.key ≡ true) rows.now }
+    ensures { option_map row_view (option_copied result) ≡ row_at (map row_view rows.now) key }
+{
+    match rows.binary_search_by_key(&key, |row| row.key) {
+        Ok(place) => Some(&rows[place]),
+        Err(_) => None,
+    }
+}
+
+fn if_utf8(text: &[u8]) -> Option<&str>
+    ensures { option_copied result ≡ if_utf8 text.now }
+{
+    match str::from_utf8(text) {
+        Ok(text) => Some(text),
+        Err(_) => None,
+    }
+}
+
+// the name of the entry of a key, where it is UTF-8
+fn name_at<'a>(rows: &[EntryRow<'a>], key: Key) -> Option<&'a str>
+    requires { AllPairs (λ e f. is_key_before e.key f.key ≡ true) rows.now }
+    ensures { option_copied result ≡ name_at (map row_view rows.now) key }
+{
+    if_utf8(row_at(rows, key)?.name?)
+}
+
+impl<'s, 'a> Names<'s, 'a> {
+    // the name of a node's entry
+    #[tactic(auto, unfolding(crate::specs::Names::name_of))]
+    fn of(self, node: u8, key: Key) -> Option<&'a str>
+        ensures { option_copied result ≡ name_of (names_view self.entry) node key }
+    {
+        if self.only.is_some_and(|one| one != node) {
+            return None;
+        }
+        name_at(self.sheet?.entries(), key)
+    }
+
+    /// Appends what follows a text with a key: a space and the name in double quotes, if there is one. On an `Err` memory
+    /// ran out, and a part of it may be there.
+    #[tactic(auto, unfolding(crate::specs::Names::name_text))]
+    pub(crate) fn push(
+        self,
+        text: &mut String,
+        node: u8,
+        key: Option<Key>,
+    ) -> Result<(), AllocError>
+        ensures { OnOk result (string_bytes text.new
+            ≡ string_bytes text.old ++ name_text (names_view self.entry) node key) }
+    {
+        let Some(key) = key else {
+            return Ok(());
+        };
+        let Some(name) = self.of(node, key) else {
+            return Ok(());
+        };
+        push_words(text, " \"")?;
+        push_words(text, name)?;
+        push_words(text, "\"")
+    }
+}

@@ -1,0 +1,55 @@
+//! The fields of a frame. Each function appends a text; on an `Err` memory ran out, and a part of it may be there.
+
+ghost use Rattle.std.specs.Prelude.{◌≡◌, ◌++◌, OnOk, string_bytes, decimal};
+ghost use Rattle.conode_decode.specs.Numbers.{key_text, hex_text, toggle_text, size_text};
+
+use co_value::Key;
+use conode_trace::{push_byte, push_bytes, push_u16};
+use itoa::Buffer;
+use std::alloc::AllocError;
+
+pub(crate) fn push_words(text: &mut String, words: &str) -> Result<(), AllocError>
+    ensures { OnOk result (string_bytes text.new ≡ string_bytes text.old ++ words.now) }
+{
+    text.push_str(words)
+}
+
+pub(crate) fn push_decimal(text: &mut String, number: u64) -> Result<(), AllocError>
+    ensures { OnOk result (string_bytes text.new ≡ string_bytes text.old ++ decimal number) }
+{
+    let mut buffer = Buffer::new();
+    text.push_str(buffer.format(number))
+}
+
+pub(crate) fn push_key(text: &mut String, key: Key) -> Result<(), AllocError>
+    ensures { OnOk result (string_bytes text.new ≡ string_bytes text.old ++ key_text key) }
+{
+    push_u16(text, key.index)?;
+    text.push(':')?;
+    push_byte(text, key.sub)
+}
+
+pub(crate) fn push_hex(text: &mut String, bytes: &[u8]) -> Result<(), AllocError>
+    ensures { OnOk result (string_bytes text.new ≡ string_bytes text.old ++ hex_text bytes.now) }
+{
+    if bytes.is_empty() {
+        return text.push('-');
+    }
+    push_bytes(text, bytes)
+}
+
+pub(crate) fn push_toggle(text: &mut String, toggle: bool) -> Result<(), AllocError>
+    ensures { OnOk result (string_bytes text.new ≡ string_bytes text.old ++ toggle_text toggle) }
+{
+    text.push(if toggle { '1' } else { '0' })
+}
+
+pub(crate) fn push_size(text: &mut String, size: Option<u32>) -> Result<(), AllocError>
+    ensures { OnOk result (string_bytes text.new ≡ string_bytes text.old ++ size_text size) }
+{
+    let Some(size) = size else {
+        return Ok(());
+    };
+    push_words(text, " size ")?;
+    push_decimal(text, u64::from(size))
+}

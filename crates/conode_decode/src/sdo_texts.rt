@@ -1,0 +1,227 @@
+//! The texts of SDO requests and answers (CiA 301, 7.2.4.3). Each function appends a text; on an `Err` memory ran out, and
+//! a part of it may be there.
+
+ghost use Rattle.std.specs.Prelude.{◌≡◌, ◌++◌, OnOk, Some, string_bytes};
+ghost use Rattle.conode_decode.specs.Numbers.{key_text, toggle_text};
+ghost use Rattle.conode_decode.specs.SdoTexts.{expedited_part, expedited_text, begin_text, segment_text, abort_text, acknowledge_text, block_end_text, request_text, request_key, answer_text, answer_key};
+
+use crate::numbers::{push_decimal, push_hex, push_key, push_size, push_toggle, push_words};
+use co_frame::{AbortCode, ExpeditedData, SdoRequest, SdoResponse};
+use co_value::Key;
+use conode_trace::push_u32;
+use std::alloc::AllocError;
+
+fn expedited_part(part: &ExpeditedData) -> &[u8]
+    ensures { result.now ≡ expedited_part part.now }
+{
+    match part {
+        ExpeditedData::Indicated(counted) => counted.as_slice(),
+        ExpeditedData::NotIndicated(four) => four,
+    }
+}
+
+#[tactic(auto, unfolding(crate::specs::SdoTexts::expedited_text))]
+fn push_expedited(
+    text: &mut String,
+    service: &str,
+    key: Key,
+    part: &ExpeditedData,
+) -> Result<(), AllocError>
+    ensures { OnOk result (string_bytes text.new
+        ≡ string_bytes text.old ++ expedited_text service.now key part.now) }
+{
+    push_words(text, service)?;
+    push_key(text, key)?;
+    push_words(text, " expedited ")?;
+    push_hex(text, expedited_part(part))
+}
+
+#[tactic(auto, unfolding(crate::specs::SdoTexts::begin_text))]
+fn push_begin(
+    text: &mut String,
+    service: &str,
+    key: Key,
+    size: Option<u32>,
+) -> Result<(), AllocError>
+    ensures { OnOk result (string_bytes text.new
+        ≡ string_bytes text.old ++ begin_text service.now key size) }
+{
+    push_words(text, service)?;
+    push_key(text, key)?;
+    push_size(text, size)
+}
+
+fn push_block_begin(
+    text: &mut String,
+    service: &str,
+    key: Key,
+    block_size: u8,
+) -> Result<(), AllocError>
+    ensures { OnOk result (string_bytes text.new
+        ≡ string_bytes text.old ++ begin_text service.now key (Some block_size)) }
+{
+    push_begin(text, service, key, Some(u32::from(block_size)))
+}
+
+fn push_with_key(text: &mut String, service: &str, key: Key) -> Result<(), AllocError>
+    ensures { OnOk result
+        (string_bytes text.new ≡ string_bytes text.old ++ (service.now ++ key_text key)) }
+{
+    push_words(text, service)?;
+    push_key(text, key)
+}
+
+fn push_with_toggle(text: &mut String, service: &str, toggle: bool) -> Result<(), AllocError>
+    ensures { OnOk result
+        (string_bytes text.new ≡ string_bytes text.old ++ (service.now ++ toggle_text toggle)) }
+{
+    push_words(text, service)?;
+    push_toggle(text, toggle)
+}
+
+#[tactic(auto, unfolding(crate::specs::SdoTexts::segment_text))]
+fn push_segment(text: &mut String, toggle: bool, part: &[u8], last: bool) -> Result<(), AllocError>
+    ensures { OnOk result (string_bytes text.new
+        ≡ string_bytes text.old ++ segment_text toggle part.now last) }
+{
+    push_words(text, "segment ")?;
+    push_toggle(text, toggle)?;
+    push_words(text, " ")?;
+    push_hex(text, part)?;
+    push_words(text, if last { " last" } else { "" })
+}
+
+#[tactic(auto, unfolding(crate::specs::SdoTexts::abort_text))]
+fn push_abort(text: &mut String, key: Key, code: AbortCode) -> Result<(), AllocError>
+    ensures { OnOk result (string_bytes text.new ≡ string_bytes text.old ++ abort_text key code) }
+{
+    push_words(text, "abort ")?;
+    push_key(text, key)?;
+    push_words(text, " ")?;
+    push_u32(text, code.0)
+}
+
+#[tactic(auto, unfolding(crate::specs::SdoTexts::acknowledge_text))]
+fn push_acknowledge(text: &mut String, sequence: u8, block_size: u8) -> Result<(), AllocError>
+    ensures { OnOk result (string_bytes text.new
+        ≡ string_bytes text.old ++ acknowledge_text sequence block_size) }
+{
+    push_words(text, "block ack ")?;
+    push_decimal(text, u64::from(sequence))?;
+    push_words(text, " size ")?;
+    push_decimal(text, u64::from(block_size))
+}
+
+#[tactic(auto, unfolding(crate::specs::SdoTexts::block_end_text))]
+fn push_block_end(text: &mut String, service: &str, unused: u8) -> Result<(), AllocError>
+    ensures { OnOk result (string_bytes text.new
+        ≡ string_bytes text.old ++ block_end_text service.now unused) }
+{
+    push_words(text, service)?;
+    push_words(text, "end unused ")?;
+    push_decimal(text, u64::from(unused))
+}
+
+/// Appends what a client asks of a server, without the name of the entry.
+#[tactic(auto, unfolding(crate::specs::SdoTexts::request_text))]
+pub(crate) fn push_request(text: &mut String, request: &SdoRequest) -> Result<(), AllocError>
+    ensures { OnOk result
+        (string_bytes text.new ≡ string_bytes text.old ++ request_text request.now) }
+{
+    match request {
+        SdoRequest::DownloadExpedited { key, data } => {
+            push_expedited(text, "download ", *key, data)
+        }
+        SdoRequest::DownloadBegin { key, size } => push_begin(text, "download ", *key, *size),
+        SdoRequest::DownloadSegment { toggle, data, last } => {
+            push_segment(text, *toggle, data.as_slice(), *last)
+        }
+        SdoRequest::Upload { key } => { push_with_key(text, "upload ", *key) }
+        SdoRequest::UploadSegment { toggle } => {
+            push_with_toggle(text, "segment request ", *toggle)
+        }
+        SdoRequest::Abort { key, code } => push_abort(text, *key, *code),
+        SdoRequest::BlockUploadBegin {
+            key,
+            block_size,
+            threshold: _,
+        } => push_block_begin(text, "block upload ", *key, *block_size),
+        SdoRequest::BlockUploadEnd => push_words(text, "block upload end"),
+        SdoRequest::BlockUploadAcknowledge {
+            sequence,
+            block_size,
+        } => push_acknowledge(text, *sequence, *block_size),
+        SdoRequest::BlockUploadStart => push_words(text, "block upload start"),
+        SdoRequest::BlockDownloadBegin { key, size } => {
+            push_begin(text, "block download ", *key, *size)
+        }
+        SdoRequest::BlockDownloadEnd { unused } => push_block_end(text, "block download ", *unused),
+    }
+}
+
+/// The key in a request's text.
+#[tactic(auto, unfolding(crate::specs::SdoTexts::request_key))]
+pub(crate) fn request_key(request: &SdoRequest) -> Option<Key>
+    ensures { result ≡ request_key request.now }
+{
+    match request {
+        SdoRequest::DownloadExpedited { key, .. }
+        | SdoRequest::DownloadBegin { key, .. }
+        | SdoRequest::Upload { key }
+        | SdoRequest::Abort { key, .. }
+        | SdoRequest::BlockUploadBegin { key, .. }
+        | SdoRequest::BlockDownloadBegin { key, .. } => Some(*key),
+        _ => None,
+    }
+}
+
+/// Appends what a server answers, without the name of the entry.
+#[tactic(auto, unfolding(crate::specs::SdoTexts::answer_text))]
+pub(crate) fn push_answer(text: &mut String, answer: &SdoResponse) -> Result<(), AllocError>
+    ensures { OnOk result
+        (string_bytes text.new ≡ string_bytes text.old ++ answer_text answer.now) }
+{
+    match answer {
+        SdoResponse::DownloadDone { key } => {
+            push_with_key(text, "download ", *key)?;
+            push_words(text, " done")
+        }
+        SdoResponse::DownloadSegmentDone { toggle } => {
+            push_with_toggle(text, "segment done ", *toggle)
+        }
+        SdoResponse::UploadExpedited { key, data } => push_expedited(text, "upload ", *key, data),
+        SdoResponse::UploadBegun { key, size } => push_begin(text, "upload ", *key, *size),
+        SdoResponse::UploadSegment { toggle, data, last } => {
+            push_segment(text, *toggle, data.as_slice(), *last)
+        }
+        SdoResponse::Abort { key, code } => push_abort(text, *key, *code),
+        SdoResponse::BlockDownloadBegun { key, block_size } => {
+            push_block_begin(text, "block download ", *key, *block_size)
+        }
+        SdoResponse::BlockDownloadDone => push_words(text, "block download done"),
+        SdoResponse::BlockDownloadAcknowledge {
+            sequence,
+            block_size,
+        } => push_acknowledge(text, *sequence, *block_size),
+        SdoResponse::BlockUploadBegun { key, size } => {
+            push_begin(text, "block upload ", *key, *size)
+        }
+        SdoResponse::BlockUploadEnd { unused } => push_block_end(text, "block upload ", *unused),
+    }
+}
+
+/// The key in an answer's text.
+#[tactic(auto, unfolding(crate::specs::SdoTexts::answer_key))]
+pub(crate) fn answer_key(answer: &SdoResponse) -> Option<Key>
+    ensures { result ≡ answer_key answer.now }
+{
+    match answer {
+        SdoResponse::DownloadDone { key }
+        | SdoResponse::UploadExpedited { key, .. }
+        | SdoResponse::UploadBegun { key, .. }
+        | SdoResponse::Abort { key, .. }
+        | SdoResponse::BlockDownloadBegun { key, .. }
+        | SdoResponse::BlockUploadBegun { key, .. } => Some(*key),
+        _ => None,
+    }
+}

@@ -1,0 +1,92 @@
+//! What goes to a writer: lines as they are made, and the rest at the end of a command.
+
+ghost use Rattle.std.specs.Prelude.{◌≡◌, ◌≢◌, ◌⊎◌, ℕ, List, IfOk, IfErr, OnOk, Ok, Err};
+ghost use Rattle.std.specs.Io.KnownBytes.{Appends, Keeps};
+ghost use Rattle.conode_io.specs.Endings.{stopped_line};
+ghost use Rattle.conode_io.specs.Messages.{message_line};
+ghost use Rattle.conode_io.specs.Written.{AppendsFront};
+
+use crate::ending::Ending;
+use crate::fault::CmdFault;
+use crate::message::Message;
+use std::io;
+use std::io::Write;
+
+/// Hands all the bytes to the writer. `Write` where the writer failed: then it has taken a front of them at most. A
+/// write that a signal interrupted is tried again.
+pub fn hand_over<W: Write>(bytes: &[u8], writer: &mut W) -> Result<(), CmdFault>
+    ensures ok { OnOk result (Appends (W.contents writer.old) (W.contents writer.new) bytes.now) }
+    ensures fault { IfErr result (λ fault. fault ≡ CmdFault.Write) }
+    ensures front { IfErr result (λ _.
+        AppendsFront (W.contents writer.old) (W.contents writer.new) bytes.now) }
+{
+    let mut rest = bytes;
+    let mut tries = u64::MAX;
+    while !rest.is_empty() && tries > 0 {
+        tries -= 1;
+        match writer.write(rest) {
+            Ok(0) => return Err(CmdFault::Write),
+            Ok(count) => rest = &rest[count..],
+            Err(error) => {
+                if error.kind() != io::ErrorKind::Interrupted {
+                    return Err(CmdFault::Write);
+                }
+            }
+        }
+    }
+    if rest.is_empty() {
+        Ok(())
+    } else {
+        Err(CmdFault::Write)
+    }
+}
+
+/// What an outcome is once all that was written has gone out.
+pub fn flushed<W: Write, T: Drop>(
+    writer: &mut W,
+    outcome: Result<T, CmdFault>,
+) -> Result<T, CmdFault>
+    ensures ok { IfOk result (λ value. outcome ≡ Ok value) }
+    // A fault that the command had already stays.
+    ensures kept { IfErr outcome (λ fault. result ≡ Err fault) }
+    ensures err { IfErr result (λ fault. (outcome ≡ Err fault) ⊎ (fault ≡ CmdFault.Write)) }
+    ensures text { Keeps (W.contents writer.old) (W.contents writer.new) }
+{
+    if writer.flush().is_err() {
+        return outcome.and(Err(CmdFault::Write));
+    }
+    outcome
+}
+
+/// Writes the line of a message at once.
+#[tactic(auto, unfolding(crate::specs::Messages::message_line))]
+pub fn say<W: Write>(message: Message<'_>, writer: &mut W) -> io::Result<()>
+    ensures { OnOk result
+        (Appends (W.contents writer.old) (W.contents writer.new) (message_line message.entry)) }
+{
+    writeln!(writer, "{message}")?;
+    writer.flush()
+}
+
+/// Says why a command ended before its input did: on `out`, or after `Write` on `err`.
+pub fn stopped<O: Write, E: Write>(fault: CmdFault, out: &mut O, err: &mut E) -> Ending
+    ensures fault { (result ≡ Ending.Said fault) ⊎ (result ≡ Ending.Unsaid fault) }
+    ensures on_out { fault ≢ CmdFault.Write → result ≡ Ending.Said fault →
+        Appends (O.contents out.old) (O.contents out.new) (stopped_line fault) }
+    ensures on_err { fault ≡ CmdFault.Write → result ≡ Ending.Said fault →
+        Appends (E.contents err.old) (E.contents err.new) (stopped_line fault) }
+    ensures unwritable { fault ≡ CmdFault.Write → Keeps (O.contents out.old) (O.contents out.new) }
+    ensures err_kept { fault ≢ CmdFault.Write → Keeps (E.contents err.old) (E.contents err.new) }
+{
+    let message = Message::Stopped(fault);
+    // Where even this can't be written, the status alone tells of it.
+    let said = if fault == CmdFault::Write {
+        say(message, err)
+    } else {
+        say(message, out)
+    };
+    match said {
+        Ok(()) => Ending::Said(fault),
+        Err(_) => Ending::Unsaid(fault),
+    }
+}

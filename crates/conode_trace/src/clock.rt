@@ -1,0 +1,88 @@
+//! The clock of a trace.
+
+ghost use Rattle.std.specs.Prelude.{◌≡◌, ◌+◌, ◌<◌, ◌≤◌, ◌^◌, Some, None, IfSome, IfNone};
+ghost use Rattle.std.specs.Option.{option_map};
+ghost use Rattle.conode_trace.specs.Clocks.{ClockState, clock_at_start, move_to, move_by, clock_after};
+
+use std::marker::Model;
+
+/// How far a frame line may be past the clock, in ms: a day.
+const GREATEST_STEP: u32 = 86_400_000;
+
+/// The clock of a trace in ms. It begins at 0 and follows the stamps of the frame lines.
+///
+/// A stamp is below 2^64 ms, and a line moves the clock by at most a day: so the time stays far below 2^128 whatever
+/// the number of lines.
+#[derive(Clone, Copy, Debug)]
+pub struct Clock {
+    ms: u128,
+    started: bool,
+}
+
+impl Model for Clock {
+    ghost use Rattle.conode_trace.specs.Clocks.{ClockState};
+
+    ghost Value = { ClockState };
+
+    ghost view = { λ clock. record { ms = clock.ms; started = clock.started } };
+
+    ghost inverse = { λ clock. record { ms = clock.ms; started = clock.started } };
+}
+
+impl Clock {
+    /// A clock that no frame line has set: 0 ms.
+    pub fn new() -> Self
+        ensures { result ≡ clock_at_start }
+    {
+        Clock {
+            ms: 0,
+            started: false,
+        }
+    }
+
+    /// The time in ms.
+    pub fn ms(self) -> u128
+        ensures { result ≡ self.ms }
+    {
+        self.ms
+    }
+
+    /// Moves the clock to the stamp of a frame line in ms, and gives the ticks of 1 ms on the way. The first frame line
+    /// sets it without a tick, also backwards; a later one moves it forward, or where its stamp is older not at all.
+    /// `None` where the stamp is more than a day past it: then it stays.
+    pub fn move_to(&mut self, stamp: u64) -> Option<u32>
+        ensures exact { option_map (λ ticks. (ticks, self.new)) result ≡ move_to self.old stamp }
+        ensures within { IfSome result (λ ticks. ticks ≤ 86400000) }
+        ensures far { IfNone result (self.new ≡ self.old) }
+    {
+        let stamp = u128::from(stamp);
+        if !self.started {
+            self.ms = stamp;
+            self.started = true;
+            return Some(0);
+        }
+        let ticks = stamp.saturating_sub(self.ms);
+        if ticks > u128::from(GREATEST_STEP) {
+            return None;
+        }
+        self.ms = self.ms.max(stamp);
+        Some(ticks as u32)
+    }
+
+    /// Moves the clock by ticks of 1 ms.
+    pub fn move_by(&mut self, ticks: u32)
+        requires { self.old.ms + ticks < 2 ^ 128 }
+        ensures { (ticks, self.new) ≡ move_by self.old ticks }
+    {
+        self.ms += u128::from(ticks);
+    }
+
+    /// The clock after a frame line with this stamp in ms, as `move_to` leaves it.
+    pub fn after(self, stamp: u64) -> Option<Clock>
+        ensures { result ≡ clock_after self stamp }
+    {
+        let mut clock = self;
+        clock.move_to(stamp)?;
+        Some(clock)
+    }
+}

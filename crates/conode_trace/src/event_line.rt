@@ -1,0 +1,143 @@
+//! Event lines: what an application does to a device, and time that passes.
+
+ghost use Rattle.std.specs.Prelude.{◌≡◌, ◌<◌, ◌≤◌, ◌∷◌, [], ◌+◌, length, IfSome, bytes_eq};
+ghost use Rattle.std.specs.Option.{option_map_or, option_copied};
+ghost use Rattle.conode_trace.specs.Texts.{decimal_in};
+ghost use Rattle.conode_trace.specs.Events.{words, event_of_one, event_of_two, event_of_three, event_in};
+
+use crate::hex_digit::is_digit;
+use crate::hex_pairs::{HexPairs, byte_in, five_bytes_in, key_in, word_in};
+use co_text::split_at_first;
+use co_value::Key;
+
+/// What an application does to a device.
+#[derive(Debug, Drop)]
+pub enum AppLine<'a> {
+    /// `!write KEY HEX`: these bytes, 256 at most, are written to the entry.
+    Write(Key, HexPairs<'a>),
+    /// `!event K`: an event of TPDO K.
+    Event(u16),
+    /// `!changed KEY`: the entry has changed.
+    Changed(Key),
+    /// `!raise CODE BITS EXTRA`: an emergency error code, the bits of the error register that it sets, and the
+    /// manufacturer's five bytes (CiA 301, 7.2.7).
+    Raise(u16, u8, [u8; 5]),
+    /// `!clear BITS`: the bits of the error register that are cleared.
+    Clear(u8),
+}
+
+/// An event line.
+#[derive(Debug, Drop)]
+pub enum EventLine<'a> {
+    /// `!tick N`: 1 to 86,400,000 ticks of 1 ms.
+    Ticks(u32),
+    /// An event of the application.
+    App(AppLine<'a>),
+}
+
+// the bytes before the first space, and those after it, if there is one
+fn first_word(text: &[u8]) -> (&[u8], Option<&[u8]>)
+    ensures { words text.now ≡ result.0.now ∷ option_map_or words (option_copied result.1) [] }
+{
+    match split_at_first(text, b' ') {
+        Some((word, rest)) => (word, Some(rest)),
+        None => (text, None),
+    }
+}
+
+// a decimal number from least to most, in digits alone, one at least
+fn decimal_in(word: &[u8], least: u32, most: u32) -> Option<u32>
+    ensures { result ≡ decimal_in least most word.now }
+{
+    let mut number: u64 = 0;
+    for byte in word {
+        if !is_digit(*byte) {
+            return None;
+        }
+        number = 10 * number + u64::from(*byte - b'0');
+        if number > u64::from(most) {
+            return None;
+        }
+    }
+    if word.is_empty() || number < u64::from(least) {
+        return None;
+    }
+    Some(number as u32)
+}
+
+fn is_word(word: &[u8], name: &[u8]) -> bool
+    ensures { result ≡ bytes_eq word.now name.now }
+{
+    word == name
+}
+
+#[tactic(auto, unfolding(crate::specs::Events::event_of_one))]
+fn event_of_one<'a>(name: &[u8], word: &'a [u8]) -> Option<EventLine<'a>>
+    ensures { result ≡ event_of_one name.now word.now }
+{
+    if is_word(name, b"!tick") {
+        return Some(EventLine::Ticks(decimal_in(word, 1, 86_400_000)?));
+    }
+    if is_word(name, b"!event") {
+        let number = decimal_in(word, 0, 65_535)?;
+        return Some(EventLine::App(AppLine::Event(number as u16)));
+    }
+    if is_word(name, b"!changed") {
+        return Some(EventLine::App(AppLine::Changed(key_in(word)?)));
+    }
+    if is_word(name, b"!clear") {
+        return Some(EventLine::App(AppLine::Clear(byte_in(word)?)));
+    }
+    None
+}
+
+#[tactic(auto, unfolding(crate::specs::Events::event_of_two))]
+fn event_of_two<'a>(name: &[u8], first: &[u8], second: &'a [u8]) -> Option<EventLine<'a>>
+    ensures { result ≡ event_of_two name.now first.now second.now }
+{
+    if !is_word(name, b"!write") {
+        return None;
+    }
+    let key = key_in(first)?;
+    let bytes = HexPairs::read(second)?;
+    Some(EventLine::App(AppLine::Write(key, bytes)))
+}
+
+#[tactic(auto, unfolding(crate::specs::Events::event_of_three))]
+fn event_of_three<'a>(
+    name: &[u8],
+    first: &[u8],
+    second: &[u8],
+    third: &[u8],
+) -> Option<EventLine<'a>>
+    ensures { result ≡ event_of_three name.now first.now second.now third.now }
+{
+    if !is_word(name, b"!raise") {
+        return None;
+    }
+    let code = word_in(first)?;
+    let bits = byte_in(second)?;
+    let extra = five_bytes_in(third)?;
+    Some(EventLine::App(AppLine::Raise(code, bits, extra)))
+}
+
+/// What an event line says; `None` where it is none.
+#[tactic(auto, using(crate::proofs::Words::four_words))]
+pub(crate) fn event_line(line: &[u8]) -> Option<EventLine<'_>>
+    ensures { result ≡ event_in (words line.now) }
+{
+    let (name, rest) = first_word(line);
+    let (first, rest) = first_word(rest?);
+    let Some(rest) = rest else {
+        return event_of_one(name, first);
+    };
+    let (second, rest) = first_word(rest);
+    let Some(rest) = rest else {
+        return event_of_two(name, first, second);
+    };
+    let (third, rest) = first_word(rest);
+    if rest.is_some() {
+        return None;
+    }
+    event_of_three(name, first, second, third)
+}

@@ -1,0 +1,232 @@
+//! The fields of a frame line, each read from the front of the text.
+
+ghost use Rattle.std.specs.Prelude.{◌≡◌, ◌+◌, ◌*◌, ◌^◌, ◌<◌, ◌≤◌, ℕ, List, length, slice_index, ◌==◌, Option, IfSome, IsTrue};
+ghost use Rattle.std.specs.Option.{option_map, option_copied};
+ghost use Rattle.std.specs.List.{prefix_len, list_all};
+ghost use Rattle.conode_trace.specs.Texts.{is_blank, is_digit, is_hex_digit};
+ghost use Rattle.conode_trace.specs.FrameLines.{past_byte, past_run, number_at, stamp_at, is_name_byte, three_digits, identifier_at, few_pairs_at, IsIdentifier, is_ending, is_mark, past_digit, body_in};
+
+use crate::hex_digit::{hex_digit, is_digit};
+use crate::hex_pairs::pair_at;
+use arrayvec::ArrayVec;
+
+/// The identifier of a frame line.
+#[derive(Clone, Copy, Debug, PartialEq, Eq)]
+pub(crate) enum Identifier {
+    /// Three digits, at most 7FF.
+    Base(u16),
+    /// Eight digits.
+    Extended,
+}
+
+/// What follows the number sign of a frame line.
+#[derive(Clone, Debug, PartialEq, Eq, Drop)]
+pub(crate) enum Body {
+    /// The bytes of a data frame.
+    Bytes(ArrayVec<u8, 8>),
+    /// A remote frame or a CAN FD frame, which is passed over.
+    Other,
+}
+
+fn is_blank(byte: u8) -> bool
+    ensures { result ≡ is_blank byte }
+{
+    byte == b' ' || byte == b'\t'
+}
+
+fn past_byte(text: &[u8], wanted: u8) -> Option<&[u8]>
+    ensures { option_copied result ≡ past_byte wanted text.now }
+{
+    match text {
+        [byte, rest @ ..] if *byte == wanted => Some(rest),
+        _ => None,
+    }
+}
+
+fn number_at(text: &[u8], least: usize, most: usize) -> Option<(u64, &[u8])>
+    requires { most ≤ 12 }
+    ensures exact { option_map (λ found. (found.0, found.1.now)) result
+        ≡ number_at least most text.now }
+    ensures small { IfSome result (λ found. found.0 < 10 ^ 12) }
+{
+    let mut number: u64 = 0;
+    for (count, byte) in text.iter().enumerate() {
+        if !is_digit(*byte) {
+            return if count < least {
+                None
+            } else {
+                Some((number, &text[count..]))
+            };
+        }
+        if count == most {
+            return None;
+        }
+        number = 10 * number + u64::from(*byte - b'0');
+    }
+    if text.len() < least {
+        None
+    } else {
+        Some((number, &[]))
+    }
+}
+
+#[tactic(auto, unfolding(crate::specs::FrameLines::stamp_at))]
+pub(crate) fn stamp_at(text: &[u8]) -> Option<(u64, &[u8])>
+    ensures { option_map (λ found. (found.0, found.1.now)) result ≡ stamp_at text.now }
+{
+    let text = past_byte(text, b'(')?;
+    let (seconds, text) = number_at(text, 1, 12)?;
+    let text = past_byte(text, b'.')?;
+    let (micros, text) = number_at(text, 6, 6)?;
+    let text = past_byte(text, b')')?;
+    Some((1000 * seconds + micros / 1000, text))
+}
+
+// how many blanks are at the front
+fn blank_count(text: &[u8]) -> usize
+    ensures count { result ≡ prefix_len is_blank text.now }
+    ensures within { result ≤ length text.now }
+{
+    for (count, byte) in text.iter().enumerate() {
+        if !is_blank(*byte) {
+            return count;
+        }
+    }
+    text.len()
+}
+
+// how many bytes that are no blanks are at the front
+fn name_len(text: &[u8]) -> usize
+    ensures count { result ≡ prefix_len is_name_byte text.now }
+    ensures within { result ≤ length text.now }
+{
+    for (count, byte) in text.iter().enumerate() {
+        if is_blank(*byte) {
+            return count;
+        }
+    }
+    text.len()
+}
+
+pub(crate) fn past_blanks(text: &[u8]) -> Option<&[u8]>
+    ensures { option_copied result ≡ past_run is_blank 1 512 text.now }
+{
+    let count = blank_count(text);
+    if count == 0 || count > 512 {
+        return None;
+    }
+    Some(&text[count..])
+}
+
+pub(crate) fn past_name(text: &[u8]) -> Option<&[u8]>
+    ensures { option_copied result ≡ past_run is_name_byte 1 15 text.now }
+{
+    let len = name_len(text);
+    if len == 0 || len > 15 {
+        return None;
+    }
+    Some(&text[len..])
+}
+
+fn three_digits(text: &[u8]) -> Option<u16>
+    requires { 3 ≤ length text.now }
+    ensures value { result ≡ three_digits text.now }
+{
+    let high = u16::from(hex_digit(text[0])?);
+    let middle = u16::from(hex_digit(text[1])?);
+    let low = u16::from(hex_digit(text[2])?);
+    Some(256 * high + 16 * middle + low)
+}
+
+// whether a number sign is at this place
+fn has_sign(text: &[u8], place: usize) -> bool
+    ensures value { result ≡ (slice_index text.now place == 35) }
+    ensures within { IsTrue result → place < length text.now }
+{
+    place < text.len() && text[place] == b'#'
+}
+
+fn are_hex_digits(text: &[u8]) -> bool
+    ensures { result ≡ list_all is_hex_digit text.now }
+{
+    text.iter().all(|byte| hex_digit(*byte).is_some())
+}
+
+#[tactic(auto, unfolding(crate::specs::FrameLines::identifier_at))]
+pub(crate) fn identifier_at(text: &[u8]) -> Option<(Identifier, &[u8])>
+    ensures exact { option_map (λ found. (found.0, found.1.now)) result ≡ identifier_at text.now }
+    ensures small { IfSome result (λ found. IsIdentifier found.0) }
+{
+    if has_sign(text, 3) {
+        let id = three_digits(text)?;
+        return if id <= 0x7FF {
+            Some((Identifier::Base(id), &text[4..]))
+        } else {
+            None
+        };
+    }
+    if has_sign(text, 8) && are_hex_digits(&text[..8]) {
+        return Some((Identifier::Extended, &text[9..]));
+    }
+    None
+}
+
+fn are_blanks(text: &[u8]) -> bool
+    ensures { result ≡ list_all is_blank text.now }
+{
+    text.iter().all(|byte| is_blank(*byte))
+}
+
+fn is_mark(byte: u8) -> bool
+    ensures { result ≡ is_mark byte }
+{
+    byte == b'R' || byte == b'T'
+}
+
+fn is_ending(text: &[u8]) -> bool
+    ensures { result ≡ is_ending text.now }
+{
+    if text.is_empty() {
+        return true;
+    }
+    let last = text.len() - 1;
+    last > 0 && is_mark(text[last]) && are_blanks(&text[..last])
+}
+
+fn past_digit(text: &[u8]) -> &[u8]
+    ensures { result.now ≡ past_digit text.now }
+{
+    match text {
+        [digit, rest @ ..] if is_digit(*digit) => rest,
+        _ => text,
+    }
+}
+
+fn few_pairs_at(text: &[u8]) -> Option<(ArrayVec<u8, 8>, &[u8])>
+    ensures { option_map (λ found. (found.0.items, found.1.now)) result ≡ few_pairs_at text.now }
+{
+    let mut bytes = ArrayVec::new();
+    let mut rest = text;
+    while let Some((byte, after)) = pair_at(rest) {
+        if bytes.is_full() {
+            return None;
+        }
+        bytes.push(byte);
+        rest = after;
+    }
+    Some((bytes, rest))
+}
+
+#[tactic(auto, unfolding(crate::specs::FrameLines::body_in))]
+pub(crate) fn body_in(text: &[u8]) -> Option<Body>
+    ensures { result ≡ body_in text.now }
+{
+    match text {
+        [b'#', ..] => Some(Body::Other),
+        [b'R', rest @ ..] => is_ending(past_digit(rest)).then_some(Body::Other),
+        _ => {
+            let (bytes, rest) = few_pairs_at(text)?;
+            is_ending(rest).then_some(Body::Bytes(bytes))
+        }
+    }
+}
