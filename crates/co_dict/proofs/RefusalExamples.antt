@@ -7,7 +7,7 @@ use Rattle.co_sheet.specs.declared.entry.Access.TheVariants.{Rw}
 use Rattle.co_dict.specs.Rows.{Rows, Contents}
 use Rattle.co_dict.specs.ErrorList.{error_room, pushed}
 use Rattle.co_dict.specs.ReadRefusals.{reading_refusal}
-use Rattle.co_dict.specs.WriteRefusals.{begin_refusal, writing_refusal, app_refusal}
+use Rattle.co_dict.specs.WriteRefusals.{initiate_refusal, writing_refusal, app_refusal}
 use Rattle.co_dict.proofs.ExampleDevice.{searches, at, rows, device, number_row, nothing, with_u8, with_u32}
 
 -- a write of a number by SDO without an indicated size, and by the application
@@ -57,56 +57,56 @@ reads_the_number_of_errors = refl
 
 -- ---- a write begins
 
-begins : begin_refusal rows (at 0x2001 0) (Some 16) ≡ None
+begins : initiate_refusal rows (at 0x2001 0) (Some 16) ≡ None
 unfolding searches
 begins = refl
 
-begins_too_long : begin_refusal rows (at 0x2001 0) (Some 17) ≡ Some 0x0607_0012
+begins_too_long : initiate_refusal rows (at 0x2001 0) (Some 17) ≡ Some 0x0607_0012
 unfolding searches
 begins_too_long = refl
 
-begins_without_a_size : begin_refusal rows (at 0x2001 0) None ≡ None
+begins_without_a_size : initiate_refusal rows (at 0x2001 0) None ≡ None
 unfolding searches
 begins_without_a_size = refl
 
-begins_empty : begin_refusal rows (at 0x2001 0) (Some 0) ≡ None
+begins_empty : initiate_refusal rows (at 0x2001 0) (Some 0) ≡ None
 unfolding searches
 begins_empty = refl
 
-begins_a_number_too_short : begin_refusal rows (at 0x2003 0) (Some 1) ≡ Some 0x0607_0013
+begins_a_number_too_short : initiate_refusal rows (at 0x2003 0) (Some 1) ≡ Some 0x0607_0013
 unfolding searches
 begins_a_number_too_short = refl
 
-begins_a_number : begin_refusal rows (at 0x2003 0) (Some 2) ≡ None
+begins_a_number : initiate_refusal rows (at 0x2003 0) (Some 2) ≡ None
 unfolding searches
 begins_a_number = refl
 
-begins_a_number_too_long : begin_refusal rows (at 0x2003 0) (Some 3) ≡ Some 0x0607_0012
+begins_a_number_too_long : initiate_refusal rows (at 0x2003 0) (Some 3) ≡ Some 0x0607_0012
 unfolding searches
 begins_a_number_too_long = refl
 
-begins_what_is_read : begin_refusal rows (at 0x1000 0) None ≡ Some 0x0601_0002
+begins_what_is_read : initiate_refusal rows (at 0x1000 0) None ≡ Some 0x0601_0002
 unfolding searches
 begins_what_is_read = refl
 
-begins_a_constant : begin_refusal rows (at 0x2006 4) None ≡ Some 0x0601_0002
+begins_a_constant : initiate_refusal rows (at 0x2006 4) None ≡ Some 0x0601_0002
 unfolding searches
 begins_a_constant = refl
 
-begins_an_sdo_parameter : begin_refusal rows (at 0x1201 1) None ≡ Some 0x0601_0002
+begins_an_sdo_parameter : initiate_refusal rows (at 0x1201 1) None ≡ Some 0x0601_0002
 unfolding searches
 begins_an_sdo_parameter = refl
 
-begins_an_absent_object : begin_refusal rows (at 0x3000 0) (Some 900) ≡ Some 0x0602_0000
+begins_an_absent_object : initiate_refusal rows (at 0x3000 0) (Some 900) ≡ Some 0x0602_0000
 unfolding searches
 begins_an_absent_object = refl
 
-begins_an_absent_sub_index : begin_refusal rows (at 0x1018 5) (Some 900) ≡ Some 0x0609_0011
+begins_an_absent_sub_index : initiate_refusal rows (at 0x1018 5) (Some 900) ≡ Some 0x0609_0011
 unfolding searches
 begins_an_absent_sub_index = refl
 
 -- the right is looked at before the size
-begins_what_is_read_too_long : begin_refusal rows (at 0x1000 0) (Some 5) ≡ Some 0x0601_0002
+begins_what_is_read_too_long : initiate_refusal rows (at 0x1000 0) (Some 5) ≡ Some 0x0601_0002
 unfolding searches
 begins_what_is_read_too_long = refl
 

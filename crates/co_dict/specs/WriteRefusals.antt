@@ -60,8 +60,8 @@ value_refusal d contents key row bytes = first_refusal (
 
 -- why a write by SDO is refused when it begins: the entry is absent; it can't be written; the indicated size, where
 -- there is one, doesn't fit
-abbrev pub begin_refusal : Rows → Key → Option ℕ → Option ℕ
-begin_refusal rows key indicated = entry_refusal rows key (λ row.
+abbrev pub initiate_refusal : Rows → Key → Option ℕ → Option ℕ
+initiate_refusal rows key indicated = entry_refusal rows key (λ row.
     refused_if (is_read_only row.access || is_sdo_parameter key.index) read_only
     ∷ option_and_then (size_refusal row) indicated
     ∷ [])

@@ -4,7 +4,7 @@ ghost use Rattle.std.specs.Prelude.{◌≡◌, ◌||◌, Some, None, true, lengt
 ghost use Rattle.co_dict.specs.Rows.{takes};
 ghost use Rattle.co_dict.specs.Refusals.{refused_if, refusal_in};
 ghost use Rattle.co_frame.specs.AbortCodes.{read_only};
-ghost use Rattle.co_dict.specs.WriteRefusals.{is_read_only, is_constant, is_sdo_parameter, total_refusal, value_refusal, begin_refusal, writing_refusal, app_refusal};
+ghost use Rattle.co_dict.specs.WriteRefusals.{is_read_only, is_constant, is_sdo_parameter, total_refusal, value_refusal, initiate_refusal, writing_refusal, app_refusal};
 
 use crate::fitting::check_size;
 use crate::objects::entry_row;
@@ -66,7 +66,7 @@ fn check_value<S: ObjectStore>(
 /// const or the index 1200h to 127Fh (06010002h), the size is above the capacity (06070012h) or below the width of the
 /// type (06070013h). After Ok the entry is there, and takes a known size.
 pub fn may_begin<S: ObjectStore>(store: &S, key: Key, size: Option<u32>) -> Result<(), AbortCode>
-    ensures refusal { refusal_in result ≡ begin_refusal (S.description store.now).rows key size }
+    ensures refusal { refusal_in result ≡ initiate_refusal (S.description store.now).rows key size }
     ensures there { OnOk result (is_some ((S.description store.now).rows key) ≡ true) }
     ensures takes { OnOk result (IfSome size (λ size. takes (S.description store.now).rows key size
         ≡ true)) }

@@ -25,12 +25,12 @@ request_aborts (requests.DownloadSegment false segment true) = (λ e. omega arit
 request_aborts (requests.DownloadSegment false segment false) = (λ e. omega arith, λ h. absurd h)
 request_aborts (requests.DownloadExpedited key (Indicated counted)) = (λ e. omega arith, λ h. absurd h)
 request_aborts (requests.DownloadExpedited key (NotIndicated four)) = (λ e. omega arith, λ h. absurd h)
-request_aborts (requests.DownloadBegin key (Some size)) = (λ e. omega arith, λ h. absurd h)
-request_aborts (requests.DownloadBegin key None) = (λ e. omega arith, λ h. absurd h)
+request_aborts (requests.DownloadInitiate key (Some size)) = (λ e. omega arith, λ h. absurd h)
+request_aborts (requests.DownloadInitiate key None) = (λ e. omega arith, λ h. absurd h)
 request_aborts (requests.UploadSegment true) = (λ e. omega arith, λ h. absurd h)
 request_aborts (requests.UploadSegment false) = (λ e. omega arith, λ h. absurd h)
-request_aborts (requests.BlockDownloadBegin key (Some size)) = (λ e. omega arith, λ h. absurd h)
-request_aborts (requests.BlockDownloadBegin key None) = (λ e. omega arith, λ h. absurd h)
+request_aborts (requests.BlockDownloadInitiate key (Some size)) = (λ e. omega arith, λ h. absurd h)
+request_aborts (requests.BlockDownloadInitiate key None) = (λ e. omega arith, λ h. absurd h)
 request_aborts other = (λ e. omega arith, λ h. absurd h)
 
 pub response_aborts : (response : SdoResponse) → (slice_index (response_bytes response) 0 ≡ 0x80) ↔ IsAbortResponse response
@@ -41,12 +41,12 @@ response_aborts (responses.UploadSegment false segment true) = (λ e. omega arit
 response_aborts (responses.UploadSegment false segment false) = (λ e. omega arith, λ h. absurd h)
 response_aborts (responses.UploadExpedited key (Indicated counted)) = (λ e. omega arith, λ h. absurd h)
 response_aborts (responses.UploadExpedited key (NotIndicated four)) = (λ e. omega arith, λ h. absurd h)
-response_aborts (responses.UploadBegun key (Some size)) = (λ e. omega arith, λ h. absurd h)
-response_aborts (responses.UploadBegun key None) = (λ e. omega arith, λ h. absurd h)
+response_aborts (responses.UploadInitiated key (Some size)) = (λ e. omega arith, λ h. absurd h)
+response_aborts (responses.UploadInitiated key None) = (λ e. omega arith, λ h. absurd h)
 response_aborts (responses.DownloadSegmentDone true) = (λ e. omega arith, λ h. absurd h)
 response_aborts (responses.DownloadSegmentDone false) = (λ e. omega arith, λ h. absurd h)
-response_aborts (responses.BlockUploadBegun key (Some size)) = (λ e. omega arith, λ h. absurd h)
-response_aborts (responses.BlockUploadBegun key None) = (λ e. omega arith, λ h. absurd h)
+response_aborts (responses.BlockUploadInitiated key (Some size)) = (λ e. omega arith, λ h. absurd h)
+response_aborts (responses.BlockUploadInitiated key None) = (λ e. omega arith, λ h. absurd h)
 response_aborts other = (λ e. omega arith, λ h. absurd h)
 
 -- no segment of a block transfer that can be spelled

@@ -51,11 +51,11 @@ download_without_s : IsRequest (requests.DownloadExpedited key (NotIndicated (1 
 unfolding request_row_in
 download_without_s = (refl, refl)
 
-download_with_size : IsRequest (requests.DownloadBegin key (Some 0x0102030A)) (0x21 ∷ 0x18 ∷ 0x10 ∷ 1 ∷ 0x0A ∷ 3 ∷ 2 ∷ 1 ∷ [])
+download_with_size : IsRequest (requests.DownloadInitiate key (Some 0x0102030A)) (0x21 ∷ 0x18 ∷ 0x10 ∷ 1 ∷ 0x0A ∷ 3 ∷ 2 ∷ 1 ∷ [])
 unfolding request_row_in
 download_with_size = (refl, refl)
 
-download_without_size : IsRequest (requests.DownloadBegin key None) (0x20 ∷ 0x18 ∷ 0x10 ∷ 1 ∷ 0 ∷ 0 ∷ 0 ∷ 0 ∷ [])
+download_without_size : IsRequest (requests.DownloadInitiate key None) (0x20 ∷ 0x18 ∷ 0x10 ∷ 1 ∷ 0 ∷ 0 ∷ 0 ∷ 0 ∷ [])
 unfolding request_row_in
 download_without_size = (refl, refl)
 
@@ -87,9 +87,9 @@ abort : IsRequest (requests.Abort key (record { 0 = 0x06070012 })) (0x80 ∷ 0x1
 unfolding request_row_in
 abort = (refl, refl)
 
-block_upload_begin : IsRequest (requests.BlockUploadBegin key 0x7F 4) (0xA0 ∷ 0x18 ∷ 0x10 ∷ 1 ∷ 0x7F ∷ 4 ∷ 0 ∷ 0 ∷ [])
+block_upload_initiate : IsRequest (requests.BlockUploadInitiate key 0x7F 4) (0xA0 ∷ 0x18 ∷ 0x10 ∷ 1 ∷ 0x7F ∷ 4 ∷ 0 ∷ 0 ∷ [])
 unfolding request_row_in
-block_upload_begin = (refl, refl)
+block_upload_initiate = (refl, refl)
 
 block_upload_end : IsRequest (requests.BlockUploadEnd) (0xA1 ∷ 0 ∷ 0 ∷ 0 ∷ 0 ∷ 0 ∷ 0 ∷ 0 ∷ [])
 unfolding request_row_in
@@ -103,11 +103,11 @@ block_upload_start : IsRequest (requests.BlockUploadStart) (0xA3 ∷ 0 ∷ 0 ∷
 unfolding request_row_in
 block_upload_start = (refl, refl)
 
-block_download_with_size : IsRequest (requests.BlockDownloadBegin key (Some 14)) (0xC2 ∷ 0x18 ∷ 0x10 ∷ 1 ∷ 0x0E ∷ 0 ∷ 0 ∷ 0 ∷ [])
+block_download_with_size : IsRequest (requests.BlockDownloadInitiate key (Some 14)) (0xC2 ∷ 0x18 ∷ 0x10 ∷ 1 ∷ 0x0E ∷ 0 ∷ 0 ∷ 0 ∷ [])
 unfolding request_row_in
 block_download_with_size = (refl, refl)
 
-block_download_without_size : IsRequest (requests.BlockDownloadBegin key None) (0xC0 ∷ 0x18 ∷ 0x10 ∷ 1 ∷ 0 ∷ 0 ∷ 0 ∷ 0 ∷ [])
+block_download_without_size : IsRequest (requests.BlockDownloadInitiate key None) (0xC0 ∷ 0x18 ∷ 0x10 ∷ 1 ∷ 0 ∷ 0 ∷ 0 ∷ 0 ∷ [])
 unfolding request_row_in
 block_download_without_size = (refl, refl)
 
@@ -145,11 +145,11 @@ upload_without_s : IsAnswer (responses.UploadExpedited key (NotIndicated (5 ∷ 
 unfolding response_row_in
 upload_without_s = (refl, refl)
 
-upload_with_size : IsAnswer (responses.UploadBegun key (Some 10)) (0x41 ∷ 0x18 ∷ 0x10 ∷ 1 ∷ 0x0A ∷ 0 ∷ 0 ∷ 0 ∷ [])
+upload_with_size : IsAnswer (responses.UploadInitiated key (Some 10)) (0x41 ∷ 0x18 ∷ 0x10 ∷ 1 ∷ 0x0A ∷ 0 ∷ 0 ∷ 0 ∷ [])
 unfolding response_row_in
 upload_with_size = (refl, refl)
 
-upload_without_size : IsAnswer (responses.UploadBegun key None) (0x40 ∷ 0x18 ∷ 0x10 ∷ 1 ∷ 0 ∷ 0 ∷ 0 ∷ 0 ∷ [])
+upload_without_size : IsAnswer (responses.UploadInitiated key None) (0x40 ∷ 0x18 ∷ 0x10 ∷ 1 ∷ 0 ∷ 0 ∷ 0 ∷ 0 ∷ [])
 unfolding response_row_in
 upload_without_size = (refl, refl)
 
@@ -161,9 +161,9 @@ answer_abort : IsAnswer (responses.Abort key (record { 0 = 0x06020000 })) (0x80 
 unfolding response_row_in
 answer_abort = (refl, refl)
 
-block_download_begun : IsAnswer (responses.BlockDownloadBegun key 0x7F) (0xA0 ∷ 0x18 ∷ 0x10 ∷ 1 ∷ 0x7F ∷ 0 ∷ 0 ∷ 0 ∷ [])
+block_download_initiated : IsAnswer (responses.BlockDownloadInitiated key 0x7F) (0xA0 ∷ 0x18 ∷ 0x10 ∷ 1 ∷ 0x7F ∷ 0 ∷ 0 ∷ 0 ∷ [])
 unfolding response_row_in
-block_download_begun = (refl, refl)
+block_download_initiated = (refl, refl)
 
 block_download_done : IsAnswer (responses.BlockDownloadDone) (0xA1 ∷ 0 ∷ 0 ∷ 0 ∷ 0 ∷ 0 ∷ 0 ∷ 0 ∷ [])
 unfolding response_row_in
@@ -173,13 +173,13 @@ block_download_acknowledge : IsAnswer (responses.BlockDownloadAcknowledge 2 0x7F
 unfolding response_row_in
 block_download_acknowledge = (refl, refl)
 
-block_upload_begun : IsAnswer (responses.BlockUploadBegun key (Some 4)) (0xC2 ∷ 0x18 ∷ 0x10 ∷ 1 ∷ 4 ∷ 0 ∷ 0 ∷ 0 ∷ [])
+block_upload_initiated : IsAnswer (responses.BlockUploadInitiated key (Some 4)) (0xC2 ∷ 0x18 ∷ 0x10 ∷ 1 ∷ 4 ∷ 0 ∷ 0 ∷ 0 ∷ [])
 unfolding response_row_in
-block_upload_begun = (refl, refl)
+block_upload_initiated = (refl, refl)
 
-block_upload_begun_without_size : IsAnswer (responses.BlockUploadBegun key None) (0xC0 ∷ 0x18 ∷ 0x10 ∷ 1 ∷ 0 ∷ 0 ∷ 0 ∷ 0 ∷ [])
+block_upload_initiated_without_size : IsAnswer (responses.BlockUploadInitiated key None) (0xC0 ∷ 0x18 ∷ 0x10 ∷ 1 ∷ 0 ∷ 0 ∷ 0 ∷ 0 ∷ [])
 unfolding response_row_in
-block_upload_begun_without_size = (refl, refl)
+block_upload_initiated_without_size = (refl, refl)
 
 block_upload_answer_end : IsAnswer (responses.BlockUploadEnd 3) (0xCD ∷ 0 ∷ 0 ∷ 0 ∷ 0 ∷ 0 ∷ 0 ∷ 0 ∷ [])
 unfolding response_row_in
@@ -201,11 +201,11 @@ at_1f : Reads 0x1F (Some (requests.DownloadSegment true (counted []) true)) (Som
 unfolding request_row_in response_row_in
 at_1f = (refl, refl)
 
-at_20 : Reads 0x20 (Some (requests.DownloadBegin last_key None)) (Some (responses.DownloadSegmentDone false))
+at_20 : Reads 0x20 (Some (requests.DownloadInitiate last_key None)) (Some (responses.DownloadSegmentDone false))
 unfolding request_row_in response_row_in
 at_20 = (refl, refl)
 
-at_3c : Reads 0x3C (Some (requests.DownloadBegin last_key None)) (Some (responses.DownloadSegmentDone true))
+at_3c : Reads 0x3C (Some (requests.DownloadInitiate last_key None)) (Some (responses.DownloadSegmentDone true))
 unfolding request_row_in response_row_in
 at_3c = (refl, refl)
 
@@ -213,7 +213,7 @@ at_3f : Reads 0x3F (Some (requests.DownloadExpedited last_key (Indicated (counte
 unfolding request_row_in response_row_in
 at_3f = (refl, refl)
 
-at_40 : Reads 0x40 (Some (requests.Upload last_key)) (Some (responses.UploadBegun last_key None))
+at_40 : Reads 0x40 (Some (requests.Upload last_key)) (Some (responses.UploadInitiated last_key None))
 unfolding request_row_in response_row_in
 at_40 = (refl, refl)
 
@@ -241,7 +241,7 @@ at_9f : Reads 0x9F (Some (requests.Abort last_key (record { 0 = 0xFFFFFFFF }))) 
 unfolding request_row_in response_row_in
 at_9f = (refl, refl)
 
-at_a0 : Reads 0xA0 (Some (requests.BlockUploadBegin last_key 0xFF 0xFF)) (Some (responses.BlockDownloadBegun last_key 0xFF))
+at_a0 : Reads 0xA0 (Some (requests.BlockUploadInitiate last_key 0xFF 0xFF)) (Some (responses.BlockDownloadInitiated last_key 0xFF))
 unfolding request_row_in response_row_in
 at_a0 = (refl, refl)
 
@@ -257,11 +257,11 @@ at_bf : Reads 0xBF (Some requests.BlockUploadStart) None
 unfolding request_row_in response_row_in
 at_bf = (refl, refl)
 
-at_c0 : Reads 0xC0 (Some (requests.BlockDownloadBegin last_key None)) (Some (responses.BlockUploadBegun last_key None))
+at_c0 : Reads 0xC0 (Some (requests.BlockDownloadInitiate last_key None)) (Some (responses.BlockUploadInitiated last_key None))
 unfolding request_row_in response_row_in
 at_c0 = (refl, refl)
 
-at_de : Reads 0xDE (Some (requests.BlockDownloadBegin last_key (Some 0xFFFFFFFF))) (Some (responses.BlockUploadBegun last_key (Some 0xFFFFFFFF)))
+at_de : Reads 0xDE (Some (requests.BlockDownloadInitiate last_key (Some 0xFFFFFFFF))) (Some (responses.BlockUploadInitiated last_key (Some 0xFFFFFFFF)))
 unfolding request_row_in response_row_in
 at_de = (refl, refl)
 

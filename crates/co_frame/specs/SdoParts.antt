@@ -16,9 +16,9 @@ SpellsExpedited key (Indicated counted) bytes = (has_bit 1 bytes ≡ true) × (h
 SpellsExpedited key (NotIndicated four) bytes = (has_bit 1 bytes ≡ true) × (has_bit 0 bytes ≡ false) × (key ≡ key_in bytes) × (four ≡ drop 4 bytes)
 
 -- the begin of a segmented transfer: bit 1 (e) is clear; where bit 0 (s) is set, the data bytes are the size
-abbrev pub SpellsBegin : Key → Option ℕ → List ℕ → Type 0
-SpellsBegin key (Some size) bytes = (has_bit 1 bytes ≡ false) × (has_bit 0 bytes ≡ true) × (key ≡ key_in bytes) × (size ≡ number_in bytes)
-SpellsBegin key None bytes = (has_bit 1 bytes ≡ false) × (has_bit 0 bytes ≡ false) × (key ≡ key_in bytes)
+abbrev pub SpellsInitiate : Key → Option ℕ → List ℕ → Type 0
+SpellsInitiate key (Some size) bytes = (has_bit 1 bytes ≡ false) × (has_bit 0 bytes ≡ true) × (key ≡ key_in bytes) × (size ≡ number_in bytes)
+SpellsInitiate key None bytes = (has_bit 1 bytes ≡ false) × (has_bit 0 bytes ≡ false) × (key ≡ key_in bytes)
 
 -- a segment: bit 4 is the toggle, bits 3 to 1 (n) the unused ones of the seven data bytes, bit 0 (c) marks the last
 abbrev pub SpellsSegment : Bool → ArrayVec ℕ → Bool → List ℕ → Type 0
@@ -29,9 +29,9 @@ abbrev pub SpellsAbort : Key → AbortCode → List ℕ → Type 0
 SpellsAbort key code bytes = (key ≡ key_in bytes) × (code.0 ≡ number_in bytes)
 
 -- the begin of a block transfer: bit 0 is clear; where bit 1 (s) is set, the data bytes are the size
-abbrev pub SpellsBlockBegin : Key → Option ℕ → List ℕ → Type 0
-SpellsBlockBegin key (Some size) bytes = (has_bit 0 bytes ≡ false) × (has_bit 1 bytes ≡ true) × (key ≡ key_in bytes) × (size ≡ number_in bytes)
-SpellsBlockBegin key None bytes = (has_bit 0 bytes ≡ false) × (has_bit 1 bytes ≡ false) × (key ≡ key_in bytes)
+abbrev pub SpellsBlockInitiate : Key → Option ℕ → List ℕ → Type 0
+SpellsBlockInitiate key (Some size) bytes = (has_bit 0 bytes ≡ false) × (has_bit 1 bytes ≡ true) × (key ≡ key_in bytes) × (size ≡ number_in bytes)
+SpellsBlockInitiate key None bytes = (has_bit 0 bytes ≡ false) × (has_bit 1 bytes ≡ false) × (key ≡ key_in bytes)
 
 -- the end of a block transfer: bit 0 is set, bits 4 to 2 (n) are the unused bytes of the last segment
 abbrev pub SpellsBlockEnd : ℕ → List ℕ → Type 0
@@ -70,9 +70,9 @@ expedited_bytes specifier key (Indicated counted) = command_with specifier (4 * 
 expedited_bytes specifier key (NotIndicated four) = command_with specifier 2 ∷ key_bytes key ++ four
 
 -- the begin of a segmented transfer
-abbrev pub begin_bytes : ℕ → Key → Option ℕ → List ℕ
-begin_bytes specifier key (Some size) = command_with specifier 1 ∷ key_bytes key ++ low_bytes 4 size
-begin_bytes specifier key None = command_with specifier 0 ∷ key_bytes key ++ replicate 4 0
+abbrev pub initiate_bytes : ℕ → Key → Option ℕ → List ℕ
+initiate_bytes specifier key (Some size) = command_with specifier 1 ∷ key_bytes key ++ low_bytes 4 size
+initiate_bytes specifier key None = command_with specifier 0 ∷ key_bytes key ++ replicate 4 0
 
 -- a segment: toggle, n and c
 abbrev pub segment_bytes : Bool → ArrayVec ℕ → Bool → List ℕ
@@ -83,9 +83,9 @@ abbrev pub abort_bytes : Key → AbortCode → List ℕ
 abort_bytes key code = command_with ccs.abort 0 ∷ key_bytes key ++ low_bytes 4 code.0
 
 -- the begin of a block transfer, without a CRC
-abbrev pub block_begin_bytes : ℕ → Key → Option ℕ → List ℕ
-block_begin_bytes specifier key (Some size) = command_with specifier 2 ∷ key_bytes key ++ low_bytes 4 size
-block_begin_bytes specifier key None = command_with specifier 0 ∷ key_bytes key ++ replicate 4 0
+abbrev pub block_initiate_bytes : ℕ → Key → Option ℕ → List ℕ
+block_initiate_bytes specifier key (Some size) = command_with specifier 2 ∷ key_bytes key ++ low_bytes 4 size
+block_initiate_bytes specifier key None = command_with specifier 0 ∷ key_bytes key ++ replicate 4 0
 
 -- the end of a block transfer
 abbrev pub block_end_bytes : ℕ → ℕ → List ℕ

@@ -4,7 +4,7 @@ ghost use Rattle.std.specs.Prelude.{◌≡◌, ℕ, ◌<◌, ◌≤◌, length};
 ghost use Rattle.co_value.specs.declared.key.Key.{Key};
 ghost use Rattle.co_value.specs.Numbers.{low_bytes};
 ghost use Rattle.co_frame.specs.SdoFields.{command_with, weight, padded, key_in, number_in, specifier as specifier_of};
-ghost use Rattle.co_frame.specs.SdoParts.{SpellsExpedited, SpellsBegin, SpellsSegment, SpellsAbort, SpellsBlockBegin, SpellsBlockEnd, IsExpeditedData, keyed_bytes, bare_bytes, expedited_bytes, begin_bytes, segment_bytes, abort_bytes, block_begin_bytes, block_end_bytes, acknowledge_bytes};
+ghost use Rattle.co_frame.specs.SdoParts.{SpellsExpedited, SpellsInitiate, SpellsSegment, SpellsAbort, SpellsBlockInitiate, SpellsBlockEnd, IsExpeditedData, keyed_bytes, bare_bytes, expedited_bytes, initiate_bytes, segment_bytes, abort_bytes, block_initiate_bytes, block_end_bytes, acknowledge_bytes};
 
 use crate::abort_code::AbortCode;
 use crate::sdo_request::ExpeditedData;
@@ -85,11 +85,11 @@ pub(crate) fn expedited(specifier: u8, key: Key, data: &ExpeditedData) -> [u8; 8
     }
 }
 
-pub(crate) fn begin(specifier: u8, key: Key, size: Option<u32>) -> [u8; 8]
+pub(crate) fn initiate(specifier: u8, key: Key, size: Option<u32>) -> [u8; 8]
     requires { specifier < 8 }
-    ensures bytes { result ≡ begin_bytes specifier key size }
+    ensures bytes { result ≡ initiate_bytes specifier key size }
     ensures specifier { specifier ≡ specifier_of result }
-    ensures spelled { SpellsBegin key size result }
+    ensures spelled { SpellsInitiate key size result }
 {
     match size {
         Some(size) => keyed(command(specifier, 1), key, four_of(size)),
@@ -115,11 +115,11 @@ pub(crate) fn abort(key: Key, code: AbortCode) -> [u8; 8]
     keyed(command(ccs::ABORT, 0), key, four_of(code.0))
 }
 
-pub(crate) fn block_begin(specifier: u8, key: Key, size: Option<u32>) -> [u8; 8]
+pub(crate) fn block_initiate(specifier: u8, key: Key, size: Option<u32>) -> [u8; 8]
     requires { specifier < 8 }
-    ensures bytes { result ≡ block_begin_bytes specifier key size }
+    ensures bytes { result ≡ block_initiate_bytes specifier key size }
     ensures specifier { specifier ≡ specifier_of result }
-    ensures spelled { SpellsBlockBegin key size result }
+    ensures spelled { SpellsBlockInitiate key size result }
 {
     match size {
         Some(size) => keyed(command(specifier, 2), key, four_of(size)),

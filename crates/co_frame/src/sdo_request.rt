@@ -8,8 +8,8 @@ ghost use Rattle.co_frame.specs.SdoParts.{IsExpeditedData};
 use crate::abort_code::AbortCode;
 use crate::frame::Frame;
 use crate::sdo_bytes::{
-    abort, acknowledge, bare, begin, block_begin, block_end, command, expedited, keyed, segment,
-    weight,
+    abort, acknowledge, bare, block_end, block_initiate, command, expedited, initiate, keyed,
+    segment, weight,
 };
 use crate::sdo_fields::{
     code_in, expedited_in, has_bit, key_in, segment_in, size_in, specifier, subcommand,
@@ -50,7 +50,7 @@ pub enum SdoRequest {
     },
     /// Initiate SDO download, ccs = 1, e = 0: a segmented download begins, of as many bytes where s = 1
     /// (CiA 301, 7.2.4.3.3).
-    DownloadBegin {
+    DownloadInitiate {
         key: Key,
         size: Option<u32>,
     },
@@ -75,7 +75,7 @@ pub enum SdoRequest {
     },
     /// Initiate SDO block upload, ccs = 5, cs = 0: with the number of segments in a sub-block (blksize), and the
     /// number of bytes up to which the server may switch to another protocol (pst) (CiA 301, 7.2.4.3.13).
-    BlockUploadBegin {
+    BlockUploadInitiate {
         key: Key,
         block_size: u8,
         threshold: u8,
@@ -91,7 +91,7 @@ pub enum SdoRequest {
     /// Start SDO block upload, ccs = 5, cs = 3: the segments may be sent (CiA 301, 7.2.4.3.13).
     BlockUploadStart,
     /// Initiate SDO block download, ccs = 6, cs = 0: of as many bytes where s = 1 (CiA 301, 7.2.4.3.9).
-    BlockDownloadBegin {
+    BlockDownloadInitiate {
         key: Key,
         size: Option<u32>,
     },
@@ -157,7 +157,11 @@ impl SdoRequest {
                 *key,
                 data,
             ),
-            SdoRequest::DownloadBegin { key, size } => begin(ccs::INITIATE_DOWNLOAD, *key, *size),
+            SdoRequest::DownloadInitiate { key, size } => initiate(
+                ccs::INITIATE_DOWNLOAD,
+                *key,
+                *size,
+            ),
             SdoRequest::DownloadSegment { toggle, data, last } => segment(*toggle, data, *last),
             SdoRequest::Upload { key } => keyed(command(ccs::INITIATE_UPLOAD, 0), *key, [0; 4]),
             SdoRequest::UploadSegment { toggle } => bare(command(
@@ -165,7 +169,7 @@ impl SdoRequest {
                 weight(4, *toggle),
             )),
             SdoRequest::Abort { key, code } => abort(*key, *code),
-            SdoRequest::BlockUploadBegin {
+            SdoRequest::BlockUploadInitiate {
                 key,
                 block_size,
                 threshold,
@@ -180,7 +184,7 @@ impl SdoRequest {
                 block_size,
             } => acknowledge(ccs::BLOCK_UPLOAD, *sequence, *block_size),
             SdoRequest::BlockUploadStart => bare(command(ccs::BLOCK_UPLOAD, subcommands::START)),
-            SdoRequest::BlockDownloadBegin { key, size } => block_begin(
+            SdoRequest::BlockDownloadInitiate { key, size } => block_initiate(
                 ccs::BLOCK_DOWNLOAD,
                 *key,
                 *size,
@@ -236,7 +240,7 @@ fn download(bytes: &[u8]) -> SdoRequest
             data: expedited_in(bytes),
         }
     } else {
-        SdoRequest::DownloadBegin {
+        SdoRequest::DownloadInitiate {
             key,
             size: size_in(bytes, has_bit(bytes, 0)),
         }
@@ -248,7 +252,7 @@ fn block_upload(bytes: &[u8]) -> SdoRequest
     ensures { result ≡ block_upload_in bytes.now }
 {
     match subcommand(bytes) {
-        subcommands::INITIATE => SdoRequest::BlockUploadBegin {
+        subcommands::INITIATE => SdoRequest::BlockUploadInitiate {
             key: key_in(bytes),
             block_size: bytes[4],
             threshold: bytes[5],
@@ -271,7 +275,7 @@ fn block_download(bytes: &[u8]) -> SdoRequest
             unused: unused_of_end(bytes),
         }
     } else {
-        SdoRequest::BlockDownloadBegin {
+        SdoRequest::BlockDownloadInitiate {
             key: key_in(bytes),
             size: size_in(bytes, has_bit(bytes, 1)),
         }

@@ -7,8 +7,8 @@ ghost use Rattle.co_frame.specs.SdoResponses.{response_in, response_row_in, uplo
 use crate::abort_code::AbortCode;
 use crate::frame::Frame;
 use crate::sdo_bytes::{
-    abort, acknowledge, bare, begin, block_begin, block_end, command, expedited, keyed, segment,
-    weight,
+    abort, acknowledge, bare, block_end, block_initiate, command, expedited, initiate, keyed,
+    segment, weight,
 };
 use crate::sdo_fields::{
     code_in, expedited_in, has_bit, key_in, segment_in, size_in, specifier, subcommand,
@@ -38,7 +38,7 @@ pub enum SdoResponse {
     },
     /// Initiate SDO upload, scs = 2, e = 0: a segmented upload begins, of as many bytes where s = 1
     /// (CiA 301, 7.2.4.3.6).
-    UploadBegun {
+    UploadInitiated {
         key: Key,
         size: Option<u32>,
     },
@@ -55,7 +55,7 @@ pub enum SdoResponse {
     },
     /// Initiate SDO block download, scs = 5, ss = 0: with the number of segments in a sub-block (blksize)
     /// (CiA 301, 7.2.4.3.9).
-    BlockDownloadBegun {
+    BlockDownloadInitiated {
         key: Key,
         block_size: u8,
     },
@@ -68,7 +68,7 @@ pub enum SdoResponse {
         block_size: u8,
     },
     /// Initiate SDO block upload, scs = 6, ss = 0: of as many bytes where s = 1 (CiA 301, 7.2.4.3.13).
-    BlockUploadBegun {
+    BlockUploadInitiated {
         key: Key,
         size: Option<u32>,
     },
@@ -146,10 +146,14 @@ impl SdoResponse {
                 *key,
                 data,
             ),
-            SdoResponse::UploadBegun { key, size } => begin(scs::INITIATE_UPLOAD, *key, *size),
+            SdoResponse::UploadInitiated { key, size } => initiate(
+                scs::INITIATE_UPLOAD,
+                *key,
+                *size,
+            ),
             SdoResponse::UploadSegment { toggle, data, last } => segment(*toggle, data, *last),
             SdoResponse::Abort { key, code } => abort(*key, *code),
-            SdoResponse::BlockDownloadBegun { key, block_size } => {
+            SdoResponse::BlockDownloadInitiated { key, block_size } => {
                 keyed(
                     command(scs::BLOCK_DOWNLOAD, subcommands::INITIATE),
                     *key,
@@ -161,7 +165,7 @@ impl SdoResponse {
                 sequence,
                 block_size,
             } => acknowledge(scs::BLOCK_DOWNLOAD, *sequence, *block_size),
-            SdoResponse::BlockUploadBegun { key, size } => block_begin(
+            SdoResponse::BlockUploadInitiated { key, size } => block_initiate(
                 scs::BLOCK_UPLOAD,
                 *key,
                 *size,
@@ -217,7 +221,7 @@ fn upload(bytes: &[u8]) -> SdoResponse
             data: expedited_in(bytes),
         }
     } else {
-        SdoResponse::UploadBegun {
+        SdoResponse::UploadInitiated {
             key,
             size: size_in(bytes, has_bit(bytes, 0)),
         }
@@ -229,7 +233,7 @@ fn block_download(bytes: &[u8]) -> Option<SdoResponse>
     ensures { result ≡ block_download_in bytes.now }
 {
     match subcommand(bytes) {
-        subcommands::INITIATE => Some(SdoResponse::BlockDownloadBegun {
+        subcommands::INITIATE => Some(SdoResponse::BlockDownloadInitiated {
             key: key_in(bytes),
             block_size: bytes[4],
         }),
@@ -251,7 +255,7 @@ fn block_upload(bytes: &[u8]) -> SdoResponse
             unused: unused_of_end(bytes),
         }
     } else {
-        SdoResponse::BlockUploadBegun {
+        SdoResponse::BlockUploadInitiated {
             key: key_in(bytes),
             size: size_in(bytes, has_bit(bytes, 1)),
         }

@@ -8,26 +8,26 @@ use Rattle.co_value.specs.declared.key.Key.{Key}
 use Rattle.co_frame.specs.SdoRequests.{request_in}
 use Rattle.co_frame.specs.declared.block_segment.BlockSegment.{BlockSegment}
 use Rattle.co_frame.specs.declared.sdo_request.SdoRequest.{SdoRequest}
-use Rattle.co_frame.specs.declared.sdo_request.SdoRequest.TheVariants.{DownloadExpedited, DownloadBegin, DownloadSegment, Upload, UploadSegment, Abort, BlockUploadBegin, BlockUploadEnd, BlockUploadAcknowledge, BlockUploadStart, BlockDownloadBegin, BlockDownloadEnd}
+use Rattle.co_frame.specs.declared.sdo_request.SdoRequest.TheVariants.{DownloadExpedited, DownloadInitiate, DownloadSegment, Upload, UploadSegment, Abort, BlockUploadInitiate, BlockUploadEnd, BlockUploadAcknowledge, BlockUploadStart, BlockDownloadInitiate, BlockDownloadEnd}
 use Rattle.co_frame.specs.declared.sdo_response.SdoResponse.TheVariants.{BlockDownloadDone}
 use Rattle.co_dict.specs.Rows.{Contents}
 use Rattle.co_dict.specs.Stores.{Description}
 use Rattle.co_dict.specs.Refusals.{refused_if}
 use Rattle.co_sdo.specs.declared.stage.Stage.{Stage}
-use Rattle.co_sdo.specs.declared.stage.Stage.TheVariants.{Download, Upload as Uploading, SubBlock, LastTaken, BlockUploadBegun as Begun, BlockUpload, BlockUploadEnded}
+use Rattle.co_sdo.specs.declared.stage.Stage.TheVariants.{Download, Upload as Uploading, SubBlock, LastTaken, BlockUploadInitiated as Begun, BlockUpload, BlockUploadEnded}
 use Rattle.co_sdo.specs.Refused.{capacity_at, completion_refusal}
 use Rattle.co_sdo.specs.Log.{Response, Segment, Exchange, is_abort, requests}
 use Rattle.co_sdo.specs.SubBlocks.{block_bytes, has_last}
 use Rattle.co_sdo.specs.Downloads.{is_as_indicated, without}
 use Rattle.co_sdo.specs.Uploads.{value_at, segment_count, sub_block_sent, sub_block_length, block_segment, block_upload_end}
-use Rattle.co_sdo.specs.OpenTransfers.{Transfer, is_begin, is_abort_request, is_upload_end}
+use Rattle.co_sdo.specs.OpenTransfers.{Transfer, is_initiate, is_abort_request, is_upload_end}
 use Rattle.co_sdo.specs.Opened.{OpenTransfer, acknowledged, acknowledged_by, is_end_sent, block_upload_stage}
 use Rattle.co_sdo.specs.Replies.{aborted, unless_refused, block_size_refusal, segment_answers, upload_answers, next_sub_block, acknowledge_answers, upload_end_answers, start_answers, later_answers, block_end_answers}
 use Rattle.co_sdo.specs.Steps.{opened_at, after_segment, after_upload_segment, after_next_sub_block, after_acknowledge, after_start, after_later}
 use Rattle.co_sdo.specs.Completed.{unless}
 use Rattle.co_sdo.proofs.Logs.{extended}
 use Rattle.co_sdo.proofs.RefusalLemmas.{allowed}
-use Rattle.co_sdo.proofs.Beginnings.{StepsTo, exchange}
+use Rattle.co_sdo.proofs.Initiations.{StepsTo, exchange}
 use Rattle.co_sdo.proofs.Continuations.{closed_step, open_step, aborted_step, received_step}
 
 -- ---- block uploads
@@ -46,7 +46,7 @@ block_uploading key size t = record { key = key; stage = block_upload_stage size
 
 -- a sub-block was sent
 sent_step : (d : Description) (contents : Contents) (key : Key) (size threshold : ℕ) (t : Transfer) (frame : List ℕ) (request : SdoRequest) (position block_size : ℕ)
-    → request_in t.begin.request ≡ Some (BlockUploadBegin key size threshold) → length (value_at t.begin.contents key) ≤ capacity_at d.rows key
+    → request_in t.begin.request ≡ Some (BlockUploadInitiate key size threshold) → length (value_at t.begin.contents key) ≤ capacity_at d.rows key
     → request_in frame ≡ Some request → is_abort_request (Some request) ≡ false → is_upload_end (Some request) ≡ false → acknowledged (frame ∷ requests t.later) ≡ position
     → StepsTo d.rows (opened_at key (BlockUpload position (sub_block_length (value_at t.begin.contents key) position block_size)) (value_at t.begin.contents key))
     (extended (exchange frame contents (sub_block_sent (value_at t.begin.contents key) position block_size)) t)
@@ -59,14 +59,14 @@ sent_step d contents key size threshold t frame request position block_size e u 
 
 -- the server's end was sent
 ended_step : (d : Description) (contents : Contents) (key : Key) (size threshold : ℕ) (t : Transfer) (frame : List ℕ) (request : SdoRequest)
-    → request_in t.begin.request ≡ Some (BlockUploadBegin key size threshold) → length (value_at t.begin.contents key) ≤ capacity_at d.rows key
+    → request_in t.begin.request ≡ Some (BlockUploadInitiate key size threshold) → length (value_at t.begin.contents key) ≤ capacity_at d.rows key
     → request_in frame ≡ Some request → is_abort_request (Some request) ≡ false → is_upload_end (Some request) ≡ false
     → StepsTo d.rows (opened_at key BlockUploadEnded (value_at t.begin.contents key)) (extended (exchange frame contents (block_upload_end (value_at t.begin.contents key))) t)
 ended_step d contents key size threshold t frame request e u f a n =
     open_step d.rows _ (exchange frame contents (block_upload_end (value_at t.begin.contents key))) t _ e refl (rw (f, a, n) refl) refl u
 
 next_step : (d : Description) (contents : Contents) (key : Key) (size threshold : ℕ) (t : Transfer) (frame : List ℕ) (sequence block_size : ℕ)
-    → request_in t.begin.request ≡ Some (BlockUploadBegin key size threshold) → length (value_at t.begin.contents key) ≤ capacity_at d.rows key
+    → request_in t.begin.request ≡ Some (BlockUploadInitiate key size threshold) → length (value_at t.begin.contents key) ≤ capacity_at d.rows key
     → request_in frame ≡ Some (BlockUploadAcknowledge sequence block_size)
     → (count : ℕ) → acknowledged (requests t.later) ≡ count → (all : Bool) (code : Option ℕ)
     → StepsTo d.rows
@@ -81,7 +81,7 @@ next_step d contents key size threshold t frame sequence block_size e u f count 
     (ap (λ r. acknowledged (requests t.later) + acknowledged_by r) f ∙ ap (λ n. n + sequence) c)
 
 acknowledge_code : (d : Description) (contents : Contents) (key : Key) (size threshold : ℕ) (t : Transfer) (frame : List ℕ) (sequence block_size : ℕ)
-    → request_in t.begin.request ≡ Some (BlockUploadBegin key size threshold) → length (value_at t.begin.contents key) ≤ capacity_at d.rows key
+    → request_in t.begin.request ≡ Some (BlockUploadInitiate key size threshold) → length (value_at t.begin.contents key) ≤ capacity_at d.rows key
     → request_in frame ≡ Some (BlockUploadAcknowledge sequence block_size)
     → (count : ℕ) → acknowledged (requests t.later) ≡ count → (stage : Stage) (code : Option ℕ)
     → StepsTo d.rows
@@ -93,7 +93,7 @@ acknowledge_code d contents key size threshold t frame sequence block_size e u f
 
 -- the client's end, an acknowledgement and a start, by how far the block upload is
 end_stage : (d : Description) (contents : Contents) (key : Key) (size threshold : ℕ) (t : Transfer) (frame : List ℕ)
-    → request_in t.begin.request ≡ Some (BlockUploadBegin key size threshold) → request_in frame ≡ Some BlockUploadEnd
+    → request_in t.begin.request ≡ Some (BlockUploadInitiate key size threshold) → request_in frame ≡ Some BlockUploadEnd
     → (stage : Stage)
     → StepsTo d.rows None (extended (exchange frame contents (upload_end_answers (record { key = key; stage = stage; bytes = value_at t.begin.contents key }) stage)) t)
 end_stage d contents key size threshold t frame e f BlockUploadEnded = closed_step d.rows None (exchange frame contents []) t _ e refl (rw f refl) refl
@@ -105,7 +105,7 @@ end_stage d contents key size threshold t frame e f (Begun n) = aborted_step d.r
 end_stage d contents key size threshold t frame e f (BlockUpload n m) = aborted_step d.rows None (exchange frame contents (aborted key 0x05040001)) t refl refl
 
 acknowledge_stage : (d : Description) (contents : Contents) (key : Key) (size threshold : ℕ) (t : Transfer) (frame : List ℕ) (sequence block_size : ℕ)
-    → request_in t.begin.request ≡ Some (BlockUploadBegin key size threshold) → length (value_at t.begin.contents key) ≤ capacity_at d.rows key
+    → request_in t.begin.request ≡ Some (BlockUploadInitiate key size threshold) → length (value_at t.begin.contents key) ≤ capacity_at d.rows key
     → request_in frame ≡ Some (BlockUploadAcknowledge sequence block_size)
     → (later : List Exchange) → t.later ≡ later
     → StepsTo d.rows
@@ -125,7 +125,7 @@ acknowledge_stage d contents key size threshold t frame sequence block_size e u 
         (BlockUpload (acknowledged (requests (x ∷ older))) (length x.answers)) (refused_if (nat_lt (length x.answers) sequence) 0x05040003)
 
 start_stage : (d : Description) (contents : Contents) (key : Key) (size threshold : ℕ) (t : Transfer) (frame : List ℕ)
-    → request_in t.begin.request ≡ Some (BlockUploadBegin key size threshold) → length (value_at t.begin.contents key) ≤ capacity_at d.rows key
+    → request_in t.begin.request ≡ Some (BlockUploadInitiate key size threshold) → length (value_at t.begin.contents key) ≤ capacity_at d.rows key
     → request_in frame ≡ Some BlockUploadStart
     → (later : List Exchange) → t.later ≡ later
     → StepsTo d.rows
@@ -178,8 +178,8 @@ download_end_stage d contents o unused size (x ∷ older) = by_end (list_any is_
 
 -- what is open after a request that goes on with a block upload
 pub block_upload_goes_on : (d : Description) (contents : Contents) (key : Key) (size threshold : ℕ) (t : Transfer) (frame : List ℕ) (request : SdoRequest)
-    → request_in t.begin.request ≡ Some (BlockUploadBegin key size threshold) → length (value_at t.begin.contents key) ≤ capacity_at d.rows key
-    → request_in frame ≡ Some request → is_begin (Some request) ≡ false
+    → request_in t.begin.request ≡ Some (BlockUploadInitiate key size threshold) → length (value_at t.begin.contents key) ≤ capacity_at d.rows key
+    → request_in frame ≡ Some request → is_initiate (Some request) ≡ false
     → StepsTo d.rows (after_later d contents (Some (block_uploading key size t)) request) (extended (exchange frame contents (later_answers d contents (Some (block_uploading key size t)) request)) t)
 block_upload_goes_on d contents key size threshold t frame BlockUploadStart e u f b = start_stage d contents key size threshold t frame e u f _ refl
 block_upload_goes_on d contents key size threshold t frame (BlockUploadAcknowledge sequence block_size) e u f b = acknowledge_stage d contents key size threshold t frame sequence block_size e u f _ refl
@@ -194,10 +194,10 @@ block_upload_goes_on d contents key size threshold t frame (UploadSegment toggle
 block_upload_goes_on d contents key size threshold t frame (BlockDownloadEnd unused) e u f b =
     aborted_step d.rows None (exchange frame contents (block_end_answers d contents (block_uploading key size t) (block_upload_stage size t.later) unused)) t (download_end_stage d contents (block_uploading key size t) unused size t.later) refl
 block_upload_goes_on d contents key size threshold t frame (DownloadExpedited k x) e u f b = absurd (false≢true (sym b))
-block_upload_goes_on d contents key size threshold t frame (DownloadBegin k x) e u f b = absurd (false≢true (sym b))
+block_upload_goes_on d contents key size threshold t frame (DownloadInitiate k x) e u f b = absurd (false≢true (sym b))
 block_upload_goes_on d contents key size threshold t frame (Upload k) e u f b = absurd (false≢true (sym b))
-block_upload_goes_on d contents key size threshold t frame (BlockUploadBegin k n m) e u f b = absurd (false≢true (sym b))
-block_upload_goes_on d contents key size threshold t frame (BlockDownloadBegin k x) e u f b = absurd (false≢true (sym b))
+block_upload_goes_on d contents key size threshold t frame (BlockUploadInitiate k n m) e u f b = absurd (false≢true (sym b))
+block_upload_goes_on d contents key size threshold t frame (BlockDownloadInitiate k x) e u f b = absurd (false≢true (sym b))
 
 -- ---- block downloads, after the segment with c
 
@@ -206,7 +206,7 @@ abbrev pub last_taken : Key → Option ℕ → Transfer → OpenTransfer
 last_taken key size t = record { key = key; stage = LastTaken size; bytes = block_bytes (requests t.later) }
 
 end_code : (d : Description) (contents : Contents) (key : Key) (size : Option ℕ) (t : Transfer) (frame : List ℕ) (unused : ℕ)
-    → request_in t.begin.request ≡ Some (BlockDownloadBegin key size) → has_last (requests t.later) ≡ true → request_in frame ≡ Some (BlockDownloadEnd unused)
+    → request_in t.begin.request ≡ Some (BlockDownloadInitiate key size) → has_last (requests t.later) ≡ true → request_in frame ≡ Some (BlockDownloadEnd unused)
     → (code : Option ℕ) → completion_refusal d contents key size (without unused (block_bytes (requests t.later))) ≡ code
     → StepsTo d.rows None (extended (exchange frame contents (unless_refused code key (Response BlockDownloadDone ∷ []))) t)
 end_code d contents key size t frame unused e h f (Some code) c = aborted_step d.rows None (exchange frame contents (aborted key code)) t refl refl
@@ -216,8 +216,8 @@ end_code d contents key size t frame unused e h f None c =
 
 -- what is open after a request that goes on with a block download, after the segment with c
 pub block_download_goes_on : (d : Description) (contents : Contents) (key : Key) (size : Option ℕ) (t : Transfer) (frame : List ℕ) (request : SdoRequest)
-    → request_in t.begin.request ≡ Some (BlockDownloadBegin key size) → has_last (requests t.later) ≡ true
-    → request_in frame ≡ Some request → is_begin (Some request) ≡ false
+    → request_in t.begin.request ≡ Some (BlockDownloadInitiate key size) → has_last (requests t.later) ≡ true
+    → request_in frame ≡ Some request → is_initiate (Some request) ≡ false
     → StepsTo d.rows (after_later d contents (Some (last_taken key size t)) request) (extended (exchange frame contents (later_answers d contents (Some (last_taken key size t)) request)) t)
 block_download_goes_on d contents key size t frame (BlockDownloadEnd unused) e h f b = end_code d contents key size t frame unused e h f _ refl
 block_download_goes_on d contents key size t frame (Abort k code) e h f b = received_step d.rows (exchange frame contents []) t _ k code e (ap not h) f
@@ -227,7 +227,7 @@ block_download_goes_on d contents key size t frame BlockUploadEnd e h f b = abor
 block_download_goes_on d contents key size t frame (BlockUploadAcknowledge sequence block_size) e h f b = aborted_step d.rows None (exchange frame contents (aborted key 0x05040001)) t refl refl
 block_download_goes_on d contents key size t frame BlockUploadStart e h f b = aborted_step d.rows None (exchange frame contents (aborted key 0x05040001)) t refl refl
 block_download_goes_on d contents key size t frame (DownloadExpedited k x) e h f b = absurd (false≢true (sym b))
-block_download_goes_on d contents key size t frame (DownloadBegin k x) e h f b = absurd (false≢true (sym b))
+block_download_goes_on d contents key size t frame (DownloadInitiate k x) e h f b = absurd (false≢true (sym b))
 block_download_goes_on d contents key size t frame (Upload k) e h f b = absurd (false≢true (sym b))
-block_download_goes_on d contents key size t frame (BlockUploadBegin k n m) e h f b = absurd (false≢true (sym b))
-block_download_goes_on d contents key size t frame (BlockDownloadBegin k x) e h f b = absurd (false≢true (sym b))
+block_download_goes_on d contents key size t frame (BlockUploadInitiate k n m) e h f b = absurd (false≢true (sym b))
+block_download_goes_on d contents key size t frame (BlockDownloadInitiate k x) e h f b = absurd (false≢true (sym b))

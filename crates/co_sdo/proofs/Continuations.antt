@@ -9,7 +9,7 @@ use Rattle.co_value.specs.declared.key.Key.{Key}
 use Rattle.co_frame.specs.SdoRequests.{request_in}
 use Rattle.co_frame.specs.declared.abort_code.AbortCode.{AbortCode}
 use Rattle.co_frame.specs.declared.sdo_request.SdoRequest.{SdoRequest}
-use Rattle.co_frame.specs.declared.sdo_request.SdoRequest.TheVariants.{DownloadExpedited, DownloadBegin, DownloadSegment, Upload, UploadSegment, Abort, BlockUploadBegin, BlockUploadEnd, BlockUploadAcknowledge, BlockUploadStart, BlockDownloadBegin, BlockDownloadEnd}
+use Rattle.co_frame.specs.declared.sdo_request.SdoRequest.TheVariants.{DownloadExpedited, DownloadInitiate, DownloadSegment, Upload, UploadSegment, Abort, BlockUploadInitiate, BlockUploadEnd, BlockUploadAcknowledge, BlockUploadStart, BlockDownloadInitiate, BlockDownloadEnd}
 use Rattle.co_frame.specs.declared.sdo_response.SdoResponse.TheVariants.{DownloadSegmentDone, UploadSegment as SegmentSent}
 use Rattle.co_dict.specs.Rows.{Rows, Contents}
 use Rattle.co_dict.specs.Stores.{Description}
@@ -19,7 +19,7 @@ use Rattle.co_sdo.specs.Refused.{capacity_at, completion_refusal}
 use Rattle.co_sdo.specs.Log.{Answer, Response, Exchange, is_abort, requests}
 use Rattle.co_sdo.specs.Downloads.{is_odd, same_bool, are_segments, segments_joined, is_as_indicated, is_whole_after}
 use Rattle.co_sdo.specs.Uploads.{value_at, part_after, upload_segment}
-use Rattle.co_sdo.specs.OpenTransfers.{Transfer, is_begin, is_abort_request, is_inside, is_inside_after, is_abort_received, is_finished, is_uploaded}
+use Rattle.co_sdo.specs.OpenTransfers.{Transfer, is_initiate, is_abort_request, is_inside, is_inside_after, is_abort_received, is_finished, is_uploaded}
 use Rattle.co_sdo.specs.Opened.{OpenTransfer, opened_by}
 use Rattle.co_sdo.specs.Replies.{aborted, unless_refused, toggle_refusal, room_refusal, segment_refusal, later_answers}
 use Rattle.co_sdo.specs.Steps.{opened_at, after_later}
@@ -27,7 +27,7 @@ use Rattle.co_sdo.specs.Completed.{unless}
 use Rattle.co_sdo.specs.Standing.{is_transfer_after, IsSegmentedDownload}
 use Rattle.co_sdo.proofs.Logs.{extended}
 use Rattle.co_sdo.proofs.RefusalLemmas.{allowed, first_none, second_none, not_refused}
-use Rattle.co_sdo.proofs.Beginnings.{StepsTo, to_nothing, opens_to, exchange}
+use Rattle.co_sdo.proofs.Initiations.{StepsTo, to_nothing, opens_to, exchange}
 
 abbrev and_exchange : Exchange → Transfer → Transfer
 and_exchange x t = record { begin = t.begin; later = x ∷ t.later }
@@ -94,7 +94,7 @@ abbrev done : Bool → List Answer
 done toggle = Response (DownloadSegmentDone toggle) ∷ []
 
 segment_kept : (d : Description) (contents : Contents) (key : Key) (size : Option ℕ) (t : Transfer) (frame : List ℕ) (toggle : Bool) (segment : ArrayVec ℕ) (last : Bool)
-    → request_in t.begin.request ≡ Some (DownloadBegin key size) → IsSegmentedDownload (capacity_at d.rows key) (requests t.later)
+    → request_in t.begin.request ≡ Some (DownloadInitiate key size) → IsSegmentedDownload (capacity_at d.rows key) (requests t.later)
     → request_in frame ≡ Some (DownloadSegment toggle segment last)
     → same_bool toggle (is_odd (length (requests t.later))) ≡ true
     → length (segments_joined (requests t.later) ++ segment.items) ≤ capacity_at d.rows key
@@ -112,7 +112,7 @@ segment_kept d contents key size t frame toggle segment last e u f same room tot
     (record { segments = rw (f, l, same) u.segments; bytes = rw f room })
 
 segment_code : (d : Description) (contents : Contents) (key : Key) (size : Option ℕ) (t : Transfer) (frame : List ℕ) (toggle : Bool) (segment : ArrayVec ℕ) (last : Bool)
-    → request_in t.begin.request ≡ Some (DownloadBegin key size) → IsSegmentedDownload (capacity_at d.rows key) (requests t.later)
+    → request_in t.begin.request ≡ Some (DownloadInitiate key size) → IsSegmentedDownload (capacity_at d.rows key) (requests t.later)
     → request_in frame ≡ Some (DownloadSegment toggle segment last)
     → (code : Option ℕ) → segment_refusal d contents (segmented key size t) size (is_odd (length (requests t.later))) toggle segment.items last ≡ code
     → StepsTo d.rows (unless code (cond last None (opened_at key (Download size (not (is_odd (length (requests t.later))))) (segments_joined (requests t.later) ++ segment.items))))
@@ -135,8 +135,8 @@ segment_code d contents key size t frame toggle segment last e u f None c =
 
 -- what is open after a request that goes on with a segmented download
 pub download_goes_on : (d : Description) (contents : Contents) (key : Key) (size : Option ℕ) (t : Transfer) (frame : List ℕ) (request : SdoRequest)
-    → request_in t.begin.request ≡ Some (DownloadBegin key size) → IsSegmentedDownload (capacity_at d.rows key) (requests t.later)
-    → request_in frame ≡ Some request → is_begin (Some request) ≡ false
+    → request_in t.begin.request ≡ Some (DownloadInitiate key size) → IsSegmentedDownload (capacity_at d.rows key) (requests t.later)
+    → request_in frame ≡ Some request → is_initiate (Some request) ≡ false
     → StepsTo d.rows (after_later d contents (Some (segmented key size t)) request) (extended (exchange frame contents (later_answers d contents (Some (segmented key size t)) request)) t)
 download_goes_on d contents key size t frame (DownloadSegment toggle segment last) e u f b = segment_code d contents key size t frame toggle segment last e u f _ refl
 download_goes_on d contents key size t frame (Abort k code) e u f b = received_step d.rows (exchange frame contents []) t _ k code e refl f
@@ -146,10 +146,10 @@ download_goes_on d contents key size t frame (BlockUploadAcknowledge sequence bl
 download_goes_on d contents key size t frame BlockUploadStart e u f b = aborted_step d.rows None (exchange frame contents (aborted key 0x05040001)) t refl refl
 download_goes_on d contents key size t frame (BlockDownloadEnd unused) e u f b = aborted_step d.rows None (exchange frame contents (aborted key 0x05040001)) t refl refl
 download_goes_on d contents key size t frame (DownloadExpedited k x) e u f b = absurd (false≢true (sym b))
-download_goes_on d contents key size t frame (DownloadBegin k x) e u f b = absurd (false≢true (sym b))
+download_goes_on d contents key size t frame (DownloadInitiate k x) e u f b = absurd (false≢true (sym b))
 download_goes_on d contents key size t frame (Upload k) e u f b = absurd (false≢true (sym b))
-download_goes_on d contents key size t frame (BlockUploadBegin k n m) e u f b = absurd (false≢true (sym b))
-download_goes_on d contents key size t frame (BlockDownloadBegin k x) e u f b = absurd (false≢true (sym b))
+download_goes_on d contents key size t frame (BlockUploadInitiate k n m) e u f b = absurd (false≢true (sym b))
+download_goes_on d contents key size t frame (BlockDownloadInitiate k x) e u f b = absurd (false≢true (sym b))
 
 -- ---- segmented uploads
 
@@ -181,7 +181,7 @@ upload_code d contents key t frame toggle e u f None = upload_sent d contents ke
 -- what is open after a request that goes on with a segmented upload
 pub upload_goes_on : (d : Description) (contents : Contents) (key : Key) (t : Transfer) (frame : List ℕ) (request : SdoRequest)
     → request_in t.begin.request ≡ Some (Upload key) → length (value_at t.begin.contents key) ≤ capacity_at d.rows key
-    → request_in frame ≡ Some request → is_begin (Some request) ≡ false
+    → request_in frame ≡ Some request → is_initiate (Some request) ≡ false
     → StepsTo d.rows (after_later d contents (Some (uploading key t)) request) (extended (exchange frame contents (later_answers d contents (Some (uploading key t)) request)) t)
 upload_goes_on d contents key t frame (UploadSegment toggle) e u f b = upload_code d contents key t frame toggle e u f (toggle_refusal toggle (is_odd (length t.later)))
 upload_goes_on d contents key t frame (Abort k code) e u f b = received_step d.rows (exchange frame contents []) t _ k code e refl f
@@ -191,7 +191,7 @@ upload_goes_on d contents key t frame (BlockUploadAcknowledge sequence block_siz
 upload_goes_on d contents key t frame BlockUploadStart e u f b = aborted_step d.rows None (exchange frame contents (aborted key 0x05040001)) t refl refl
 upload_goes_on d contents key t frame (BlockDownloadEnd unused) e u f b = aborted_step d.rows None (exchange frame contents (aborted key 0x05040001)) t refl refl
 upload_goes_on d contents key t frame (DownloadExpedited k x) e u f b = absurd (false≢true (sym b))
-upload_goes_on d contents key t frame (DownloadBegin k x) e u f b = absurd (false≢true (sym b))
+upload_goes_on d contents key t frame (DownloadInitiate k x) e u f b = absurd (false≢true (sym b))
 upload_goes_on d contents key t frame (Upload k) e u f b = absurd (false≢true (sym b))
-upload_goes_on d contents key t frame (BlockUploadBegin k n m) e u f b = absurd (false≢true (sym b))
-upload_goes_on d contents key t frame (BlockDownloadBegin k x) e u f b = absurd (false≢true (sym b))
+upload_goes_on d contents key t frame (BlockUploadInitiate k n m) e u f b = absurd (false≢true (sym b))
+upload_goes_on d contents key t frame (BlockDownloadInitiate k x) e u f b = absurd (false≢true (sym b))

@@ -6,7 +6,7 @@ pub mod StoreLemmas
 pub mod UploadLemmas
 pub mod Logs
 pub mod RefusalLemmas
-pub mod Beginnings
+pub mod Initiations
 pub mod Continuations
 pub mod BlockContinuations
 pub mod SubBlockLemmas

@@ -6,11 +6,11 @@ use Rattle.std.specs.Option.{option_map_or}
 use Rattle.std.proofs.lemmas.Bool.{false≢true}
 use Rattle.co_frame.specs.SdoRequests.{request_in}
 use Rattle.co_frame.specs.declared.sdo_request.SdoRequest.{SdoRequest}
-use Rattle.co_frame.specs.declared.sdo_request.SdoRequest.TheVariants.{BlockUploadBegin, BlockDownloadBegin}
+use Rattle.co_frame.specs.declared.sdo_request.SdoRequest.TheVariants.{BlockUploadInitiate, BlockDownloadInitiate}
 use Rattle.co_sdo.specs.Log.{Exchange, Exchanged, Log, is_abort, exchanges, requests}
 use Rattle.co_sdo.specs.SubBlocks.{has_last}
 use Rattle.co_sdo.specs.Downloads.{is_whole_after, are_all_sub_blocks}
-use Rattle.co_sdo.specs.OpenTransfers.{Transfer, Since, is_inside, is_inside_after, is_cut, has_cut, is_finished, is_uploaded, newest, transfer_of, open_since, begins, and_event, since_with, since_begin, open_transfer}
+use Rattle.co_sdo.specs.OpenTransfers.{Transfer, Since, is_inside, is_inside_after, is_cut, has_cut, is_finished, is_uploaded, newest, transfer_of, open_since, begins, and_event, since_with, since_initiate, open_transfer}
 use Rattle.co_sdo.specs.declared.stage.Stage.TheVariants.{BlockUpload, BlockUploadEnded}
 use Rattle.co_sdo.specs.Opened.{opened, opened_by, acknowledged, is_end_sent, block_upload_stage, block_download_stage}
 use Rattle.co_sdo.specs.Replies.{is_in_sub_block, is_sub_block}
@@ -30,8 +30,8 @@ upload_outside size (x ∷ older) = ended (list_any is_end_sent x.answers)
     ended false = refl
 
 inside_by : (r : Option SdoRequest) (t : Transfer) → is_in_sub_block (opened_by r t) ≡ is_inside_after r (requests t.later)
-inside_by (Some (BlockDownloadBegin key size)) t = stage_inside size (requests t.later) _ refl
-inside_by (Some (BlockUploadBegin key size threshold)) t = upload_outside size t.later
+inside_by (Some (BlockDownloadInitiate key size)) t = stage_inside size (requests t.later) _ refl
+inside_by (Some (BlockUploadInitiate key size threshold)) t = upload_outside size t.later
 inside_by _ t = refl
 
 -- what is open says whether the next frame falls inside a sub-block
@@ -53,7 +53,7 @@ whole_outside (f ∷ older) b h = ended _ (has_last older) b _ h
     ended false false b k h = absurd (false≢true h)
 
 finished_by : (r : Option SdoRequest) (later : List (List ℕ)) (last : Exchange) → is_whole_after r later || is_uploaded r last ≡ true → is_inside_after r later ≡ false
-finished_by (Some (BlockDownloadBegin key size)) later last h = whole_outside later _ h
+finished_by (Some (BlockDownloadInitiate key size)) later last h = whole_outside later _ h
 finished_by _ later last h = refl
 
 finished_outside : (t : Transfer) → is_finished t ≡ true → is_inside t ≡ false
@@ -74,8 +74,8 @@ extended x t =
 begins_in : (x : Exchange) (s : Option Since) → begins (open_since s) x.request ≡ true → open_since (since_with (Exchanged x) s) ≡ begun x
 begins_in x s h = ap (λ b. open_since (cond b (Some (record { begin = x; later = [] })) (and_event (Exchanged x) s))) h
 
-pub after_begins : (log : Log) (x : Exchange) → begins (open_transfer log) x.request ≡ true → open_transfer (Exchanged x ∷ log) ≡ begun x
-after_begins log x h = begins_in x (since_begin log) h
+pub after_initiates : (log : Log) (x : Exchange) → begins (open_transfer log) x.request ≡ true → open_transfer (Exchanged x ∷ log) ≡ begun x
+after_initiates log x h = begins_in x (since_initiate log) h
 
 continues : (x : Exchange) (s : Option Since) → begins (open_since s) x.request ≡ false → open_since (since_with (Exchanged x) s) ≡ open_since (and_event (Exchanged x) s)
 continues x s h = ap (λ b. open_since (cond b (Some (record { begin = x; later = [] })) (and_event (Exchanged x) s))) h
@@ -97,7 +97,7 @@ extended_in x None t e = cc
 extended_in x (Some s) t e = extended_since x s _ _ t refl e
 
 pub after_open : (log : Log) (x : Exchange) (t : Transfer) → open_transfer log ≡ Some t → begins (Some t) x.request ≡ false → open_transfer (Exchanged x ∷ log) ≡ extended x t
-after_open log x t e b = continues x (since_begin log) (ap (λ o. begins o x.request) e ∙ b) ∙ extended_in x (since_begin log) t e
+after_open log x t e b = continues x (since_initiate log) (ap (λ o. begins o x.request) e ∙ b) ∙ extended_in x (since_initiate log) t e
 
 cut_since : (x : Exchange) (s : Since) (cut finished : Bool) → has_cut s.begin s.later ≡ cut → is_finished (transfer_of s) ≡ finished → cond (cut || finished) None (Some (transfer_of s)) ≡ None
     → is_cut false (Exchanged x) ≡ true → open_since (and_event (Exchanged x) (Some s)) ≡ None
@@ -114,4 +114,4 @@ cut_in x None e h = refl
 cut_in x (Some s) e h = cut_since x s _ _ refl refl e h
 
 pub after_nothing : (log : Log) (x : Exchange) → open_transfer log ≡ None → begins None x.request ≡ false → is_cut false (Exchanged x) ≡ true → open_transfer (Exchanged x ∷ log) ≡ None
-after_nothing log x e b h = continues x (since_begin log) (ap (λ o. begins o x.request) e ∙ b) ∙ cut_in x (since_begin log) e h
+after_nothing log x e b h = continues x (since_initiate log) (ap (λ o. begins o x.request) e ∙ b) ∙ cut_in x (since_initiate log) e h

@@ -7,20 +7,20 @@ use Rattle.co_frame.specs.AbortCodes.{invalid_sequence_number}
 use Rattle.co_frame.specs.SdoFields.{command}
 use Rattle.co_frame.specs.SdoRequests.{request_in}
 use Rattle.co_frame.specs.declared.sdo_request.SdoRequest.{SdoRequest}
-use Rattle.co_frame.specs.declared.sdo_request.SdoRequest.TheVariants.{DownloadExpedited, DownloadBegin, DownloadSegment, Upload, UploadSegment, BlockUploadBegin, BlockUploadAcknowledge, BlockUploadStart, BlockDownloadBegin}
+use Rattle.co_frame.specs.declared.sdo_request.SdoRequest.TheVariants.{DownloadExpedited, DownloadInitiate, DownloadSegment, Upload, UploadSegment, BlockUploadInitiate, BlockUploadAcknowledge, BlockUploadStart, BlockDownloadInitiate}
 use Rattle.co_dict.specs.Rows.{Rows, Contents}
 use Rattle.co_dict.specs.Stores.{Description}
 use Rattle.co_dict.specs.Refusals.{refused_if, first_of}
 use Rattle.co_sdo.specs.declared.stage.Stage.{Stage}
-use Rattle.co_sdo.specs.declared.stage.Stage.TheVariants.{Download, Upload as Uploading, SubBlock, LastTaken, BlockUploadBegun as Begun, BlockUpload, BlockUploadEnded}
-use Rattle.co_sdo.specs.Refused.{capacity_at, reading_refusal, begin_refusal}
+use Rattle.co_sdo.specs.declared.stage.Stage.TheVariants.{Download, Upload as Uploading, SubBlock, LastTaken, BlockUploadInitiated as Begun, BlockUpload, BlockUploadEnded}
+use Rattle.co_sdo.specs.Refused.{capacity_at, reading_refusal, initiate_refusal}
 use Rattle.co_sdo.specs.SubBlocks.{ends_sub_block, is_last_taken}
 use Rattle.co_sdo.specs.Downloads.{is_odd}
 use Rattle.co_sdo.specs.Uploads.{value_at, segment_count, sub_block_length}
 use Rattle.co_sdo.specs.Opened.{OpenTransfer}
 use Rattle.co_sdo.specs.Completed.{unless}
 use Rattle.co_sdo.specs.Replies.{toggle_refusal, block_size_refusal, segment_refusal, segment_next, taken_with, held_with, sub_block_refusal, is_in_sub_block}
-use Rattle.co_sdo.specs.Steps.{opened_at, stage_after_frame, after_upload_begin, after_next_sub_block, after_segment, after_frame_at, after_upload_segment, after_start, after_acknowledge, after_begin, after_later, after_request, opened_next, room_after, room_next}
+use Rattle.co_sdo.specs.Steps.{opened_at, stage_after_frame, after_upload_initiate, after_next_sub_block, after_segment, after_frame_at, after_upload_segment, after_start, after_acknowledge, after_initiate, after_later, after_request, opened_next, room_after, room_next}
 use Rattle.co_sdo.specs.Standing.{is_room_for, is_room_at}
 
 of_unless : (rows : Rows) (room : ℕ) (refusal : Option ℕ) (next : Option OpenTransfer) → is_room_for rows room next → is_room_for rows room (unless refusal next)
@@ -32,15 +32,15 @@ of_cond rows room true one other h k = h
 of_cond rows room false one other h k = k
 
 -- after a begin
-of_begin : (d : Description) (contents : Contents) (room : ℕ) (request : SdoRequest) → is_room_for d.rows (room_after d.rows room (Some request)) (after_begin d contents request)
-of_begin d contents room (DownloadBegin key size) = of_unless d.rows (capacity_at d.rows key) (begin_refusal d key size) (opened_at key (Download size false) []) refl
-of_begin d contents room (Upload key) =
+of_initiate : (d : Description) (contents : Contents) (room : ℕ) (request : SdoRequest) → is_room_for d.rows (room_after d.rows room (Some request)) (after_initiate d contents request)
+of_initiate d contents room (DownloadInitiate key size) = of_unless d.rows (capacity_at d.rows key) (initiate_refusal d key size) (opened_at key (Download size false) []) refl
+of_initiate d contents room (Upload key) =
     let value = value_at contents key in
-    of_unless d.rows room (reading_refusal d contents key) (after_upload_begin key value) (of_cond d.rows room (nat_le 1 (length value) && nat_le (length value) 4) None (opened_at key (Uploading 0) value) tt tt)
-of_begin d contents room (BlockUploadBegin key block_size threshold) =
+    of_unless d.rows room (reading_refusal d contents key) (after_upload_initiate key value) (of_cond d.rows room (nat_le 1 (length value) && nat_le (length value) 4) None (opened_at key (Uploading 0) value) tt tt)
+of_initiate d contents room (BlockUploadInitiate key block_size threshold) =
     of_unless d.rows room (first_of (reading_refusal d contents key) (block_size_refusal block_size)) (opened_at key (Begun block_size) (value_at contents key)) tt
-of_begin d contents room (BlockDownloadBegin key size) = of_unless d.rows room (begin_refusal d key size) (opened_at key (SubBlock size 0) []) tt
-of_begin d contents room _ = tt
+of_initiate d contents room (BlockDownloadInitiate key size) = of_unless d.rows room (initiate_refusal d key size) (opened_at key (SubBlock size 0) []) tt
+of_initiate d contents room _ = tt
 
 of_segment : (d : Description) (contents : Contents) (room : ℕ) (o : OpenTransfer) (stage : Stage) (toggle : Bool) (part : List ℕ) (last : Bool)
     → is_room_at d.rows room o.key stage → is_room_for d.rows room (after_segment d contents o stage toggle part last)
@@ -84,10 +84,10 @@ of_request : (d : Description) (contents : Contents) (room : ℕ) (current : Opt
     → is_room_for d.rows room current → is_room_for d.rows (room_after d.rows room request) (after_request d contents current request)
 of_request d contents room current None h = tt
 of_request d contents room current (Some (DownloadExpedited key expedited)) h = tt
-of_request d contents room current (Some (DownloadBegin key size)) h = of_begin d contents room (DownloadBegin key size)
-of_request d contents room current (Some (Upload key)) h = of_begin d contents room (Upload key)
-of_request d contents room current (Some (BlockUploadBegin key block_size threshold)) h = of_begin d contents room (BlockUploadBegin key block_size threshold)
-of_request d contents room current (Some (BlockDownloadBegin key size)) h = of_begin d contents room (BlockDownloadBegin key size)
+of_request d contents room current (Some (DownloadInitiate key size)) h = of_initiate d contents room (DownloadInitiate key size)
+of_request d contents room current (Some (Upload key)) h = of_initiate d contents room (Upload key)
+of_request d contents room current (Some (BlockUploadInitiate key block_size threshold)) h = of_initiate d contents room (BlockUploadInitiate key block_size threshold)
+of_request d contents room current (Some (BlockDownloadInitiate key size)) h = of_initiate d contents room (BlockDownloadInitiate key size)
 of_request d contents room current (Some (DownloadSegment toggle segment last)) h = of_later d contents room current (DownloadSegment toggle segment last) h
 of_request d contents room current (Some (UploadSegment toggle)) h = of_later d contents room current (UploadSegment toggle) h
 of_request d contents room current (Some BlockUploadStart) h = of_later d contents room current BlockUploadStart h

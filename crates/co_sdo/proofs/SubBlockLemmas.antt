@@ -10,7 +10,7 @@ use Rattle.co_frame.specs.SdoFields.{command}
 use Rattle.co_frame.specs.BlockSegments.{block_segment_in}
 use Rattle.co_frame.specs.SdoRequests.{request_in}
 use Rattle.co_frame.specs.declared.block_segment.BlockSegment.{BlockSegment}
-use Rattle.co_frame.specs.declared.sdo_request.SdoRequest.TheVariants.{BlockDownloadBegin}
+use Rattle.co_frame.specs.declared.sdo_request.SdoRequest.TheVariants.{BlockDownloadInitiate}
 use Rattle.co_frame.specs.declared.sdo_response.SdoResponse.TheVariants.{BlockDownloadAcknowledge}
 use Rattle.co_dict.specs.Rows.{Rows, Contents}
 use Rattle.co_sdo.specs.declared.stage.Stage.TheVariants.{SubBlock}
@@ -26,7 +26,7 @@ use Rattle.co_sdo.specs.Steps.{opened_at, stage_after_frame, after_frame}
 use Rattle.co_sdo.specs.Standing.{IsBlockDownload}
 use Rattle.co_sdo.proofs.Logs.{extended}
 use Rattle.co_sdo.proofs.RefusalLemmas.{not_refused}
-use Rattle.co_sdo.proofs.Beginnings.{StepsTo, to_nothing, opens_to, exchange}
+use Rattle.co_sdo.proofs.Initiations.{StepsTo, to_nothing, opens_to, exchange}
 use Rattle.co_sdo.proofs.Continuations.{aborted_step}
 
 -- ---- one segment
@@ -112,10 +112,10 @@ not_whole true i last h = rw h refl
 not_whole false i last h = refl
 
 -- inside a sub-block 80h and an abort sent close a transfer, and nothing else does
-extended_inside : (x : Exchange) (t : Transfer) (key : Key) (size : Option ℕ) (b : Bool) → request_in t.begin.request ≡ Some (BlockDownloadBegin key size) → has_last (requests t.later) ≡ false
+extended_inside : (x : Exchange) (t : Transfer) (key : Key) (size : Option ℕ) (b : Bool) → request_in t.begin.request ≡ Some (BlockDownloadInitiate key size) → has_last (requests t.later) ≡ false
     → (command x.request == 0x80) || list_any is_abort x.answers ≡ b → extended x t ≡ cond b None (Some (and_exchange x t))
 extended_inside x t key size b e h c =
-    let q = Some (BlockDownloadBegin key size) in
+    let q = Some (BlockDownloadInitiate key size) in
     ap (λ r. cond {A = Option Transfer} ((is_abort_received (is_inside_after r (requests t.later)) x.request || list_any is_abort x.answers) || (is_whole_after r (requests (x ∷ t.later)) || is_uploaded r x)) None (Some (and_exchange x t))) e
     ∙ ap (λ last. cond {A = Option Transfer} ((is_abort_received (not last) x.request || list_any is_abort x.answers) || (is_whole_after q (requests (x ∷ t.later)) || is_uploaded q x)) None (Some (and_exchange x t))) h
     ∙ ap (λ f. cond {A = Option Transfer} (((command x.request == 0x80) || list_any is_abort x.answers) || f) None (Some (and_exchange x t))) (not_whole (is_block_end (request_in x.request)) _ (has_last (requests t.later)) h)
@@ -140,7 +140,7 @@ next_of t frame n s e = next_facts (taken_in t) (block_segment_in frame) s (λ s
 
 -- a frame that doesn't end its sub-block
 kept : (rows : Rows) (contents : Contents) (key : Key) (size : Option ℕ) (t : Transfer) (frame : List ℕ)
-    → request_in t.begin.request ≡ Some (BlockDownloadBegin key size) → has_last (requests t.later) ≡ false → IsBlockDownload (capacity_at rows key) (requests t.later) → length frame ≡ 8
+    → request_in t.begin.request ≡ Some (BlockDownloadInitiate key size) → has_last (requests t.later) ≡ false → IsBlockDownload (capacity_at rows key) (requests t.later) → length frame ≡ 8
     → (command frame == 0x80) ≡ false → ends_sub_block frame ≡ false
     → StepsTo rows (opened_at key (SubBlock size (taken_with (taken_in t) frame)) (held_with (block_bytes (requests t.later)) (taken_in t) frame)) (extended (exchange frame contents []) t)
 kept rows contents key size t frame e h u n c ends =
@@ -157,7 +157,7 @@ kept rows contents key size t frame e h u n c ends =
 
 -- a frame that ends its sub-block
 ended : (rows : Rows) (contents : Contents) (key : Key) (size : Option ℕ) (t : Transfer) (frame : List ℕ)
-    → request_in t.begin.request ≡ Some (BlockDownloadBegin key size) → has_last (requests t.later) ≡ false → IsBlockDownload (capacity_at rows key) (requests t.later) → length frame ≡ 8
+    → request_in t.begin.request ≡ Some (BlockDownloadInitiate key size) → has_last (requests t.later) ≡ false → IsBlockDownload (capacity_at rows key) (requests t.later) → length frame ≡ 8
     → (command frame == 0x80) ≡ false → ends_sub_block frame ≡ true
     → (code : Option ℕ) → sub_block_refusal rows (receiving key size t) (taken_in t) frame ≡ code
     → StepsTo rows (unless code (opened_at key (stage_after_frame size (taken_in t) frame) (held_with (block_bytes (requests t.later)) (taken_in t) frame)))
@@ -186,7 +186,7 @@ ended rows contents key size t frame e h u n c ends None r =
 
 -- what is open after a frame inside a sub-block
 pub frame_step : (rows : Rows) (contents : Contents) (key : Key) (size : Option ℕ) (t : Transfer) (frame : List ℕ)
-    → request_in t.begin.request ≡ Some (BlockDownloadBegin key size) → has_last (requests t.later) ≡ false → IsBlockDownload (capacity_at rows key) (requests t.later) → length frame ≡ 8
+    → request_in t.begin.request ≡ Some (BlockDownloadInitiate key size) → has_last (requests t.later) ≡ false → IsBlockDownload (capacity_at rows key) (requests t.later) → length frame ≡ 8
     → StepsTo rows (after_frame rows (receiving key size t) size (taken_in t) frame) (extended (exchange frame contents (sub_block_answers rows (receiving key size t) (taken_in t) frame)) t)
 frame_step rows contents key size t frame e h u n = by_command (command frame == 0x80) refl (ends_sub_block frame) refl
   where

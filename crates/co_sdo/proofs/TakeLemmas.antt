@@ -8,7 +8,7 @@ use Rattle.arrayvec.specs.ArrayVec.{ArrayVec}
 use Rattle.co_value.specs.declared.key.Key.{Key}
 use Rattle.co_frame.specs.SdoRequests.{request_in}
 use Rattle.co_frame.specs.declared.sdo_request.SdoRequest.{SdoRequest}
-use Rattle.co_frame.specs.declared.sdo_request.SdoRequest.TheVariants.{DownloadExpedited, DownloadBegin, DownloadSegment, Upload, UploadSegment, Abort, BlockUploadBegin, BlockUploadEnd, BlockUploadAcknowledge, BlockUploadStart, BlockDownloadBegin, BlockDownloadEnd}
+use Rattle.co_frame.specs.declared.sdo_request.SdoRequest.TheVariants.{DownloadExpedited, DownloadInitiate, DownloadSegment, Upload, UploadSegment, Abort, BlockUploadInitiate, BlockUploadEnd, BlockUploadAcknowledge, BlockUploadStart, BlockDownloadInitiate, BlockDownloadEnd}
 use Rattle.co_dict.specs.Rows.{Contents}
 use Rattle.co_dict.specs.Stores.{Description, IsDictionary}
 use Rattle.co_dict.specs.Refusals.{refused_if, first_refusal}
@@ -17,15 +17,15 @@ use Rattle.co_sdo.specs.Refused.{capacity_at, completion_refusal}
 use Rattle.co_sdo.specs.Log.{Exchange, Exchanged, Log, is_abort, requests}
 use Rattle.co_sdo.specs.SubBlocks.{sub_block, taken_segments, block_bytes, has_last}
 use Rattle.co_sdo.specs.Downloads.{Download as Whole, is_odd, same_bool, is_as_indicated, segments_joined, without, is_whole_after, download_after, whole_download}
-use Rattle.co_sdo.specs.OpenTransfers.{Transfer, is_begin, is_abort_request, is_inside, begins, open_transfer}
+use Rattle.co_sdo.specs.OpenTransfers.{Transfer, is_initiate, is_abort_request, is_inside, begins, open_transfer}
 use Rattle.co_sdo.specs.Opened.{OpenTransfer, opened, opened_by, opened_after, is_end_sent, acknowledged, block_upload_stage}
-use Rattle.co_sdo.specs.Replies.{aborted, unexpected, begin_answers, sub_block_answers, is_in_sub_block, later_answers, request_answers, answers_to, reply_to}
+use Rattle.co_sdo.specs.Replies.{aborted, unexpected, initiate_answers, sub_block_answers, is_in_sub_block, later_answers, request_answers, answers_to, reply_to}
 use Rattle.co_sdo.specs.Completed.{is_expedited, unless, permitted, completed_by, set_by}
 use Rattle.co_sdo.specs.Steps.{after_later, after_request, opened_next, room_next, set_by_segment, set_by_end, set_by_request, set_next}
 use Rattle.co_sdo.specs.Standing.{Standing, Stands, is_under_way, is_transfer_after, IsSegmentedDownload, IsBlockDownload}
-use Rattle.co_sdo.proofs.Logs.{inside_is, upload_outside, extended, after_begins, after_open, after_nothing}
+use Rattle.co_sdo.proofs.Logs.{inside_is, upload_outside, extended, after_initiates, after_open, after_nothing}
 use Rattle.co_sdo.proofs.RefusalLemmas.{allowed}
-use Rattle.co_sdo.proofs.Beginnings.{StepsTo, to_nothing, exchange, begin_step}
+use Rattle.co_sdo.proofs.Initiations.{StepsTo, to_nothing, exchange, initiate_step}
 use Rattle.co_sdo.proofs.Continuations.{segmented, uploading, aborted_step, download_goes_on, upload_goes_on}
 use Rattle.co_sdo.proofs.BlockContinuations.{block_uploading, last_taken, block_upload_goes_on, block_download_goes_on}
 use Rattle.co_sdo.proofs.SubBlockLemmas.{receiving, frame_step}
@@ -34,7 +34,7 @@ use Rattle.co_sdo.proofs.RoomLemmas.{room_is}
 -- ---- what is open
 
 -- a request that nothing is open for
-none_cut : (d : Description) (contents : Contents) (request : SdoRequest) → is_begin (Some request) ≡ false
+none_cut : (d : Description) (contents : Contents) (request : SdoRequest) → is_initiate (Some request) ≡ false
     → (is_abort_request (Some request) || list_any is_abort (later_answers d contents None request) ≡ true) × (after_later d contents None request ≡ None)
 none_cut d contents (Abort key code) b = (refl, refl)
 none_cut d contents (DownloadSegment toggle segment last) b = (refl, refl)
@@ -44,47 +44,47 @@ none_cut d contents (BlockUploadAcknowledge sequence block_size) b = (refl, refl
 none_cut d contents BlockUploadStart b = (refl, refl)
 none_cut d contents (BlockDownloadEnd unused) b = (refl, refl)
 none_cut d contents (DownloadExpedited k x) b = absurd (false≢true (sym b))
-none_cut d contents (DownloadBegin k x) b = absurd (false≢true (sym b))
+none_cut d contents (DownloadInitiate k x) b = absurd (false≢true (sym b))
 none_cut d contents (Upload k) b = absurd (false≢true (sym b))
-none_cut d contents (BlockUploadBegin k n m) b = absurd (false≢true (sym b))
-none_cut d contents (BlockDownloadBegin k x) b = absurd (false≢true (sym b))
+none_cut d contents (BlockUploadInitiate k n m) b = absurd (false≢true (sym b))
+none_cut d contents (BlockDownloadInitiate k x) b = absurd (false≢true (sym b))
 
 begun_step : (d : Description) (contents : Contents) (log : Log) (frame : List ℕ) (current : Option OpenTransfer) (request : SdoRequest) → begins (open_transfer log) frame ≡ true
-    → request_in frame ≡ Some request → is_begin (Some request) ≡ true → IsDictionary d contents
+    → request_in frame ≡ Some request → is_initiate (Some request) ≡ true → IsDictionary d contents
     → StepsTo d.rows (after_request d contents current (Some request)) (open_transfer (Exchanged (exchange frame contents (request_answers d contents current (Some request))) ∷ log))
 begun_step d contents log frame current request s f b lawful =
-    rw b (rw (after_begins log (exchange frame contents (begin_answers d contents request)) s) (begin_step d contents frame request f b lawful))
+    rw b (rw (after_initiates log (exchange frame contents (initiate_answers d contents request)) s) (initiate_step d contents frame request f b lawful))
 
 nothing_step : (d : Description) (contents : Contents) (log : Log) (frame : List ℕ) (r : Option SdoRequest) → open_transfer log ≡ None → request_in frame ≡ r → IsDictionary d contents
     → StepsTo d.rows (after_request d contents None r) (open_transfer (Exchanged (exchange frame contents (request_answers d contents None r)) ∷ log))
 nothing_step d contents log frame None e f lawful =
-    to_nothing d.rows None _ (after_nothing log (exchange frame contents (aborted (record { index = 0; sub = 0 }) 0x05040001)) e (ap is_begin f) (rw f refl)) refl
-nothing_step d contents log frame (Some request) e f lawful = by_begin (is_begin (Some request)) refl
+    to_nothing d.rows None _ (after_nothing log (exchange frame contents (aborted (record { index = 0; sub = 0 }) 0x05040001)) e (ap is_initiate f) (rw f refl)) refl
+nothing_step d contents log frame (Some request) e f lawful = by_initiate (is_initiate (Some request)) refl
   where
-    by_begin : (b : Bool) → is_begin (Some request) ≡ b
+    by_initiate : (b : Bool) → is_initiate (Some request) ≡ b
         → StepsTo d.rows (after_request d contents None (Some request)) (open_transfer (Exchanged (exchange frame contents (request_answers d contents None (Some request))) ∷ log))
-    by_begin true b = begun_step d contents log frame None request (ap (λ t. begins t frame) e ∙ ap is_begin f ∙ b) f b lawful
-    by_begin false b =
+    by_initiate true b = begun_step d contents log frame None request (ap (λ t. begins t frame) e ∙ ap is_initiate f ∙ b) f b lawful
+    by_initiate false b =
         let cut = none_cut d contents request b in
-        rw b (to_nothing d.rows _ _ (after_nothing log (exchange frame contents (later_answers d contents None request)) e (ap is_begin f ∙ b)
+        rw b (to_nothing d.rows _ _ (after_nothing log (exchange frame contents (later_answers d contents None request)) e (ap is_initiate f ∙ b)
         (ap (λ r. is_abort_request r || list_any is_abort (later_answers d contents None request)) f ∙ cut.0)) cut.1)
 
 -- a request outside a sub-block, where going on is known
 outside_step : (d : Description) (contents : Contents) (log : Log) (frame : List ℕ) (t : Transfer) (current : Option OpenTransfer) → open_transfer log ≡ Some t → is_inside t ≡ false → IsDictionary d contents
-    → ((request : SdoRequest) → request_in frame ≡ Some request → is_begin (Some request) ≡ false → StepsTo d.rows (after_later d contents current request) (extended (exchange frame contents (later_answers d contents current request)) t))
+    → ((request : SdoRequest) → request_in frame ≡ Some request → is_initiate (Some request) ≡ false → StepsTo d.rows (after_later d contents current request) (extended (exchange frame contents (later_answers d contents current request)) t))
     → (r : Option SdoRequest) → request_in frame ≡ r
     → StepsTo d.rows (after_request d contents current r) (open_transfer (Exchanged (exchange frame contents (request_answers d contents current r)) ∷ log))
 outside_step d contents log frame t current e i lawful go None f =
     let x = exchange frame contents (unexpected current) in
-    rw (after_open log x t e (ap (λ b. not b && is_begin (request_in frame)) i ∙ ap is_begin f)) (aborted_step d.rows None x t refl refl)
-outside_step d contents log frame t current e i lawful go (Some request) f = by_begin (is_begin (Some request)) refl
+    rw (after_open log x t e (ap (λ b. not b && is_initiate (request_in frame)) i ∙ ap is_initiate f)) (aborted_step d.rows None x t refl refl)
+outside_step d contents log frame t current e i lawful go (Some request) f = by_initiate (is_initiate (Some request)) refl
   where
-    by_begin : (b : Bool) → is_begin (Some request) ≡ b
+    by_initiate : (b : Bool) → is_initiate (Some request) ≡ b
         → StepsTo d.rows (after_request d contents current (Some request)) (open_transfer (Exchanged (exchange frame contents (request_answers d contents current (Some request))) ∷ log))
-    by_begin true b = begun_step d contents log frame current request
-        (ap (λ s. begins s frame) e ∙ ap (λ b. not b && is_begin (request_in frame)) i ∙ ap is_begin f ∙ b) f b lawful
-    by_begin false b = rw b (rw (after_open log (exchange frame contents (later_answers d contents current request)) t e
-        (ap (λ b. not b && is_begin (request_in frame)) i ∙ ap is_begin f ∙ b)) (go request f b))
+    by_initiate true b = begun_step d contents log frame current request
+        (ap (λ s. begins s frame) e ∙ ap (λ b. not b && is_initiate (request_in frame)) i ∙ ap is_initiate f ∙ b) f b lawful
+    by_initiate false b = rw b (rw (after_open log (exchange frame contents (later_answers d contents current request)) t e
+        (ap (λ b. not b && is_initiate (request_in frame)) i ∙ ap is_initiate f ∙ b)) (go request f b))
 
 -- what is inside is what is open
 inside_of : (t : Transfer) (q : Option SdoRequest) (b : Bool) → request_in t.begin.request ≡ q → is_in_sub_block (opened_by q t) ≡ b → is_inside t ≡ b
@@ -92,28 +92,28 @@ inside_of t q b e h = sym (inside_is (Some t)) ∙ ap (λ r. is_in_sub_block (op
 
 open_outside : (d : Description) (contents : Contents) (log : Log) (frame : List ℕ) (t : Transfer) (q : Option SdoRequest) → open_transfer log ≡ Some t → request_in t.begin.request ≡ q → IsDictionary d contents
     → is_in_sub_block (opened_by q t) ≡ false
-    → ((request : SdoRequest) → request_in frame ≡ Some request → is_begin (Some request) ≡ false → StepsTo d.rows (after_later d contents (opened_by q t) request) (extended (exchange frame contents (later_answers d contents (opened_by q t) request)) t))
+    → ((request : SdoRequest) → request_in frame ≡ Some request → is_initiate (Some request) ≡ false → StepsTo d.rows (after_later d contents (opened_by q t) request) (extended (exchange frame contents (later_answers d contents (opened_by q t) request)) t))
     → StepsTo d.rows (opened_next d contents (opened_by q t) frame) (open_transfer (Exchanged (exchange frame contents (answers_to d contents (opened_by q t) frame)) ∷ log))
 open_outside d contents log frame t q e o lawful h go = rw h (outside_step d contents log frame t (opened_by q t) e (inside_of t q false o h) lawful go (request_in frame) refl)
 
-download_stage : (d : Description) (contents : Contents) (log : Log) (frame : List ℕ) (t : Transfer) (key : Key) (size : Option ℕ) → open_transfer log ≡ Some t → request_in t.begin.request ≡ Some (BlockDownloadBegin key size) → IsDictionary d contents
+download_stage : (d : Description) (contents : Contents) (log : Log) (frame : List ℕ) (t : Transfer) (key : Key) (size : Option ℕ) → open_transfer log ≡ Some t → request_in t.begin.request ≡ Some (BlockDownloadInitiate key size) → IsDictionary d contents
     → IsBlockDownload (capacity_at d.rows key) (requests t.later) → length frame ≡ 8 → (last : Bool) → has_last (requests t.later) ≡ last
-    → StepsTo d.rows (opened_next d contents (opened_by (Some (BlockDownloadBegin key size)) t) frame) (open_transfer (Exchanged (exchange frame contents (answers_to d contents (opened_by (Some (BlockDownloadBegin key size)) t) frame)) ∷ log))
+    → StepsTo d.rows (opened_next d contents (opened_by (Some (BlockDownloadInitiate key size)) t) frame) (open_transfer (Exchanged (exchange frame contents (answers_to d contents (opened_by (Some (BlockDownloadInitiate key size)) t) frame)) ∷ log))
 download_stage d contents log frame t key size e o lawful u n true h =
-    open_outside d contents log frame t (Some (BlockDownloadBegin key size)) e o lawful (rw h refl)
+    open_outside d contents log frame t (Some (BlockDownloadInitiate key size)) e o lawful (rw h refl)
     (λ request f b. rw h (block_download_goes_on d contents key size t frame request o h f b))
 download_stage d contents log frame t key size e o lawful u n false h =
-    let i : is_inside t ≡ true = inside_of t (Some (BlockDownloadBegin key size)) true o (rw h refl) in
-    rw h (rw (after_open log (exchange frame contents (sub_block_answers d.rows (receiving key size t) (length (taken_segments (sub_block (requests t.later)))) frame)) t e (ap (λ b. not b && is_begin (request_in frame)) i))
+    let i : is_inside t ≡ true = inside_of t (Some (BlockDownloadInitiate key size)) true o (rw h refl) in
+    rw h (rw (after_open log (exchange frame contents (sub_block_answers d.rows (receiving key size t) (length (taken_segments (sub_block (requests t.later)))) frame)) t e (ap (λ b. not b && is_initiate (request_in frame)) i))
     (frame_step d.rows contents key size t frame o h u n))
 
 open_by : (d : Description) (contents : Contents) (log : Log) (frame : List ℕ) (t : Transfer) (q : Option SdoRequest) → open_transfer log ≡ Some t → request_in t.begin.request ≡ q → is_transfer_after d.rows q t → IsDictionary d contents → length frame ≡ 8
     → StepsTo d.rows (opened_next d contents (opened_by q t) frame) (open_transfer (Exchanged (exchange frame contents (answers_to d contents (opened_by q t) frame)) ∷ log))
-open_by d contents log frame t (Some (DownloadBegin key size)) e o u lawful n = open_outside d contents log frame t (Some (DownloadBegin key size)) e o lawful refl (λ request f b. download_goes_on d contents key size t frame request o u f b)
+open_by d contents log frame t (Some (DownloadInitiate key size)) e o u lawful n = open_outside d contents log frame t (Some (DownloadInitiate key size)) e o lawful refl (λ request f b. download_goes_on d contents key size t frame request o u f b)
 open_by d contents log frame t (Some (Upload key)) e o u lawful n = open_outside d contents log frame t (Some (Upload key)) e o lawful refl (λ request f b. upload_goes_on d contents key t frame request o u f b)
-open_by d contents log frame t (Some (BlockUploadBegin key size threshold)) e o u lawful n =
-    open_outside d contents log frame t (Some (BlockUploadBegin key size threshold)) e o lawful (upload_outside size t.later) (λ request f b. block_upload_goes_on d contents key size threshold t frame request o u f b)
-open_by d contents log frame t (Some (BlockDownloadBegin key size)) e o u lawful n = download_stage d contents log frame t key size e o lawful u n _ refl
+open_by d contents log frame t (Some (BlockUploadInitiate key size threshold)) e o u lawful n =
+    open_outside d contents log frame t (Some (BlockUploadInitiate key size threshold)) e o lawful (upload_outside size t.later) (λ request f b. block_upload_goes_on d contents key size threshold t frame request o u f b)
+open_by d contents log frame t (Some (BlockDownloadInitiate key size)) e o u lawful n = download_stage d contents log frame t key size e o lawful u n _ refl
 open_by d contents log frame t _ e o u lawful n = absurd u
 
 steps_at : (d : Description) (contents : Contents) (log : Log) (frame : List ℕ) (t : Option Transfer) → open_transfer log ≡ t → is_under_way d.rows t → IsDictionary d contents → length frame ≡ 8
@@ -176,7 +176,7 @@ made d contents q t frame = permitted d contents (cond (is_whole_after q (frame 
 
 segment_sets : (d : Description) (contents : Contents) (key : Key) (size : Option ℕ) (t : Transfer) (frame : List ℕ) (toggle : Bool) (segment : ArrayVec ℕ) (last : Bool)
     → IsSegmentedDownload (capacity_at d.rows key) (requests t.later) → request_in frame ≡ Some (DownloadSegment toggle segment last)
-    → made d contents (Some (DownloadBegin key size)) t frame ≡ set_by_segment d contents (segmented key size t) (Download size (is_odd (length (requests t.later)))) toggle segment.items last
+    → made d contents (Some (DownloadInitiate key size)) t frame ≡ set_by_segment d contents (segmented key size t) (Download size (is_odd (length (requests t.later)))) toggle segment.items last
 segment_sets d contents key size t frame toggle segment last u f =
     let bytes = segments_joined (requests t.later) ++ segment.items in
     rw (f, u.segments) (permitted_if d contents (((same_bool toggle (is_odd (length (requests t.later))) && same_bool last true) && true) && is_as_indicated size (length bytes)) (record { key = key; indicated = size; bytes = bytes })
@@ -186,7 +186,7 @@ segment_sets d contents key size t frame toggle segment last u f =
 -- one more request of a segmented download
 download_sets : (d : Description) (contents : Contents) (key : Key) (size : Option ℕ) (t : Transfer) (frame : List ℕ) (r : Option SdoRequest)
     → IsSegmentedDownload (capacity_at d.rows key) (requests t.later) → request_in frame ≡ r → is_expedited r ≡ false
-    → made d contents (Some (DownloadBegin key size)) t frame ≡ set_by_request d contents (Some (segmented key size t)) r
+    → made d contents (Some (DownloadInitiate key size)) t frame ≡ set_by_request d contents (Some (segmented key size t)) r
 download_sets d contents key size t frame (Some (DownloadSegment toggle segment last)) u f x = segment_sets d contents key size t frame toggle segment last u f
 download_sets d contents key size t frame (Some (DownloadExpedited k e)) u f x = absurd (false≢true (sym x))
 download_sets d contents key size t frame _ u f x = rw f refl
@@ -199,7 +199,7 @@ end_settles false None x bad = absurd (bad refl refl)
 -- one more request of a block download whose segment with c was taken
 block_sets : (d : Description) (contents : Contents) (key : Key) (size : Option ℕ) (t : Transfer) (frame : List ℕ) (r : Option SdoRequest)
     → has_last (requests t.later) ≡ true → request_in frame ≡ r → is_expedited r ≡ false
-    → made d contents (Some (BlockDownloadBegin key size)) t frame ≡ set_by_request d contents (Some (last_taken key size t)) r
+    → made d contents (Some (BlockDownloadInitiate key size)) t frame ≡ set_by_request d contents (Some (last_taken key size t)) r
 block_sets d contents key size t frame (Some (BlockDownloadEnd unused)) h f x =
     let bytes = without unused (block_bytes (requests t.later)) in
     rw (f, h) (permitted_if d contents ((true && true) && is_as_indicated size (length bytes)) (record { key = key; indicated = size; bytes = bytes })
@@ -253,23 +253,23 @@ outside_sets d contents frame t q e h go =
     rw (inside_of t q false e h, h) (expedited_sets d contents frame (opened_by q t) (whole_download d.rows t.begin.request (frame ∷ requests t.later)) (request_in frame) refl
     (λ x. made_is d contents t frame q e ∙ go (request_in frame) refl x))
 
-download_stage_sets : (d : Description) (contents : Contents) (frame : List ℕ) (t : Transfer) (key : Key) (size : Option ℕ) → request_in t.begin.request ≡ Some (BlockDownloadBegin key size)
+download_stage_sets : (d : Description) (contents : Contents) (frame : List ℕ) (t : Transfer) (key : Key) (size : Option ℕ) → request_in t.begin.request ≡ Some (BlockDownloadInitiate key size)
     → (last : Bool) → has_last (requests t.later) ≡ last
-    → permitted d contents (completed_by d.rows (Some t) frame) ≡ set_next d contents (opened_by (Some (BlockDownloadBegin key size)) t) frame
+    → permitted d contents (completed_by d.rows (Some t) frame) ≡ set_next d contents (opened_by (Some (BlockDownloadInitiate key size)) t) frame
 download_stage_sets d contents frame t key size e true h =
-    let is_last : opened_by (Some (BlockDownloadBegin key size)) t ≡ Some (last_taken key size t) = rw h refl in
-    outside_sets d contents frame t (Some (BlockDownloadBegin key size)) e (rw h refl) (λ r f x. block_sets d contents key size t frame r h f x ∙ ap (λ o. set_by_request d contents o r) (sym is_last))
+    let is_last : opened_by (Some (BlockDownloadInitiate key size)) t ≡ Some (last_taken key size t) = rw h refl in
+    outside_sets d contents frame t (Some (BlockDownloadInitiate key size)) e (rw h refl) (λ r f x. block_sets d contents key size t frame r h f x ∙ ap (λ o. set_by_request d contents o r) (sym is_last))
 download_stage_sets d contents frame t key size e false h =
-    let i : is_inside t ≡ true = inside_of t (Some (BlockDownloadBegin key size)) true e (rw h refl) in
+    let i : is_inside t ≡ true = inside_of t (Some (BlockDownloadInitiate key size)) true e (rw h refl) in
     rw (i, h) refl
 
 sets_by : (d : Description) (contents : Contents) (frame : List ℕ) (t : Transfer) (q : Option SdoRequest) → request_in t.begin.request ≡ q → is_transfer_after d.rows q t
     → permitted d contents (completed_by d.rows (Some t) frame) ≡ set_next d contents (opened_by q t) frame
-sets_by d contents frame t (Some (DownloadBegin key size)) e u = outside_sets d contents frame t (Some (DownloadBegin key size)) e refl (λ r f x. download_sets d contents key size t frame r u f x)
+sets_by d contents frame t (Some (DownloadInitiate key size)) e u = outside_sets d contents frame t (Some (DownloadInitiate key size)) e refl (λ r f x. download_sets d contents key size t frame r u f x)
 sets_by d contents frame t (Some (Upload key)) e u = outside_sets d contents frame t (Some (Upload key)) e refl (λ r f x. upload_sets d contents key t r x)
-sets_by d contents frame t (Some (BlockUploadBegin key size threshold)) e u =
-    outside_sets d contents frame t (Some (BlockUploadBegin key size threshold)) e (upload_outside size t.later) (λ r f x. block_upload_sets d contents key size t r x)
-sets_by d contents frame t (Some (BlockDownloadBegin key size)) e u = download_stage_sets d contents frame t key size e _ refl
+sets_by d contents frame t (Some (BlockUploadInitiate key size threshold)) e u =
+    outside_sets d contents frame t (Some (BlockUploadInitiate key size threshold)) e (upload_outside size t.later) (λ r f x. block_upload_sets d contents key size t r x)
+sets_by d contents frame t (Some (BlockDownloadInitiate key size)) e u = download_stage_sets d contents frame t key size e _ refl
 sets_by d contents frame t _ e u = absurd u
 
 sets_at : (d : Description) (contents : Contents) (frame : List ℕ) (t : Option Transfer) → is_under_way d.rows t → permitted d contents (completed_by d.rows t frame) ≡ set_next d contents (opened t) frame

@@ -4,7 +4,7 @@ use Rattle.co_value.specs.declared.key.Key.{Key}
 use Rattle.co_frame.specs.declared.sdo_request.ExpeditedData.{ExpeditedData}
 use Rattle.co_frame.specs.declared.sdo_request.ExpeditedData.TheVariants.{Indicated, NotIndicated}
 use Rattle.co_frame.specs.declared.sdo_request.SdoRequest.{SdoRequest}
-use Rattle.co_frame.specs.declared.sdo_request.SdoRequest.TheVariants.{DownloadExpedited, DownloadBegin, DownloadSegment, BlockDownloadBegin, BlockDownloadEnd}
+use Rattle.co_frame.specs.declared.sdo_request.SdoRequest.TheVariants.{DownloadExpedited, DownloadInitiate, DownloadSegment, BlockDownloadInitiate, BlockDownloadEnd}
 use Rattle.co_frame.specs.SdoRequests.{request_in}
 use Rattle.co_dict.specs.Rows.{Rows}
 use Rattle.co_sdo.specs.Refused.{capacity_at}
@@ -80,8 +80,8 @@ is_empty (frame ∷ older) = false
 
 abbrev pub is_whole_after : Option SdoRequest → List (List ℕ) → Bool
 is_whole_after (Some (DownloadExpedited key expedited)) later = is_empty later
-is_whole_after (Some (DownloadBegin key size)) later = are_all_segments later && is_as_indicated size (length (segments_joined later))
-is_whole_after (Some (BlockDownloadBegin key size)) later = are_all_sub_blocks later && is_as_indicated size (length (sub_blocks_joined later))
+is_whole_after (Some (DownloadInitiate key size)) later = are_all_segments later && is_as_indicated size (length (segments_joined later))
+is_whole_after (Some (BlockDownloadInitiate key size)) later = are_all_sub_blocks later && is_as_indicated size (length (sub_blocks_joined later))
 is_whole_after _ later = false
 
 -- a begin and the requests after it, newest first, are a whole download
@@ -90,8 +90,8 @@ is_whole_download begin later = is_whole_after (request_in begin) later
 
 abbrev pub download_after : Rows → Option SdoRequest → List (List ℕ) → Option Download
 download_after rows (Some (DownloadExpedited key expedited)) later = Some (record { key = key; indicated = None; bytes = expedited_part rows key expedited })
-download_after rows (Some (DownloadBegin key size)) later = Some (record { key = key; indicated = size; bytes = segments_joined later })
-download_after rows (Some (BlockDownloadBegin key size)) later = Some (record { key = key; indicated = size; bytes = sub_blocks_joined later })
+download_after rows (Some (DownloadInitiate key size)) later = Some (record { key = key; indicated = size; bytes = segments_joined later })
+download_after rows (Some (BlockDownloadInitiate key size)) later = Some (record { key = key; indicated = size; bytes = sub_blocks_joined later })
 download_after rows _ later = None
 
 -- the download that a begin and the requests after it make, if they are a whole one

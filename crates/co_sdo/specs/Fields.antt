@@ -1,7 +1,7 @@
 -- What the fields of a channel are seen as, and what holds of them.
 use Rattle.std.specs.Prelude.{ℕ, ◌+◌, ◌*◌, ◌≤◌, ◌<◌, List, Option, Some, None}
 use Rattle.co_sdo.specs.declared.stage.Stage.{Stage}
-use Rattle.co_sdo.specs.declared.stage.Stage.TheVariants.{Download, Upload, SubBlock, LastTaken, BlockUploadBegun, BlockUpload, BlockUploadEnded}
+use Rattle.co_sdo.specs.declared.stage.Stage.TheVariants.{Download, Upload, SubBlock, LastTaken, BlockUploadInitiated, BlockUpload, BlockUploadEnded}
 use Rattle.co_sdo.specs.declared.stage.Ongoing.{Ongoing}
 use Rattle.co_sdo.specs.Uploads.{segments_for}
 use Rattle.co_sdo.specs.Opened.{OpenTransfer}
@@ -16,7 +16,7 @@ stage_room (Download indicated toggle) held greatest = held ≤ greatest
 stage_room (Upload sent) held greatest = (held ≤ greatest) × (7 * sent ≤ held)
 stage_room (SubBlock indicated taken) held greatest = (held ≤ greatest + 7 * taken) × (taken < 127)
 stage_room (LastTaken indicated) held greatest = held ≤ greatest + 889
-stage_room (BlockUploadBegun block_size) held greatest = (held ≤ greatest) × (1 ≤ block_size) × (block_size ≤ 127)
+stage_room (BlockUploadInitiated block_size) held greatest = (held ≤ greatest) × (1 ≤ block_size) × (block_size ≤ 127)
 stage_room (BlockUpload acknowledged sent) held greatest = (held ≤ greatest) × (acknowledged + sent ≤ segments_for held) × (sent ≤ 127)
 stage_room BlockUploadEnded held greatest = held ≤ greatest
 

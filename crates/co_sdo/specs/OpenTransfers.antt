@@ -5,7 +5,7 @@ use Rattle.std.specs.Option.{option_map_or}
 use Rattle.co_frame.specs.SdoFields.{command}
 use Rattle.co_frame.specs.SdoRequests.{request_in}
 use Rattle.co_frame.specs.declared.sdo_request.SdoRequest.{SdoRequest}
-use Rattle.co_frame.specs.declared.sdo_request.SdoRequest.TheVariants.{DownloadExpedited, DownloadBegin, Upload, Abort, BlockUploadBegin, BlockUploadEnd, BlockDownloadBegin}
+use Rattle.co_frame.specs.declared.sdo_request.SdoRequest.TheVariants.{DownloadExpedited, DownloadInitiate, Upload, Abort, BlockUploadInitiate, BlockUploadEnd, BlockDownloadInitiate}
 use Rattle.co_frame.specs.declared.sdo_response.SdoResponse.TheVariants.{UploadExpedited, UploadSegment}
 use Rattle.co_sdo.specs.Log.{Answer, Response, Exchange, Event, Exchanged, Ticked, TimedOut, Dropped, Log, is_abort, exchanges, requests}
 use Rattle.co_sdo.specs.SubBlocks.{has_last}
@@ -17,16 +17,16 @@ pub record Transfer : Type 0 where
   pub later : List Exchange
 
 -- a begin of a transfer, expedited too
-abbrev pub is_begin : Option SdoRequest → Bool
-is_begin (Some (DownloadExpedited key expedited)) = true
-is_begin (Some (DownloadBegin key size)) = true
-is_begin (Some (Upload key)) = true
-is_begin (Some (BlockUploadBegin key block_size threshold)) = true
-is_begin (Some (BlockDownloadBegin key size)) = true
-is_begin _ = false
+abbrev pub is_initiate : Option SdoRequest → Bool
+is_initiate (Some (DownloadExpedited key expedited)) = true
+is_initiate (Some (DownloadInitiate key size)) = true
+is_initiate (Some (Upload key)) = true
+is_initiate (Some (BlockUploadInitiate key block_size threshold)) = true
+is_initiate (Some (BlockDownloadInitiate key size)) = true
+is_initiate _ = false
 
 abbrev pub is_inside_after : Option SdoRequest → List (List ℕ) → Bool
-is_inside_after (Some (BlockDownloadBegin key size)) later = not (has_last later)
+is_inside_after (Some (BlockDownloadInitiate key size)) later = not (has_last later)
 is_inside_after _ later = false
 
 -- the next frame falls inside a sub-block: a block download was begun, and no segment with c was taken
@@ -70,7 +70,7 @@ is_upload_end _ = false
 
 abbrev pub is_uploaded : Option SdoRequest → Exchange → Bool
 is_uploaded (Some (Upload key)) last = list_any is_last_part last.answers
-is_uploaded (Some (BlockUploadBegin key block_size threshold)) last = is_upload_end (request_in last.request)
+is_uploaded (Some (BlockUploadInitiate key block_size threshold)) last = is_upload_end (request_in last.request)
 is_uploaded _ last = false
 
 -- a transfer is finished: a whole download, an upload of which the last part was sent, a block upload that the client has ended
@@ -92,7 +92,7 @@ open_since (Some s) = if has_cut s.begin s.later || is_finished (transfer_of s) 
 
 -- a request begins a transfer, unless it falls inside a sub-block
 abbrev pub begins : Option Transfer → List ℕ → Bool
-begins current request = not (option_map_or is_inside current false) && is_begin (request_in request)
+begins current request = not (option_map_or is_inside current false) && is_initiate (request_in request)
 
 abbrev pub and_event : Event → Option Since → Option Since
 and_event e None = None
@@ -105,10 +105,10 @@ since_with (TimedOut answers) s = and_event (TimedOut answers) s
 since_with Dropped s = and_event Dropped s
 
 -- the last begin of a log that isn't inside a sub-block, and the events after it
-abbrev pub since_begin : Log → Option Since
-since_begin [] = None
-since_begin (e ∷ log) = since_with e (since_begin log)
+abbrev pub since_initiate : Log → Option Since
+since_initiate [] = None
+since_initiate (e ∷ log) = since_with e (since_initiate log)
 
 -- the transfer that is open after a log
 abbrev pub open_transfer : Log → Option Transfer
-open_transfer log = open_since (since_begin log)
+open_transfer log = open_since (since_initiate log)

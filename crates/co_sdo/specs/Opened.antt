@@ -5,10 +5,10 @@ use Rattle.std.specs.Option.{option_map_or}
 use Rattle.co_value.specs.declared.key.Key.{Key}
 use Rattle.co_frame.specs.SdoRequests.{request_in}
 use Rattle.co_frame.specs.declared.sdo_request.SdoRequest.{SdoRequest}
-use Rattle.co_frame.specs.declared.sdo_request.SdoRequest.TheVariants.{DownloadBegin, Upload, BlockUploadBegin, BlockUploadAcknowledge, BlockDownloadBegin}
+use Rattle.co_frame.specs.declared.sdo_request.SdoRequest.TheVariants.{DownloadInitiate, Upload, BlockUploadInitiate, BlockUploadAcknowledge, BlockDownloadInitiate}
 use Rattle.co_frame.specs.declared.sdo_response.SdoResponse.TheVariants.{BlockUploadEnd as EndSent}
 use Rattle.co_sdo.specs.declared.stage.Stage.{Stage}
-use Rattle.co_sdo.specs.declared.stage.Stage.TheVariants.{Download, Upload as Uploading, SubBlock, LastTaken, BlockUploadBegun, BlockUpload, BlockUploadEnded}
+use Rattle.co_sdo.specs.declared.stage.Stage.TheVariants.{Download, Upload as Uploading, SubBlock, LastTaken, BlockUploadInitiated, BlockUpload, BlockUploadEnded}
 use Rattle.co_sdo.specs.Log.{Answer, Response, Exchange, Log, requests, ticks_quiet}
 use Rattle.co_sdo.specs.SubBlocks.{sub_block, taken_segments, block_bytes, has_last}
 use Rattle.co_sdo.specs.Downloads.{is_odd, segments_joined}
@@ -38,7 +38,7 @@ is_end_sent _ = false
 
 -- a block upload: before its start, after a sub-block, or after the server's end
 abbrev pub block_upload_stage : ℕ → List Exchange → Stage
-block_upload_stage block_size [] = BlockUploadBegun block_size
+block_upload_stage block_size [] = BlockUploadInitiated block_size
 block_upload_stage block_size (x ∷ older) =
     if list_any is_end_sent x.answers then BlockUploadEnded
     else BlockUpload (acknowledged (requests (x ∷ older))) (length x.answers)
@@ -48,10 +48,10 @@ abbrev pub block_download_stage : Option ℕ → List (List ℕ) → Stage
 block_download_stage size later = if has_last later then LastTaken size else SubBlock size (length (taken_segments (sub_block later)))
 
 abbrev pub opened_by : Option SdoRequest → Transfer → Option OpenTransfer
-opened_by (Some (DownloadBegin key size)) t = Some (record { key = key; stage = Download size (is_odd (length (requests t.later))); bytes = segments_joined (requests t.later) })
+opened_by (Some (DownloadInitiate key size)) t = Some (record { key = key; stage = Download size (is_odd (length (requests t.later))); bytes = segments_joined (requests t.later) })
 opened_by (Some (Upload key)) t = Some (record { key = key; stage = Uploading (length t.later); bytes = value_at t.begin.contents key })
-opened_by (Some (BlockUploadBegin key block_size threshold)) t = Some (record { key = key; stage = block_upload_stage block_size t.later; bytes = value_at t.begin.contents key })
-opened_by (Some (BlockDownloadBegin key size)) t = Some (record { key = key; stage = block_download_stage size (requests t.later); bytes = block_bytes (requests t.later) })
+opened_by (Some (BlockUploadInitiate key block_size threshold)) t = Some (record { key = key; stage = block_upload_stage block_size t.later; bytes = value_at t.begin.contents key })
+opened_by (Some (BlockDownloadInitiate key size)) t = Some (record { key = key; stage = block_download_stage size (requests t.later); bytes = block_bytes (requests t.later) })
 opened_by _ t = None
 
 -- how far a transfer is

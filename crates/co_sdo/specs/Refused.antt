@@ -6,15 +6,15 @@ use Rattle.co_dict.specs.Rows.{Contents}
 pub use Rattle.co_dict.specs.Rows.{capacity_at}
 use Rattle.co_dict.specs.Stores.{Description}
 use Rattle.co_dict.specs.ReadRefusals.{reading_refusal as read_refusal}
-use Rattle.co_dict.specs.WriteRefusals.{begin_refusal as write_refusal, writing_refusal}
+use Rattle.co_dict.specs.WriteRefusals.{initiate_refusal as write_refusal, writing_refusal}
 
 -- why an entry can't be read
 unfoldable pub reading_refusal : Description → Contents → Key → Option ℕ
 reading_refusal d contents key = read_refusal d.rows contents key
 
 -- why an entry can't be written, as far as is known when a transfer begins
-unfoldable pub begin_refusal : Description → Key → Option ℕ → Option ℕ
-begin_refusal d key indicated = write_refusal d.rows key indicated
+unfoldable pub initiate_refusal : Description → Key → Option ℕ → Option ℕ
+initiate_refusal d key indicated = write_refusal d.rows key indicated
 
 -- why an entry can't be written with these bytes, when a transfer completes
 unfoldable pub completion_refusal : Description → Contents → Key → Option ℕ → List ℕ → Option ℕ

@@ -7,19 +7,19 @@ use Rattle.co_frame.specs.BlockSegments.{block_segment_in}
 use Rattle.co_frame.specs.SdoRequests.{request_in}
 use Rattle.co_frame.specs.declared.block_segment.BlockSegment.{BlockSegment}
 use Rattle.co_frame.specs.declared.sdo_request.SdoRequest.{SdoRequest}
-use Rattle.co_frame.specs.declared.sdo_request.SdoRequest.TheVariants.{DownloadExpedited, DownloadBegin, DownloadSegment, Upload, UploadSegment, BlockUploadBegin, BlockUploadEnd, BlockUploadAcknowledge, BlockUploadStart, BlockDownloadBegin, BlockDownloadEnd}
-use Rattle.co_frame.specs.declared.sdo_response.SdoResponse.TheVariants.{DownloadDone, DownloadSegmentDone, Abort as Aborted, BlockDownloadBegun, BlockDownloadDone, BlockDownloadAcknowledge, BlockUploadBegun}
+use Rattle.co_frame.specs.declared.sdo_request.SdoRequest.TheVariants.{DownloadExpedited, DownloadInitiate, DownloadSegment, Upload, UploadSegment, BlockUploadInitiate, BlockUploadEnd, BlockUploadAcknowledge, BlockUploadStart, BlockDownloadInitiate, BlockDownloadEnd}
+use Rattle.co_frame.specs.declared.sdo_response.SdoResponse.TheVariants.{DownloadDone, DownloadSegmentDone, Abort as Aborted, BlockDownloadInitiated, BlockDownloadDone, BlockDownloadAcknowledge, BlockUploadInitiated}
 use Rattle.co_dict.specs.Rows.{Rows, Contents}
 use Rattle.co_dict.specs.Stores.{Description}
 use Rattle.co_dict.specs.Refusals.{refused_if, first_of, first_refusal}
 use Rattle.co_sdo.specs.declared.stage.Stage.{Stage}
-use Rattle.co_sdo.specs.declared.stage.Stage.TheVariants.{Download, Upload as Uploading, SubBlock, LastTaken, BlockUploadBegun as Begun, BlockUpload, BlockUploadEnded}
-use Rattle.co_sdo.specs.Refused.{capacity_at, reading_refusal, begin_refusal, completion_refusal}
+use Rattle.co_sdo.specs.declared.stage.Stage.TheVariants.{Download, Upload as Uploading, SubBlock, LastTaken, BlockUploadInitiated as Begun, BlockUpload, BlockUploadEnded}
+use Rattle.co_sdo.specs.Refused.{capacity_at, reading_refusal, initiate_refusal, completion_refusal}
 use Rattle.co_sdo.specs.Log.{Answer, Response, Log}
 use Rattle.co_sdo.specs.SubBlocks.{ends_sub_block, segment_taken, bytes_taken, is_last_taken}
 use Rattle.co_sdo.specs.Downloads.{is_odd, same_bool, expedited_part, without}
-use Rattle.co_sdo.specs.Uploads.{value_at, upload_begun, upload_segment, segment_count, sub_block_sent, block_upload_end}
-use Rattle.co_sdo.specs.OpenTransfers.{is_begin}
+use Rattle.co_sdo.specs.Uploads.{value_at, upload_initiated, upload_segment, segment_count, sub_block_sent, block_upload_end}
+use Rattle.co_sdo.specs.OpenTransfers.{is_initiate}
 use Rattle.co_sdo.specs.Opened.{OpenTransfer, opened_after}
 
 abbrev pub aborted : Key → ℕ → List Answer
@@ -128,15 +128,15 @@ upload_end_answers o _ = unexpected (Some o)
 -- ---- the table
 
 -- the answers to a begin: its first refusal, or its confirmation; those to an abort: none
-abbrev pub begin_answers : Description → Contents → SdoRequest → List Answer
-begin_answers d contents (DownloadExpedited key expedited) =
+abbrev pub initiate_answers : Description → Contents → SdoRequest → List Answer
+initiate_answers d contents (DownloadExpedited key expedited) =
     unless_refused (completion_refusal d contents key None (expedited_part d.rows key expedited)) key (Response (DownloadDone key) ∷ [])
-begin_answers d contents (DownloadBegin key size) = unless_refused (begin_refusal d key size) key (Response (DownloadDone key) ∷ [])
-begin_answers d contents (Upload key) = unless_refused (reading_refusal d contents key) key (upload_begun key (value_at contents key))
-begin_answers d contents (BlockUploadBegin key block_size threshold) =
-    unless_refused (first_of (reading_refusal d contents key) (block_size_refusal block_size)) key (Response (BlockUploadBegun key (Some (length (value_at contents key)))) ∷ [])
-begin_answers d contents (BlockDownloadBegin key size) = unless_refused (begin_refusal d key size) key (Response (BlockDownloadBegun key 127) ∷ [])
-begin_answers d contents _ = []
+initiate_answers d contents (DownloadInitiate key size) = unless_refused (initiate_refusal d key size) key (Response (DownloadDone key) ∷ [])
+initiate_answers d contents (Upload key) = unless_refused (reading_refusal d contents key) key (upload_initiated key (value_at contents key))
+initiate_answers d contents (BlockUploadInitiate key block_size threshold) =
+    unless_refused (first_of (reading_refusal d contents key) (block_size_refusal block_size)) key (Response (BlockUploadInitiated key (Some (length (value_at contents key)))) ∷ [])
+initiate_answers d contents (BlockDownloadInitiate key size) = unless_refused (initiate_refusal d key size) key (Response (BlockDownloadInitiated key 127) ∷ [])
+initiate_answers d contents _ = []
 
 -- the answers to a request that goes on with what is open
 abbrev pub on_open : Option OpenTransfer → (OpenTransfer → Stage → List Answer) → List Answer
@@ -156,7 +156,7 @@ later_answers d contents current _ = []
 abbrev pub request_answers : Description → Contents → Option OpenTransfer → Option SdoRequest → List Answer
 request_answers d contents current None = unexpected current
 request_answers d contents current (Some request) =
-    if is_begin (Some request) then begin_answers d contents request else later_answers d contents current request
+    if is_initiate (Some request) then initiate_answers d contents request else later_answers d contents current request
 
 abbrev pub is_sub_block : Stage → Bool
 is_sub_block (SubBlock indicated taken) = true

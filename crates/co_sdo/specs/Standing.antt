@@ -5,7 +5,7 @@ use Rattle.co_value.specs.declared.key.Key.{Key}
 use Rattle.co_frame.specs.FrameContent.{FrameContent}
 use Rattle.co_frame.specs.SdoRequests.{request_in}
 use Rattle.co_frame.specs.declared.sdo_request.SdoRequest.{SdoRequest}
-use Rattle.co_frame.specs.declared.sdo_request.SdoRequest.TheVariants.{DownloadBegin, Upload, BlockUploadBegin, BlockDownloadBegin}
+use Rattle.co_frame.specs.declared.sdo_request.SdoRequest.TheVariants.{DownloadInitiate, Upload, BlockUploadInitiate, BlockDownloadInitiate}
 use Rattle.co_dict.specs.Rows.{Rows, Contents}
 use Rattle.co_dict.specs.Stores.{Description}
 use Rattle.co_sdo.specs.declared.stage.Stage.{Stage}
@@ -42,10 +42,10 @@ pub record IsSegmentedDownload (capacity : ℕ) (later : List (List ℕ)) : Type
   pub bytes : length (segments_joined later) ≤ capacity
 
 abbrev pub is_transfer_after : Rows → Option SdoRequest → Transfer → Type 0
-is_transfer_after rows (Some (DownloadBegin key size)) t = IsSegmentedDownload (capacity_at rows key) (requests t.later)
+is_transfer_after rows (Some (DownloadInitiate key size)) t = IsSegmentedDownload (capacity_at rows key) (requests t.later)
 is_transfer_after rows (Some (Upload key)) t = length (value_at t.begin.contents key) ≤ capacity_at rows key
-is_transfer_after rows (Some (BlockUploadBegin key block_size threshold)) t = length (value_at t.begin.contents key) ≤ capacity_at rows key
-is_transfer_after rows (Some (BlockDownloadBegin key size)) t = IsBlockDownload (capacity_at rows key) (requests t.later)
+is_transfer_after rows (Some (BlockUploadInitiate key block_size threshold)) t = length (value_at t.begin.contents key) ≤ capacity_at rows key
+is_transfer_after rows (Some (BlockDownloadInitiate key size)) t = IsBlockDownload (capacity_at rows key) (requests t.later)
 is_transfer_after rows _ t = ⊥
 
 -- what is open is one of the four kinds, and its bytes are bounded

@@ -5,17 +5,17 @@ use Rattle.co_frame.specs.AbortCodes.{invalid_sequence_number}
 use Rattle.co_frame.specs.SdoFields.{command}
 use Rattle.co_frame.specs.SdoRequests.{request_in}
 use Rattle.co_frame.specs.declared.sdo_request.SdoRequest.{SdoRequest}
-use Rattle.co_frame.specs.declared.sdo_request.SdoRequest.TheVariants.{DownloadExpedited, DownloadBegin, DownloadSegment, Upload, UploadSegment, BlockUploadBegin, BlockUploadAcknowledge, BlockUploadStart, BlockDownloadBegin, BlockDownloadEnd}
+use Rattle.co_frame.specs.declared.sdo_request.SdoRequest.TheVariants.{DownloadExpedited, DownloadInitiate, DownloadSegment, Upload, UploadSegment, BlockUploadInitiate, BlockUploadAcknowledge, BlockUploadStart, BlockDownloadInitiate, BlockDownloadEnd}
 use Rattle.co_dict.specs.Rows.{Rows, Contents}
 use Rattle.co_dict.specs.Stores.{Description}
 use Rattle.co_dict.specs.Refusals.{refused_if, first_of}
 use Rattle.co_sdo.specs.declared.stage.Stage.{Stage}
-use Rattle.co_sdo.specs.declared.stage.Stage.TheVariants.{Download, Upload as Uploading, SubBlock, LastTaken, BlockUploadBegun as Begun, BlockUpload, BlockUploadEnded}
-use Rattle.co_sdo.specs.Refused.{capacity_at, reading_refusal, begin_refusal, completion_refusal}
+use Rattle.co_sdo.specs.declared.stage.Stage.TheVariants.{Download, Upload as Uploading, SubBlock, LastTaken, BlockUploadInitiated as Begun, BlockUpload, BlockUploadEnded}
+use Rattle.co_sdo.specs.Refused.{capacity_at, reading_refusal, initiate_refusal, completion_refusal}
 use Rattle.co_sdo.specs.SubBlocks.{ends_sub_block, is_last_taken}
 use Rattle.co_sdo.specs.Downloads.{Download as Whole, is_odd, expedited_part, without}
 use Rattle.co_sdo.specs.Uploads.{value_at, segment_count, sub_block_length}
-use Rattle.co_sdo.specs.OpenTransfers.{is_begin}
+use Rattle.co_sdo.specs.OpenTransfers.{is_initiate}
 use Rattle.co_sdo.specs.Opened.{OpenTransfer}
 use Rattle.co_sdo.specs.Completed.{unless}
 use Rattle.co_sdo.specs.Replies.{toggle_refusal, block_size_refusal, segment_refusal, segment_next, taken_with, held_with, sub_block_refusal, is_in_sub_block}
@@ -59,16 +59,16 @@ after_acknowledge o (BlockUpload count sent) sequence block_size =
     unless (refused_if (nat_lt sent sequence) invalid_sequence_number) (after_next_sub_block o (count + sequence) block_size)
 after_acknowledge o _ sequence block_size = None
 
-abbrev pub after_upload_begin : Key → List ℕ → Option OpenTransfer
-after_upload_begin key value = if nat_le 1 (length value) && nat_le (length value) 4 then None else opened_at key (Uploading 0) value
+abbrev pub after_upload_initiate : Key → List ℕ → Option OpenTransfer
+after_upload_initiate key value = if nat_le 1 (length value) && nat_le (length value) 4 then None else opened_at key (Uploading 0) value
 
-abbrev pub after_begin : Description → Contents → SdoRequest → Option OpenTransfer
-after_begin d contents (DownloadBegin key size) = unless (begin_refusal d key size) (opened_at key (Download size false) [])
-after_begin d contents (Upload key) = unless (reading_refusal d contents key) (after_upload_begin key (value_at contents key))
-after_begin d contents (BlockUploadBegin key block_size threshold) =
+abbrev pub after_initiate : Description → Contents → SdoRequest → Option OpenTransfer
+after_initiate d contents (DownloadInitiate key size) = unless (initiate_refusal d key size) (opened_at key (Download size false) [])
+after_initiate d contents (Upload key) = unless (reading_refusal d contents key) (after_upload_initiate key (value_at contents key))
+after_initiate d contents (BlockUploadInitiate key block_size threshold) =
     unless (first_of (reading_refusal d contents key) (block_size_refusal block_size)) (opened_at key (Begun block_size) (value_at contents key))
-after_begin d contents (BlockDownloadBegin key size) = unless (begin_refusal d key size) (opened_at key (SubBlock size 0) [])
-after_begin d contents _ = None
+after_initiate d contents (BlockDownloadInitiate key size) = unless (initiate_refusal d key size) (opened_at key (SubBlock size 0) [])
+after_initiate d contents _ = None
 
 abbrev pub next_on : Option OpenTransfer → (OpenTransfer → Stage → Option OpenTransfer) → Option OpenTransfer
 next_on None next = None
@@ -84,7 +84,7 @@ after_later d contents current _ = None
 abbrev pub after_request : Description → Contents → Option OpenTransfer → Option SdoRequest → Option OpenTransfer
 after_request d contents current None = None
 after_request d contents current (Some request) =
-    if is_begin (Some request) then after_begin d contents request else after_later d contents current request
+    if is_initiate (Some request) then after_initiate d contents request else after_later d contents current request
 
 abbrev pub after_frame_at : Rows → OpenTransfer → Stage → List ℕ → Option OpenTransfer
 after_frame_at rows o (SubBlock indicated taken) frame = after_frame rows o indicated taken frame
@@ -98,7 +98,7 @@ opened_next d contents current frame =
 
 -- the room that a channel knows after a request: a segmented download's begin looks up that of its entry
 abbrev pub room_after : Rows → ℕ → Option SdoRequest → ℕ
-room_after rows room (Some (DownloadBegin key size)) = capacity_at rows key
+room_after rows room (Some (DownloadInitiate key size)) = capacity_at rows key
 room_after rows room _ = room
 
 -- and after a frame

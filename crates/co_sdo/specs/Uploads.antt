@@ -4,7 +4,7 @@ use Rattle.std.specs.Prelude.{ℕ, ◌+◌, ◌-◌, ◌*◌, ◌&&◌, Bool, na
 use Rattle.std.specs.List.{range_with_len}
 use Rattle.co_value.specs.declared.key.Key.{Key}
 use Rattle.co_frame.specs.declared.sdo_request.ExpeditedData.TheVariants.{Indicated}
-use Rattle.co_frame.specs.declared.sdo_response.SdoResponse.TheVariants.{UploadExpedited, UploadBegun, UploadSegment, BlockUploadEnd}
+use Rattle.co_frame.specs.declared.sdo_response.SdoResponse.TheVariants.{UploadExpedited, UploadInitiated, UploadSegment, BlockUploadEnd}
 use Rattle.co_dict.specs.Rows.{Contents}
 use Rattle.co_sdo.specs.Log.{Answer, Response, Segment}
 pub use Rattle.co_frame.specs.Segments.{part_after, segments_for, segment_count, block_segment, sub_block_length}
@@ -14,11 +14,11 @@ abbrev pub value_at : Contents → Key → List ℕ
 value_at contents key = unwrap_or (contents key) []
 
 -- an upload's confirmation: 1 to 4 bytes are sent at once, of others the size
-abbrev pub upload_begun : Key → List ℕ → List Answer
-upload_begun key value =
+abbrev pub upload_initiated : Key → List ℕ → List Answer
+upload_initiated key value =
     if nat_le 1 (length value) && nat_le (length value) 4
     then Response (UploadExpedited key (Indicated (record { items = value }))) ∷ []
-    else Response (UploadBegun key (Some (length value))) ∷ []
+    else Response (UploadInitiated key (Some (length value))) ∷ []
 
 -- the segment after so many, with c where no bytes remain
 abbrev pub upload_segment : Bool → ℕ → List ℕ → List Answer

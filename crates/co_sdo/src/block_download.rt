@@ -4,18 +4,18 @@ ghost use Rattle.std.specs.Prelude.{◌≡◌, ℕ, ◌+◌, ◌*◌, ◌<◌, �
 ghost use Rattle.std.specs.Option.{option_map_or};
 ghost use Rattle.arrayvec.specs.ArrayVec.{array_vec_len};
 ghost use Rattle.co_value.specs.declared.key.Key.{Key};
-ghost use Rattle.co_frame.specs.declared.sdo_request.SdoRequest.TheVariants.{BlockDownloadBegin};
+ghost use Rattle.co_frame.specs.declared.sdo_request.SdoRequest.TheVariants.{BlockDownloadInitiate};
 ghost use Rattle.co_sdo.specs.Log.{frames_on};
 ghost use Rattle.co_sdo.specs.Refused.{capacity_at};
 ghost use Rattle.co_sdo.specs.SubBlocks.{segment_taken, bytes_taken};
-ghost use Rattle.co_sdo.specs.Replies.{on_open, frame_answers, block_end_answers, begin_answers};
+ghost use Rattle.co_sdo.specs.Replies.{on_open, frame_answers, block_end_answers, initiate_answers};
 ghost use Rattle.co_sdo.specs.Completed.{contents_with, key_set};
-ghost use Rattle.co_sdo.specs.Steps.{next_on, after_frame_at, after_begin, set_on_open, set_by_end};
+ghost use Rattle.co_sdo.specs.Steps.{next_on, after_frame_at, after_initiate, set_on_open, set_by_end};
 
 use crate::buffer::Buffer;
 use crate::channel::Channel;
 use crate::download::capacity;
-use crate::refusals::begin_refusal;
+use crate::refusals::initiate_refusal;
 use crate::request::segment_data;
 use crate::stage::{Ongoing, Stage};
 use co_dict::ObjectStore;
@@ -45,7 +45,7 @@ fn append_next(buffer: &mut Buffer, taken: u8, segment: &BlockSegment, bytes: &[
 impl Channel {
     // The begin of a block download: initiate SDO block download, ccs = 6, cs = 0.
     #[inline(never)]
-    pub(crate) fn begin_block_download<S: ObjectStore>(
+    pub(crate) fn initiate_block_download<S: ObjectStore>(
         &mut self,
         store: &S,
         key: Key,
@@ -55,16 +55,16 @@ impl Channel {
         requires room { array_vec_len outbox.old < 514 }
         ensures few { array_vec_len outbox.new ≤ array_vec_len outbox.old + 127 }
         ensures answers { outbox.new.items ≡ outbox.old.items ++ frames_on self.old.answer
-            (begin_answers (S.description store.now) (S.contents store.now) (BlockDownloadBegin
+            (initiate_answers (S.description store.now) (S.contents store.now) (BlockDownloadInitiate
             key size)) }
         ensures channel { self.new ≡ record self.old {
-          current = after_begin (S.description
-              store.now) (S.contents store.now) (BlockDownloadBegin key size);
+          current = after_initiate (S.description
+              store.now) (S.contents store.now) (BlockDownloadInitiate key size);
         } }
     {
         self.buffer.clear();
         self.current = None;
-        match begin_refusal(store, key, size) {
+        match initiate_refusal(store, key, size) {
             Some(code) => self.sender.refuse(key, code, outbox),
             None => {
                 self.current = Some(Ongoing {
@@ -75,7 +75,7 @@ impl Channel {
                     },
                 });
                 let block_size = 127;
-                self.sender.send(SdoResponse::BlockDownloadBegun { key, block_size }, outbox);
+                self.sender.send(SdoResponse::BlockDownloadInitiated { key, block_size }, outbox);
             }
         }
     }

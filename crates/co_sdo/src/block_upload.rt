@@ -3,12 +3,12 @@
 ghost use Rattle.std.specs.Prelude.{◌≡◌, ℕ, ◌+◌, ◌-◌, ◌*◌, ◌^◌, ◌<◌, ◌≤◌, ◌++◌, [], ◌∷◌, Some, None, true, false, length};
 ghost use Rattle.arrayvec.specs.ArrayVec.{array_vec_len};
 ghost use Rattle.co_value.specs.declared.key.Key.{Key};
-ghost use Rattle.co_frame.specs.declared.sdo_request.SdoRequest.TheVariants.{BlockUploadBegin};
+ghost use Rattle.co_frame.specs.declared.sdo_request.SdoRequest.TheVariants.{BlockUploadInitiate};
 ghost use Rattle.co_sdo.specs.Log.{frames_on};
 ghost use Rattle.co_sdo.specs.Refused.{capacity_at};
 ghost use Rattle.co_sdo.specs.Uploads.{segment_count, block_segment, sub_block_length, sub_block_sent};
-ghost use Rattle.co_sdo.specs.Replies.{on_open, start_answers, acknowledge_answers, upload_end_answers, begin_answers};
-ghost use Rattle.co_sdo.specs.Steps.{next_on, after_start, after_acknowledge, after_begin};
+ghost use Rattle.co_sdo.specs.Replies.{on_open, start_answers, acknowledge_answers, upload_end_answers, initiate_answers};
+ghost use Rattle.co_sdo.specs.Steps.{next_on, after_start, after_acknowledge, after_initiate};
 
 use crate::channel::Channel;
 use crate::refusals::reading_refusal;
@@ -83,7 +83,7 @@ impl Sender {
 impl Channel {
     // The begin of a block upload: initiate SDO block upload, ccs = 5, cs = 0.
     #[inline(never)]
-    pub(crate) fn begin_block_upload<S: ObjectStore>(
+    pub(crate) fn initiate_block_upload<S: ObjectStore>(
         &mut self,
         store: &S,
         key: Key,
@@ -96,11 +96,11 @@ impl Channel {
             self.old.greatest }
         ensures few { array_vec_len outbox.new ≤ array_vec_len outbox.old + 127 }
         ensures answers { outbox.new.items ≡ outbox.old.items ++ frames_on self.old.answer
-            (begin_answers (S.description store.now) (S.contents store.now) (BlockUploadBegin key
+            (initiate_answers (S.description store.now) (S.contents store.now) (BlockUploadInitiate key
             block_size threshold)) }
         ensures channel { self.new ≡ record self.old {
-          current = after_begin (S.description
-              store.now) (S.contents store.now) (BlockUploadBegin key block_size threshold);
+          current = after_initiate (S.description
+              store.now) (S.contents store.now) (BlockUploadInitiate key block_size threshold);
         } }
     {
         // the switch to another protocol is not supported
@@ -118,11 +118,11 @@ impl Channel {
         copy_value(store, key, &mut self.buffer);
         self.current = Some(Ongoing {
             key,
-            stage: Stage::BlockUploadBegun { block_size },
+            stage: Stage::BlockUploadInitiated { block_size },
         });
         let size = Some(self.buffer.len() as u32);
         self.sender
-            .send(SdoResponse::BlockUploadBegun { key, size }, outbox);
+            .send(SdoResponse::BlockUploadInitiated { key, size }, outbox);
     }
 
     // The start of a block upload: cs = 3.
@@ -140,7 +140,7 @@ impl Channel {
         let Some(
             Ongoing {
                 key,
-                stage: Stage::BlockUploadBegun { block_size },
+                stage: Stage::BlockUploadInitiated { block_size },
             },
         ) = self.current
         else {

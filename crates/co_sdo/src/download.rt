@@ -4,17 +4,17 @@ ghost use Rattle.std.specs.Prelude.{◌≡◌, ℕ, ◌+◌, ◌<◌, ◌≤◌,
 ghost use Rattle.arrayvec.specs.ArrayVec.{array_vec_len};
 ghost use Rattle.co_value.specs.declared.key.Key.{Key};
 ghost use Rattle.co_frame.specs.SdoResponses.{IsSdoResponse};
-ghost use Rattle.co_frame.specs.declared.sdo_request.SdoRequest.TheVariants.{DownloadExpedited, DownloadBegin};
+ghost use Rattle.co_frame.specs.declared.sdo_request.SdoRequest.TheVariants.{DownloadExpedited, DownloadInitiate};
 ghost use Rattle.co_sdo.specs.Log.{Response, frames_on};
 ghost use Rattle.co_sdo.specs.Refused.{capacity_at, completion_refusal};
 ghost use Rattle.co_sdo.specs.Downloads.{expedited_part, expedited_within};
-ghost use Rattle.co_sdo.specs.Replies.{on_open, segment_answers, begin_answers, unless_refused};
+ghost use Rattle.co_sdo.specs.Replies.{on_open, segment_answers, initiate_answers, unless_refused};
 ghost use Rattle.co_sdo.specs.Completed.{unless, contents_with, key_set};
 ghost use Rattle.co_sdo.specs.Standing.{is_room_for};
-ghost use Rattle.co_sdo.specs.Steps.{next_on, after_segment, after_begin, whole, set_expedited, set_on_open, set_by_segment};
+ghost use Rattle.co_sdo.specs.Steps.{next_on, after_segment, after_initiate, whole, set_expedited, set_on_open, set_by_segment};
 
 use crate::channel::Channel;
-use crate::refusals::{begin_refusal, completion_refusal};
+use crate::refusals::{initiate_refusal, completion_refusal};
 use crate::sender::Sender;
 use crate::stage::{Ongoing, Stage};
 use co_dict::ObjectStore;
@@ -100,7 +100,7 @@ impl Channel {
         requires room { array_vec_len outbox.old < 514 }
         ensures few { array_vec_len outbox.new ≤ array_vec_len outbox.old + 127 }
         ensures answers { outbox.new.items ≡ outbox.old.items ++ frames_on self.old.answer
-            (begin_answers (S.description store.old) (S.contents store.old) (DownloadExpedited key
+            (initiate_answers (S.description store.old) (S.contents store.old) (DownloadExpedited key
             data.now)) }
         ensures channel { self.new ≡ record self.old { current = None } }
         ensures key { result ≡ key_set (set_expedited (S.description store.old) (S.contents
@@ -118,7 +118,7 @@ impl Channel {
 
     // The begin of a segmented download: initiate SDO download, ccs = 1, e = 0.
     #[inline(never)]
-    pub(crate) fn begin_download<S: ObjectStore>(
+    pub(crate) fn initiate_download<S: ObjectStore>(
         &mut self,
         store: &S,
         key: Key,
@@ -130,18 +130,18 @@ impl Channel {
             self.old.greatest }
         ensures few { array_vec_len outbox.new ≤ array_vec_len outbox.old + 127 }
         ensures answers { outbox.new.items ≡ outbox.old.items ++ frames_on self.old.answer
-            (begin_answers (S.description store.now) (S.contents store.now) (DownloadBegin key
+            (initiate_answers (S.description store.now) (S.contents store.now) (DownloadInitiate key
             size)) }
         ensures channel { self.new ≡ record self.old {
           room = capacity_at (S.description store.now).rows key;
-          current = after_begin (S.description
-              store.now) (S.contents store.now) (DownloadBegin key size);
+          current = after_initiate (S.description
+              store.now) (S.contents store.now) (DownloadInitiate key size);
         } }
     {
         self.buffer.clear();
         self.current = None;
         self.room = capacity(store, key);
-        match begin_refusal(store, key, size) {
+        match initiate_refusal(store, key, size) {
             Some(code) => self.sender.refuse(key, code, outbox),
             None => {
                 self.current = Some(Ongoing {

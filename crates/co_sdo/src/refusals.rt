@@ -2,7 +2,7 @@
 
 ghost use Rattle.std.specs.Prelude.{◌≡◌, ℕ, true, length, None, option_map};
 ghost use Rattle.co_dict.specs.Rows.{takes};
-ghost use Rattle.co_sdo.specs.Refused.{reading_refusal, begin_refusal, completion_refusal};
+ghost use Rattle.co_sdo.specs.Refused.{reading_refusal, initiate_refusal, completion_refusal};
 
 use co_dict::{ObjectStore, may_begin, may_complete, may_read};
 use co_frame::AbortCode;
@@ -21,14 +21,14 @@ pub(crate) fn reading_refusal<S: ObjectStore>(store: &S, key: Key) -> Option<Abo
 }
 
 // Why an entry can't be written, as far as is known when a transfer begins.
-#[tactic(auto, unfolding(crate::specs::Refused::begin_refusal))]
-pub(crate) fn begin_refusal<S: ObjectStore>(
+#[tactic(auto, unfolding(crate::specs::Refused::initiate_refusal))]
+pub(crate) fn initiate_refusal<S: ObjectStore>(
     store: &S,
     key: Key,
     indicated: Option<u32>,
 ) -> Option<AbortCode>
     ensures { option_map (λ code. code.0) result
-        ≡ begin_refusal (S.description store.now) key indicated }
+        ≡ initiate_refusal (S.description store.now) key indicated }
 {
     match may_begin(store, key, indicated) {
         Ok(()) => None,

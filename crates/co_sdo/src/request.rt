@@ -69,29 +69,29 @@ impl Channel {
             SdoRequest::DownloadExpedited { key, data } => {
                 return self.take_expedited(store, *key, data, outbox);
             }
-            SdoRequest::DownloadBegin { key, size } => {
-                self.begin_download(store, *key, *size, outbox);
+            SdoRequest::DownloadInitiate { key, size } => {
+                self.initiate_download(store, *key, *size, outbox);
             }
             SdoRequest::DownloadSegment { toggle, data, last } => {
                 let part = &segment_data(frame)[..data.len()];
                 return self.take_segment(store, *toggle, part, *last, outbox);
             }
-            SdoRequest::Upload { key } => self.begin_upload(store, *key, outbox),
+            SdoRequest::Upload { key } => self.initiate_upload(store, *key, outbox),
             SdoRequest::UploadSegment { toggle } => self.take_upload_segment(*toggle, outbox),
             SdoRequest::Abort { key: _, code: _ } => self.current = None,
-            SdoRequest::BlockUploadBegin {
+            SdoRequest::BlockUploadInitiate {
                 key,
                 block_size,
                 threshold,
-            } => self.begin_block_upload(store, *key, *block_size, *threshold, outbox),
+            } => self.initiate_block_upload(store, *key, *block_size, *threshold, outbox),
             SdoRequest::BlockUploadEnd => self.end_block_upload(outbox),
             SdoRequest::BlockUploadAcknowledge {
                 sequence,
                 block_size,
             } => self.acknowledge_block_upload(*sequence, *block_size, outbox),
             SdoRequest::BlockUploadStart => self.start_block_upload(outbox),
-            SdoRequest::BlockDownloadBegin { key, size } => {
-                self.begin_block_download(store, *key, *size, outbox);
+            SdoRequest::BlockDownloadInitiate { key, size } => {
+                self.initiate_block_download(store, *key, *size, outbox);
             }
             SdoRequest::BlockDownloadEnd { unused } => {
                 return self.end_block_download(store, *unused, outbox);

@@ -24,7 +24,7 @@ pub(crate) enum Stage {
         indicated: Option<u32>,
     },
     /// A block upload before its start, with the number of segments in its first sub-block.
-    BlockUploadBegun {
+    BlockUploadInitiated {
         block_size: u8,
     },
     /// A sub-block of a block upload was sent: the number of segments acknowledged, and of those sent in it.

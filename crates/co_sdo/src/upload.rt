@@ -7,8 +7,8 @@ ghost use Rattle.co_frame.specs.declared.sdo_request.SdoRequest.TheVariants.{Upl
 ghost use Rattle.co_sdo.specs.Log.{frames_on};
 ghost use Rattle.co_sdo.specs.Refused.{capacity_at};
 ghost use Rattle.co_sdo.specs.Uploads.{value_at, part_after};
-ghost use Rattle.co_sdo.specs.Replies.{on_open, upload_answers, begin_answers};
-ghost use Rattle.co_sdo.specs.Steps.{next_on, after_upload_segment, after_begin};
+ghost use Rattle.co_sdo.specs.Replies.{on_open, upload_answers, initiate_answers};
+ghost use Rattle.co_sdo.specs.Steps.{next_on, after_upload_segment, after_initiate};
 
 use crate::buffer::Buffer;
 use crate::channel::Channel;
@@ -71,15 +71,15 @@ fn segment(part: &[u8]) -> ArrayVec<u8, 7>
 impl Channel {
     // The begin of an upload: initiate SDO upload, ccs = 2.
     #[inline(never)]
-    pub(crate) fn begin_upload<S: ObjectStore>(&mut self, store: &S, key: Key, outbox: &mut Outbox)
+    pub(crate) fn initiate_upload<S: ObjectStore>(&mut self, store: &S, key: Key, outbox: &mut Outbox)
         requires room { array_vec_len outbox.old < 514 }
         requires greatest { (key : Key) → capacity_at (S.description store.now).rows key ≤
             self.old.greatest }
         ensures few { array_vec_len outbox.new ≤ array_vec_len outbox.old + 127 }
         ensures answers { outbox.new.items ≡ outbox.old.items ++ frames_on self.old.answer
-            (begin_answers (S.description store.now) (S.contents store.now) (Upload key)) }
+            (initiate_answers (S.description store.now) (S.contents store.now) (Upload key)) }
         ensures channel { self.new ≡ record self.old {
-          current = after_begin (S.description
+          current = after_initiate (S.description
               store.now) (S.contents store.now) (Upload key);
         } }
     {
@@ -102,7 +102,7 @@ impl Channel {
         });
         let size = Some(len as u32);
         self.sender
-            .send(SdoResponse::UploadBegun { key, size }, outbox);
+            .send(SdoResponse::UploadInitiated { key, size }, outbox);
     }
 
     // The request of a segment: upload SDO segment, ccs = 3.

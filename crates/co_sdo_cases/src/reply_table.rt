@@ -173,7 +173,7 @@ pub(crate) fn last_segment_taken(first: u8, second: u8) -> Outcome {
 }
 
 /// A block upload of `0123456789` in sub-blocks of 127 segments, before its start.
-pub(crate) fn block_upload_begun(first: u8, second: u8) -> Outcome {
+pub(crate) fn block_upload_initiated(first: u8, second: u8) -> Outcome {
     let sub_block = Outcome {
         answers: [
             Some([0x01, b'0', b'1', b'2', b'3', b'4', b'5', b'6']),

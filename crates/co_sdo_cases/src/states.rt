@@ -3,7 +3,7 @@
 
 use crate::device::{Device, frame_of, small_device};
 use crate::reply_table::{
-    Outcome, block_upload_begun, block_upload_ended, block_upload_sent, full_sub_block, idle,
+    Outcome, block_upload_initiated, block_upload_ended, block_upload_sent, full_sub_block, idle,
     last_segment_taken, segmented_download, segmented_upload, sub_block,
 };
 use arrayvec::ArrayVec;
@@ -25,7 +25,7 @@ enum State {
     FullSubBlock,
     /// After the last segment of a block download.
     LastSegmentTaken,
-    BlockUploadBegun,
+    BlockUploadInitiated,
     BlockUploadSent,
     BlockUploadEnded,
 }
@@ -37,7 +37,7 @@ const STATES: [State; 9] = [
     State::SubBlock,
     State::FullSubBlock,
     State::LastSegmentTaken,
-    State::BlockUploadBegun,
+    State::BlockUploadInitiated,
     State::BlockUploadSent,
     State::BlockUploadEnded,
 ];
@@ -63,7 +63,7 @@ impl State {
                 "605#C20120000A000000 585#A00120007F000000 605#0161626364656667
                 605#8268696A00000000 585#A2027F0000000000"
             }
-            State::BlockUploadBegun => "605#A00120007F000000 585#C20120000A000000",
+            State::BlockUploadInitiated => "605#A00120007F000000 585#C20120000A000000",
             State::BlockUploadSent => {
                 "605#A00120007F000000 585#C20120000A000000
                 605#A300000000000000 585#0130313233343536 585#8237383900000000"
@@ -85,7 +85,7 @@ impl State {
             State::SubBlock => sub_block(first),
             State::FullSubBlock => full_sub_block(first),
             State::LastSegmentTaken => last_segment_taken(first, second),
-            State::BlockUploadBegun => block_upload_begun(first, second),
+            State::BlockUploadInitiated => block_upload_initiated(first, second),
             State::BlockUploadSent => block_upload_sent(first, second),
             State::BlockUploadEnded => block_upload_ended(first, second),
         }

@@ -233,10 +233,10 @@ segmented_four = refl
 -- ---- block downloads
 
 -- fourteen bytes in one sub-block
-block_begun : report (download Block (codes "0123456789abcd") true) (a (codes "A00120007F000000") ∷ [])
+block_initiated : report (download Block (codes "0123456789abcd") true) (a (codes "A00120007F000000") ∷ [])
     ≡ waiting (codes "C20120000E000000" ∷ codes "0130313233343536" ∷ codes "8237383961626364" ∷ [])
 unfolding response_row_in
-block_begun = refl
+block_initiated = refl
 
 block_acknowledged : report (download Block (codes "0123456789abcd") true) (a (codes "A00120007F000000") ∷ a (codes "A2027F0000000000") ∷ [])
     ≡ waiting (codes "C20120000E000000" ∷ codes "0130313233343536" ∷ codes "8237383961626364" ∷ codes "C100000000000000" ∷ [])

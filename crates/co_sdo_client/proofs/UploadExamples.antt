@@ -11,10 +11,10 @@ use Rattle.co_sdo_client.proofs.Reports.{upload, a, report, waiting, done, faile
 -- ---- segmented uploads
 
 -- ten bytes into room for ten
-upload_begun : report (upload Plain 10) (a (codes "410120000A000000") ∷ [])
+upload_initiated : report (upload Plain 10) (a (codes "410120000A000000") ∷ [])
     ≡ waiting (codes "4001200000000000" ∷ codes "6000000000000000" ∷ [])
 unfolding response_row_in
-upload_begun = refl
+upload_initiated = refl
 
 upload_next : report (upload Plain 10) (a (codes "410120000A000000") ∷ a (codes "0030313233343536") ∷ [])
     ≡ waiting (codes "4001200000000000" ∷ codes "6000000000000000" ∷ codes "7000000000000000" ∷ [])

@@ -4,7 +4,7 @@ use Rattle.co_frame.specs.declared.sdo_request.SdoRequest.TheVariants.{Abort}
 use Rattle.co_sdo_client.specs.declared.state.ClientState.{ClientState}
 use Rattle.co_sdo_client.specs.declared.state.ClientState.TheVariants.{Waiting, Done, Failed}
 use Rattle.co_sdo_client.specs.Calls.{Call, Message, Request, Event}
-use Rattle.co_sdo_client.specs.Segments.{begin_messages}
+use Rattle.co_sdo_client.specs.Segments.{initiate_messages}
 use Rattle.co_sdo_client.specs.Verdicts.{Verdict, GoesOn, Ends, GivesUp, IsAborted, verdict}
 
 abbrev pub state_by : Verdict → ClientState
@@ -40,12 +40,12 @@ asked_by call older event = while_waiting (outcome call older) (messages_by call
 
 -- what the newest event, or the begin, makes the client send
 abbrev pub asked : Call → List Event → List Message
-asked call [] = begin_messages call
+asked call [] = initiate_messages call
 asked call (event ∷ older) = asked_by call older event
 
 -- all that a client sent from its begin on, in its order
 abbrev pub all_asked : Call → List Event → List Message
-all_asked call [] = begin_messages call
+all_asked call [] = initiate_messages call
 all_asked call (event ∷ older) = all_asked call older ++ asked_by call older event
 
 -- how many frames it sent, aborts too

@@ -2,7 +2,7 @@
 use Rattle.std.specs.Prelude.{ℕ, ◌+◌, ◌-◌, ◌*◌, ◌/◌, ◌&&◌, Bool, max, nat_le, List, [], ◌∷◌, length, map, Option, Some, None, if◌then◌else◌}
 use Rattle.std.specs.List.{range_with_len}
 use Rattle.co_frame.specs.declared.sdo_request.ExpeditedData.TheVariants.{Indicated}
-use Rattle.co_frame.specs.declared.sdo_request.SdoRequest.TheVariants.{DownloadExpedited, DownloadBegin, DownloadSegment, Upload as UploadRequest, BlockUploadBegin, BlockDownloadBegin, BlockDownloadEnd}
+use Rattle.co_frame.specs.declared.sdo_request.SdoRequest.TheVariants.{DownloadExpedited, DownloadInitiate, DownloadSegment, Upload as UploadRequest, BlockUploadInitiate, BlockDownloadInitiate, BlockDownloadEnd}
 use Rattle.co_sdo_client.specs.declared.mode.Mode.{Mode}
 use Rattle.co_sdo_client.specs.declared.mode.Mode.TheVariants.{Plain, Segmented, Block}
 use Rattle.co_sdo_client.specs.declared.transfer.Transfer.{Transfer}
@@ -41,16 +41,16 @@ transfer_by Block (Upload cap) = BlockUpload
 abbrev pub transfer_of : Call → Transfer
 transfer_of call = transfer_by call.mode call.job
 
-abbrev pub begin_request : Call → Transfer → Message
-begin_request call ExpeditedDownload = Request (DownloadExpedited call.key (Indicated (record { items = bytes_of call.job })))
-begin_request call SegmentedDownload = Request (DownloadBegin call.key (size_sent call.job))
-begin_request call BlockDownload = Request (BlockDownloadBegin call.key (size_sent call.job))
-begin_request call SegmentedUpload = Request (UploadRequest call.key)
-begin_request call BlockUpload = Request (BlockUploadBegin call.key 127 0)
+abbrev pub initiate_request : Call → Transfer → Message
+initiate_request call ExpeditedDownload = Request (DownloadExpedited call.key (Indicated (record { items = bytes_of call.job })))
+initiate_request call SegmentedDownload = Request (DownloadInitiate call.key (size_sent call.job))
+initiate_request call BlockDownload = Request (BlockDownloadInitiate call.key (size_sent call.job))
+initiate_request call SegmentedUpload = Request (UploadRequest call.key)
+initiate_request call BlockUpload = Request (BlockUploadInitiate call.key 127 0)
 
 -- what a client sends at its begin
-abbrev pub begin_messages : Call → List Message
-begin_messages call = begin_request call (transfer_of call) ∷ []
+abbrev pub initiate_messages : Call → List Message
+initiate_messages call = initiate_request call (transfer_of call) ∷ []
 
 -- how many requests a segmented download of so many bytes needs: the begin, and one for each seven bytes or fewer (in the
 -- plain mode 1 to 4 bytes need one request alone)

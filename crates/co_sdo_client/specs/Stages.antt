@@ -2,7 +2,7 @@
 -- and parities over the answers, newest first.
 use Rattle.std.specs.Prelude.{ℕ, ◌+◌, ◌==◌, List, [], ◌∷◌, ◌++◌, length, Option, Some, None, if◌then◌else◌}
 use Rattle.co_frame.specs.declared.sdo_response.SdoResponse.{SdoResponse}
-use Rattle.co_frame.specs.declared.sdo_response.SdoResponse.TheVariants.{UploadBegun, UploadSegment, BlockDownloadBegun, BlockDownloadAcknowledge, BlockUploadBegun}
+use Rattle.co_frame.specs.declared.sdo_response.SdoResponse.TheVariants.{UploadInitiated, UploadSegment, BlockDownloadInitiated, BlockDownloadAcknowledge, BlockUploadInitiated}
 use Rattle.co_frame.specs.SdoResponses.{response_in}
 use Rattle.co_sdo_client.specs.declared.stage.Stage.{Stage}
 use Rattle.co_sdo_client.specs.declared.stage.Stage.TheVariants.{Begun, Download, Upload, BlockDownload, BlockDownloadEnded, SubBlock, LastTaken}
@@ -14,8 +14,8 @@ use Rattle.co_sdo_client.specs.SubBlocks.{sub_block, taken_segments, block_bytes
 
 -- the size that an answer indicates
 abbrev pub size_by : Option SdoResponse → Option ℕ
-size_by (Some (UploadBegun key size)) = size
-size_by (Some (BlockUploadBegun key size)) = size
+size_by (Some (UploadInitiated key size)) = size
+size_by (Some (BlockUploadInitiated key size)) = size
 size_by _ = None
 
 -- how many segments of a block download an answer acknowledges
@@ -30,7 +30,7 @@ acknowledged (frame ∷ older) = acknowledged older + acknowledged_by (response_
 
 -- the size that an answer gives the next sub-block of a block download
 abbrev pub block_size_by : Option SdoResponse → ℕ
-block_size_by (Some (BlockDownloadBegun key block_size)) = block_size
+block_size_by (Some (BlockDownloadInitiated key block_size)) = block_size
 block_size_by (Some (BlockDownloadAcknowledge sequence block_size)) = block_size
 block_size_by _ = 0
 

@@ -12,7 +12,7 @@ use Rattle.co_frame.specs.declared.sdo_request.ExpeditedData.{ExpeditedData}
 use Rattle.co_frame.specs.declared.sdo_request.ExpeditedData.TheVariants.{Indicated, NotIndicated}
 use Rattle.co_frame.specs.declared.sdo_request.SdoRequest.TheVariants.{UploadSegment as NextSegment, BlockUploadEnd as UploadEnd, BlockUploadAcknowledge, BlockUploadStart}
 use Rattle.co_frame.specs.declared.sdo_response.SdoResponse.{SdoResponse}
-use Rattle.co_frame.specs.declared.sdo_response.SdoResponse.TheVariants.{DownloadDone, DownloadSegmentDone, UploadExpedited, UploadBegun, UploadSegment, Abort as Aborted, BlockDownloadBegun, BlockDownloadDone, BlockDownloadAcknowledge, BlockUploadBegun, BlockUploadEnd}
+use Rattle.co_frame.specs.declared.sdo_response.SdoResponse.TheVariants.{DownloadDone, DownloadSegmentDone, UploadExpedited, UploadInitiated, UploadSegment, Abort as Aborted, BlockDownloadInitiated, BlockDownloadDone, BlockDownloadAcknowledge, BlockUploadInitiated, BlockUploadEnd}
 use Rattle.co_sdo_client.specs.declared.stage.Stage.{Stage}
 use Rattle.co_sdo_client.specs.declared.stage.Stage.TheVariants.{Begun, Download, Upload, BlockDownload, BlockDownloadEnded, SubBlock, LastTaken}
 use Rattle.co_sdo_client.specs.declared.transfer.Transfer.{Transfer}
@@ -171,17 +171,17 @@ block_upload_complete call size value =
 -- ---- the table: by how far the transfer is and by the answer
 
 -- an answer to the begin
-abbrev pub begin_verdict : Call → SdoResponse → Verdict
-begin_verdict call (DownloadDone key) = download_confirmed call (transfer_of call) key
-begin_verdict call (BlockDownloadBegun key block_size) = block_download_confirmed call (transfer_of call) key block_size
-begin_verdict call (UploadExpedited key expedited) = upload_expedited call (transfer_of call) key (expedited_value expedited)
-begin_verdict call (UploadBegun key size) = upload_confirmed call (transfer_of call) key size
-begin_verdict call (BlockUploadBegun key size) = block_upload_confirmed call (transfer_of call) key size
-begin_verdict call _ = unexpected
+abbrev pub initiate_verdict : Call → SdoResponse → Verdict
+initiate_verdict call (DownloadDone key) = download_confirmed call (transfer_of call) key
+initiate_verdict call (BlockDownloadInitiated key block_size) = block_download_confirmed call (transfer_of call) key block_size
+initiate_verdict call (UploadExpedited key expedited) = upload_expedited call (transfer_of call) key (expedited_value expedited)
+initiate_verdict call (UploadInitiated key size) = upload_confirmed call (transfer_of call) key size
+initiate_verdict call (BlockUploadInitiated key size) = block_upload_confirmed call (transfer_of call) key size
+initiate_verdict call _ = unexpected
 
 -- an answer that is no abort
 abbrev pub stage_verdict : Call → Stage → List ℕ → SdoResponse → Verdict
-stage_verdict call Begun held response = begin_verdict call response
+stage_verdict call Begun held response = initiate_verdict call response
 stage_verdict call (Download confirmed) held (DownloadSegmentDone toggle) =
     unless_fault (other_toggle toggle (is_odd confirmed) ∷ []) (segment_confirmed (bytes_of call.job) confirmed)
 stage_verdict call (Upload size expected) held (UploadSegment toggle segment last) =

@@ -23,12 +23,12 @@ impl<'a> Client<'a> {
             SdoResponse::DownloadDone { key } => self.confirm_download(*key, outbox),
             SdoResponse::DownloadSegmentDone { toggle } => self.confirm_segment(*toggle, outbox),
             SdoResponse::UploadExpedited { key, data } => self.take_expedited(*key, data, outbox),
-            SdoResponse::UploadBegun { key, size } => self.confirm_upload(*key, *size, outbox),
+            SdoResponse::UploadInitiated { key, size } => self.confirm_upload(*key, *size, outbox),
             SdoResponse::UploadSegment { toggle, data, last } => {
                 self.take_segment(*toggle, data, *last, outbox);
             }
             SdoResponse::Abort { key: _, code } => self.state = ClientState::Failed(*code),
-            SdoResponse::BlockDownloadBegun { key, block_size } => {
+            SdoResponse::BlockDownloadInitiated { key, block_size } => {
                 self.confirm_block_download(*key, *block_size, outbox);
             }
             SdoResponse::BlockDownloadDone => self.finish_block_download(outbox),
@@ -36,7 +36,7 @@ impl<'a> Client<'a> {
                 sequence,
                 block_size,
             } => self.take_acknowledge(*sequence, *block_size, outbox),
-            SdoResponse::BlockUploadBegun { key, size } => {
+            SdoResponse::BlockUploadInitiated { key, size } => {
                 self.confirm_block_upload(*key, *size, outbox);
             }
             SdoResponse::BlockUploadEnd { unused } => self.end_block_upload(*unused, outbox),

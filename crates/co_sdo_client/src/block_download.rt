@@ -2,7 +2,7 @@
 
 ghost use Rattle.std.specs.Prelude.{◌≡◌, ◌+◌, ◌*◌, ◌<◌, ◌≤◌, ◌++◌, [], ◌∷◌, Some, length};
 ghost use Rattle.arrayvec.specs.ArrayVec.{array_vec_len};
-ghost use Rattle.co_frame.specs.declared.sdo_response.SdoResponse.TheVariants.{BlockDownloadBegun, BlockDownloadDone, BlockDownloadAcknowledge};
+ghost use Rattle.co_frame.specs.declared.sdo_response.SdoResponse.TheVariants.{BlockDownloadInitiated, BlockDownloadDone, BlockDownloadAcknowledge};
 ghost use Rattle.co_sdo_client.specs.declared.stage.Stage.TheVariants.{BlockDownload};
 ghost use Rattle.co_sdo_client.specs.Calls.{frames_on};
 ghost use Rattle.co_sdo_client.specs.Segments.{bytes_of, segment_count, block_segment, sub_block_length, sub_block_sent};
@@ -96,8 +96,8 @@ impl<'a> Client<'a> {
         requires room { array_vec_len outbox.old + 127 ≤ 514 }
         ensures few { array_vec_len outbox.new ≤ array_vec_len outbox.old + 127 }
         ensures messages { outbox.new.items ≡ outbox.old.items ++ frames_on self.old.request
-            (messages_to self.old (Some (BlockDownloadBegun key block_size))) }
-        ensures client { self.new ≡ after_response self.old (Some (BlockDownloadBegun key
+            (messages_to self.old (Some (BlockDownloadInitiated key block_size))) }
+        ensures client { self.new ≡ after_response self.old (Some (BlockDownloadInitiated key
             block_size)) }
     {
         let Stage::Begun = self.stage else {

@@ -3,7 +3,7 @@
 ghost use Rattle.std.specs.Prelude.{◌≡◌, ◌+◌, ◌*◌, ◌<◌, ◌≤◌, ◌++◌, [], ◌∷◌, Some, length};
 ghost use Rattle.std.specs.Option.{option_map_or};
 ghost use Rattle.arrayvec.specs.ArrayVec.{array_vec_len};
-ghost use Rattle.co_frame.specs.declared.sdo_response.SdoResponse.TheVariants.{BlockUploadBegun, BlockUploadEnd};
+ghost use Rattle.co_frame.specs.declared.sdo_response.SdoResponse.TheVariants.{BlockUploadInitiated, BlockUploadEnd};
 ghost use Rattle.co_sdo_client.specs.declared.stage.Stage.TheVariants.{SubBlock};
 ghost use Rattle.co_sdo_client.specs.Calls.{frames_on};
 ghost use Rattle.co_sdo_client.specs.SubBlocks.{segment_taken, bytes_taken};
@@ -44,8 +44,8 @@ impl<'a> Client<'a> {
         requires room { array_vec_len outbox.old < 514 }
         ensures few { array_vec_len outbox.new ≤ array_vec_len outbox.old + 127 }
         ensures messages { outbox.new.items ≡ outbox.old.items ++ frames_on self.old.request
-            (messages_to self.old (Some (BlockUploadBegun key size))) }
-        ensures client { self.new ≡ after_response self.old (Some (BlockUploadBegun key size)) }
+            (messages_to self.old (Some (BlockUploadInitiated key size))) }
+        ensures client { self.new ≡ after_response self.old (Some (BlockUploadInitiated key size)) }
     {
         let Stage::Begun = self.stage else {
             self.give_up(AbortCode::UNKNOWN_COMMAND, outbox);

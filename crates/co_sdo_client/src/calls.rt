@@ -4,7 +4,7 @@ ghost use Rattle.std.specs.Prelude.{◌≡◌, ℕ, ◌+◌, ◌-◌, ◌<◌, �
 ghost use Rattle.arrayvec.specs.ArrayVec.{array_vec_len};
 ghost use Rattle.co_frame.specs.SdoRequests.{IsSdoRequest};
 ghost use Rattle.co_sdo_client.specs.Calls.{Call, Event, Ticked, Request, frames_on};
-ghost use Rattle.co_sdo_client.specs.Segments.{begin_messages, size_sent};
+ghost use Rattle.co_sdo_client.specs.Segments.{initiate_messages, size_sent};
 ghost use Rattle.co_sdo_client.specs.Outcomes.{asked_by};
 ghost use Rattle.co_sdo_client.specs.Standing.{ClientStands, IsReady, counted, waits, events_with, asked_with};
 ghost use Rattle.co_sdo_client.specs.Steps.{messages_to_tick, after_tick};
@@ -28,8 +28,8 @@ impl<'a> Client<'a> {
     }
 
     // What is sent at the begin.
-    fn begin_request(&self) -> SdoRequest
-        ensures request { Request result ∷ [] ≡ begin_messages self.now.call }
+    fn initiate_request(&self) -> SdoRequest
+        ensures request { Request result ∷ [] ≡ initiate_messages self.now.call }
         ensures spellable { IsSdoRequest result }
     {
         let key = self.key;
@@ -38,16 +38,16 @@ impl<'a> Client<'a> {
                 key,
                 data: ExpeditedData::Indicated(expedited(self.bytes)),
             },
-            Transfer::SegmentedDownload => SdoRequest::DownloadBegin {
+            Transfer::SegmentedDownload => SdoRequest::DownloadInitiate {
                 key,
                 size: self.size_sent(),
             },
-            Transfer::BlockDownload => SdoRequest::BlockDownloadBegin {
+            Transfer::BlockDownload => SdoRequest::BlockDownloadInitiate {
                 key,
                 size: self.size_sent(),
             },
             Transfer::SegmentedUpload => SdoRequest::Upload { key },
-            Transfer::BlockUpload => SdoRequest::BlockUploadBegin {
+            Transfer::BlockUpload => SdoRequest::BlockUploadInitiate {
                 key,
                 block_size: 127,
                 threshold: 0,
@@ -84,7 +84,7 @@ impl<'a> Client<'a> {
         requires room { array_vec_len outbox.old < 514 }
         ensures few { array_vec_len outbox.new ≤ array_vec_len outbox.old + 127 }
         ensures messages { (call : Call) → IsReady call self.old → outbox.new.items ≡
-            outbox.old.items ++ frames_on self.old.request (begin_messages call) }
+            outbox.old.items ++ frames_on self.old.request (initiate_messages call) }
         ensures begun { (call : Call) → IsReady call self.old → ClientStands call [] self.new }
         ensures silent { self.old.begun ≡ true → outbox.new.items ≡ outbox.old.items }
         ensures idle { self.old.begun ≡ true → self.new ≡ self.old }
@@ -95,7 +95,7 @@ impl<'a> Client<'a> {
         }
         self.begun = true;
         self.left = self.time;
-        let request = self.begin_request();
+        let request = self.initiate_request();
         self.send(request, outbox);
     }
 

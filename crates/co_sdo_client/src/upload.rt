@@ -2,7 +2,7 @@
 
 ghost use Rattle.std.specs.Prelude.{◌≡◌, ◌+◌, ◌<◌, ◌≤◌, ◌++◌, [], ◌∷◌, Some, length};
 ghost use Rattle.arrayvec.specs.ArrayVec.{array_vec_len};
-ghost use Rattle.co_frame.specs.declared.sdo_response.SdoResponse.TheVariants.{UploadExpedited, UploadBegun, UploadSegment};
+ghost use Rattle.co_frame.specs.declared.sdo_response.SdoResponse.TheVariants.{UploadExpedited, UploadInitiated, UploadSegment};
 ghost use Rattle.co_sdo_client.specs.Calls.{frames_on};
 ghost use Rattle.co_sdo_client.specs.Segments.{cap_of};
 ghost use Rattle.co_sdo_client.specs.Verdicts.{expedited_value, is_above_size, is_below_size};
@@ -92,8 +92,8 @@ impl<'a> Client<'a> {
         requires room { array_vec_len outbox.old < 514 }
         ensures few { array_vec_len outbox.new ≤ array_vec_len outbox.old + 127 }
         ensures messages { outbox.new.items ≡ outbox.old.items ++ frames_on self.old.request
-            (messages_to self.old (Some (UploadBegun key size))) }
-        ensures client { self.new ≡ after_response self.old (Some (UploadBegun key size)) }
+            (messages_to self.old (Some (UploadInitiated key size))) }
+        ensures client { self.new ≡ after_response self.old (Some (UploadInitiated key size)) }
     {
         let Stage::Begun = self.stage else {
             self.give_up(AbortCode::UNKNOWN_COMMAND, outbox);

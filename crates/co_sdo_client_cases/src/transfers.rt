@@ -114,12 +114,12 @@ fn block_lost_and_acknowledged_twice(rt: HostRuntime) -> Result<(), Fail> {
     let mut server = server(rt.alloc(), 2667)?;
     let mut client = Client::download(IDS, KEY, bytes.as_slice(), Mode::Block, false, 0);
     let begin = begun(&mut client);
-    let begun_answer = frame_of("585#A00021007F000000")?;
+    let initiated_answer = frame_of("585#A00021007F000000")?;
     assert_eq!(rt;
         takes(&mut server, &begin).as_slice(),
-        [begun_answer].as_slice()
+        [initiated_answer].as_slice()
     );
-    let first = answered(&mut client, &begun_answer);
+    let first = answered(&mut client, &initiated_answer);
     let acknowledge = frame_of("585#A27F7F0000000000")?;
     assert_eq!(rt;
         takes(&mut server, &first).as_slice(),

@@ -5,7 +5,7 @@ use Rattle.std.specs.List.{range_with_len}
 use Rattle.std.proofs.lemmas.Bool.{eqb-true}
 use Rattle.std.proofs.lemmas.Bool.Decides.{nat_tests}
 use Rattle.co_value.specs.Keys.{same_key-refl}
-use Rattle.co_frame.specs.declared.sdo_response.SdoResponse.TheVariants.{BlockDownloadBegun, BlockDownloadDone, BlockDownloadAcknowledge}
+use Rattle.co_frame.specs.declared.sdo_response.SdoResponse.TheVariants.{BlockDownloadInitiated, BlockDownloadDone, BlockDownloadAcknowledge}
 use Rattle.co_frame.specs.SdoResponses.{response_in, response_bytes}
 use Rattle.co_sdo_client.specs.declared.state.ClientState.TheVariants.{Waiting}
 use Rattle.co_sdo_client.specs.Calls.{message_bytes, Event as ClientEvent, Answered, answers as answers_of, Answers, since_first, with_answer}
@@ -16,7 +16,7 @@ use Rattle.co_sdo_client.specs.Outcomes.{outcome}
 use Rattle.co_dict.specs.Rows.{Contents}
 use Rattle.co_sdo.specs.Log.{Log}
 use Rattle.co_sdo_laws.specs.World.{Setup}
-use Rattle.co_sdo_laws.proofs.Frames.{block_begun_read, block_done_read, acknowledged_read}
+use Rattle.co_sdo_laws.proofs.Frames.{block_initiated_read, block_done_read, acknowledged_read}
 use Rattle.co_sdo_laws.proofs.Client.{follows}
 use Rattle.co_sdo_laws.proofs.Scripts.{AnswerCame}
 use Rattle.co_sdo_laws.proofs.BlockSegments.{sub_block_bytes}
@@ -31,10 +31,10 @@ verdict_since : (s : Setup) (events : List ClientEvent) (frame : List ℕ) (a : 
 verdict_since s events frame a h =
     ap (λ (x : Option Answers). answer_verdict s.call (stage_since s.call x) (held_after s.call events) frame) h
 
-begin_verdict : (s : Setup) → MayDownload s → (events : List ClientEvent) → HasBegun s events
-    → verdict s.call events (Answered (response_bytes (BlockDownloadBegun s.call.key 127))) ≡ GoesOn (sub_block_sent (bytes s) 0 127)
-begin_verdict s m events h =
-    verdict_since s events _ None h.first ∙ rw (block_begun_read s.call.key 127 m.index, m.transfer, same_key-refl s.call.key) refl
+initiate_verdict : (s : Setup) → MayDownload s → (events : List ClientEvent) → HasBegun s events
+    → verdict s.call events (Answered (response_bytes (BlockDownloadInitiated s.call.key 127))) ≡ GoesOn (sub_block_sent (bytes s) 0 127)
+initiate_verdict s m events h =
+    verdict_since s events _ None h.first ∙ rw (block_initiated_read s.call.key 127 m.index, m.transfer, same_key-refl s.call.key) refl
 
 below_itself : (n : ℕ) → nat_lt n n ≡ false
 below_itself n = grind (arith, nat_tests)
@@ -61,16 +61,16 @@ done_since s m a held t z =
     let all : eqb (count_of s) (count_of s) ≡ true = grind (arith, nat_tests) in
     rw (m.transfer, t, z, all, block_done_read) refl
 
-begin_took : (s : Setup) → MayDownload s → (events : List ClientEvent) → HasBegun s events
-    → Took s 0 (Answered (response_bytes (BlockDownloadBegun s.call.key 127)) ∷ events)
-begin_took s m events h =
-    let frame = response_bytes (BlockDownloadBegun s.call.key 127) in
+initiate_took : (s : Setup) → MayDownload s → (events : List ClientEvent) → HasBegun s events
+    → Took s 0 (Answered (response_bytes (BlockDownloadInitiated s.call.key 127)) ∷ events)
+initiate_took s m events h =
+    let frame = response_bytes (BlockDownloadInitiated s.call.key 127) in
     record {
-      waits = (follows s.call events (Answered frame) _ h.waits (begin_verdict s m events h)).state;
+      waits = (follows s.call events (Answered frame) _ h.waits (initiate_verdict s m events h)).state;
       taken = record { first = frame; later = [] };
       is = ap (λ (a : Option Answers). Some (with_answer frame a)) h.first;
       total = refl;
-      size = ap block_size_by (block_begun_read s.call.key 127 m.index);
+      size = ap block_size_by (block_initiated_read s.call.key 127 m.index);
     }
 
 -- ---- an answer comes
@@ -93,18 +93,18 @@ burst s i within =
     let some : size_of s i ≡ suc (size_of s i - 1) = omega arith in
     sub_block_bytes (bytes s) (127 * i) (range_with_len 1 (size_of s i)) ∙ ap (λ (n : ℕ). map (segment_at s i) (range_with_len 1 n)) some
 
-begun_came : (s : Setup) → MayDownload s → (events : List ClientEvent) (log : Log) (contents : Contents)
+initiated_came : (s : Setup) → MayDownload s → (events : List ClientEvent) (log : Log) (contents : Contents)
     → HasBegun s events → IsInside s 0 0 log contents
-    → AnswerCame s (places s) Begun (response_bytes (BlockDownloadBegun s.call.key 127)) [] events log contents
-begun_came s m events log contents c h =
-    let f = follows s.call events (Answered (response_bytes (BlockDownloadBegun s.call.key 127))) _ c.waits (begin_verdict s m events c) in
+    → AnswerCame s (places s) Begun (response_bytes (BlockDownloadInitiated s.call.key 127)) [] events log contents
+initiated_came s m events log contents c h =
+    let f = follows s.call events (Answered (response_bytes (BlockDownloadInitiated s.call.key 127))) _ c.waits (initiate_verdict s m events c) in
     record {
       next = Sending 0 0 (size_of s 0 - 1);
       answers = refl;
       requests = sym (ap (map message_bytes) f.messages ∙ burst s 0 (omega arith));
       received = refl;
       answered = refl;
-      client = begin_took s m events c;
+      client = initiate_took s m events c;
       channel = record { within = omega arith; size = omega arith; inside = h };
     }
 
@@ -192,7 +192,7 @@ pub answer_comes : (s : Setup) → MayDownload s
     → AnswerCame s (places s) at frame later events log contents
 answer_comes s m Beginning frame later events log contents q c h = cc
 answer_comes s m Begun frame later events log contents q c h =
-    front_answered s Begun _ frame later events log contents q (begun_came s m events log contents c h)
+    front_answered s Begun _ frame later events log contents q (initiated_came s m events log contents c h)
 answer_comes s m (Sending i taken more) frame later events log contents q c h = cc
 answer_comes s m (Acknowledging i) frame later events log contents q c h =
     front_answered s (Acknowledging i) _ frame later events log contents q (acknowledged_came s m i events log contents c h _ refl)

@@ -2,8 +2,8 @@
 use Rattle.std.proofs.Common.{◌≡◌, ℕ, suc, ◌+◌, ◌-◌, ◌*◌, ◌/◌, ◌<◌, ◌≤◌, true, List, [], ◌∷◌, length, take, map, Some, None}
 use Rattle.std.specs.List.{range_with_len}
 use Rattle.co_frame.specs.BlockSegments.{block_segment_bytes}
-use Rattle.co_frame.specs.declared.sdo_request.SdoRequest.TheVariants.{BlockDownloadBegin, BlockDownloadEnd}
-use Rattle.co_frame.specs.declared.sdo_response.SdoResponse.TheVariants.{BlockDownloadBegun, BlockDownloadDone, BlockDownloadAcknowledge}
+use Rattle.co_frame.specs.declared.sdo_request.SdoRequest.TheVariants.{BlockDownloadInitiate, BlockDownloadEnd}
+use Rattle.co_frame.specs.declared.sdo_response.SdoResponse.TheVariants.{BlockDownloadInitiated, BlockDownloadDone, BlockDownloadAcknowledge}
 use Rattle.co_frame.specs.SdoRequests.{request_in, request_bytes}
 use Rattle.co_frame.specs.SdoResponses.{response_in, response_bytes}
 use Rattle.co_sdo_client.specs.declared.mode.Mode.TheVariants.{Block}
@@ -15,7 +15,7 @@ use Rattle.co_sdo_client.specs.Outcomes.{outcome, result}
 use Rattle.co_dict.specs.Rows.{Contents, written}
 use Rattle.co_dict.specs.Stores.{IsDictionary}
 use Rattle.co_sdo.specs.OpenTransfers.{open_transfer}
-use Rattle.co_sdo.specs.Refused.{capacity_at, begin_refusal, completion_refusal}
+use Rattle.co_sdo.specs.Refused.{capacity_at, initiate_refusal, completion_refusal}
 use Rattle.co_sdo.specs.Log.{Log}
 use Rattle.co_sdo_laws.specs.World.{Setup}
 use Rattle.co_sdo_laws.proofs.Server.{Serves}
@@ -28,12 +28,12 @@ pub record MayDownload (s : Setup) : Type 0 where
   pub lawful : IsDictionary s.description s.contents
   pub idle : open_transfer s.past ≡ None
   pub index : s.call.key.index < 65536
-  pub may_begin : begin_refusal s.description s.call.key (size_sent s.call.job) ≡ None
+  pub may_begin : initiate_refusal s.description s.call.key (size_sent s.call.job) ≡ None
   pub may_complete : completion_refusal s.description s.contents s.call.key (size_sent s.call.job)
       (bytes_of s.call.job) ≡ None
   pub room : length (bytes_of s.call.job) ≤ capacity_at s.description.rows s.call.key
-  pub begin_read : request_in (request_bytes (BlockDownloadBegin s.call.key (size_sent s.call.job))) ≡ Some (BlockDownloadBegin s.call.key (size_sent s.call.job))
-  pub begin_long : length (request_bytes (BlockDownloadBegin s.call.key (size_sent s.call.job))) ≡ 8
+  pub initiate_read : request_in (request_bytes (BlockDownloadInitiate s.call.key (size_sent s.call.job))) ≡ Some (BlockDownloadInitiate s.call.key (size_sent s.call.job))
+  pub initiate_long : length (request_bytes (BlockDownloadInitiate s.call.key (size_sent s.call.job))) ≡ 8
 
 -- ---- the positions
 
@@ -67,13 +67,13 @@ abbrev pub unused : Setup → ℕ
 unused s = 7 * count_of s - length (bytes s)
 
 abbrev pub requests : Setup → Position → List (List ℕ)
-requests s Beginning = request_bytes (BlockDownloadBegin s.call.key (size_sent s.call.job)) ∷ []
+requests s Beginning = request_bytes (BlockDownloadInitiate s.call.key (size_sent s.call.job)) ∷ []
 requests s (Sending i taken more) = map (segment_at s i) (range_with_len (taken + 1) (suc more))
 requests s Ending = request_bytes (BlockDownloadEnd (unused s)) ∷ []
 requests s at = []
 
 abbrev pub answers : Setup → Position → List (List ℕ)
-answers s Begun = response_bytes (BlockDownloadBegun s.call.key 127) ∷ []
+answers s Begun = response_bytes (BlockDownloadInitiated s.call.key 127) ∷ []
 answers s (Acknowledging i) = response_bytes (BlockDownloadAcknowledge (size_of s i) 127) ∷ []
 answers s Ended = response_bytes BlockDownloadDone ∷ []
 answers s at = []

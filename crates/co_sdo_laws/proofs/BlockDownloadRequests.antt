@@ -5,8 +5,8 @@ use Rattle.std.proofs.lemmas.Bool.{eqb-true}
 use Rattle.std.proofs.lemmas.Bool.Decides.{nat_tests}
 use Rattle.co_frame.specs.BlockSegments.{block_segment_bytes}
 use Rattle.co_frame.specs.SdoFields.{padded}
-use Rattle.co_frame.specs.declared.sdo_request.SdoRequest.TheVariants.{BlockDownloadBegin, BlockDownloadEnd}
-use Rattle.co_frame.specs.declared.sdo_response.SdoResponse.TheVariants.{BlockDownloadBegun, BlockDownloadDone, BlockDownloadAcknowledge}
+use Rattle.co_frame.specs.declared.sdo_request.SdoRequest.TheVariants.{BlockDownloadInitiate, BlockDownloadEnd}
+use Rattle.co_frame.specs.declared.sdo_response.SdoResponse.TheVariants.{BlockDownloadInitiated, BlockDownloadDone, BlockDownloadAcknowledge}
 use Rattle.co_frame.specs.SdoRequests.{request_bytes}
 use Rattle.co_frame.specs.SdoResponses.{response_bytes}
 use Rattle.co_sdo_client.specs.Calls.{Event as ClientEvent}
@@ -15,7 +15,7 @@ use Rattle.co_dict.specs.Rows.{Contents, written}
 use Rattle.co_dict.specs.Stores.{IsDictionary}
 use Rattle.co_sdo.specs.Refused.{capacity_at, completion_refusal}
 use Rattle.co_sdo.specs.Log.{Answer, Response, answer_bytes, Exchanged, Log}
-use Rattle.co_sdo.proofs.Beginnings.{exchange}
+use Rattle.co_sdo.proofs.Initiations.{exchange}
 use Rattle.co_sdo.specs.Opened.{OpenTransfer}
 use Rattle.co_sdo.specs.Replies.{reply_to, answers_to}
 use Rattle.co_sdo.specs.Completed.{set_by, contents_with}
@@ -59,16 +59,16 @@ made s m log contents o frame given next h same long makes =
       same = ap (contents_with contents) step.sets ∙ makes.sets ∙ same;
     }
 
-begin_came : (s : Setup) → MayDownload s → (events : List ClientEvent) (log : Log) (contents : Contents)
+initiate_came : (s : Setup) → MayDownload s → (events : List ClientEvent) (log : Log) (contents : Contents)
     → HasBegun s events → IsIdle s log contents
-    → RequestCame s (places s) Beginning (request_bytes (BlockDownloadBegin s.call.key (size_sent s.call.job))) [] events log contents
-begin_came s m events log contents c h =
-    let frame = request_bytes (BlockDownloadBegin s.call.key (size_sent s.call.job)) in
+    → RequestCame s (places s) Beginning (request_bytes (BlockDownloadInitiate s.call.key (size_sent s.call.job))) [] events log contents
+initiate_came s m events log contents c h =
+    let frame = request_bytes (BlockDownloadInitiate s.call.key (size_sent s.call.job)) in
     let lawful : IsDictionary s.description contents = rw h.same m.lawful in
-    let step = served s.description contents log None frame h.serves lawful m.begin_long in
-    let replies : answers_to s.description contents None frame ≡ Response (BlockDownloadBegun s.call.key 127) ∷ [] = rw (m.begin_read, m.may_begin) refl in
-    let opens : opened_next s.description contents None frame ≡ Some (in_sub_block s.call.key (size_sent s.call.job) 0 []) = rw (m.begin_read, m.may_begin) refl in
-    let sets : contents_with contents (set_next s.description contents None frame) ≡ contents = rw m.begin_read refl in
+    let step = served s.description contents log None frame h.serves lawful m.initiate_long in
+    let replies : answers_to s.description contents None frame ≡ Response (BlockDownloadInitiated s.call.key 127) ∷ [] = rw (m.initiate_read, m.may_begin) refl in
+    let opens : opened_next s.description contents None frame ≡ Some (in_sub_block s.call.key (size_sent s.call.job) 0 []) = rw (m.initiate_read, m.may_begin) refl in
+    let sets : contents_with contents (set_next s.description contents None frame) ≡ contents = rw m.initiate_read refl in
     record {
       next = Begun;
       requests = refl;
@@ -241,7 +241,7 @@ pub request_comes : (s : Setup) → MayDownload s
     → requests s at ≡ frame ∷ later → AtClient s at events → AtChannel s at log contents
     → RequestCame s (places s) at frame later events log contents
 request_comes s m Beginning frame later events log contents q c h =
-    front_came s Beginning _ frame [] later events log contents q (begin_came s m events log contents c h)
+    front_came s Beginning _ frame [] later events log contents q (initiate_came s m events log contents c h)
 request_comes s m Begun frame later events log contents q c h = cc
 request_comes s m (Sending i taken more) frame later events log contents q c h =
     sending_came s m i taken more frame later events log contents q c h _ refl

@@ -19,7 +19,7 @@ use Rattle.co_sdo.specs.Opened.{OpenTransfer}
 use Rattle.co_sdo.specs.Replies.{answers_to}
 use Rattle.co_sdo.specs.Completed.{contents_with}
 use Rattle.co_sdo.specs.Steps.{after_frame, stage_after_frame, opened_next, set_next}
-use Rattle.co_sdo.proofs.Beginnings.{exchange}
+use Rattle.co_sdo.proofs.Initiations.{exchange}
 use Rattle.co_sdo.proofs.Continuations.{segmented}
 use Rattle.co_sdo_laws.proofs.Frames.{block_segment_read}
 use Rattle.co_sdo_laws.proofs.Segments.{joined}

@@ -8,7 +8,7 @@ use Rattle.co_value.specs.Keys.{same_key-refl}
 use Rattle.co_frame.specs.BlockSegments.{block_segment_in, block_segment_bytes}
 use Rattle.co_frame.specs.SdoFields.{padded}
 use Rattle.co_frame.specs.declared.sdo_request.SdoRequest.TheVariants.{BlockUploadStart, BlockUploadAcknowledge, BlockUploadEnd}
-use Rattle.co_frame.specs.declared.sdo_response.SdoResponse.TheVariants.{BlockUploadBegun, BlockUploadEnd as EndSent}
+use Rattle.co_frame.specs.declared.sdo_response.SdoResponse.TheVariants.{BlockUploadInitiated, BlockUploadEnd as EndSent}
 use Rattle.co_frame.specs.SdoRequests.{request_bytes}
 use Rattle.co_frame.specs.SdoResponses.{response_bytes}
 use Rattle.co_sdo_client.specs.Calls.{Request, message_bytes, Event as ClientEvent, Answered, answers as answers_of, Answers, since_first, with_answer}
@@ -20,7 +20,7 @@ use Rattle.co_sdo_client.specs.Verdicts.{GoesOn, Ends, verdict, answer_verdict}
 use Rattle.co_dict.specs.Rows.{Contents}
 use Rattle.co_sdo.specs.Log.{Log}
 use Rattle.co_sdo_laws.specs.World.{Setup}
-use Rattle.co_sdo_laws.proofs.Frames.{block_upload_begun_read, upload_end_read, block_segment_read}
+use Rattle.co_sdo_laws.proofs.Frames.{block_upload_initiated_read, upload_end_read, block_segment_read}
 use Rattle.co_sdo_laws.proofs.Client.{follows}
 use Rattle.co_sdo_laws.proofs.Segments.{part_small}
 use Rattle.co_sdo_laws.proofs.Scripts.{AnswerCame}
@@ -135,15 +135,15 @@ front_answered s at x frame xs later events log contents e came =
     subst (λ (f : List ℕ). AnswerCame s (places s) at f later events log contents) head
     (subst (λ (l : List (List ℕ)). AnswerCame s (places s) at x l events log contents) tail came)
 
-begun_came : (s : Setup) → MayUpload s → (events : List ClientEvent) (log : Log) (contents : Contents)
+initiated_came : (s : Setup) → MayUpload s → (events : List ClientEvent) (log : Log) (contents : Contents)
     → HasBegun s events → IsOpen s (Some (begun s)) log contents
-    → AnswerCame s (places s) Begun (response_bytes (BlockUploadBegun s.call.key (Some (length (value s))))) [] events log contents
-begun_came s m events log contents c h =
-    let frame = response_bytes (BlockUploadBegun s.call.key (Some (length (value s)))) in
-    let read = block_upload_begun_read s.call.key (length (value s)) m.index (let fits = m.fits in let cap = m.cap in omega arith) in
-    let is : verdict s.call events (Answered (response_bytes (BlockUploadBegun s.call.key (Some (length (value s)))))) ≡ GoesOn (Request BlockUploadStart ∷ []) =
+    → AnswerCame s (places s) Begun (response_bytes (BlockUploadInitiated s.call.key (Some (length (value s))))) [] events log contents
+initiated_came s m events log contents c h =
+    let frame = response_bytes (BlockUploadInitiated s.call.key (Some (length (value s)))) in
+    let read = block_upload_initiated_read s.call.key (length (value s)) m.index (let fits = m.fits in let cap = m.cap in omega arith) in
+    let is : verdict s.call events (Answered (response_bytes (BlockUploadInitiated s.call.key (Some (length (value s)))))) ≡ GoesOn (Request BlockUploadStart ∷ []) =
     verdict_since s events _ None c.first ∙ rw (read, m.transfer, same_key-refl s.call.key, in_room s m (length (value s)) (omega arith)) refl in
-    let f = follows s.call events (Answered (response_bytes (BlockUploadBegun s.call.key (Some (length (value s)))))) _ c.waits is in
+    let f = follows s.call events (Answered (response_bytes (BlockUploadInitiated s.call.key (Some (length (value s)))))) _ c.waits is in
     record {
       next = Starting;
       answers = refl;
@@ -309,7 +309,7 @@ pub answer_comes : (s : Setup) → MayUpload s
     → AnswerCame s (places s) at frame later events log contents
 answer_comes s m Beginning frame later events log contents q c h = cc
 answer_comes s m Begun frame later events log contents q c h =
-    front_answered s Begun _ frame [] later events log contents q (begun_came s m events log contents c h)
+    front_answered s Begun _ frame [] later events log contents q (initiated_came s m events log contents c h)
 answer_comes s m Starting frame later events log contents q c h = cc
 answer_comes s m (Sending i taken more) frame later events log contents q c h =
     sending_came s m i taken more frame later events log contents q c h _ refl

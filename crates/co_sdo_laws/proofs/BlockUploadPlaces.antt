@@ -2,8 +2,8 @@
 use Rattle.std.proofs.Common.{◌≡◌, ℕ, suc, ◌+◌, ◌-◌, ◌*◌, ◌/◌, ◌<◌, ◌≤◌, true, false, List, [], ◌∷◌, length, take, map, Option, Some, None}
 use Rattle.std.specs.List.{range_with_len}
 use Rattle.co_frame.specs.BlockSegments.{block_segment_bytes}
-use Rattle.co_frame.specs.declared.sdo_request.SdoRequest.TheVariants.{BlockUploadBegin, BlockUploadStart, BlockUploadAcknowledge, BlockUploadEnd}
-use Rattle.co_frame.specs.declared.sdo_response.SdoResponse.TheVariants.{BlockUploadBegun, BlockUploadEnd as EndSent}
+use Rattle.co_frame.specs.declared.sdo_request.SdoRequest.TheVariants.{BlockUploadInitiate, BlockUploadStart, BlockUploadAcknowledge, BlockUploadEnd}
+use Rattle.co_frame.specs.declared.sdo_response.SdoResponse.TheVariants.{BlockUploadInitiated, BlockUploadEnd as EndSent}
 use Rattle.co_frame.specs.SdoRequests.{request_bytes}
 use Rattle.co_frame.specs.SdoResponses.{response_in, response_bytes}
 use Rattle.co_sdo_client.specs.declared.mode.Mode.TheVariants.{Block}
@@ -65,14 +65,14 @@ abbrev pub unused : Setup → ℕ
 unused s = 7 * count_of s - length (value s)
 
 abbrev pub requests : Setup → Position → List (List ℕ)
-requests s Beginning = request_bytes (BlockUploadBegin s.call.key 127 0) ∷ []
+requests s Beginning = request_bytes (BlockUploadInitiate s.call.key 127 0) ∷ []
 requests s Starting = request_bytes BlockUploadStart ∷ []
 requests s (Acknowledging i) = request_bytes (BlockUploadAcknowledge (size_of s i) 127) ∷ []
 requests s Ended = request_bytes BlockUploadEnd ∷ []
 requests s at = []
 
 abbrev pub answers : Setup → Position → List (List ℕ)
-answers s Begun = response_bytes (BlockUploadBegun s.call.key (Some (length (value s)))) ∷ []
+answers s Begun = response_bytes (BlockUploadInitiated s.call.key (Some (length (value s)))) ∷ []
 answers s (Sending i taken more) = map (segment_at s i) (range_with_len (taken + 1) (suc more))
 answers s Ending = response_bytes (EndSent (unused s)) ∷ []
 answers s at = []

@@ -5,8 +5,8 @@ use Rattle.std.specs.List.{range_with_len}
 use Rattle.std.proofs.lemmas.Bool.{eqb-true}
 use Rattle.std.proofs.lemmas.Bool.Decides.{nat_tests}
 use Rattle.co_frame.specs.BlockSegments.{block_segment_bytes}
-use Rattle.co_frame.specs.declared.sdo_request.SdoRequest.TheVariants.{BlockUploadBegin, BlockUploadStart, BlockUploadAcknowledge, BlockUploadEnd}
-use Rattle.co_frame.specs.declared.sdo_response.SdoResponse.TheVariants.{BlockUploadBegun, BlockUploadEnd as EndSent}
+use Rattle.co_frame.specs.declared.sdo_request.SdoRequest.TheVariants.{BlockUploadInitiate, BlockUploadStart, BlockUploadAcknowledge, BlockUploadEnd}
+use Rattle.co_frame.specs.declared.sdo_response.SdoResponse.TheVariants.{BlockUploadInitiated, BlockUploadEnd as EndSent}
 use Rattle.co_frame.specs.SdoRequests.{request_bytes}
 use Rattle.co_sdo_client.specs.Calls.{Event as ClientEvent}
 use Rattle.co_sdo_client.specs.Segments.{block_segment}
@@ -19,7 +19,7 @@ use Rattle.co_sdo.specs.Opened.{OpenTransfer}
 use Rattle.co_sdo.specs.Replies.{reply_to, answers_to}
 use Rattle.co_sdo.specs.Completed.{set_by, contents_with}
 use Rattle.co_sdo.specs.Steps.{opened_next, set_next}
-use Rattle.co_sdo.proofs.Beginnings.{exchange}
+use Rattle.co_sdo.proofs.Initiations.{exchange}
 use Rattle.co_sdo_laws.specs.World.{Setup}
 use Rattle.co_sdo_laws.proofs.Frames.{block_upload_read, start_read, acknowledge_read, client_end_read}
 use Rattle.co_sdo_laws.proofs.Server.{served, moved}
@@ -61,14 +61,14 @@ made s m log contents current frame given next h long replies opens sets =
       opens = record { serves = moved _ _ _ _ opens step.next; same = ap (contents_with contents) step.sets ∙ sets ∙ h.same };
     }
 
-begin_came : (s : Setup) → MayUpload s → (events : List ClientEvent) (log : Log) (contents : Contents)
+initiate_came : (s : Setup) → MayUpload s → (events : List ClientEvent) (log : Log) (contents : Contents)
     → HasBegun s events → IsOpen s None log contents
-    → RequestCame s (places s) Beginning (request_bytes (BlockUploadBegin s.call.key 127 0)) [] events log contents
-begin_came s m events log contents c h =
+    → RequestCame s (places s) Beginning (request_bytes (BlockUploadInitiate s.call.key 127 0)) [] events log contents
+initiate_came s m events log contents c h =
     let read = block_upload_read s.call.key 127 0 m.index in
     let free : reading_refusal s.description contents s.call.key ≡ None = rw h.same m.may_read in
     let value_same : value_at contents s.call.key ≡ value s = rw h.same refl in
-    let step = made s m log contents None (request_bytes (BlockUploadBegin s.call.key 127 0)) (Response (BlockUploadBegun s.call.key (Some (length (value s)))) ∷ []) (Some (begun s)) h refl
+    let step = made s m log contents None (request_bytes (BlockUploadInitiate s.call.key 127 0)) (Response (BlockUploadInitiated s.call.key (Some (length (value s)))) ∷ []) (Some (begun s)) h refl
     (rw (read, free, value_same) refl) (rw (read, free, value_same) refl) (rw read refl) in
     record { next = Begun; requests = refl; answers = sym step.replies; received = refl; answered = refl; client = c; channel = step.opens }
 
@@ -165,7 +165,7 @@ pub request_comes : (s : Setup) → MayUpload s
     → requests s at ≡ frame ∷ later → AtClient s at events → AtChannel s at log contents
     → RequestCame s (places s) at frame later events log contents
 request_comes s m Beginning frame later events log contents q c h =
-    front_came s Beginning _ frame later events log contents q (begin_came s m events log contents c h)
+    front_came s Beginning _ frame later events log contents q (initiate_came s m events log contents c h)
 request_comes s m Begun frame later events log contents q c h = cc
 request_comes s m Starting frame later events log contents q c h =
     front_came s Starting _ frame later events log contents q (start_came s m events log contents c h)

@@ -8,7 +8,7 @@ use Rattle.co_sdo_client.specs.declared.mode.Mode.{Mode}
 use Rattle.co_sdo_client.specs.declared.mode.Mode.TheVariants.{Plain, Segmented, Block}
 use Rattle.co_sdo_client.specs.declared.state.ClientState.TheVariants.{Waiting, Done}
 use Rattle.co_sdo_client.specs.Calls.{Job, Download, Upload, Call}
-use Rattle.co_sdo.specs.Refused.{reading_refusal, begin_refusal, completion_refusal}
+use Rattle.co_sdo.specs.Refused.{reading_refusal, initiate_refusal, completion_refusal}
 use Rattle.co_sdo_client.specs.Outcomes.{outcome}
 use Rattle.co_sdo.specs.OpenTransfers.{open_transfer}
 use Rattle.co_sdo_laws.specs.World.{Setup, world_after}
@@ -61,22 +61,22 @@ other_entry = refl
 
 -- the same of the worlds
 as_it_goes : results server (all_in_rounds bytes_in read_and_write) ≡ codes "ABCDEFGHI" ∷ [] ∷ codes "0123456789" ∷ []
-unfolding request_row_in response_row_in reading_refusal begin_refusal completion_refusal has_object
+unfolding request_row_in response_row_in reading_refusal initiate_refusal completion_refusal has_object
 as_it_goes = refl
 
 all_are_done : outcomes server (all_in_rounds bytes_in read_and_write) ≡ Done ∷ Done ∷ Done ∷ []
-unfolding request_row_in response_row_in reading_refusal begin_refusal completion_refusal has_object
+unfolding request_row_in response_row_in reading_refusal initiate_refusal completion_refusal has_object
 all_are_done = refl
 
 string_written : (server_after_all server (all_in_rounds bytes_in read_and_write)).contents string_key
     ≡ Some (codes "0123456789")
-unfolding request_row_in response_row_in reading_refusal begin_refusal completion_refusal has_object
+unfolding request_row_in response_row_in reading_refusal initiate_refusal completion_refusal has_object
 string_written = refl
 
 -- ---- the law is about them
 
 may_read_and_write : MayCallAll dictionary bytes_in read_and_write
-unfolding reading_refusal begin_refusal completion_refusal has_object
+unfolding reading_refusal initiate_refusal completion_refusal has_object
 may_read_and_write = (
   record { key = omega arith; job = omega arith; permitted = refl; fits = omega arith },
   (
@@ -107,7 +107,7 @@ long_index may = let key = may.key in omega arith
 
 -- a channel with a download open
 not_ready : IsReady (record server { past = (world_after ten (a ∷ r ∷ [])).log }) → ⊥
-unfolding request_row_in response_row_in reading_refusal begin_refusal completion_refusal has_object
+unfolding request_row_in response_row_in reading_refusal initiate_refusal completion_refusal has_object
 not_ready ready = let idle = ready.idle in cc
 
 -- a transfer that is left while a frame is on its way
@@ -115,12 +115,12 @@ abbrev left_early : Transfer
 left_early = record { call = write_ten; events = rounds_after 2 [] }
 
 not_whole : IsWhole server left_early → ⊥
-unfolding request_row_in response_row_in reading_refusal begin_refusal completion_refusal has_object
+unfolding request_row_in response_row_in reading_refusal initiate_refusal completion_refusal has_object
 not_whole whole = let rests = whole.rests in cc
 
 -- its client waits
 waits_still : outcomes server (left_early ∷ []) ≡ Waiting ∷ []
-unfolding request_row_in response_row_in reading_refusal begin_refusal completion_refusal has_object
+unfolding request_row_in response_row_in reading_refusal initiate_refusal completion_refusal has_object
 waits_still = refl
 
 -- the client of a block upload is done when it has sent its end, and the channel not before that has come
@@ -128,15 +128,15 @@ abbrev nine : Setup
 nine = setup string_key Block (Upload 9)
 
 nine_done : outcome nine.call (world_after nine (a ∷ r ∷ a ∷ a ∷ r ∷ a ∷ r ∷ [])).events ≡ Done
-unfolding request_row_in response_row_in reading_refusal begin_refusal completion_refusal has_object
+unfolding request_row_in response_row_in reading_refusal initiate_refusal completion_refusal has_object
 nine_done = refl
 
 nine_not_over : IsOver nine (world_after nine (a ∷ r ∷ a ∷ a ∷ r ∷ a ∷ r ∷ [])) → ⊥
-unfolding request_row_in response_row_in reading_refusal begin_refusal completion_refusal has_object
+unfolding request_row_in response_row_in reading_refusal initiate_refusal completion_refusal has_object
 nine_not_over over = let idle = over.idle in cc
 
 nine_over : open_transfer (world_after nine (r ∷ a ∷ r ∷ a ∷ a ∷ r ∷ a ∷ r ∷ [])).log ≡ None
-unfolding request_row_in response_row_in reading_refusal begin_refusal completion_refusal has_object
+unfolding request_row_in response_row_in reading_refusal initiate_refusal completion_refusal has_object
 nine_over = refl
 
 -- ---- how many frames a transfer takes

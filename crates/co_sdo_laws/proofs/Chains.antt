@@ -13,7 +13,7 @@ use Rattle.co_dict.specs.Stores.{Description}
 use Rattle.co_sdo.specs.Log.{Log}
 use Rattle.co_sdo_laws.specs.World.{Setup, World, WorldEvent, world_after}
 use Rattle.co_sdo_laws.specs.Undisturbed.{AreCalm, IsUndisturbed, on_their_way, rounds_after, IsOver, is_short}
-use Rattle.co_sdo_laws.specs.Chains.{Server, Transfer, calls, begin_at, end_of, server_after, server_after_all, outcomes, results, contents_after, contents_after_all, bytes_given, all_bytes_given, Fits, MayCall, MayCallAll, IsWhole, AreWhole, IsReady, IsChain, frames_needed, in_rounds, all_in_rounds}
+use Rattle.co_sdo_laws.specs.Chains.{Server, Transfer, calls, initiate_at, end_of, server_after, server_after_all, outcomes, results, contents_after, contents_after_all, bytes_given, all_bytes_given, Fits, MayCall, MayCallAll, IsWhole, AreWhole, IsReady, IsChain, frames_needed, in_rounds, all_in_rounds}
 use Rattle.co_sdo_laws.proofs.Progress.{rounds_calm}
 use Rattle.co_sdo_laws.proofs.Transfers.{setup, download_sets, download_closes, expedited_sets, expedited_closes, upload_gives, upload_sets_nothing, block_download_sets, block_download_closes, block_upload_gives, block_upload_sets_nothing}
 use Rattle.co_sdo_laws.proofs.Endings.{download_over, download_rests, expedited_over, expedited_rests, upload_over, upload_rests, block_download_over, block_download_rests, block_upload_over, block_upload_rests}
@@ -99,8 +99,8 @@ ends_by key Block client_time (Upload cap) time d contents past events u fits no
     }
 
 undisturbed : (server : Server) (call : Call) (events : List WorldEvent) → IsReady server
-    → MayCall server.description server.contents call → AreCalm (begin_at server call) events
-    → IsUndisturbed (begin_at server call) events
+    → MayCall server.description server.contents call → AreCalm (initiate_at server call) events
+    → IsUndisturbed (initiate_at server call) events
 undisturbed server call events ready may calm = record {
   dictionary = ready.dictionary;
   key = may.key;
@@ -111,7 +111,7 @@ undisturbed server call events ready may calm = record {
 }
 
 ends : (server : Server) (t : Transfer) → IsReady server → MayCall server.description server.contents t.call
-    → IsWhole server t → Ends (begin_at server t.call) (end_of server t)
+    → IsWhole server t → Ends (initiate_at server t.call) (end_of server t)
 ends server t ready may whole =
     ends_by t.call.key t.call.mode t.call.time t.call.job server.time server.description server.contents server.past
     t.events
@@ -121,7 +121,7 @@ ends server t ready may whole =
 
 -- after a transfer the next client finds what it asks for
 record GoesOn (server : Server) (t : Transfer) (later : List Transfer) : Type 0 where
-  ends : Ends (begin_at server t.call) (end_of server t)
+  ends : Ends (initiate_at server t.call) (end_of server t)
   ready : IsReady (server_after server t)
   may : MayCallAll server.description (end_of server t).contents (calls later)
 
@@ -209,7 +209,7 @@ rests_by key Block client_time (Upload cap) time d contents past u fits =
 whole_in_rounds : (server : Server) (call : Call) → IsReady server → MayCall server.description server.contents call
     → IsWhole server (in_rounds server.contents call)
 whole_in_rounds server call ready may = record {
-  calm = rounds_calm (begin_at server call) (frames_needed call.mode server.contents call.key call.job) [] tt;
+  calm = rounds_calm (initiate_at server call) (frames_needed call.mode server.contents call.key call.job) [] tt;
   rests = rests_by call.key call.mode call.time call.job server.time server.description server.contents server.past
       (undisturbed server call [] ready may tt) may.fits;
 }

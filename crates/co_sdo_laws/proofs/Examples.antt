@@ -17,7 +17,7 @@ use Rattle.co_sdo_client.specs.declared.state.ClientState.{ClientState}
 use Rattle.co_sdo_client.specs.declared.state.ClientState.TheVariants.{Waiting, Done, Failed}
 use Rattle.co_sdo_client.specs.Calls.{Job, Download, Upload}
 use Rattle.co_sdo_client.specs.Outcomes.{outcome, sent, result}
-use Rattle.co_sdo.specs.Refused.{reading_refusal, begin_refusal, completion_refusal}
+use Rattle.co_sdo.specs.Refused.{reading_refusal, initiate_refusal, completion_refusal}
 use Rattle.co_sdo_laws.specs.Undisturbed.{is_expedited_download, is_segmented_download, upload_requests, block_frames, block_upload_frames, block_download_requests, block_download_answers, block_upload_requests, block_upload_answers, answers_sent, rounds_after, arrived}
 use Rattle.co_sdo_laws.specs.World.{Setup, WorldEvent, Requests, Answers, Delivered, Lost, Repeated, ClientTicked, ChannelTicked, world_after}
 
@@ -86,33 +86,33 @@ abbrev pub ten : Setup
 ten = setup string_key Segmented (Download (codes "0123456789") true)
 
 ten_begins : report ten [] ≡ record { requests = hex (codes "210120000A000000") ∷ []; answers = []; entry = Some (codes "ABCDEFGHI"); state = Waiting; sent = 1; value = [] }
-unfolding request_row_in response_row_in reading_refusal begin_refusal completion_refusal has_object
+unfolding request_row_in response_row_in reading_refusal initiate_refusal completion_refusal has_object
 ten_begins = refl
 
 ten_confirmed : report ten (r ∷ []) ≡ record { requests = []; answers = hex (codes "6001200000000000") ∷ []; entry = Some (codes "ABCDEFGHI"); state = Waiting; sent = 1; value = [] }
-unfolding request_row_in response_row_in reading_refusal begin_refusal completion_refusal has_object
+unfolding request_row_in response_row_in reading_refusal initiate_refusal completion_refusal has_object
 ten_confirmed = refl
 
 ten_goes_on : report ten (r ∷ a ∷ []) ≡ record { requests = hex (codes "0030313233343536") ∷ []; answers = []; entry = Some (codes "ABCDEFGHI"); state = Waiting; sent = 2; value = [] }
-unfolding request_row_in response_row_in reading_refusal begin_refusal completion_refusal has_object
+unfolding request_row_in response_row_in reading_refusal initiate_refusal completion_refusal has_object
 ten_goes_on = refl
 
 ten_is_set : report ten (r ∷ a ∷ r ∷ a ∷ r ∷ []) ≡ record { requests = []; answers = hex (codes "3000000000000000") ∷ []; entry = Some (codes "0123456789"); state = Waiting; sent = 3; value = [] }
-unfolding request_row_in response_row_in reading_refusal begin_refusal completion_refusal has_object
+unfolding request_row_in response_row_in reading_refusal initiate_refusal completion_refusal has_object
 ten_is_set = refl
 
 ten_is_done : report ten (r ∷ a ∷ r ∷ a ∷ r ∷ a ∷ []) ≡ record { requests = []; answers = []; entry = Some (codes "0123456789"); state = Done; sent = 3; value = [] }
-unfolding request_row_in response_row_in reading_refusal begin_refusal completion_refusal has_object
+unfolding request_row_in response_row_in reading_refusal initiate_refusal completion_refusal has_object
 ten_is_done = refl
 
 -- nothing is on its way in the queue: nothing happens
 ten_waits : report ten (a ∷ r ∷ r ∷ a ∷ []) ≡ report ten (r ∷ a ∷ [])
-unfolding request_row_in response_row_in reading_refusal begin_refusal completion_refusal has_object
+unfolding request_row_in response_row_in reading_refusal initiate_refusal completion_refusal has_object
 ten_waits = refl
 
 -- the first segment is lost
 ten_loses : report ten (r ∷ a ∷ Lost Requests ∷ r ∷ []) ≡ record { requests = []; answers = []; entry = Some (codes "ABCDEFGHI"); state = Waiting; sent = 2; value = [] }
-unfolding request_row_in response_row_in reading_refusal begin_refusal completion_refusal has_object
+unfolding request_row_in response_row_in reading_refusal initiate_refusal completion_refusal has_object
 ten_loses = refl
 
 -- the confirmation of its begin comes twice: the second isn't awaited
@@ -124,7 +124,7 @@ ten_is_repeated : report ten (r ∷ Repeated Answers ∷ a ∷ []) ≡ record {
   sent = 3;
   value = [];
 }
-unfolding request_row_in response_row_in reading_refusal begin_refusal completion_refusal has_object
+unfolding request_row_in response_row_in reading_refusal initiate_refusal completion_refusal has_object
 ten_is_repeated = refl
 
 -- the first segment comes twice: the second has the wrong toggle
@@ -136,7 +136,7 @@ ten_repeats : report ten (r ∷ a ∷ Repeated Requests ∷ r ∷ []) ≡ record
   sent = 2;
   value = [];
 }
-unfolding request_row_in response_row_in reading_refusal begin_refusal completion_refusal has_object
+unfolding request_row_in response_row_in reading_refusal initiate_refusal completion_refusal has_object
 ten_repeats = refl
 
 -- the channel's time is over after two of its ticks, the client's after three of its own
@@ -148,7 +148,7 @@ ten_at_the_channel : report ten (ChannelTicked ∷ ChannelTicked ∷ r ∷ Chann
   sent = 1;
   value = [];
 }
-unfolding request_row_in response_row_in reading_refusal begin_refusal completion_refusal has_object
+unfolding request_row_in response_row_in reading_refusal initiate_refusal completion_refusal has_object
 ten_at_the_channel = refl
 
 ten_at_the_client : report ten (r ∷ ClientTicked ∷ ClientTicked ∷ ClientTicked ∷ []) ≡ record {
@@ -159,13 +159,13 @@ ten_at_the_client : report ten (r ∷ ClientTicked ∷ ClientTicked ∷ ClientTi
   sent = 2;
   value = [];
 }
-unfolding request_row_in response_row_in reading_refusal begin_refusal completion_refusal has_object
+unfolding request_row_in response_row_in reading_refusal initiate_refusal completion_refusal has_object
 ten_at_the_client = refl
 
 -- ---- the nine bytes of the string, read in segments
 
 nine_are_done : report (setup string_key Segmented (Upload 9)) (r ∷ a ∷ r ∷ a ∷ r ∷ a ∷ []) ≡ record { requests = []; answers = []; entry = Some (codes "ABCDEFGHI"); state = Done; sent = 3; value = codes "ABCDEFGHI" }
-unfolding request_row_in response_row_in reading_refusal begin_refusal completion_refusal has_object
+unfolding request_row_in response_row_in reading_refusal initiate_refusal completion_refusal has_object
 nine_are_done = refl
 
 -- ---- fourteen bytes to the domain, in blocks
@@ -181,21 +181,21 @@ fourteen_are_sent : report fourteen (r ∷ a ∷ []) ≡ record {
   sent = 3;
   value = [];
 }
-unfolding request_row_in response_row_in reading_refusal begin_refusal completion_refusal has_object
+unfolding request_row_in response_row_in reading_refusal initiate_refusal completion_refusal has_object
 fourteen_are_sent = refl
 
 fourteen_are_taken : report fourteen (r ∷ a ∷ r ∷ r ∷ []) ≡ record { requests = []; answers = hex (codes "A2027F0000000000") ∷ []; entry = Some []; state = Waiting; sent = 3; value = [] }
-unfolding request_row_in response_row_in reading_refusal begin_refusal completion_refusal has_object
+unfolding request_row_in response_row_in reading_refusal initiate_refusal completion_refusal has_object
 fourteen_are_taken = refl
 
 fourteen_are_done : report fourteen (r ∷ a ∷ r ∷ r ∷ a ∷ r ∷ a ∷ []) ≡ record { requests = []; answers = []; entry = Some (codes "0123456789ABCD"); state = Done; sent = 4; value = [] }
-unfolding request_row_in response_row_in reading_refusal begin_refusal completion_refusal has_object
+unfolding request_row_in response_row_in reading_refusal initiate_refusal completion_refusal has_object
 fourteen_are_done = refl
 
 -- ---- and read in blocks
 
 nine_in_blocks : report (setup string_key Block (Upload 9)) (r ∷ a ∷ r ∷ a ∷ a ∷ r ∷ a ∷ r ∷ []) ≡ record { requests = []; answers = []; entry = Some (codes "ABCDEFGHI"); state = Done; sent = 4; value = codes "ABCDEFGHI" }
-unfolding request_row_in response_row_in reading_refusal begin_refusal completion_refusal has_object
+unfolding request_row_in response_row_in reading_refusal initiate_refusal completion_refusal has_object
 nine_in_blocks = refl
 
 -- ---- how many frames there are
@@ -237,27 +237,27 @@ always_in_segments = refl
 
 -- six rounds are more than enough for the three requests of ten bytes
 ten_in_rounds : outcome ten.call (world_after ten (rounds_after 6 [])).events ≡ Done
-unfolding request_row_in response_row_in reading_refusal begin_refusal completion_refusal has_object
+unfolding request_row_in response_row_in reading_refusal initiate_refusal completion_refusal has_object
 ten_in_rounds = refl
 
 ten_arrived : map (λ n. arrived (world_after ten (rounds_after n []))) (0 ∷ 1 ∷ 2 ∷ 3 ∷ 4 ∷ []) ≡ 0 ∷ 2 ∷ 4 ∷ 6 ∷ 6 ∷ []
-unfolding request_row_in response_row_in reading_refusal begin_refusal completion_refusal has_object
+unfolding request_row_in response_row_in reading_refusal initiate_refusal completion_refusal has_object
 ten_arrived = refl
 
 fourteen_arrived : arrived (world_after fourteen (rounds_after 7 [])) ≡ block_frames 14
-unfolding request_row_in response_row_in reading_refusal begin_refusal completion_refusal has_object
+unfolding request_row_in response_row_in reading_refusal initiate_refusal completion_refusal has_object
 fourteen_arrived = refl
 
 -- in which the channel sends three
 fourteen_sent : answers_sent (world_after fourteen (rounds_after 7 [])).log ≡ block_download_answers 14
-unfolding request_row_in response_row_in reading_refusal begin_refusal completion_refusal has_object
+unfolding request_row_in response_row_in reading_refusal initiate_refusal completion_refusal has_object
 fourteen_sent = refl
 
 -- an abort at the end of the channel's time counts too
 timed_out_sent : answers_sent (world_after ten (ChannelTicked ∷ ChannelTicked ∷ r ∷ [])).log ≡ 2
-unfolding request_row_in response_row_in reading_refusal begin_refusal completion_refusal has_object
+unfolding request_row_in response_row_in reading_refusal initiate_refusal completion_refusal has_object
 timed_out_sent = refl
 
 nine_sent : answers_sent (world_after (setup string_key Block (Upload 9)) (rounds_after 8 [])).log ≡ block_upload_answers 9
-unfolding request_row_in response_row_in reading_refusal begin_refusal completion_refusal has_object
+unfolding request_row_in response_row_in reading_refusal initiate_refusal completion_refusal has_object
 nine_sent = refl

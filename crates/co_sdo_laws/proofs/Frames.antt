@@ -5,11 +5,11 @@ use Rattle.std.proofs.lemmas.List.{length-replicate, take-append-le, take_all}
 use Rattle.std.proofs.lemmas.Bool.Decides.{nat_tests}
 use Rattle.co_value.specs.declared.key.Key.{Key}
 use Rattle.co_value.specs.Numbers.{unsigned_of, low_bytes}
-use Rattle.co_frame.specs.declared.sdo_request.SdoRequest.TheVariants.{DownloadExpedited, DownloadBegin, DownloadSegment, Upload, UploadSegment, BlockUploadBegin, BlockUploadEnd, BlockUploadAcknowledge, BlockUploadStart, BlockDownloadBegin, BlockDownloadEnd}
+use Rattle.co_frame.specs.declared.sdo_request.SdoRequest.TheVariants.{DownloadExpedited, DownloadInitiate, DownloadSegment, Upload, UploadSegment, BlockUploadInitiate, BlockUploadEnd, BlockUploadAcknowledge, BlockUploadStart, BlockDownloadInitiate, BlockDownloadEnd}
 use Rattle.co_frame.specs.declared.sdo_request.ExpeditedData.TheVariants.{Indicated}
 use Rattle.co_frame.specs.declared.block_segment.BlockSegment.{BlockSegment}
 use Rattle.co_frame.specs.BlockSegments.{block_segment_in, block_segment_bytes}
-use Rattle.co_frame.specs.declared.sdo_response.SdoResponse.TheVariants.{DownloadDone, DownloadSegmentDone, UploadExpedited, UploadBegun, UploadSegment as SegmentSent, BlockDownloadBegun, BlockDownloadDone, BlockDownloadAcknowledge, BlockUploadBegun, BlockUploadEnd as UploadEnd}
+use Rattle.co_frame.specs.declared.sdo_response.SdoResponse.TheVariants.{DownloadDone, DownloadSegmentDone, UploadExpedited, UploadInitiated, UploadSegment as SegmentSent, BlockDownloadInitiated, BlockDownloadDone, BlockDownloadAcknowledge, BlockUploadInitiated, BlockUploadEnd as UploadEnd}
 use Rattle.co_frame.specs.SdoFields.{padded, specifier, has_bit, key_in, unused_of_segment, unused_of_expedited}
 use Rattle.co_frame.specs.SdoRequests.{request_row_in, request_in, request_bytes}
 use Rattle.co_frame.specs.SdoResponses.{response_row_in, response_in, response_bytes}
@@ -77,13 +77,13 @@ segment_read toggle items last h =
 
 -- ---- downloads
 
-pub begin_read : (key : Key) (size : ℕ) → key.index < 65536 → size < 4294967296 → request_in (request_bytes (DownloadBegin key (Some size))) ≡ Some (DownloadBegin key (Some size))
+pub initiate_read : (key : Key) (size : ℕ) → key.index < 65536 → size < 4294967296 → request_in (request_bytes (DownloadInitiate key (Some size))) ≡ Some (DownloadInitiate key (Some size))
 unfolding request_row_in
-begin_read key size k s = rw (two_bytes key.index k, four_bytes size s) refl
+initiate_read key size k s = rw (two_bytes key.index k, four_bytes size s) refl
 
-pub bare_begin_read : (key : Key) → key.index < 65536 → request_in (request_bytes (DownloadBegin key None)) ≡ Some (DownloadBegin key None)
+pub bare_initiate_read : (key : Key) → key.index < 65536 → request_in (request_bytes (DownloadInitiate key None)) ≡ Some (DownloadInitiate key None)
 unfolding request_row_in
-bare_begin_read key k = rw (two_bytes key.index k) refl
+bare_initiate_read key k = rw (two_bytes key.index k) refl
 
 pub done_read : (key : Key) → key.index < 65536 → response_in (response_bytes (DownloadDone key)) ≡ Some (DownloadDone key)
 unfolding response_row_in
@@ -155,9 +155,9 @@ unfolding request_row_in
 next_read true = refl
 next_read false = refl
 
-pub upload_begun_read : (key : Key) (size : ℕ) → key.index < 65536 → size < 4294967296 → response_in (response_bytes (UploadBegun key (Some size))) ≡ Some (UploadBegun key (Some size))
+pub upload_initiated_read : (key : Key) (size : ℕ) → key.index < 65536 → size < 4294967296 → response_in (response_bytes (UploadInitiated key (Some size))) ≡ Some (UploadInitiated key (Some size))
 unfolding response_row_in
-upload_begun_read key size k s = rw (two_bytes key.index k, four_bytes size s) refl
+upload_initiated_read key size k s = rw (two_bytes key.index k, four_bytes size s) refl
 
 response_segment : (bytes : List ℕ) (toggle : Bool) (items : List ℕ) (last : Bool) → length bytes ≡ 8 → specifier bytes ≡ 0 → has_bit 4 bytes ≡ toggle
     → take (7 - unused_of_segment bytes) (drop 1 bytes) ≡ items → has_bit 0 bytes ≡ last → response_in bytes ≡ Some (SegmentSent toggle (record { items = items }) last)
@@ -174,17 +174,17 @@ segment_sent_read toggle items last h =
 
 -- ---- block transfers
 
-pub block_begin_read : (key : Key) (size : ℕ) → key.index < 65536 → size < 4294967296 → request_in (request_bytes (BlockDownloadBegin key (Some size))) ≡ Some (BlockDownloadBegin key (Some size))
+pub block_initiate_read : (key : Key) (size : ℕ) → key.index < 65536 → size < 4294967296 → request_in (request_bytes (BlockDownloadInitiate key (Some size))) ≡ Some (BlockDownloadInitiate key (Some size))
 unfolding request_row_in
-block_begin_read key size k s = rw (two_bytes key.index k, four_bytes size s) refl
+block_initiate_read key size k s = rw (two_bytes key.index k, four_bytes size s) refl
 
-pub bare_block_begin_read : (key : Key) → key.index < 65536 → request_in (request_bytes (BlockDownloadBegin key None)) ≡ Some (BlockDownloadBegin key None)
+pub bare_block_initiate_read : (key : Key) → key.index < 65536 → request_in (request_bytes (BlockDownloadInitiate key None)) ≡ Some (BlockDownloadInitiate key None)
 unfolding request_row_in
-bare_block_begin_read key k = rw (two_bytes key.index k) refl
+bare_block_initiate_read key k = rw (two_bytes key.index k) refl
 
-pub block_begun_read : (key : Key) (size : ℕ) → key.index < 65536 → response_in (response_bytes (BlockDownloadBegun key size)) ≡ Some (BlockDownloadBegun key size)
+pub block_initiated_read : (key : Key) (size : ℕ) → key.index < 65536 → response_in (response_bytes (BlockDownloadInitiated key size)) ≡ Some (BlockDownloadInitiated key size)
 unfolding response_row_in
-block_begun_read key size k = rw (two_bytes key.index k) refl
+block_initiated_read key size k = rw (two_bytes key.index k) refl
 
 pub block_done_read : response_in (response_bytes BlockDownloadDone) ≡ Some BlockDownloadDone
 unfolding response_row_in
@@ -212,13 +212,13 @@ pub upload_end_read : (m : ℕ) → m ≤ 7 → response_in (response_bytes (Upl
 unfolding response_row_in
 upload_end_read m h = rw (end_top m h, end_bit m h, end_unused m h) refl
 
-pub block_upload_read : (key : Key) (size threshold : ℕ) → key.index < 65536 → request_in (request_bytes (BlockUploadBegin key size threshold)) ≡ Some (BlockUploadBegin key size threshold)
+pub block_upload_read : (key : Key) (size threshold : ℕ) → key.index < 65536 → request_in (request_bytes (BlockUploadInitiate key size threshold)) ≡ Some (BlockUploadInitiate key size threshold)
 unfolding request_row_in
 block_upload_read key size threshold k = rw (two_bytes key.index k) refl
 
-pub block_upload_begun_read : (key : Key) (size : ℕ) → key.index < 65536 → size < 4294967296 → response_in (response_bytes (BlockUploadBegun key (Some size))) ≡ Some (BlockUploadBegun key (Some size))
+pub block_upload_initiated_read : (key : Key) (size : ℕ) → key.index < 65536 → size < 4294967296 → response_in (response_bytes (BlockUploadInitiated key (Some size))) ≡ Some (BlockUploadInitiated key (Some size))
 unfolding response_row_in
-block_upload_begun_read key size k s = rw (two_bytes key.index k, four_bytes size s) refl
+block_upload_initiated_read key size k s = rw (two_bytes key.index k, four_bytes size s) refl
 
 pub start_read : request_in (request_bytes BlockUploadStart) ≡ Some BlockUploadStart
 unfolding request_row_in

@@ -9,7 +9,7 @@ use Rattle.co_sdo_client.specs.declared.state.ClientState.TheVariants.{Waiting, 
 use Rattle.co_sdo_client.specs.Calls.{Call, Upload}
 use Rattle.co_sdo.specs.Log.{exchanges}
 use Rattle.co_sdo.specs.OpenTransfers.{open_transfer}
-use Rattle.co_sdo.specs.Refused.{reading_refusal, begin_refusal, completion_refusal}
+use Rattle.co_sdo.specs.Refused.{reading_refusal, initiate_refusal, completion_refusal}
 use Rattle.co_sdo_laws.specs.World.{Setup, WorldEvent, Lost, Requests, ChannelTicked, world_after}
 use Rattle.co_sdo_laws.specs.Undisturbed.{IsUndisturbed, GoesInTurns, rounds_after, arrived}
 use Rattle.co_sdo_laws.proofs.Pasts.{is_filled}
@@ -35,19 +35,19 @@ abbrev read_again : Setup
 read_again = then_call ten (rounds_after 3 []) (record { key = string_key; mode = Segmented; time = 3; job = Upload 16 })
 
 three_exchanges : length (exchanges read_again.past) ≡ 3
-unfolding request_row_in response_row_in reading_refusal begin_refusal completion_refusal has_object
+unfolding request_row_in response_row_in reading_refusal initiate_refusal completion_refusal has_object
 three_exchanges = refl
 
 idle_again : open_transfer read_again.past ≡ None
-unfolding request_row_in response_row_in reading_refusal begin_refusal completion_refusal has_object
+unfolding request_row_in response_row_in reading_refusal initiate_refusal completion_refusal has_object
 idle_again = refl
 
 ten_are_read : report read_again (r ∷ a ∷ r ∷ a ∷ r ∷ a ∷ []) ≡ record { requests = []; answers = []; entry = Some (codes "0123456789"); state = Done; sent = 3; value = codes "0123456789" }
-unfolding request_row_in response_row_in reading_refusal begin_refusal completion_refusal has_object
+unfolding request_row_in response_row_in reading_refusal initiate_refusal completion_refusal has_object
 ten_are_read = refl
 
 read_dictionary : IsDictionary dictionary read_again.contents
-unfolding request_row_in response_row_in reading_refusal begin_refusal completion_refusal has_object
+unfolding request_row_in response_row_in reading_refusal initiate_refusal completion_refusal has_object
 read_dictionary = record {
   description = is_dictionary.description;
   initially = is_dictionary.initially;
@@ -55,12 +55,12 @@ read_dictionary = record {
 }
 
 read_undisturbed : (n : ℕ) → IsUndisturbed read_again (rounds_after n [])
-unfolding request_row_in response_row_in reading_refusal begin_refusal completion_refusal has_object
+unfolding request_row_in response_row_in reading_refusal initiate_refusal completion_refusal has_object
 read_undisturbed n = record { dictionary = read_dictionary; key = omega arith; job = omega arith; permitted = refl; idle = idle_again; calm = rounds_calm read_again n [] tt }
 
 -- those that arrived before don't count
 read_arrived : map (λ n. arrived (world_after read_again (rounds_after n []))) (0 ∷ 1 ∷ 2 ∷ 3 ∷ 4 ∷ []) ≡ 0 ∷ 2 ∷ 4 ∷ 6 ∷ 6 ∷ []
-unfolding request_row_in response_row_in reading_refusal begin_refusal completion_refusal has_object
+unfolding request_row_in response_row_in reading_refusal initiate_refusal completion_refusal has_object
 read_arrived = refl
 
 -- ---- after a transfer that the channel gave up
@@ -71,7 +71,7 @@ lost_events = ChannelTicked ∷ ChannelTicked ∷ Lost Requests ∷ a ∷ r ∷ 
 
 -- while the transfer is open the channel isn't idle
 open_before : open_transfer (world_after ten (a ∷ r ∷ [])).log ≡ None → ⊥
-unfolding request_row_in response_row_in reading_refusal begin_refusal completion_refusal has_object
+unfolding request_row_in response_row_in reading_refusal initiate_refusal completion_refusal has_object
 open_before e = cc
 
 abbrev write_again : Setup
@@ -79,14 +79,14 @@ write_again = then_call ten lost_events ten.call
 
 -- the channel is idle, and each number of rounds is undisturbed
 write_undisturbed : (n : ℕ) → IsUndisturbed write_again (rounds_after n [])
-unfolding request_row_in response_row_in reading_refusal begin_refusal completion_refusal has_object
+unfolding request_row_in response_row_in reading_refusal initiate_refusal completion_refusal has_object
 write_undisturbed n = record { dictionary = is_dictionary; key = omega arith; job = omega arith; permitted = refl; idle = refl; calm = rounds_calm write_again n [] tt }
 
 write_goes : (n : ℕ) → GoesInTurns write_again.call 3 (world_after write_again (rounds_after n []))
 write_goes n = download_goes write_again (rounds_after n []) (write_undisturbed n) refl
 
 ten_are_written : report write_again (r ∷ a ∷ r ∷ a ∷ r ∷ a ∷ []) ≡ record { requests = []; answers = []; entry = Some (codes "0123456789"); state = Done; sent = 3; value = [] }
-unfolding request_row_in response_row_in reading_refusal begin_refusal completion_refusal has_object
+unfolding request_row_in response_row_in reading_refusal initiate_refusal completion_refusal has_object
 ten_are_written = refl
 
 -- ---- a channel that isn't idle
@@ -97,9 +97,9 @@ abbrev inside_blocks : Setup
 inside_blocks = then_call fourteen (a ∷ r ∷ []) ten.call
 
 still_open : open_transfer inside_blocks.past ≡ None → ⊥
-unfolding request_row_in response_row_in reading_refusal begin_refusal completion_refusal has_object
+unfolding request_row_in response_row_in reading_refusal initiate_refusal completion_refusal has_object
 still_open e = cc
 
 nothing_comes : report inside_blocks (r ∷ []) ≡ record { requests = []; answers = []; entry = Some (codes "ABCDEFGHI"); state = Waiting; sent = 1; value = [] }
-unfolding request_row_in response_row_in reading_refusal begin_refusal completion_refusal has_object
+unfolding request_row_in response_row_in reading_refusal initiate_refusal completion_refusal has_object
 nothing_comes = refl

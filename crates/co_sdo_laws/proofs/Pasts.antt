@@ -8,7 +8,7 @@ use Rattle.co_value.specs.Numbers.{AreBytes}
 use Rattle.co_dict.specs.declared.row.Row.{Row}
 use Rattle.co_frame.specs.SdoRequests.{request_in}
 use Rattle.co_frame.specs.declared.sdo_request.SdoRequest.{SdoRequest}
-use Rattle.co_frame.specs.declared.sdo_request.SdoRequest.TheVariants.{DownloadBegin, Upload, BlockUploadBegin, BlockDownloadBegin}
+use Rattle.co_frame.specs.declared.sdo_request.SdoRequest.TheVariants.{DownloadInitiate, Upload, BlockUploadInitiate, BlockDownloadInitiate}
 use Rattle.co_dict.specs.Rows.{Rows, Contents, fits, takes, written}
 use Rattle.co_dict.specs.Stores.{Description, IsFilled, IsDictionary}
 use Rattle.co_sdo_client.specs.Calls.{Job, Download, Upload as UploadJob}
@@ -56,10 +56,10 @@ received s (event ∷ older) = event_counted s event (world_after s older) (rece
 -- ---- idle channels
 
 opens_one : (rows : Rows) (begin : Option SdoRequest) (t : Transfer) → is_transfer_after rows begin t → opened_by begin t ≡ None → ⊥
-opens_one rows (Some (DownloadBegin key size)) t u e = cc
+opens_one rows (Some (DownloadInitiate key size)) t u e = cc
 opens_one rows (Some (Upload key)) t u e = cc
-opens_one rows (Some (BlockUploadBegin key size threshold)) t u e = cc
-opens_one rows (Some (BlockDownloadBegin key size)) t u e = cc
+opens_one rows (Some (BlockUploadInitiate key size threshold)) t u e = cc
+opens_one rows (Some (BlockDownloadInitiate key size)) t u e = cc
 opens_one rows _ t u e = u
 
 none_open : (rows : Rows) (t : Option Transfer) → is_under_way rows t → opened t ≡ None → t ≡ None

@@ -12,7 +12,7 @@ use Rattle.co_dict.specs.Refusals.{refused_if, first_of, first_refusal}
 use Rattle.co_dict.specs.Objects.{has_object}
 use Rattle.co_dict.specs.OwnRules.{own_refusal}
 use Rattle.co_dict.specs.WriteRefusals.{is_read_only, is_sdo_parameter, size_refusal, total_refusal, limit_refusal}
-use Rattle.co_sdo.specs.Refused.{capacity_at, begin_refusal, completion_refusal}
+use Rattle.co_sdo.specs.Refused.{capacity_at, initiate_refusal, completion_refusal}
 use Rattle.co_sdo.proofs.RefusalLemmas.{first_none, second_none, not_refused, allowed}
 
 total_same : (size : ℕ) → total_refusal size size ≡ None
@@ -24,7 +24,7 @@ by_row row found refusals c1 c2 = first_of (first_refusal (refused_if (not found
 
 record Permits (row : Option Row) (found : Bool) (size : ℕ) (a : Row → Option ℕ) (rest : Row → List (Option ℕ)) (c1 c2 : ℕ) : Type 0 where
   begin : by_row row found (λ r. a r ∷ None ∷ []) c1 c2 ≡ None
-  begin_indicated : by_row row found (λ r. a r ∷ size_refusal r size ∷ []) c1 c2 ≡ None
+  initiate_indicated : by_row row found (λ r. a r ∷ size_refusal r size ∷ []) c1 c2 ≡ None
   indicated : by_row row found (λ r. a r ∷ size_refusal r size ∷ total_refusal size size ∷ first_refusal (size_refusal r size ∷ rest r) ∷ []) c1 c2 ≡ None
 
 permits_row : (row : Option Row) (found : Bool) (size : ℕ) (a : Row → Option ℕ) (rest : Row → List (Option ℕ)) (c1 c2 : ℕ)
@@ -39,23 +39,23 @@ permits_row (Some r) true size a rest c1 c2 h =
     let others : first_refusal (rest r) ≡ None = second_none (size_refusal r size) _ value in
     record {
       begin = rw may refl;
-      begin_indicated = rw (may, fits) refl;
+      initiate_indicated = rw (may, fits) refl;
       indicated = rw (may, fits, others, total_same size) refl;
     }
 
 -- what is permitted without a size is permitted with it
 pub record MayBegin (d : Description) (contents : Contents) (key : Key) (bytes : List ℕ) : Type 0 where
-  pub begin : begin_refusal d key None ≡ None
-  pub begin_indicated : begin_refusal d key (Some (length bytes)) ≡ None
+  pub begin : initiate_refusal d key None ≡ None
+  pub initiate_indicated : initiate_refusal d key (Some (length bytes)) ≡ None
   pub complete_indicated : completion_refusal d contents key (Some (length bytes)) bytes ≡ None
   pub room : length bytes ≤ capacity_at d.rows key
 
 pub may_begin : (d : Description) (contents : Contents) (key : Key) (bytes : List ℕ) → completion_refusal d contents key None bytes ≡ None → MayBegin d contents key bytes
-unfolding begin_refusal completion_refusal
+unfolding initiate_refusal completion_refusal
 may_begin d contents key bytes h =
     let p = permits_row (d.rows key) (has_object d.rows key.index) (length bytes) (λ row. refused_if (is_read_only row.access || is_sdo_parameter key.index) 0x06010002)
     (λ row. limit_refusal row bytes ∷ own_refusal d contents key bytes ∷ []) 0x06020000 0x06090011 h in
-    record { begin = p.begin; begin_indicated = p.begin_indicated; complete_indicated = p.indicated; room = (allowed d contents key None bytes h).room }
+    record { begin = p.begin; initiate_indicated = p.initiate_indicated; complete_indicated = p.indicated; room = (allowed d contents key None bytes h).room }
 
 -- ---- what fits
 

@@ -4,7 +4,7 @@ use Rattle.std.specs.Prelude.{nat_lt}
 use Rattle.std.proofs.lemmas.Bool.Decides.{nat_tests}
 use Rattle.co_value.specs.declared.key.Key.{Key}
 use Rattle.co_value.specs.Keys.{same_key-refl}
-use Rattle.co_frame.specs.declared.sdo_request.SdoRequest.TheVariants.{DownloadBegin}
+use Rattle.co_frame.specs.declared.sdo_request.SdoRequest.TheVariants.{DownloadInitiate}
 use Rattle.co_frame.specs.declared.sdo_response.SdoResponse.TheVariants.{DownloadDone, DownloadSegmentDone}
 use Rattle.co_frame.specs.SdoRequests.{request_in, request_bytes}
 use Rattle.co_frame.specs.SdoResponses.{response_bytes}
@@ -17,14 +17,14 @@ use Rattle.co_sdo_client.specs.Verdicts.{GoesOn, Ends, verdict, answer_verdict}
 use Rattle.co_dict.specs.Rows.{Contents, written}
 use Rattle.co_dict.specs.Stores.{IsDictionary}
 use Rattle.co_sdo.specs.OpenTransfers.{open_transfer}
-use Rattle.co_sdo.specs.Refused.{capacity_at, begin_refusal, completion_refusal}
+use Rattle.co_sdo.specs.Refused.{capacity_at, initiate_refusal, completion_refusal}
 use Rattle.co_sdo.specs.Log.{Response, answer_bytes, Ticked, Log}
 use Rattle.co_sdo.specs.Opened.{OpenTransfer}
 use Rattle.co_sdo.specs.Replies.{answers_to, segment_refusal}
 use Rattle.co_sdo.specs.Completed.{set_by, contents_with}
 use Rattle.co_sdo.specs.Steps.{opened_next, set_next}
 use Rattle.co_sdo.specs.Log.{requests}
-use Rattle.co_sdo.proofs.Beginnings.{exchange}
+use Rattle.co_sdo.proofs.Initiations.{exchange}
 use Rattle.co_sdo.proofs.Continuations.{not_odd, segmented}
 use Rattle.co_sdo_laws.specs.World.{Setup}
 use Rattle.co_sdo_laws.proofs.Frames.{segment_read, done_read, segment_done_read, segment_long}
@@ -39,14 +39,14 @@ pub record MayDownload (s : Setup) : Type 0 where
   pub lawful : IsDictionary s.description s.contents
   pub idle : open_transfer s.past ≡ None
   pub index : s.call.key.index < 65536
-  pub may_begin : begin_refusal s.description s.call.key (size_sent s.call.job) ≡ None
+  pub may_begin : initiate_refusal s.description s.call.key (size_sent s.call.job) ≡ None
   pub may_complete : completion_refusal s.description s.contents s.call.key (size_sent s.call.job) (bytes_of s.call.job) ≡ None
   pub room : length (bytes_of s.call.job) ≤ capacity_at s.description.rows s.call.key
-  pub begin_read : request_in (request_bytes (DownloadBegin s.call.key (size_sent s.call.job))) ≡ Some (DownloadBegin s.call.key (size_sent s.call.job))
-  pub begin_long : length (request_bytes (DownloadBegin s.call.key (size_sent s.call.job))) ≡ 8
+  pub initiate_read : request_in (request_bytes (DownloadInitiate s.call.key (size_sent s.call.job))) ≡ Some (DownloadInitiate s.call.key (size_sent s.call.job))
+  pub initiate_long : length (request_bytes (DownloadInitiate s.call.key (size_sent s.call.job))) ≡ 8
 
 abbrev pub request : Setup → ℕ → List ℕ
-request s zero = request_bytes (DownloadBegin s.call.key (size_sent s.call.job))
+request s zero = request_bytes (DownloadInitiate s.call.key (size_sent s.call.job))
 request s (suc k) = message_bytes (segment_after k (bytes_of s.call.job))
 
 abbrev pub answer : Setup → ℕ → List ℕ
@@ -60,8 +60,8 @@ later_count x [] = refl
 later_count x (y ∷ ys) = ap suc (later_count y ys)
 
 -- the answer to the begin is awaited
-begin_confirmed : (s : Setup) → MayDownload s → (held : List ℕ) → answer_verdict s.call (stage_since s.call None) held (answer s 0) ≡ GoesOn (segment_after 0 (bytes_of s.call.job) ∷ [])
-begin_confirmed s m held = rw (done_read s.call.key m.index, m.transfer, same_key-refl s.call.key) refl
+initiate_confirmed : (s : Setup) → MayDownload s → (held : List ℕ) → answer_verdict s.call (stage_since s.call None) held (answer s 0) ≡ GoesOn (segment_after 0 (bytes_of s.call.job) ∷ [])
+initiate_confirmed s m held = rw (done_read s.call.key m.index, m.transfer, same_key-refl s.call.key) refl
 
 -- the answer to a segment is awaited
 segment_confirmed : (s : Setup) → MayDownload s → (a : Answers) (k : ℕ) (held : List ℕ) (last : Bool) → length a.later ≡ k → is_last_after k (bytes_of s.call.job) ≡ last
@@ -71,10 +71,10 @@ segment_confirmed s m a k held last n l = rw (m.transfer, segment_done_read (is_
 abbrev pub AtClient : ℕ → List ClientEvent → Type 0
 AtClient k events = length (answers_of events) ≡ k
 
-begin_answered : (s : Setup) → MayDownload s → (xs : List (List ℕ)) (held : List ℕ) → length xs ≡ 0
+initiate_answered : (s : Setup) → MayDownload s → (xs : List (List ℕ)) (held : List ℕ) → length xs ≡ 0
     → answer_verdict s.call (stage_since s.call (since_first xs)) held (answer s 0) ≡ GoesOn (segment_after 0 (bytes_of s.call.job) ∷ [])
-begin_answered s m [] held h = begin_confirmed s m held
-begin_answered s m (x ∷ xs) held h = absurd (omega arith)
+initiate_answered s m [] held h = initiate_confirmed s m held
+initiate_answered s m (x ∷ xs) held h = absurd (omega arith)
 
 segment_answered : (s : Setup) → MayDownload s → (xs : List (List ℕ)) (k : ℕ) (held : List ℕ) (last : Bool) → length xs ≡ suc k → is_last_after k (bytes_of s.call.job) ≡ last
     → answer_verdict s.call (stage_since s.call (since_first xs)) held (answer s (suc k)) ≡ cond last (Ends [] []) (GoesOn (segment_after (k + 1) (bytes_of s.call.job) ∷ []))
@@ -85,7 +85,7 @@ pub client_goes_on : (s : Setup) → MayDownload s → (k : ℕ) (events : List 
     → GoesOnWith s events (answer s k) (request s (k + 1)) (AtClient (k + 1))
 client_goes_on s m zero events more h = record {
   message = segment_after 0 (bytes_of s.call.job);
-  goes_on = begin_answered s m (answers_of events) (held_after s.call events) h;
+  goes_on = initiate_answered s m (answers_of events) (held_after s.call events) h;
   asks = refl;
   next = omega arith;
 }
@@ -161,12 +161,12 @@ channel_begins : (s : Setup) → MayDownload s → (log : Log) (contents : Conte
 channel_begins s m log contents h =
     let same = h.same (omega arith) in
     let lawful : IsDictionary s.description contents = rw same m.lawful in
-    let step = served s.description contents log None (request s 0) (h.idle refl) lawful m.begin_long in
-    let opens : opened_next s.description contents None (request s 0) ≡ Some (open_at s 0) = rw (m.begin_read, m.may_begin) refl in
-    let sets : contents_with contents (set_next s.description contents None (request s 0)) ≡ contents = rw m.begin_read refl in
+    let step = served s.description contents log None (request s 0) (h.idle refl) lawful m.initiate_long in
+    let opens : opened_next s.description contents None (request s 0) ≡ Some (open_at s 0) = rw (m.initiate_read, m.may_begin) refl in
+    let sets : contents_with contents (set_next s.description contents None (request s 0)) ≡ contents = rw m.initiate_read refl in
     let kept : contents_with contents (set_by s.description contents log (request s 0)) ≡ s.contents = ap (contents_with contents) step.sets ∙ sets ∙ same in
     record {
-      replies = rw (step.replies, m.begin_read, m.may_begin) refl;
+      replies = rw (step.replies, m.initiate_read, m.may_begin) refl;
       next = record {
         idle = λ e. absurd (omega arith);
         opens = λ j e more. let first : j ≡ 0 = omega arith in rw (first, ← opens) step.next;

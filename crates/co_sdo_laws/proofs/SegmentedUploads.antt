@@ -4,7 +4,7 @@ use Rattle.std.specs.Prelude.{nat_le, nat_lt, ◌&&◌}
 use Rattle.std.proofs.lemmas.Bool.Decides.{nat_tests}
 use Rattle.co_value.specs.Keys.{same_key-refl}
 use Rattle.co_frame.specs.declared.sdo_request.SdoRequest.TheVariants.{Upload as UploadRequest, UploadSegment as NextSegment}
-use Rattle.co_frame.specs.declared.sdo_response.SdoResponse.TheVariants.{UploadBegun, UploadSegment}
+use Rattle.co_frame.specs.declared.sdo_response.SdoResponse.TheVariants.{UploadInitiated, UploadSegment}
 use Rattle.co_frame.specs.SdoRequests.{request_bytes}
 use Rattle.co_frame.specs.SdoResponses.{response_in, response_bytes}
 use Rattle.co_sdo_client.specs.Calls.{Request, Event as ClientEvent, Answered, answers as answers_of, Answers, since_first, with_answer}
@@ -23,10 +23,10 @@ use Rattle.co_sdo.specs.Opened.{OpenTransfer}
 use Rattle.co_sdo.specs.Replies.{answers_to}
 use Rattle.co_sdo.specs.Completed.{contents_with}
 use Rattle.co_sdo.specs.Steps.{opened_next, set_next}
-use Rattle.co_sdo.proofs.Beginnings.{exchange}
+use Rattle.co_sdo.proofs.Initiations.{exchange}
 use Rattle.co_sdo.proofs.Continuations.{not_odd, uploading}
 use Rattle.co_sdo_laws.specs.World.{Setup}
-use Rattle.co_sdo_laws.proofs.Frames.{upload_read, next_read, upload_begun_read, segment_sent_read}
+use Rattle.co_sdo_laws.proofs.Frames.{upload_read, next_read, upload_initiated_read, segment_sent_read}
 use Rattle.co_sdo_laws.proofs.Server.{Serves, serves_first, served, serves_ticked, moved}
 use Rattle.co_sdo_laws.proofs.Turns.{Turns, Takes, GoesOnWith}
 use Rattle.co_sdo_laws.proofs.Segments.{last_is, not_last, needs_none, needs_more, same, joined, taken_all, part_small, some_exchanges}
@@ -53,7 +53,7 @@ abbrev is_last : Setup → ℕ → Bool
 is_last s k = nat_le (length (value s)) (7 * k + 7)
 
 abbrev pub answer : Setup → ℕ → List ℕ
-answer s zero = response_bytes (UploadBegun s.call.key (Some (length (value s))))
+answer s zero = response_bytes (UploadInitiated s.call.key (Some (length (value s))))
 answer s (suc k) = response_bytes (UploadSegment (is_odd k) (record { items = part_after k (value s) }) (is_last s k))
 
 -- ---- the client
@@ -89,11 +89,11 @@ later_joined s (suc k) = rw (later_joined s k, segment_is_read s k) (joined (val
 in_room : (s : Setup) → MayUpload s → (n : ℕ) → n ≤ length (value s) → nat_lt (cap_of s.call.job) n ≡ false
 in_room s m n h = let fits = m.fits in grind (arith, nat_tests)
 
-begin_is_read : (s : Setup) → MayUpload s → response_in (answer s 0) ≡ Some (UploadBegun s.call.key (Some (length (value s))))
-begin_is_read s m = let fits = m.fits in let cap = m.cap in upload_begun_read s.call.key (length (value s)) m.index (omega arith)
+initiate_is_read : (s : Setup) → MayUpload s → response_in (answer s 0) ≡ Some (UploadInitiated s.call.key (Some (length (value s))))
+initiate_is_read s m = let fits = m.fits in let cap = m.cap in upload_initiated_read s.call.key (length (value s)) m.index (omega arith)
 
-begin_verdict : (s : Setup) → MayUpload s → answer_verdict s.call (stage_since s.call None) (held_since s.call None) (answer s 0) ≡ GoesOn (Request (NextSegment false) ∷ [])
-begin_verdict s m = rw (begin_is_read s m, m.transfer, same_key-refl s.call.key, in_room s m (length (value s)) (omega arith)) refl
+initiate_verdict : (s : Setup) → MayUpload s → answer_verdict s.call (stage_since s.call None) (held_since s.call None) (answer s 0) ≡ GoesOn (Request (NextSegment false) ∷ [])
+initiate_verdict s m = rw (initiate_is_read s m, m.transfer, same_key-refl s.call.key, in_room s m (length (value s)) (omega arith)) refl
 
 below_itself : (n : ℕ) → nat_lt n n ≡ false
 below_itself n = grind (arith, nat_tests)
@@ -102,16 +102,16 @@ some_in_room : (s : Setup) → MayUpload s → (k : ℕ) → nat_lt (cap_of s.ca
 some_in_room s m k = in_room s m (length (take (7 * suc k) (value s))) (let n = length-take (7 * suc k) (value s) in omega arith)
 
 -- the first answer, and the k segments after it
-abbrev since_begin : Setup → ℕ → Answers
-since_begin s k = record { first = answer s 0; later = later_answers s k }
+abbrev since_initiate : Setup → ℕ → Answers
+since_initiate s k = record { first = answer s 0; later = later_answers s k }
 
 segment_verdict : (s : Setup) → MayUpload s → (k : ℕ) (last : Bool) → is_last s k ≡ last
-    → answer_verdict s.call (stage_since s.call (Some (since_begin s k))) (held_since s.call (Some (since_begin s k))) (answer s (suc k))
+    → answer_verdict s.call (stage_since s.call (Some (since_initiate s k))) (held_since s.call (Some (since_initiate s k))) (answer s (suc k))
     ≡ cond last (Ends [] (value s)) (GoesOn (Request (NextSegment (is_odd (suc k))) ∷ []))
 segment_verdict s m k true l =
-    rw (m.transfer, begin_is_read s m, segment_is_read s k, later_joined s k, later_count s k, same (is_odd k), joined (value s) k, some_in_room s m k, l, taken_all (value s) k l, below_itself (length (value s))) refl
+    rw (m.transfer, initiate_is_read s m, segment_is_read s k, later_joined s k, later_count s k, same (is_odd k), joined (value s) k, some_in_room s m k, l, taken_all (value s) k l, below_itself (length (value s))) refl
 segment_verdict s m k false l =
-    rw (m.transfer, begin_is_read s m, segment_is_read s k, later_joined s k, later_count s k, same (is_odd k), joined (value s) k, some_in_room s m k, l, not_odd k) refl
+    rw (m.transfer, initiate_is_read s m, segment_is_read s k, later_joined s k, later_count s k, same (is_odd k), joined (value s) k, some_in_room s m k, l, not_odd k) refl
 
 -- what an answer makes of a client, by what it has taken
 verdict_since : (s : Setup) (events : List ClientEvent) (frame : List ℕ) (a : Option Answers) → since_first (answers_of events) ≡ a
@@ -122,13 +122,13 @@ pub client_goes_on : (s : Setup) → MayUpload s → (k : ℕ) (events : List Cl
     → GoesOnWith s events (answer s k) (request s (k + 1)) (AtClient s (k + 1))
 client_goes_on s m zero events more h = record {
   message = Request (NextSegment false);
-  goes_on = verdict_since s events (answer s 0) None (ap since_first h) ∙ begin_verdict s m;
+  goes_on = verdict_since s events (answer s 0) None (ap since_first h) ∙ initiate_verdict s m;
   asks = refl;
   next = ap (λ (xs : List (List ℕ)). answer s 0 ∷ xs) h;
 }
 client_goes_on s m (suc k) events more h = record {
   message = Request (NextSegment (is_odd (suc k)));
-  goes_on = verdict_since s events (answer s (suc k)) (Some (since_begin s k)) (ap since_first h ∙ first_and_later s k) ∙ segment_verdict s m k false (not_last k (length (value s)) more);
+  goes_on = verdict_since s events (answer s (suc k)) (Some (since_initiate s k)) (ap since_first h ∙ first_and_later s k) ∙ segment_verdict s m k false (not_last k (length (value s)) more);
   asks = rw (add-one (suc k)) refl;
   next = rw (add-one (suc k)) (ap (λ (xs : List (List ℕ)). answer s (suc k) ∷ xs) h);
 }
@@ -137,7 +137,7 @@ pub client_ends : (s : Setup) → MayUpload s → (k : ℕ) (events : List Clien
     → verdict s.call events (Answered (answer s k)) ≡ Ends [] (value s)
 client_ends s m zero events last h = absurd (omega arith)
 client_ends s m (suc k) events last h =
-    verdict_since s events (answer s (suc k)) (Some (since_begin s k)) (ap since_first h ∙ first_and_later s k) ∙ segment_verdict s m k true (last_is k (length (value s)) last)
+    verdict_since s events (answer s (suc k)) (Some (since_initiate s k)) (ap since_first h ∙ first_and_later s k) ∙ segment_verdict s m k true (last_is k (length (value s)) last)
 
 -- ---- the channel
 
@@ -166,7 +166,7 @@ channel_begins s m log contents h =
     let value_same : value_at contents s.call.key ≡ value s = rw same refl in
     let opens : opened_next s.description contents None (request s 0) ≡ Some (open_at s 0) = rw (read, free, value_same, m.not_short) refl in
     let sets : contents_with contents (set_next s.description contents None (request s 0)) ≡ contents = rw read refl in
-    let replies : answers_to s.description contents None (request s 0) ≡ Response (UploadBegun s.call.key (Some (length (value s)))) ∷ [] = rw (read, free, value_same, m.not_short) refl in
+    let replies : answers_to s.description contents None (request s 0) ≡ Response (UploadInitiated s.call.key (Some (length (value s)))) ∷ [] = rw (read, free, value_same, m.not_short) refl in
     record {
       replies = ap (map answer_bytes) (step.replies ∙ replies);
       next = record {

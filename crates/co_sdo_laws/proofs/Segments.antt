@@ -7,7 +7,7 @@ use Rattle.std.proofs.lemmas.Bool.Decides.{nat_tests}
 use Rattle.co_sdo_client.specs.Segments.{part_after, is_last_after, requests_needed}
 use Rattle.co_sdo_client.specs.Verdicts.{same_bool}
 use Rattle.co_sdo.specs.Log.{Exchange}
-use Rattle.co_sdo.proofs.Beginnings.{exchange}
+use Rattle.co_sdo.proofs.Initiations.{exchange}
 
 -- of the segments after the first k one is left, and others are
 pub last_is : (k n : ℕ) → suc k + 1 ≡ requests_needed n → nat_le n (7 * k + 7) ≡ true

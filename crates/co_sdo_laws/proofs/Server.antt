@@ -3,13 +3,13 @@ use Rattle.std.proofs.Common.{◌≡◌, ℕ, List, ◌∷◌, length, Option, S
 use Rattle.co_dict.specs.Rows.{Rows, Contents}
 use Rattle.co_dict.specs.Stores.{Description, IsDictionary}
 use Rattle.co_sdo.specs.Log.{Exchanged, Ticked, Log}
-use Rattle.co_sdo.specs.OpenTransfers.{Since, open_since, and_event, since_begin, open_transfer}
+use Rattle.co_sdo.specs.OpenTransfers.{Since, open_since, and_event, since_initiate, open_transfer}
 use Rattle.co_sdo.specs.Opened.{OpenTransfer, opened, opened_after}
 use Rattle.co_sdo.specs.Replies.{reply_to, answers_to}
 use Rattle.co_sdo.specs.Completed.{set_by}
 use Rattle.co_sdo.specs.Steps.{opened_next, set_next}
 use Rattle.co_sdo.specs.Standing.{is_under_way}
-use Rattle.co_sdo.proofs.Beginnings.{exchange}
+use Rattle.co_sdo.proofs.Initiations.{exchange}
 use Rattle.co_sdo.proofs.TakeLemmas.{steps_to, set_is}
 
 -- this is open after a log
@@ -42,7 +42,7 @@ tick_since None = refl
 tick_since (Some s) = refl
 
 pub tick_opens : (log : Log) → open_transfer (Ticked ∷ log) ≡ open_transfer log
-tick_opens log = tick_since (since_begin log)
+tick_opens log = tick_since (since_initiate log)
 
 -- a tick changes nothing of what is open
 pub serves_ticked : (rows : Rows) (log : Log) (current : Option OpenTransfer) → Serves rows log current → Serves rows (Ticked ∷ log) current

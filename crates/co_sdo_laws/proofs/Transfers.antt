@@ -17,7 +17,7 @@ use Rattle.co_sdo.specs.Refused.{reading_refusal}
 use Rattle.co_sdo.specs.Uploads.{value_at}
 use Rattle.co_sdo_laws.specs.World.{Setup, World, WorldEvent, world_after}
 use Rattle.co_sdo_laws.specs.Undisturbed.{IsUndisturbed, on_their_way, IsJob, IsPermitted, GoesInTurns, is_short, is_expedited_download, is_segmented_download, is_plain_upload, is_block_download, is_block_upload, GoesInBlocks, HaveSent, block_frames, block_upload_frames, upload_requests, block_download_requests, block_download_answers, block_upload_requests, block_upload_answers}
-use Rattle.co_sdo_laws.proofs.Frames.{begin_read, bare_begin_read, block_begin_read, bare_block_begin_read}
+use Rattle.co_sdo_laws.proofs.Frames.{initiate_read, bare_initiate_read, block_initiate_read, bare_block_initiate_read}
 use Rattle.co_sdo_laws.proofs.Permits.{may_begin}
 use Rattle.co_sdo_laws.proofs.Pasts.{unopened}
 use Rattle.co_sdo_laws.proofs.Turns.{always, goes_in_turns, when_done, channel_at}
@@ -67,11 +67,11 @@ permitted_download key mode client_time (Download bytes true) time d contents pa
       lawful = lawful;
       idle = idle;
       index = index;
-      may_begin = may.begin_indicated;
+      may_begin = may.initiate_indicated;
       may_complete = may.complete_indicated;
       room = may.room;
-      begin_read = begin_read key (length bytes) index (omega arith);
-      begin_long = refl;
+      initiate_read = initiate_read key (length bytes) index (omega arith);
+      initiate_long = refl;
     }
 permitted_download key mode client_time (Download bytes false) time d contents past t lawful idle index small free =
     let may = may_begin d contents key bytes free in
@@ -83,8 +83,8 @@ permitted_download key mode client_time (Download bytes false) time d contents p
       may_begin = may.begin;
       may_complete = free;
       room = may.room;
-      begin_read = bare_begin_read key index;
-      begin_long = refl;
+      initiate_read = bare_initiate_read key index;
+      initiate_long = refl;
     }
 permitted_download key mode client_time (Upload cap) time d contents past t lawful idle index small free = absurd (no_upload mode cap t)
 
@@ -255,11 +255,11 @@ permitted_blocks key Block client_time (Download bytes true) time d contents pas
       lawful = lawful;
       idle = idle;
       index = index;
-      may_begin = may.begin_indicated;
+      may_begin = may.initiate_indicated;
       may_complete = may.complete_indicated;
       room = may.room;
-      begin_read = block_begin_read key (length bytes) index (omega arith);
-      begin_long = refl;
+      initiate_read = block_initiate_read key (length bytes) index (omega arith);
+      initiate_long = refl;
     }
 permitted_blocks key Block client_time (Download bytes false) time d contents past t lawful idle index small free =
     let may = may_begin d contents key bytes free in
@@ -271,8 +271,8 @@ permitted_blocks key Block client_time (Download bytes false) time d contents pa
       may_begin = may.begin;
       may_complete = free;
       room = may.room;
-      begin_read = bare_block_begin_read key index;
-      begin_long = refl;
+      initiate_read = bare_block_initiate_read key index;
+      initiate_long = refl;
     }
 permitted_blocks key Plain client_time (Download bytes tells) time d contents past t lawful idle index small free = cc
 permitted_blocks key Segmented client_time (Download bytes tells) time d contents past t lawful idle index small free = cc

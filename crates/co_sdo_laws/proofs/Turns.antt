@@ -10,7 +10,7 @@ use Rattle.co_dict.specs.Rows.{Contents}
 use Rattle.co_sdo.specs.Log.{answer_bytes, Exchanged, Ticked, Log}
 use Rattle.co_sdo.specs.Replies.{reply_to}
 use Rattle.co_sdo.specs.Completed.{set_by, contents_with}
-use Rattle.co_sdo.proofs.Beginnings.{exchange}
+use Rattle.co_sdo.proofs.Initiations.{exchange}
 use Rattle.co_sdo_laws.specs.World.{Setup, World, Requests, Answers, WorldEvent, Delivered, Lost, Repeated, ClientTicked, ChannelTicked, first_world, after_event, world_after}
 use Rattle.co_sdo_laws.specs.Undisturbed.{IsCalm, AreCalm, GoesInTurns}
 use Rattle.co_sdo_laws.proofs.Client.{follows, stays, tick_verdict}

@@ -20,7 +20,7 @@ use Rattle.co_sdo_client.specs.declared.mode.Mode.TheVariants.{Segmented, Block}
 use Rattle.co_sdo_client.specs.declared.state.ClientState.TheVariants.{Done}
 use Rattle.co_sdo_client.specs.Calls.{Download, Upload}
 use Rattle.co_sdo_client.specs.Outcomes.{outcome}
-use Rattle.co_sdo.specs.Refused.{reading_refusal, begin_refusal, completion_refusal}
+use Rattle.co_sdo.specs.Refused.{reading_refusal, initiate_refusal, completion_refusal}
 use Rattle.co_sdo.specs.Opened.{opened_after}
 use Rattle.co_sdo_laws.specs.World.{Setup, World, WorldEvent, Requests, Answers, Lost, Repeated, ClientTicked, ChannelTicked, world_after}
 use Rattle.co_sdo_laws.specs.Undisturbed.{IsCalm, AreCalm, IsPermitted, IsUndisturbed, rounds_after, GoesInTurns}
@@ -149,18 +149,18 @@ abbrev ten_events : List WorldEvent
 ten_events = a ∷ r ∷ a ∷ r ∷ a ∷ ChannelTicked ∷ ClientTicked ∷ ClientTicked ∷ r ∷ []
 
 ten_calm : AreCalm ten ten_events
-unfolding request_row_in response_row_in reading_refusal begin_refusal completion_refusal has_object
+unfolding request_row_in response_row_in reading_refusal initiate_refusal completion_refusal has_object
 ten_calm = (tt, (tt, (tt, (tt, (tt, (refl, ((λ waits. refl), ((λ waits. refl), (tt, tt)))))))))
 
 ten_permitted : IsPermitted dictionary bytes_in string_key ten.call.job
-unfolding reading_refusal begin_refusal completion_refusal has_object
+unfolding reading_refusal initiate_refusal completion_refusal has_object
 ten_permitted = refl
 
 ten_undisturbed : IsUndisturbed ten ten_events
 ten_undisturbed = record { dictionary = is_dictionary; key = omega arith; job = omega arith; permitted = ten_permitted; idle = refl; calm = ten_calm }
 
 ten_done : outcome ten.call (world_after ten ten_events).events ≡ Done
-unfolding request_row_in response_row_in reading_refusal begin_refusal completion_refusal has_object
+unfolding request_row_in response_row_in reading_refusal initiate_refusal completion_refusal has_object
 ten_done = refl
 
 -- so that the law says how it goes
@@ -170,11 +170,11 @@ ten_goes = download_goes ten ten_events ten_undisturbed refl
 -- ---- and in blocks: any number of rounds
 
 fourteen_undisturbed : (n : ℕ) → IsUndisturbed fourteen (rounds_after n [])
-unfolding reading_refusal begin_refusal completion_refusal has_object
+unfolding reading_refusal initiate_refusal completion_refusal has_object
 fourteen_undisturbed n = record { dictionary = is_dictionary; key = omega arith; job = omega arith; permitted = refl; idle = refl; calm = rounds_calm fourteen n [] tt }
 
 nine_undisturbed : (n : ℕ) → IsUndisturbed (setup string_key Block (Upload 9)) (rounds_after n [])
-unfolding reading_refusal begin_refusal completion_refusal has_object
+unfolding reading_refusal initiate_refusal completion_refusal has_object
 nine_undisturbed n = record { dictionary = is_dictionary; key = omega arith; job = omega arith; permitted = refl; idle = refl; calm = rounds_calm (setup string_key Block (Upload 9)) n [] tt }
 
 -- ---- what disturbs it
@@ -184,12 +184,12 @@ over e = cc
 
 -- a third tick of the client while it waits
 third_tick : IsCalm ten ClientTicked (world_after ten (ClientTicked ∷ ClientTicked ∷ r ∷ [])) → ⊥
-unfolding request_row_in response_row_in reading_refusal begin_refusal completion_refusal has_object
+unfolding request_row_in response_row_in reading_refusal initiate_refusal completion_refusal has_object
 third_tick calm = over (calm refl)
 
 -- a second tick of the channel while the transfer is open
 second_tick : IsCalm ten ChannelTicked (world_after ten (ChannelTicked ∷ r ∷ [])) → ⊥
-unfolding request_row_in response_row_in reading_refusal begin_refusal completion_refusal has_object
+unfolding request_row_in response_row_in reading_refusal initiate_refusal completion_refusal has_object
 second_tick calm = over calm
 
 -- a lost or a repeated frame
@@ -211,7 +211,7 @@ idle_ticks s w idle = rw (tick_opens w.log, idle) refl
 
 -- as with ten bytes, when all have arrived
 ten_ticks_later : AreCalm ten (ClientTicked ∷ ClientTicked ∷ ClientTicked ∷ ClientTicked ∷ ChannelTicked ∷ ChannelTicked ∷ ChannelTicked ∷ ten_events)
-unfolding request_row_in response_row_in reading_refusal begin_refusal completion_refusal has_object
+unfolding request_row_in response_row_in reading_refusal initiate_refusal completion_refusal has_object
 ten_ticks_later = ((λ waits. cc), ((λ waits. cc), ((λ waits. cc), ((λ waits. cc), (refl, (refl, (refl, ten_calm)))))))
 
 -- ---- what isn't permitted
@@ -221,12 +221,12 @@ refused code e = cc
 
 -- 17 bytes don't fit the string
 too_long : IsPermitted dictionary bytes_in string_key (Download (codes "0123456789ABCDEFG") true) → ⊥
-unfolding reading_refusal begin_refusal completion_refusal has_object
+unfolding reading_refusal initiate_refusal completion_refusal has_object
 too_long h = refused 0x06070012 h
 
 -- there is no entry 2002:00
 not_there : IsPermitted dictionary bytes_in (record { index = 0x2002; sub = 0 }) (Upload 9) → ⊥
-unfolding reading_refusal begin_refusal completion_refusal has_object
+unfolding reading_refusal initiate_refusal completion_refusal has_object
 not_there h = refused 0x06020000 h
 
 -- so that nothing is an undisturbed transfer of 17 bytes

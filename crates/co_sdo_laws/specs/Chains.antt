@@ -36,8 +36,8 @@ abbrev pub calls : List Transfer → List Call
 calls transfers = map (λ t. t.call) transfers
 
 -- a client begins
-abbrev pub begin_at : Server → Call → Setup
-begin_at server call = record {
+abbrev pub initiate_at : Server → Call → Setup
+initiate_at server call = record {
   call = call;
   time = server.time;
   description = server.description;
@@ -47,7 +47,7 @@ begin_at server call = record {
 
 -- what its transfer comes to
 abbrev pub end_of : Server → Transfer → World
-end_of server t = world_after (begin_at server t.call) t.events
+end_of server t = world_after (initiate_at server t.call) t.events
 
 -- the channel after it
 abbrev pub server_after : Server → Transfer → Server
@@ -120,7 +120,7 @@ MayCallAll d contents (call ∷ later) =
 
 -- nothing disturbs a transfer, and it goes on until no frame is on its way
 pub record IsWhole (server : Server) (t : Transfer) : Type 0 where
-  pub calm : AreCalm (begin_at server t.call) t.events
+  pub calm : AreCalm (initiate_at server t.call) t.events
   pub rests : on_their_way (end_of server t) ≡ 0
 
 -- the same of all of these, one after the other

@@ -21,7 +21,7 @@ use Rattle.co_sdo.specs.Log.{answer_bytes, Ticked}
 use Rattle.co_sdo.specs.Opened.{OpenTransfer, opened_after, is_time_over}
 use Rattle.co_sdo.specs.Replies.{open_key, time_out_reply}
 use Rattle.co_sdo_laws.specs.World.{Setup, World, Requests, Answers as Back, WorldEvent, Delivered, Lost, Repeated, ClientTicked, ChannelTicked, at_client, timed_out, ticked, without_front, front_arrives, after_event, world_after}
-use Rattle.co_sdo_laws.proofs.Frames.{block_begun_read, block_done_read, acknowledged_read}
+use Rattle.co_sdo_laws.proofs.Frames.{block_initiated_read, block_done_read, acknowledged_read}
 use Rattle.co_sdo_laws.proofs.Server.{serves_first}
 use Rattle.co_sdo_laws.proofs.Client.{follows, stays}
 use Rattle.co_sdo_laws.proofs.BlockSegments.{sub_block_bytes}
@@ -102,13 +102,13 @@ took_confirmation s m events h waits = record {
   taken = record { first = confirmation s; later = [] };
   is = ap (λ (a : Option Answers). Some (with_answer (confirmation s) a)) h.first;
   total = refl;
-  size = ap block_size_by (block_begun_read s.call.key 127 m.alone.key);
+  size = ap block_size_by (block_initiated_read s.call.key 127 m.alone.key);
 }
 
 confirmation_comes : (s : Setup) → IsDownload s → (w : World) → HasBegun s w.events → w.requests ≡ [] → awaited w.answers ≡ [] → Inside s 0 0 w.log w.contents ⊎ IsGone w.log → Stands s (at_client s (Answered (confirmation s)) w)
 confirmation_comes s m w c none rest h =
     let is : verdict s.call w.events (Answered (confirmation s)) ≡ GoesOn (sub_block_sent (bytes s) 0 127) =
-    verdict_since s w.events _ None c.first ∙ rw (block_begun_read s.call.key 127 m.alone.key, m.transfer, same_key-refl s.call.key) refl in
+    verdict_since s w.events _ None c.first ∙ rw (block_initiated_read s.call.key 127 m.alone.key, m.transfer, same_key-refl s.call.key) refl in
     let f = follows s.call w.events (Answered (confirmation s)) (GoesOn (sub_block_sent (bytes s) 0 127)) c.waits is in
     let sent = then_sends s (confirmation s) w _ _ none f.messages (sub_block_is s 0 (omega arith)) in
     let took = took_confirmation s m w.events c f.state in

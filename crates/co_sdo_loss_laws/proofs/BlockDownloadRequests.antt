@@ -15,7 +15,7 @@ use Rattle.co_sdo_client.specs.Segments.{size_sent, transfer_of, transfer_by, pa
 use Rattle.co_sdo_client.specs.Outcomes.{outcome}
 use Rattle.co_dict.specs.Rows.{Contents, written}
 use Rattle.co_dict.specs.Stores.{IsDictionary}
-use Rattle.co_sdo.specs.Refused.{capacity_at, begin_refusal, completion_refusal}
+use Rattle.co_sdo.specs.Refused.{capacity_at, initiate_refusal, completion_refusal}
 use Rattle.co_sdo.specs.Log.{Answer, Response, answer_bytes, Log}
 use Rattle.co_sdo.specs.Replies.{aborted, reply_to}
 use Rattle.co_sdo_laws.specs.World.{Setup, World, Requests, at_channel, without_front, front_arrives}
@@ -28,7 +28,7 @@ use Rattle.co_sdo_loss_laws.proofs.StopAndWait.{has_failed, failed_front}
 use Rattle.co_sdo_loss_laws.proofs.Channel.{IsServing, is_served}
 use Rattle.co_sdo_loss_laws.proofs.BlockUploads.{live, live_after}
 use Rattle.co_sdo_loss_laws.proofs.BlockDownloads.{awaited, awaited_after, AreOthers, aborted_other, IsGone, gone_answers, gone_goes_on}
-use Rattle.co_sdo_loss_laws.proofs.BlockDownloadSegments.{bytes, total, size_after, begin, confirmation, acknowledgement, unused, client_end, all_done, segment_at, segments, data_at, frame_with, frame_is, frame_long, size_read, begin_long, inside, at_last, begin_taken, begin_refused, inside_next, inside_other, last_next, full_next, full_refused, end_other, end_refused, end_taken, completion_refused}
+use Rattle.co_sdo_loss_laws.proofs.BlockDownloadSegments.{bytes, total, size_after, begin, confirmation, acknowledgement, unused, client_end, all_done, segment_at, segments, data_at, frame_with, frame_is, frame_long, size_read, initiate_long, inside, at_last, initiate_taken, initiate_refused, inside_next, inside_other, last_next, full_next, full_refused, end_other, end_refused, end_taken, completion_refused}
 
 pub record IsDownload (s : Setup) : Type 0 where
   pub alone : IsAlone s
@@ -80,16 +80,16 @@ pub data Stands (s : Setup) (w : World) : Type 0 where
 pub dictionary : (s : Setup) → IsDownload s → (contents : Contents) → contents ≡ s.contents → IsDictionary s.description contents
 dictionary s m contents e = subst (IsDictionary s.description) (sym e) m.alone.dictionary
 
-pub begin_comes : (s : Setup) → IsDownload s → (w : World) → HasBegun s w.events → Early s [] [] w → IsServing s (Lawful s) None w.log w.contents
-    → (refusal : Option ℕ) → begin_refusal s.description s.call.key (size_read (size_sent s.call.job)) ≡ refusal → Stands s (at_channel s (begin s) w)
-begin_comes s m w c at h None e =
-    let made = is_served s w.log w.contents None (begin s) _ _ _ h.serves (dictionary s m w.contents h.lawful) (begin_long s.call.key (size_sent s.call.job))
-    (begin_taken s.description w.contents s.call.key (size_sent s.call.job) m.alone.key e) in
+pub initiate_comes : (s : Setup) → IsDownload s → (w : World) → HasBegun s w.events → Early s [] [] w → IsServing s (Lawful s) None w.log w.contents
+    → (refusal : Option ℕ) → initiate_refusal s.description s.call.key (size_read (size_sent s.call.job)) ≡ refusal → Stands s (at_channel s (begin s) w)
+initiate_comes s m w c at h None e =
+    let made = is_served s w.log w.contents None (begin s) _ _ _ h.serves (dictionary s m w.contents h.lawful) (initiate_long s.call.key (size_sent s.call.job))
+    (initiate_taken s.description w.contents s.call.key (size_sent s.call.job) m.alone.key e) in
     confirmed c (record { requests = at.requests; answers = live_after w.answers _ _ at.answers (rw made.replies refl) })
     (inl (record { serves = made.serves; lawful = made.sets ∙ h.lawful }))
-begin_comes s m w c at h (Some code) e =
-    let made = is_served s w.log w.contents None (begin s) _ _ _ h.serves (dictionary s m w.contents h.lawful) (begin_long s.call.key (size_sent s.call.job))
-    (begin_refused s.description w.contents s.call.key (size_sent s.call.job) code m.alone.key e) in
+initiate_comes s m w c at h (Some code) e =
+    let made = is_served s w.log w.contents None (begin s) _ _ _ h.serves (dictionary s m w.contents h.lawful) (initiate_long s.call.key (size_sent s.call.job))
+    (initiate_refused s.description w.contents s.call.key (size_sent s.call.job) code m.alone.key e) in
     unconfirmed c (record { requests = at.requests; answers = live_after w.answers _ _ at.answers (rw made.replies refl) })
 
 -- what the channel answers follows what is on its way: nothing that is awaited
@@ -277,7 +277,7 @@ pub front_is : (s : Setup) (w : World) (xs : List (List ℕ)) → w.requests ≡
 front_is s w xs e h = subst (λ (ys : List (List ℕ)). Stands s (front_arrives s Requests ys (without_front Requests w))) (sym e) h
 
 pub request_comes : (s : Setup) → IsDownload s → (w : World) → Stands s w → Stands s (front_arrives s Requests w.requests (without_front Requests w))
-request_comes s up w (asking b m h) = front_is s w _ m.requests (begin_comes s up (without_front Requests w) b (record { requests = ap (drop 1) m.requests; answers = m.answers }) h _ refl)
+request_comes s up w (asking b m h) = front_is s w _ m.requests (initiate_comes s up (without_front Requests w) b (record { requests = ap (drop 1) m.requests; answers = m.answers }) h _ refl)
 request_comes s up w (confirmed b m h) = front_is s w _ m.requests (loses_request s w (confirmed b m h))
 request_comes s up w (unconfirmed b m) = front_is s w _ m.requests (loses_request s w (unconfirmed b m))
 request_comes s up w (sending a t n more b under some size m h) =

@@ -8,21 +8,21 @@ use Rattle.co_value.specs.declared.key.Key.{Key}
 use Rattle.co_value.specs.Numbers.{unsigned_of, low_bytes}
 use Rattle.co_frame.specs.BlockSegments.{block_segment_in, block_segment_bytes}
 use Rattle.co_frame.specs.SdoFields.{padded}
-use Rattle.co_frame.specs.declared.sdo_request.SdoRequest.TheVariants.{BlockDownloadBegin, BlockDownloadEnd}
-use Rattle.co_frame.specs.declared.sdo_response.SdoResponse.TheVariants.{BlockDownloadBegun, BlockDownloadDone, BlockDownloadAcknowledge}
+use Rattle.co_frame.specs.declared.sdo_request.SdoRequest.TheVariants.{BlockDownloadInitiate, BlockDownloadEnd}
+use Rattle.co_frame.specs.declared.sdo_response.SdoResponse.TheVariants.{BlockDownloadInitiated, BlockDownloadDone, BlockDownloadAcknowledge}
 use Rattle.co_frame.specs.SdoRequests.{request_row_in, request_in, request_bytes}
 use Rattle.co_frame.specs.SdoResponses.{response_bytes}
 use Rattle.co_sdo_client.specs.Segments.{bytes_of, size_sent, part_after, segment_count, block_segment, sub_block_length}
 use Rattle.co_dict.specs.Rows.{Contents, written}
 use Rattle.co_dict.specs.Stores.{Description}
 use Rattle.co_sdo.specs.declared.stage.Stage.TheVariants.{SubBlock, LastTaken}
-use Rattle.co_sdo.specs.Refused.{capacity_at, begin_refusal, completion_refusal}
+use Rattle.co_sdo.specs.Refused.{capacity_at, initiate_refusal, completion_refusal}
 use Rattle.co_sdo.specs.Downloads.{without}
 use Rattle.co_sdo.specs.Log.{Response}
 use Rattle.co_sdo.specs.Opened.{OpenTransfer}
 use Rattle.co_sdo.specs.Replies.{aborted}
 use Rattle.co_sdo_laws.specs.World.{Setup}
-use Rattle.co_sdo_laws.proofs.Frames.{bare_block_begin_read, block_end_read, block_segment_read}
+use Rattle.co_sdo_laws.proofs.Frames.{bare_block_initiate_read, block_end_read, block_segment_read}
 use Rattle.co_sdo_laws.proofs.Segments.{part_small}
 use Rattle.co_sdo_laws.proofs.BlockSegments.{segment_with, padded_long}
 use Rattle.co_sdo_loss_laws.proofs.Channel.{Steps}
@@ -40,10 +40,10 @@ abbrev pub size_after : Setup → ℕ → ℕ
 size_after s a = sub_block_length (bytes s) a 127
 
 abbrev pub begin : Setup → List ℕ
-begin s = request_bytes (BlockDownloadBegin s.call.key (size_sent s.call.job))
+begin s = request_bytes (BlockDownloadInitiate s.call.key (size_sent s.call.job))
 
 abbrev pub confirmation : Setup → List ℕ
-confirmation s = response_bytes (BlockDownloadBegun s.call.key 127)
+confirmation s = response_bytes (BlockDownloadInitiated s.call.key 127)
 
 abbrev pub acknowledgement : ℕ → List ℕ
 acknowledgement count = response_bytes (BlockDownloadAcknowledge count 127)
@@ -97,17 +97,17 @@ size_read (Some size) = Some (unsigned_of (low_bytes 4 size))
 two_bytes : (x : ℕ) → x < 65536 → unsigned_of (low_bytes 2 x) ≡ x
 two_bytes x h = omega arith
 
-sized_begin_read : (key : Key) (size : ℕ) → key.index < 65536 → request_in (request_bytes (BlockDownloadBegin key (Some size))) ≡ Some (BlockDownloadBegin key (Some (unsigned_of (low_bytes 4 size))))
+sized_initiate_read : (key : Key) (size : ℕ) → key.index < 65536 → request_in (request_bytes (BlockDownloadInitiate key (Some size))) ≡ Some (BlockDownloadInitiate key (Some (unsigned_of (low_bytes 4 size))))
 unfolding request_row_in
-sized_begin_read key size k = rw (two_bytes key.index k) refl
+sized_initiate_read key size k = rw (two_bytes key.index k) refl
 
-begin_read : (key : Key) (size : Option ℕ) → key.index < 65536 → request_in (request_bytes (BlockDownloadBegin key size)) ≡ Some (BlockDownloadBegin key (size_read size))
-begin_read key None k = bare_block_begin_read key k
-begin_read key (Some size) k = sized_begin_read key size k
+initiate_read : (key : Key) (size : Option ℕ) → key.index < 65536 → request_in (request_bytes (BlockDownloadInitiate key size)) ≡ Some (BlockDownloadInitiate key (size_read size))
+initiate_read key None k = bare_block_initiate_read key k
+initiate_read key (Some size) k = sized_initiate_read key size k
 
-pub begin_long : (key : Key) (size : Option ℕ) → length (request_bytes (BlockDownloadBegin key size)) ≡ 8
-begin_long key None = refl
-begin_long key (Some size) = refl
+pub initiate_long : (key : Key) (size : Option ℕ) → length (request_bytes (BlockDownloadInitiate key size)) ≡ 8
+initiate_long key None = refl
+initiate_long key (Some size) = refl
 
 -- ---- the begin at an idle channel
 
@@ -118,13 +118,13 @@ inside key size taken held = record { key = key; stage = SubBlock size taken; by
 abbrev pub at_last : Key → Option ℕ → List ℕ → OpenTransfer
 at_last key size held = record { key = key; stage = LastTaken size; bytes = held }
 
-pub begin_taken : (d : Description) (contents : Contents) (key : Key) (size : Option ℕ) → key.index < 65536 → begin_refusal d key (size_read size) ≡ None
-    → Steps d contents None (request_bytes (BlockDownloadBegin key size)) (Response (BlockDownloadBegun key 127) ∷ []) (Some (inside key (size_read size) 0 [])) contents
-begin_taken d contents key size k free = let read = begin_read key size k in record { replies = rw (read, free) refl; opens = rw (read, free) refl; sets = rw read refl }
+pub initiate_taken : (d : Description) (contents : Contents) (key : Key) (size : Option ℕ) → key.index < 65536 → initiate_refusal d key (size_read size) ≡ None
+    → Steps d contents None (request_bytes (BlockDownloadInitiate key size)) (Response (BlockDownloadInitiated key 127) ∷ []) (Some (inside key (size_read size) 0 [])) contents
+initiate_taken d contents key size k free = let read = initiate_read key size k in record { replies = rw (read, free) refl; opens = rw (read, free) refl; sets = rw read refl }
 
-pub begin_refused : (d : Description) (contents : Contents) (key : Key) (size : Option ℕ) (code : ℕ) → key.index < 65536 → begin_refusal d key (size_read size) ≡ Some code
-    → Steps d contents None (request_bytes (BlockDownloadBegin key size)) (aborted key code) None contents
-begin_refused d contents key size code k refused = let read = begin_read key size k in record { replies = rw (read, refused) refl; opens = rw (read, refused) refl; sets = rw read refl }
+pub initiate_refused : (d : Description) (contents : Contents) (key : Key) (size : Option ℕ) (code : ℕ) → key.index < 65536 → initiate_refusal d key (size_read size) ≡ Some code
+    → Steps d contents None (request_bytes (BlockDownloadInitiate key size)) (aborted key code) None contents
+initiate_refused d contents key size code k refused = let read = initiate_read key size k in record { replies = rw (read, refused) refl; opens = rw (read, refused) refl; sets = rw read refl }
 
 -- ---- a segment at a channel inside a sub-block
 

@@ -9,11 +9,11 @@ use Rattle.std.proofs.lemmas.Bool.Decides.{nat_tests}
 use Rattle.arrayvec.specs.ArrayVec.{ArrayVec}
 use Rattle.co_value.specs.declared.key.Key.{Key}
 use Rattle.co_frame.specs.declared.sdo_request.SdoRequest.{SdoRequest}
-use Rattle.co_frame.specs.declared.sdo_request.SdoRequest.TheVariants.{DownloadExpedited, DownloadBegin, DownloadSegment, Upload, UploadSegment, Abort, BlockUploadBegin, BlockUploadEnd, BlockUploadAcknowledge, BlockUploadStart, BlockDownloadBegin, BlockDownloadEnd}
+use Rattle.co_frame.specs.declared.sdo_request.SdoRequest.TheVariants.{DownloadExpedited, DownloadInitiate, DownloadSegment, Upload, UploadSegment, Abort, BlockUploadInitiate, BlockUploadEnd, BlockUploadAcknowledge, BlockUploadStart, BlockDownloadInitiate, BlockDownloadEnd}
 use Rattle.co_frame.specs.declared.sdo_request.ExpeditedData.{ExpeditedData}
 use Rattle.co_frame.specs.declared.sdo_request.ExpeditedData.TheVariants.{Indicated}
 use Rattle.co_frame.specs.declared.sdo_response.SdoResponse.{SdoResponse}
-use Rattle.co_frame.specs.declared.sdo_response.SdoResponse.TheVariants.{DownloadDone, DownloadSegmentDone, UploadExpedited, UploadBegun, UploadSegment as SegmentSent, BlockDownloadBegun, BlockDownloadDone, BlockDownloadAcknowledge, BlockUploadBegun}
+use Rattle.co_frame.specs.declared.sdo_response.SdoResponse.TheVariants.{DownloadDone, DownloadSegmentDone, UploadExpedited, UploadInitiated, UploadSegment as SegmentSent, BlockDownloadInitiated, BlockDownloadDone, BlockDownloadAcknowledge, BlockUploadInitiated}
 use Rattle.co_frame.specs.SdoFields.{has_bit, key_in}
 use Rattle.co_frame.specs.SdoParts.{expedited_in, size_in}
 use Rattle.co_frame.specs.SdoRequests.{request_row_in, request_in}
@@ -22,16 +22,16 @@ use Rattle.co_dict.specs.Rows.{Rows, Contents}
 use Rattle.co_dict.specs.Stores.{Description}
 use Rattle.co_dict.specs.Refusals.{first_of}
 use Rattle.co_sdo.specs.declared.stage.Stage.TheVariants.{Download, Upload as Uploading}
-use Rattle.co_sdo.specs.Refused.{reading_refusal, begin_refusal, completion_refusal}
+use Rattle.co_sdo.specs.Refused.{reading_refusal, initiate_refusal, completion_refusal}
 use Rattle.co_sdo.specs.Log.{Answer, Response, Exchange, Exchanged, Ticked, TimedOut, Log, answer_bytes, is_abort, requests}
 use Rattle.co_sdo.specs.Downloads.{is_odd, expedited_part, is_whole_after}
 use Rattle.co_sdo.specs.Uploads.{value_at, part_after}
-use Rattle.co_sdo.specs.OpenTransfers.{Transfer, is_begin, is_finished, is_uploaded, is_cut, is_inside, is_inside_after, is_abort_request, begins, open_transfer}
+use Rattle.co_sdo.specs.OpenTransfers.{Transfer, is_initiate, is_finished, is_uploaded, is_cut, is_inside, is_inside_after, is_abort_request, begins, open_transfer}
 use Rattle.co_sdo.specs.Opened.{OpenTransfer, opened, opened_by, opened_after}
 use Rattle.co_sdo.specs.Replies.{aborted, unless_refused, toggle_refusal, block_size_refusal, segment_refusal, request_answers, answers_to, reply_to}
 use Rattle.co_sdo.specs.Standing.{is_under_way, is_transfer_after}
-use Rattle.co_sdo.proofs.Beginnings.{exchange}
-use Rattle.co_sdo.proofs.Logs.{after_begins, after_open, after_nothing}
+use Rattle.co_sdo.proofs.Initiations.{exchange}
+use Rattle.co_sdo.proofs.Logs.{after_initiates, after_open, after_nothing}
 use Rattle.co_sdo_laws.proofs.Server.{Serves, tick_opens}
 use Rattle.co_sdo_loss_laws.proofs.Channel.{ended}
 
@@ -102,17 +102,17 @@ unfolding response_row_in
 segment_done_other true = refl
 segment_done_other false = refl
 
-begun_other : (key : Key) (size : ℕ) → AreOthers (Response (UploadBegun key (Some size)) ∷ [])
+initiated_other : (key : Key) (size : ℕ) → AreOthers (Response (UploadInitiated key (Some size)) ∷ [])
 unfolding response_row_in
-begun_other key size = refl
+initiated_other key size = refl
 
-block_begun_other : (key : Key) (size : ℕ) → AreOthers (Response (BlockUploadBegun key (Some size)) ∷ [])
+block_initiated_other : (key : Key) (size : ℕ) → AreOthers (Response (BlockUploadInitiated key (Some size)) ∷ [])
 unfolding response_row_in
-block_begun_other key size = refl
+block_initiated_other key size = refl
 
-download_begun_other : (key : Key) → AreOthers (Response (BlockDownloadBegun key 127) ∷ [])
+download_initiated_other : (key : Key) → AreOthers (Response (BlockDownloadInitiated key 127) ∷ [])
 unfolding response_row_in
-download_begun_other key = refl
+download_initiated_other key = refl
 
 pub aborted_other : (key : Key) (code : ℕ) → AreOthers (aborted key code)
 unfolding response_row_in
@@ -122,9 +122,9 @@ unless_other : (refusal : Option ℕ) (key : Key) (answers : List Answer) → Ar
 unless_other None key answers h = h
 unless_other (Some code) key answers h = aborted_other key code
 
-value_other : (key : Key) (v : List ℕ) (short : Bool) → AreOthers (if short then Response (UploadExpedited key (Indicated (record { items = v }))) ∷ [] else Response (UploadBegun key (Some (length v))) ∷ [])
+value_other : (key : Key) (v : List ℕ) (short : Bool) → AreOthers (if short then Response (UploadExpedited key (Indicated (record { items = v }))) ∷ [] else Response (UploadInitiated key (Some (length v))) ∷ [])
 value_other key v true = expedited_other key (record { items = v })
-value_other key v false = begun_other key (length v)
+value_other key v false = initiated_other key (length v)
 
 -- ---- the channel
 
@@ -137,10 +137,10 @@ pub data IsPlain (current : Option OpenTransfer) : Type 0 where
 nothing_other : (d : Description) (contents : Contents) (r : Option SdoRequest) → AreOthers (request_answers d contents None r)
 nothing_other d contents None = aborted_other (record { index = 0; sub = 0 }) 0x05040001
 nothing_other d contents (Some (DownloadExpedited key expedited)) = unless_other (completion_refusal d contents key None (expedited_part d.rows key expedited)) key _ (done_other key)
-nothing_other d contents (Some (DownloadBegin key size)) = unless_other (begin_refusal d key size) key _ (done_other key)
+nothing_other d contents (Some (DownloadInitiate key size)) = unless_other (initiate_refusal d key size) key _ (done_other key)
 nothing_other d contents (Some (Upload key)) = unless_other (reading_refusal d contents key) key _ (value_other key (value_at contents key) (nat_le 1 (length (value_at contents key)) && nat_le (length (value_at contents key)) 4))
-nothing_other d contents (Some (BlockUploadBegin key size threshold)) = unless_other (first_of (reading_refusal d contents key) (block_size_refusal size)) key _ (block_begun_other key (length (value_at contents key)))
-nothing_other d contents (Some (BlockDownloadBegin key size)) = unless_other (begin_refusal d key size) key _ (download_begun_other key)
+nothing_other d contents (Some (BlockUploadInitiate key size threshold)) = unless_other (first_of (reading_refusal d contents key) (block_size_refusal size)) key _ (block_initiated_other key (length (value_at contents key)))
+nothing_other d contents (Some (BlockDownloadInitiate key size)) = unless_other (initiate_refusal d key size) key _ (download_initiated_other key)
 nothing_other d contents (Some (DownloadSegment toggle part last)) = aborted_other (record { index = 0; sub = 0 }) 0x05040001
 nothing_other d contents (Some (UploadSegment toggle)) = aborted_other (record { index = 0; sub = 0 }) 0x05040001
 nothing_other d contents (Some (Abort key code)) = refl
@@ -152,10 +152,10 @@ nothing_other d contents (Some (BlockDownloadEnd unused)) = aborted_other (recor
 download_other : (d : Description) (contents : Contents) (key : Key) (size : Option ℕ) (expected : Bool) (held : List ℕ) (r : Option SdoRequest)
     → AreOthers (request_answers d contents (Some (record { key = key; stage = Download size expected; bytes = held })) r)
 download_other d contents k size expected held (Some (DownloadExpedited key expedited)) = nothing_other d contents (Some (DownloadExpedited key expedited))
-download_other d contents k size expected held (Some (DownloadBegin key n)) = nothing_other d contents (Some (DownloadBegin key n))
+download_other d contents k size expected held (Some (DownloadInitiate key n)) = nothing_other d contents (Some (DownloadInitiate key n))
 download_other d contents k size expected held (Some (Upload key)) = nothing_other d contents (Some (Upload key))
-download_other d contents k size expected held (Some (BlockUploadBegin key n threshold)) = nothing_other d contents (Some (BlockUploadBegin key n threshold))
-download_other d contents k size expected held (Some (BlockDownloadBegin key n)) = nothing_other d contents (Some (BlockDownloadBegin key n))
+download_other d contents k size expected held (Some (BlockUploadInitiate key n threshold)) = nothing_other d contents (Some (BlockUploadInitiate key n threshold))
+download_other d contents k size expected held (Some (BlockDownloadInitiate key n)) = nothing_other d contents (Some (BlockDownloadInitiate key n))
 download_other d contents k size expected held (Some (DownloadSegment toggle part last)) =
     unless_other (segment_refusal d contents (record { key = k; stage = Download size expected; bytes = held }) size expected toggle part.items last) k _ (segment_done_other toggle)
 download_other d contents k size expected held (Some (UploadSegment toggle)) = aborted_other k 0x05040001
@@ -169,10 +169,10 @@ download_other d contents k size expected held None = aborted_other k 0x05040001
 upload_other : (d : Description) (contents : Contents) (key : Key) (sent : ℕ) (held : List ℕ) (r : Option SdoRequest)
     → AreOthers (request_answers d contents (Some (record { key = key; stage = Uploading sent; bytes = held })) r)
 upload_other d contents k sent held (Some (DownloadExpedited key expedited)) = nothing_other d contents (Some (DownloadExpedited key expedited))
-upload_other d contents k sent held (Some (DownloadBegin key n)) = nothing_other d contents (Some (DownloadBegin key n))
+upload_other d contents k sent held (Some (DownloadInitiate key n)) = nothing_other d contents (Some (DownloadInitiate key n))
 upload_other d contents k sent held (Some (Upload key)) = nothing_other d contents (Some (Upload key))
-upload_other d contents k sent held (Some (BlockUploadBegin key n threshold)) = nothing_other d contents (Some (BlockUploadBegin key n threshold))
-upload_other d contents k sent held (Some (BlockDownloadBegin key n)) = nothing_other d contents (Some (BlockDownloadBegin key n))
+upload_other d contents k sent held (Some (BlockUploadInitiate key n threshold)) = nothing_other d contents (Some (BlockUploadInitiate key n threshold))
+upload_other d contents k sent held (Some (BlockDownloadInitiate key n)) = nothing_other d contents (Some (BlockDownloadInitiate key n))
 upload_other d contents k sent held (Some (DownloadSegment toggle part last)) = aborted_other k 0x05040001
 upload_other d contents k sent held (Some (UploadSegment toggle)) = unless_other (toggle_refusal toggle (is_odd sent)) k _ (segment_other toggle (nat_le (length held) (7 * sent + 7)) (record { items = part_after sent held }))
 upload_other d contents k sent held (Some (Abort key code)) = refl
@@ -191,17 +191,17 @@ others d contents current frame (upload key sent held e) = rw e (upload_other d 
 -- ---- over a log
 
 -- the begin of a transfer in segments
-abbrev pub is_plain_begin : Option SdoRequest → Bool
-is_plain_begin (Some (DownloadBegin key size)) = true
-is_plain_begin (Some (Upload key)) = true
-is_plain_begin _ = false
+abbrev pub is_plain_initiate : Option SdoRequest → Bool
+is_plain_initiate (Some (DownloadInitiate key size)) = true
+is_plain_initiate (Some (Upload key)) = true
+is_plain_initiate _ = false
 
 pub data IsGone (log : Log) : Type 0 where
   idle : open_transfer log ≡ None → IsGone log
-  other : (t : Transfer) → open_transfer log ≡ Some t → is_plain_begin (request_in t.begin.request) ≡ true → IsGone log
+  other : (t : Transfer) → open_transfer log ≡ Some t → is_plain_initiate (request_in t.begin.request) ≡ true → IsGone log
 
-plain_by : (q : Option SdoRequest) (t : Transfer) → is_plain_begin q ≡ true → IsPlain (opened_by q t)
-plain_by (Some (DownloadBegin key size)) t h = download key size _ _ refl
+plain_by : (q : Option SdoRequest) (t : Transfer) → is_plain_initiate q ≡ true → IsPlain (opened_by q t)
+plain_by (Some (DownloadInitiate key size)) t h = download key size _ _ refl
 plain_by (Some (Upload key)) t h = upload key _ _ refl
 plain_by _ t h = absurd (false≢true h)
 
@@ -216,7 +216,7 @@ gone_answers d contents log frame h = others d contents (opened_after log) frame
 
 abbrev pub is_low : Option SdoRequest → Bool
 is_low (Some (DownloadExpedited key expedited)) = true
-is_low (Some (DownloadBegin key size)) = true
+is_low (Some (DownloadInitiate key size)) = true
 is_low (Some (DownloadSegment toggle part last)) = true
 is_low (Some (Upload key)) = true
 is_low (Some (UploadSegment toggle)) = true
@@ -231,7 +231,7 @@ low_row : (frame : List ℕ) → slice_index frame 0 < 128 → (a b c : Bool) �
 unfolding request_row_in
 low_row frame h true b c x y z = rw x refl
 low_row frame h false true c x y z =
-    rw (x, y) (download_low frame (has_bit 1 frame) (DownloadExpedited (key_in frame) (expedited_in frame)) (DownloadBegin (key_in frame) (size_in (has_bit 0 frame) frame)) refl refl)
+    rw (x, y) (download_low frame (has_bit 1 frame) (DownloadExpedited (key_in frame) (expedited_in frame)) (DownloadInitiate (key_in frame) (size_in (has_bit 0 frame) frame)) refl refl)
 low_row frame h false false true x y z = rw (x, y, z) refl
 low_row frame h false false false x y z = let w : eqb (slice_index frame 0 / 32) 3 ≡ true = grind (arith, nat_tests) in rw (x, y, z, w) refl
 
@@ -240,8 +240,8 @@ low_read frame n h = rw n (low_row frame h _ _ _ refl refl refl)
 
 -- ---- the log after such a frame
 
-plain_inside : (q : Option SdoRequest) (later : List (List ℕ)) → is_plain_begin q ≡ true → is_inside_after q later ≡ false
-plain_inside (Some (DownloadBegin key size)) later h = refl
+plain_inside : (q : Option SdoRequest) (later : List (List ℕ)) → is_plain_initiate q ≡ true → is_inside_after q later ≡ false
+plain_inside (Some (DownloadInitiate key size)) later h = refl
 plain_inside (Some (Upload key)) later h = refl
 plain_inside _ later h = absurd (false≢true h)
 
@@ -249,10 +249,10 @@ outside : (log : Log) → IsGone log → option_map_or is_inside (open_transfer 
 outside log (idle e) = ap (λ (t : Option Transfer). option_map_or is_inside t false) e
 outside log (other t e b) = ap (λ (t : Option Transfer). option_map_or is_inside t false) e ∙ plain_inside (request_in t.begin.request) (requests t.later) b
 
-begins_is : (log : Log) (frame : List ℕ) → IsGone log → begins (open_transfer log) frame ≡ is_begin (request_in frame)
-begins_is log frame h = ap (λ (b : Bool). not b && is_begin (request_in frame)) (outside log h)
+begins_is : (log : Log) (frame : List ℕ) → IsGone log → begins (open_transfer log) frame ≡ is_initiate (request_in frame)
+begins_is log frame h = ap (λ (b : Bool). not b && is_initiate (request_in frame)) (outside log h)
 
-gone_if : (log : Log) (b : Bool) (t : Transfer) → open_transfer log ≡ cond b None (Some t) → is_plain_begin (request_in t.begin.request) ≡ true → IsGone log
+gone_if : (log : Log) (b : Bool) (t : Transfer) → open_transfer log ≡ cond b None (Some t) → is_plain_initiate (request_in t.begin.request) ≡ true → IsGone log
 gone_if log true t e h = idle e
 gone_if log false t e h = other t e h
 
@@ -261,33 +261,33 @@ or_true true b t = refl
 or_true false b t = refl
 
 -- a begin comes
-begin_gone : (log : Log) (x : Exchange) → IsGone log → is_begin (request_in x.request) ≡ true → is_plain_begin (request_in x.request) ≡ true → IsGone (Exchanged x ∷ log)
-begin_gone log x h b p = gone_if (Exchanged x ∷ log) (list_any is_abort x.answers || is_finished (record { begin = x; later = [] })) (record { begin = x; later = [] }) (after_begins log x (begins_is log x.request h ∙ b)) p
+initiate_gone : (log : Log) (x : Exchange) → IsGone log → is_initiate (request_in x.request) ≡ true → is_plain_initiate (request_in x.request) ≡ true → IsGone (Exchanged x ∷ log)
+initiate_gone log x h b p = gone_if (Exchanged x ∷ log) (list_any is_abort x.answers || is_finished (record { begin = x; later = [] })) (record { begin = x; later = [] }) (after_initiates log x (begins_is log x.request h ∙ b)) p
 
 -- a download at once is over with its request
 at_once_gone : (log : Log) (x : Exchange) (key : Key) (data_sent : ExpeditedData) → IsGone log → request_in x.request ≡ Some (DownloadExpedited key data_sent) → IsGone (Exchanged x ∷ log)
-at_once_gone log x key data_sent h read = idle (after_begins log x (begins_is log x.request h ∙ ap is_begin read)
+at_once_gone log x key data_sent h read = idle (after_initiates log x (begins_is log x.request h ∙ ap is_initiate read)
     ∙ ap (λ (r : Option SdoRequest). cond (list_any is_abort x.answers || (is_whole_after r [] || is_uploaded r x)) None (Some (record { begin = x; later = [] }))) read
     ∙ or_true (list_any is_abort x.answers) false (Some (record { begin = x; later = [] })))
 
 -- a segment, or the request of one, comes
-later_gone : (d : Description) (contents : Contents) (log : Log) (frame : List ℕ) (r : Option SdoRequest) → request_in frame ≡ r → is_begin r ≡ false
+later_gone : (d : Description) (contents : Contents) (log : Log) (frame : List ℕ) (r : Option SdoRequest) → request_in frame ≡ r → is_initiate r ≡ false
     → is_abort_request r || list_any is_abort (request_answers d contents None r) ≡ true → IsGone log
     → IsGone (Exchanged (exchange frame contents (reply_to d contents log frame)) ∷ log)
 later_gone d contents log frame r read b cut (idle e) =
-    idle (after_nothing log (exchange frame contents (reply_to d contents log frame)) e (ap is_begin read ∙ b)
+    idle (after_nothing log (exchange frame contents (reply_to d contents log frame)) e (ap is_initiate read ∙ b)
     (ap (λ (t : Option Transfer). is_abort_request (request_in frame) || list_any is_abort (answers_to d contents (opened t) frame)) e
     ∙ ap (λ (q : Option SdoRequest). is_abort_request q || list_any is_abort (request_answers d contents None q)) read ∙ cut))
 later_gone d contents log frame r read b cut (other t e p) =
     let x = exchange frame contents (reply_to d contents log frame) in
     gone_if (Exchanged x ∷ log) (is_cut (is_inside t) (Exchanged x) || is_finished (record { begin = t.begin; later = x ∷ t.later })) (record { begin = t.begin; later = x ∷ t.later })
-    (after_open log x t e (ap (λ (i : Bool). not i && is_begin (request_in frame)) (plain_inside (request_in t.begin.request) (requests t.later) p) ∙ ap is_begin read ∙ b)) p
+    (after_open log x t e (ap (λ (i : Bool). not i && is_initiate (request_in frame)) (plain_inside (request_in t.begin.request) (requests t.later) p) ∙ ap is_initiate read ∙ b)) p
 
 gone_by : (d : Description) (contents : Contents) (log : Log) (frame : List ℕ) → IsGone log → (r : Option SdoRequest) → request_in frame ≡ r → is_low r ≡ true
     → IsGone (Exchanged (exchange frame contents (reply_to d contents log frame)) ∷ log)
 gone_by d contents log frame h (Some (DownloadExpedited key data_sent)) read low = at_once_gone log (exchange frame contents (reply_to d contents log frame)) key data_sent h read
-gone_by d contents log frame h (Some (DownloadBegin key size)) read low = begin_gone log (exchange frame contents (reply_to d contents log frame)) h (ap is_begin read) (ap is_plain_begin read)
-gone_by d contents log frame h (Some (Upload key)) read low = begin_gone log (exchange frame contents (reply_to d contents log frame)) h (ap is_begin read) (ap is_plain_begin read)
+gone_by d contents log frame h (Some (DownloadInitiate key size)) read low = initiate_gone log (exchange frame contents (reply_to d contents log frame)) h (ap is_initiate read) (ap is_plain_initiate read)
+gone_by d contents log frame h (Some (Upload key)) read low = initiate_gone log (exchange frame contents (reply_to d contents log frame)) h (ap is_initiate read) (ap is_plain_initiate read)
 gone_by d contents log frame h (Some (DownloadSegment toggle part last)) read low = later_gone d contents log frame (Some (DownloadSegment toggle part last)) read refl refl h
 gone_by d contents log frame h (Some (UploadSegment toggle)) read low = later_gone d contents log frame (Some (UploadSegment toggle)) read refl refl h
 gone_by d contents log frame h _ read low = absurd (false≢true low)
@@ -307,10 +307,10 @@ pub gone_ends : (log : Log) (answers : List Answer) → IsGone (TimedOut answers
 gone_ends log answers = idle (ended log answers)
 
 opens_one : (rows : Rows) (begin : Option SdoRequest) (t : Transfer) → is_transfer_after rows begin t → opened_by begin t ≡ None → ⊥
-opens_one rows (Some (DownloadBegin key size)) t u e = cc
+opens_one rows (Some (DownloadInitiate key size)) t u e = cc
 opens_one rows (Some (Upload key)) t u e = cc
-opens_one rows (Some (BlockUploadBegin key size threshold)) t u e = cc
-opens_one rows (Some (BlockDownloadBegin key size)) t u e = cc
+opens_one rows (Some (BlockUploadInitiate key size threshold)) t u e = cc
+opens_one rows (Some (BlockDownloadInitiate key size)) t u e = cc
 opens_one rows _ t u e = u
 
 none_open : (rows : Rows) (t : Option Transfer) → is_under_way rows t → opened t ≡ None → t ≡ None

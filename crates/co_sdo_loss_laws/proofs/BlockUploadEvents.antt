@@ -7,7 +7,7 @@ use Rattle.std.proofs.lemmas.Bool.Decides.{nat_tests}
 use Rattle.co_value.specs.Keys.{same_key-refl}
 use Rattle.co_frame.specs.BlockSegments.{is_abort_in_sub_block}
 use Rattle.co_frame.specs.declared.sdo_request.SdoRequest.TheVariants.{BlockUploadStart, BlockUploadEnd}
-use Rattle.co_frame.specs.declared.sdo_response.SdoResponse.TheVariants.{BlockUploadBegun}
+use Rattle.co_frame.specs.declared.sdo_response.SdoResponse.TheVariants.{BlockUploadInitiated}
 use Rattle.co_frame.specs.SdoResponses.{response_in}
 use Rattle.co_sdo_client.specs.declared.state.ClientState.{ClientState}
 use Rattle.co_sdo_client.specs.declared.state.ClientState.TheVariants.{Waiting, Done, Failed}
@@ -21,7 +21,7 @@ use Rattle.co_sdo.specs.Log.{answer_bytes, Ticked, TimedOut, Log}
 use Rattle.co_sdo.specs.Opened.{OpenTransfer, is_time_over}
 use Rattle.co_sdo.specs.Replies.{time_out_reply}
 use Rattle.co_sdo_laws.specs.World.{Setup, World, Requests, Answers as Back, WorldEvent, Delivered, Lost, Repeated, ClientTicked, ChannelTicked, at_client, timed_out, ticked, without_front, front_arrives, after_event, world_after}
-use Rattle.co_sdo_laws.proofs.Frames.{block_upload_begun_read, upload_end_read}
+use Rattle.co_sdo_laws.proofs.Frames.{block_upload_initiated_read, upload_end_read}
 use Rattle.co_sdo_laws.proofs.Server.{serves_first}
 use Rattle.co_sdo_laws.proofs.Client.{follows, stays, tick_verdict}
 use Rattle.co_sdo_laws.proofs.SegmentedUploads.{value}
@@ -32,13 +32,13 @@ use Rattle.co_sdo_loss_laws.proofs.StopAndWait.{has_failed, failed_more, failed_
 use Rattle.co_sdo_loss_laws.proofs.Channel.{serving_ticks, serving_ends}
 use Rattle.co_sdo_loss_laws.proofs.Uploads.{small_value}
 use Rattle.co_sdo_loss_laws.proofs.BlockUploads.{IsUpload, total, confirmation, unused, server_end, segment_at, segments, live, live_both, cut_fails, Lawful, Idle, begun, sending, May, Moment, Stands, asking, confirmed, starting, taking, acknowledging, finishing, ending, quiet, over, failed}
-use Rattle.co_sdo_loss_laws.proofs.BlockUploadRequests.{begin_comes, start_comes, acknowledgement_comes, last_acknowledgement_comes}
+use Rattle.co_sdo_loss_laws.proofs.BlockUploadRequests.{initiate_comes, start_comes, acknowledgement_comes, last_acknowledgement_comes}
 use Rattle.co_sdo_loss_laws.proofs.BlockUploadSegments.{given, verdict_since, then_sends, fails_by, segment_comes}
 
 -- ---- the other answers
 
-confirmation_read : (s : Setup) → IsUpload s → response_in (confirmation s) ≡ Some (BlockUploadBegun s.call.key (Some (length (value s))))
-confirmation_read s m = let small = small_value s m.alone in block_upload_begun_read s.call.key (length (value s)) m.alone.key (omega arith)
+confirmation_read : (s : Setup) → IsUpload s → response_in (confirmation s) ≡ Some (BlockUploadInitiated s.call.key (Some (length (value s))))
+confirmation_read s m = let small = small_value s m.alone in block_upload_initiated_read s.call.key (length (value s)) m.alone.key (omega arith)
 
 confirmation_comes : (s : Setup) → IsUpload s → (w : World) → HasBegun s w.events → w.requests ≡ [] → live w.answers ≡ [] → May s (begun s) w.log w.contents
     → (above : Bool) → nat_lt (cap_of s.call.job) (length (value s)) ≡ above → Stands s (at_client s (Answered (confirmation s)) w)
@@ -128,7 +128,7 @@ over_front s [] w b = over b
 over_front s (x ∷ xs) w b = over b
 
 request_comes : (s : Setup) → IsUpload s → (w : World) → Stands s w → Stands s (front_arrives s Requests w.requests (without_front Requests w))
-request_comes s m w (asking b at h) = subst (λ (ys : List (List ℕ)). Stands s (front_arrives s Requests ys (without_front Requests w))) (sym at.requests) (begin_comes s m (without_front Requests w) b (dropped s _ _ w at) h _ refl)
+request_comes s m w (asking b at h) = subst (λ (ys : List (List ℕ)). Stands s (front_arrives s Requests ys (without_front Requests w))) (sym at.requests) (initiate_comes s m (without_front Requests w) b (dropped s _ _ w at) h _ refl)
 request_comes s m w (confirmed b at h) = subst (λ (ys : List (List ℕ)). Stands s (front_arrives s Requests ys (without_front Requests w))) (sym at.requests) (loses_request s w (confirmed b at h))
 request_comes s m w (starting b at h) = subst (λ (ys : List (List ℕ)). Stands s (front_arrives s Requests ys (without_front Requests w))) (sym at.requests) (start_comes s m (without_front Requests w) b (dropped s _ _ w at) h)
 request_comes s m w (taking a t n more b under some size at h) =

@@ -19,7 +19,7 @@ use Rattle.co_sdo_laws.proofs.Frames.{block_upload_read}
 use Rattle.co_sdo_laws.proofs.SegmentedUploads.{value}
 use Rattle.co_sdo_laws.proofs.BlockUploadPlaces.{HasBegun, Took, TookAll}
 use Rattle.co_sdo_loss_laws.proofs.Channel.{IsServed, is_served}
-use Rattle.co_sdo_loss_laws.proofs.BlockUploads.{IsUpload, total, size_after, begin, start, acknowledgement, unused, segments, live, live_after, live_segments, Idle, begun, sending, May, dictionary, begin_taken, begin_refused, start_taken, start_refused, acknowledged, all_acknowledged, too_many, acknowledge_refused, Moment, Stands, confirmed, taking, ending, quiet}
+use Rattle.co_sdo_loss_laws.proofs.BlockUploads.{IsUpload, total, size_after, begin, start, acknowledgement, unused, segments, live, live_after, live_segments, Idle, begun, sending, May, dictionary, initiate_taken, initiate_refused, start_taken, start_refused, acknowledged, all_acknowledged, too_many, acknowledge_refused, Moment, Stands, confirmed, taking, ending, quiet}
 
 -- ---- a request comes, and nothing else is on its way
 
@@ -30,17 +30,17 @@ refused s w frame key code next after waits m h = quiet waits (record {
   answers = live_after w.answers _ [] m.answers (rw h.replies refl);
 })
 
-pub begin_comes : (s : Setup) → IsUpload s → (w : World) → HasBegun s w.events → Moment s [] [] w → Idle s w.log w.contents
+pub initiate_comes : (s : Setup) → IsUpload s → (w : World) → HasBegun s w.events → Moment s [] [] w → Idle s w.log w.contents
     → (refusal : Option ℕ) → reading_refusal s.description w.contents s.call.key ≡ refusal → Stands s (at_channel s (begin s) w)
-begin_comes s m w c at h None e =
+initiate_comes s m w c at h None e =
     let made = is_served s w.log w.contents None (begin s) _ _ _ h.serves (dictionary s m w.contents h.lawful) refl
-    (begin_taken s.description w.contents s.call.key (value s) (begin s) (block_upload_read s.call.key 127 0 m.alone.key) e (ap (λ (x : Contents). value_at x s.call.key) h.lawful)) in
+    (initiate_taken s.description w.contents s.call.key (value s) (begin s) (block_upload_read s.call.key 127 0 m.alone.key) e (ap (λ (x : Contents). value_at x s.call.key) h.lawful)) in
     confirmed c (record { requests = at.requests; answers = live_after w.answers _ _ at.answers (rw made.replies refl) })
     (inr (record { serves = made.serves; lawful = made.sets ∙ h.lawful }))
-begin_comes s m w c at h (Some code) e =
+initiate_comes s m w c at h (Some code) e =
     refused s w (begin s) s.call.key code None w.contents c.waits at
     (is_served s w.log w.contents None (begin s) _ _ _ h.serves (dictionary s m w.contents h.lawful) refl
-    (begin_refused s.description w.contents s.call.key (begin s) code (block_upload_read s.call.key 127 0 m.alone.key) e))
+    (initiate_refused s.description w.contents s.call.key (begin s) code (block_upload_read s.call.key 127 0 m.alone.key) e))
 
 -- the frames of a sub-block
 pub burst : (v : List ℕ) (position : ℕ) (numbers : List ℕ) → map answer_bytes (map (λ number. Segment (block_segment v position number)) numbers) ≡ map (λ number. block_segment_bytes (block_segment v position number)) numbers

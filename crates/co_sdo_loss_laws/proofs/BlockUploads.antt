@@ -9,8 +9,8 @@ use Rattle.std.proofs.lemmas.Bool.Decides.{nat_tests}
 use Rattle.co_value.specs.declared.key.Key.{Key}
 use Rattle.co_frame.specs.BlockSegments.{block_segment_in, block_segment_bytes, is_abort_in_sub_block}
 use Rattle.co_frame.specs.SdoFields.{padded}
-use Rattle.co_frame.specs.declared.sdo_request.SdoRequest.TheVariants.{BlockUploadBegin, BlockUploadStart, BlockUploadAcknowledge}
-use Rattle.co_frame.specs.declared.sdo_response.SdoResponse.TheVariants.{BlockUploadBegun, BlockUploadEnd as EndSent}
+use Rattle.co_frame.specs.declared.sdo_request.SdoRequest.TheVariants.{BlockUploadInitiate, BlockUploadStart, BlockUploadAcknowledge}
+use Rattle.co_frame.specs.declared.sdo_response.SdoResponse.TheVariants.{BlockUploadInitiated, BlockUploadEnd as EndSent}
 use Rattle.co_frame.specs.SdoRequests.{request_in, request_bytes}
 use Rattle.co_frame.specs.SdoResponses.{response_row_in, response_in, response_bytes}
 use Rattle.co_sdo_client.specs.declared.mode.Mode.TheVariants.{Block}
@@ -23,7 +23,7 @@ use Rattle.co_sdo_client.specs.Verdicts.{answer_verdict}
 use Rattle.co_sdo_client.specs.Outcomes.{state_by, outcome}
 use Rattle.co_dict.specs.Rows.{Contents}
 use Rattle.co_dict.specs.Stores.{Description, IsDictionary}
-use Rattle.co_sdo.specs.declared.stage.Stage.TheVariants.{BlockUploadBegun as BegunStage, BlockUpload as SendingStage, BlockUploadEnded}
+use Rattle.co_sdo.specs.declared.stage.Stage.TheVariants.{BlockUploadInitiated as BegunStage, BlockUpload as SendingStage, BlockUploadEnded}
 use Rattle.co_sdo.specs.Refused.{reading_refusal}
 use Rattle.co_sdo.specs.Log.{Response, Log}
 use Rattle.co_sdo.specs.Uploads.{value_at, sub_block_sent}
@@ -54,10 +54,10 @@ abbrev pub size_after : Setup → ℕ → ℕ
 size_after s a = sub_block_length (value s) a 127
 
 abbrev pub begin : Setup → List ℕ
-begin s = request_bytes (BlockUploadBegin s.call.key 127 0)
+begin s = request_bytes (BlockUploadInitiate s.call.key 127 0)
 
 abbrev pub confirmation : Setup → List ℕ
-confirmation s = response_bytes (BlockUploadBegun s.call.key (Some (length (value s))))
+confirmation s = response_bytes (BlockUploadInitiated s.call.key (Some (length (value s))))
 
 abbrev pub start : List ℕ
 start = request_bytes BlockUploadStart
@@ -166,14 +166,14 @@ May s o log contents = Idle s log contents ⊎ IsServing s (Lawful s) (Some o) l
 pub dictionary : (s : Setup) → IsUpload s → (contents : Contents) → contents ≡ s.contents → IsDictionary s.description contents
 dictionary s m contents e = subst (IsDictionary s.description) (sym e) m.alone.dictionary
 
-pub begin_taken : (d : Description) (contents : Contents) (key : Key) (v frame : List ℕ) → request_in frame ≡ Some (BlockUploadBegin key 127 0)
+pub initiate_taken : (d : Description) (contents : Contents) (key : Key) (v frame : List ℕ) → request_in frame ≡ Some (BlockUploadInitiate key 127 0)
     → reading_refusal d contents key ≡ None → value_at contents key ≡ v
-    → Steps d contents None frame (Response (BlockUploadBegun key (Some (length v))) ∷ []) (Some (record { key = key; stage = BegunStage 127; bytes = v })) contents
-begin_taken d contents key v frame read free same = record { replies = rw (read, free, same) refl; opens = rw (read, free, same) refl; sets = rw read refl }
+    → Steps d contents None frame (Response (BlockUploadInitiated key (Some (length v))) ∷ []) (Some (record { key = key; stage = BegunStage 127; bytes = v })) contents
+initiate_taken d contents key v frame read free same = record { replies = rw (read, free, same) refl; opens = rw (read, free, same) refl; sets = rw read refl }
 
-pub begin_refused : (d : Description) (contents : Contents) (key : Key) (frame : List ℕ) (code : ℕ) → request_in frame ≡ Some (BlockUploadBegin key 127 0)
+pub initiate_refused : (d : Description) (contents : Contents) (key : Key) (frame : List ℕ) (code : ℕ) → request_in frame ≡ Some (BlockUploadInitiate key 127 0)
     → reading_refusal d contents key ≡ Some code → Steps d contents None frame (aborted key code) None contents
-begin_refused d contents key frame code read refused = record { replies = rw (read, refused) refl; opens = rw (read, refused) refl; sets = rw read refl }
+initiate_refused d contents key frame code read refused = record { replies = rw (read, refused) refl; opens = rw (read, refused) refl; sets = rw read refl }
 
 pub start_taken : (d : Description) (contents : Contents) (key : Key) (v : List ℕ)
     → Steps d contents (Some (record { key = key; stage = BegunStage 127; bytes = v })) start (sub_block_sent v 0 127) (Some (record { key = key; stage = SendingStage 0 (sub_block_length v 0 127); bytes = v })) contents

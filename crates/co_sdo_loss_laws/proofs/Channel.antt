@@ -15,12 +15,12 @@ use Rattle.co_dict.specs.OwnRules.{own_refusal}
 use Rattle.co_dict.specs.WriteRefusals.{is_read_only, is_sdo_parameter, size_refusal, total_refusal, limit_refusal}
 use Rattle.co_sdo.specs.Refused.{completion_refusal}
 use Rattle.co_sdo.specs.Log.{Answer, answer_bytes, Exchanged, Ticked, TimedOut, Log}
-use Rattle.co_sdo.specs.OpenTransfers.{Since, open_since, and_event, since_begin, open_transfer}
+use Rattle.co_sdo.specs.OpenTransfers.{Since, open_since, and_event, since_initiate, open_transfer}
 use Rattle.co_sdo.specs.Opened.{OpenTransfer}
 use Rattle.co_sdo.specs.Replies.{aborted, answers_to, reply_to, time_out_reply}
 use Rattle.co_sdo.specs.Completed.{set_by, contents_with}
 use Rattle.co_sdo.specs.Steps.{opened_next, set_next}
-use Rattle.co_sdo.proofs.Beginnings.{exchange}
+use Rattle.co_sdo.proofs.Initiations.{exchange}
 use Rattle.co_sdo.proofs.RefusalLemmas.{first_none, second_none, not_refused}
 use Rattle.co_sdo_laws.specs.World.{Setup}
 use Rattle.co_sdo_laws.proofs.Pasts.{is_filled}
@@ -42,7 +42,7 @@ ended_since answers None = refl
 ended_since answers (Some x) = refl
 
 pub ended : (log : Log) (answers : List Answer) → open_transfer (TimedOut answers ∷ log) ≡ None
-ended log answers = ended_since answers (since_begin log)
+ended log answers = ended_since answers (since_initiate log)
 
 pub serving_ends : (s : Setup) (Lawful : Contents → Type 0) (current : Option OpenTransfer) (log : Log) (contents : Contents) → IsServing s Lawful current log contents
     → IsServing s Lawful None (TimedOut (time_out_reply log) ∷ log) contents

@@ -6,7 +6,7 @@ use Rattle.arrayvec.specs.ArrayVec.{ArrayVec}
 use Rattle.co_value.specs.declared.key.Key.{Key}
 use Rattle.co_value.specs.Keys.{same_key-refl}
 use Rattle.co_value.specs.Numbers.{unsigned_of, low_bytes}
-use Rattle.co_frame.specs.declared.sdo_request.SdoRequest.TheVariants.{DownloadBegin, DownloadSegment}
+use Rattle.co_frame.specs.declared.sdo_request.SdoRequest.TheVariants.{DownloadInitiate, DownloadSegment}
 use Rattle.co_frame.specs.declared.sdo_response.SdoResponse.TheVariants.{DownloadDone, DownloadSegmentDone}
 use Rattle.co_frame.specs.SdoRequests.{request_row_in, request_in, request_bytes}
 use Rattle.co_frame.specs.SdoResponses.{response_in}
@@ -21,14 +21,14 @@ use Rattle.co_sdo_client.specs.Outcomes.{state_by}
 use Rattle.co_dict.specs.Rows.{Contents, written}
 use Rattle.co_dict.specs.Stores.{Description, IsDictionary}
 use Rattle.co_sdo.specs.declared.stage.Stage.TheVariants.{Download}
-use Rattle.co_sdo.specs.Refused.{begin_refusal, completion_refusal}
+use Rattle.co_sdo.specs.Refused.{initiate_refusal, completion_refusal}
 use Rattle.co_sdo.specs.Log.{Response, Log}
 use Rattle.co_sdo.specs.Opened.{OpenTransfer}
 use Rattle.co_sdo.specs.Replies.{aborted, is_in_sub_block, toggle_refusal, room_refusal, segment_refusal}
 use Rattle.co_sdo.proofs.Continuations.{not_odd}
 use Rattle.co_sdo.proofs.RefusalLemmas.{first_none, second_none}
 use Rattle.co_sdo_laws.specs.World.{Setup}
-use Rattle.co_sdo_laws.proofs.Frames.{segment_read, bare_begin_read, done_read, segment_done_read, segment_long}
+use Rattle.co_sdo_laws.proofs.Frames.{segment_read, bare_initiate_read, done_read, segment_done_read, segment_long}
 use Rattle.co_sdo_laws.proofs.Segments.{same, joined, taken_all, part_small}
 use Rattle.co_sdo_laws.proofs.Server.{serves_first}
 use Rattle.co_sdo_laws.proofs.SegmentedDownloads.{request, answer}
@@ -59,17 +59,17 @@ size_read (Some size) = Some (unsigned_of (low_bytes 4 size))
 two_bytes : (x : ℕ) → x < 65536 → unsigned_of (low_bytes 2 x) ≡ x
 two_bytes x h = omega arith
 
-sized_begin_read : (key : Key) (size : ℕ) → key.index < 65536 → request_in (request_bytes (DownloadBegin key (Some size))) ≡ Some (DownloadBegin key (Some (unsigned_of (low_bytes 4 size))))
+sized_initiate_read : (key : Key) (size : ℕ) → key.index < 65536 → request_in (request_bytes (DownloadInitiate key (Some size))) ≡ Some (DownloadInitiate key (Some (unsigned_of (low_bytes 4 size))))
 unfolding request_row_in
-sized_begin_read key size k = rw (two_bytes key.index k) refl
+sized_initiate_read key size k = rw (two_bytes key.index k) refl
 
-begin_read : (key : Key) (size : Option ℕ) → key.index < 65536 → request_in (request_bytes (DownloadBegin key size)) ≡ Some (DownloadBegin key (size_read size))
-begin_read key None k = bare_begin_read key k
-begin_read key (Some size) k = sized_begin_read key size k
+initiate_read : (key : Key) (size : Option ℕ) → key.index < 65536 → request_in (request_bytes (DownloadInitiate key size)) ≡ Some (DownloadInitiate key (size_read size))
+initiate_read key None k = bare_initiate_read key k
+initiate_read key (Some size) k = sized_initiate_read key size k
 
-begin_long : (key : Key) (size : Option ℕ) → length (request_bytes (DownloadBegin key size)) ≡ 8
-begin_long key None = refl
-begin_long key (Some size) = refl
+initiate_long : (key : Key) (size : Option ℕ) → length (request_bytes (DownloadInitiate key size)) ≡ 8
+initiate_long key None = refl
+initiate_long key (Some size) = refl
 
 -- ---- what is open
 
@@ -99,28 +99,28 @@ is_set contents key value = rw (same_key-refl key) refl
 
 -- ---- the begin
 
-begin_taken : (d : Description) (contents : Contents) (current : Option OpenTransfer) (key : Key) (size : Option ℕ) (frame : List ℕ) → is_in_sub_block current ≡ false
-    → request_in frame ≡ Some (DownloadBegin key size) → begin_refusal d key size ≡ None
+initiate_taken : (d : Description) (contents : Contents) (current : Option OpenTransfer) (key : Key) (size : Option ℕ) (frame : List ℕ) → is_in_sub_block current ≡ false
+    → request_in frame ≡ Some (DownloadInitiate key size) → initiate_refusal d key size ≡ None
     → Steps d contents current frame (Response (DownloadDone key) ∷ []) (Some (downloading key size false [])) contents
-begin_taken d contents current key size frame outside read free = record { replies = rw (outside, read, free) refl; opens = rw (outside, read, free) refl; sets = rw (outside, read) refl }
+initiate_taken d contents current key size frame outside read free = record { replies = rw (outside, read, free) refl; opens = rw (outside, read, free) refl; sets = rw (outside, read) refl }
 
-begin_refused : (d : Description) (contents : Contents) (current : Option OpenTransfer) (key : Key) (size : Option ℕ) (frame : List ℕ) (code : ℕ) → is_in_sub_block current ≡ false
-    → request_in frame ≡ Some (DownloadBegin key size) → begin_refusal d key size ≡ Some code
+initiate_refused : (d : Description) (contents : Contents) (current : Option OpenTransfer) (key : Key) (size : Option ℕ) (frame : List ℕ) (code : ℕ) → is_in_sub_block current ≡ false
+    → request_in frame ≡ Some (DownloadInitiate key size) → initiate_refusal d key size ≡ Some code
     → Steps d contents current frame (aborted key code) None contents
-begin_refused d contents current key size frame code outside read refused = record { replies = rw (outside, read, refused) refl; opens = rw (outside, read, refused) refl; sets = rw (outside, read) refl }
+initiate_refused d contents current key size frame code outside read refused = record { replies = rw (outside, read, refused) refl; opens = rw (outside, read, refused) refl; sets = rw (outside, read) refl }
 
 begins_with : (s : Setup) → IsDownload s → (current : Option OpenTransfer) (log : Log) (contents : Contents) → is_in_sub_block current ≡ false → IsServing s (Lawful s) current log contents
-    → (refusal : Option ℕ) → begin_refusal s.description s.call.key (size_read (size_sent s.call.job)) ≡ refusal
+    → (refusal : Option ℕ) → initiate_refusal s.description s.call.key (size_read (size_sent s.call.job)) ≡ refusal
     → Takes s log contents (request s 0) (answer s 0) (Reached (last s) (Idle s) (Open s) (IsSet s) 0) ⊎ Refuses s log contents (request s 0) (Idle s)
 begins_with s m current log contents outside h None e =
-    let read = begin_read s.call.key (size_sent s.call.job) m.alone.key in
+    let read = initiate_read s.call.key (size_sent s.call.job) m.alone.key in
     inl (takes_it s log contents (request s 0) (Response (DownloadDone s.call.key)) (Some (open_at s 0)) contents _
-    (is_served s log contents current (request s 0) _ _ _ h.serves h.lawful (begin_long s.call.key (size_sent s.call.job)) (begin_taken s.description contents current s.call.key _ (request s 0) outside read e))
+    (is_served s log contents current (request s 0) _ _ _ h.serves h.lawful (initiate_long s.call.key (size_sent s.call.job)) (initiate_taken s.description contents current s.call.key _ (request s 0) outside read e))
     (λ longer set serves kept. still (record { within = omega arith; serving = record { serves = serves; lawful = subst (Lawful s) (sym kept) h.lawful } })))
 begins_with s m current log contents outside h (Some code) e =
-    let read = begin_read s.call.key (size_sent s.call.job) m.alone.key in
+    let read = initiate_read s.call.key (size_sent s.call.job) m.alone.key in
     inr (refuses_it s (Lawful s) log contents (request s 0) s.call.key code h.lawful
-    (is_served s log contents current (request s 0) _ _ _ h.serves h.lawful (begin_long s.call.key (size_sent s.call.job)) (begin_refused s.description contents current s.call.key _ (request s 0) code outside read e)))
+    (is_served s log contents current (request s 0) _ _ _ h.serves h.lawful (initiate_long s.call.key (size_sent s.call.job)) (initiate_refused s.description contents current s.call.key _ (request s 0) code outside read e)))
 
 pub begins : (s : Setup) → IsDownload s → (log : Log) (contents : Contents) → Idle s log contents ⊎ Open s 0 log contents
     → Takes s log contents (request s 0) (answer s 0) (Reached (last s) (Idle s) (Open s) (IsSet s) 0) ⊎ Refuses s log contents (request s 0) (Idle s)
@@ -226,10 +226,10 @@ goes_on s m k log contents h = goes_on_with s m k log contents h _ refl _ refl
 abbrev AtClient : ℕ → List ClientEvent → Type 0
 AtClient k events = length (answers_of events) ≡ k
 
-begin_confirmed : (s : Setup) → IsDownload s → (xs : List (List ℕ)) (held : List ℕ) → length xs ≡ 0
+initiate_confirmed : (s : Setup) → IsDownload s → (xs : List (List ℕ)) (held : List ℕ) → length xs ≡ 0
     → answer_verdict s.call (stage_since s.call (since_first xs)) held (answer s 0) ≡ GoesOn (segment_after 0 (bytes s) ∷ [])
-begin_confirmed s m [] held h = rw (done_read s.call.key m.alone.key, m.transfer, same_key-refl s.call.key) refl
-begin_confirmed s m (x ∷ xs) held h = absurd (omega arith)
+initiate_confirmed s m [] held h = rw (done_read s.call.key m.alone.key, m.transfer, same_key-refl s.call.key) refl
+initiate_confirmed s m (x ∷ xs) held h = absurd (omega arith)
 
 confirmed : (s : Setup) → IsDownload s → (a : Answers) (k : ℕ) (held : List ℕ) (end : Bool) → length a.later ≡ k → is_last_after k (bytes s) ≡ end
     → answer_verdict s.call (stage_since s.call (Some a)) held (answer s (suc k)) ≡ cond end (Ends [] []) (GoesOn (segment_after (k + 1) (bytes s) ∷ []))
@@ -244,7 +244,7 @@ pub client_goes_on : (s : Setup) → IsDownload s → (k : ℕ) (events : List C
     → GoesOnWith s events (answer s k) (request s (suc k)) (AtClient (suc k)) ⊎ Fails s events (answer s k)
 client_goes_on s m zero events more h = inl (record {
   message = segment_after 0 (bytes s);
-  goes_on = begin_confirmed s m (answers_of events) (held_after s.call events) h;
+  goes_on = initiate_confirmed s m (answers_of events) (held_after s.call events) h;
   asks = refl;
   next = ap suc h;
 })
@@ -266,9 +266,9 @@ client_ends s m (suc k) events e h = inl (segment_confirmed s m (answers_of even
     is_end k n h = grind (arith, nat_tests)
 
 -- the answer before the one that is awaited
-begin_again : (s : Setup) → IsDownload s → (xs : List (List ℕ)) (held : List ℕ) → length xs ≡ 1 → has_failed (state_by (answer_verdict s.call (stage_since s.call (since_first xs)) held (answer s 0))) ≡ true
-begin_again s m [] held h = absurd (omega arith)
-begin_again s m (x ∷ xs) held h = rw (m.transfer, done_read s.call.key m.alone.key) refl
+initiate_again : (s : Setup) → IsDownload s → (xs : List (List ℕ)) (held : List ℕ) → length xs ≡ 1 → has_failed (state_by (answer_verdict s.call (stage_since s.call (since_first xs)) held (answer s 0))) ≡ true
+initiate_again s m [] held h = absurd (omega arith)
+initiate_again s m (x ∷ xs) held h = rw (m.transfer, done_read s.call.key m.alone.key) refl
 
 confirmed_again : (s : Setup) → IsDownload s → (a : Answers) (k : ℕ) (held : List ℕ) → length a.later ≡ suc k
     → has_failed (state_by (answer_verdict s.call (stage_since s.call (Some a)) held (answer s (suc k)))) ≡ true
@@ -280,7 +280,7 @@ segment_again s m [] k held h = absurd (omega arith)
 segment_again s m (x ∷ xs) k held h = confirmed_again s m (with_answer x (since_first xs)) k held (let n = later_count x xs in omega arith)
 
 pub client_stale : (s : Setup) → IsDownload s → (k : ℕ) (events : List ClientEvent) → k < last s → AtClient (suc k) events → Fails s events (answer s k)
-client_stale s m zero events more h = begin_again s m (answers_of events) (held_after s.call events) h
+client_stale s m zero events more h = initiate_again s m (answers_of events) (held_after s.call events) h
 client_stale s m (suc k) events more h = segment_again s m (answers_of events) k (held_after s.call events) h
 
 pub abort_comes : (s : Setup) → IsDownload s → (xs : List (List ℕ)) (held frame : List ℕ) → IsAbort frame → has_failed (state_by (answer_verdict s.call (stage_since s.call (since_first xs)) held frame)) ≡ true

@@ -11,7 +11,7 @@ use Rattle.co_sdo_client.specs.declared.state.ClientState.TheVariants.{Waiting, 
 use Rattle.co_sdo_client.specs.Calls.{Download, Upload}
 use Rattle.co_sdo_client.specs.Segments.{bytes_of}
 use Rattle.co_sdo_client.specs.Outcomes.{outcome, result}
-use Rattle.co_sdo.specs.Refused.{reading_refusal, begin_refusal, completion_refusal}
+use Rattle.co_sdo.specs.Refused.{reading_refusal, initiate_refusal, completion_refusal}
 use Rattle.co_sdo_laws.specs.Undisturbed.{IsUndisturbed}
 use Rattle.co_sdo_laws.specs.World.{Setup, WorldEvent, Requests, Answers, Delivered, Lost, Repeated, ClientTicked, ChannelTicked, world_after}
 use Rattle.co_sdo_laws.proofs.Examples.{string_key, setup, report, r, a, ten, fourteen}
@@ -51,7 +51,7 @@ lost_request : report ten (r ∷ a ∷ Lost Requests ∷ ChannelTicked ∷ Chann
   sent = 2;
   value = [];
 }
-unfolding request_row_in response_row_in reading_refusal begin_refusal completion_refusal has_object
+unfolding request_row_in response_row_in reading_refusal initiate_refusal completion_refusal has_object
 lost_request = refl
 
 -- the answer to the first segment comes again: its toggle isn't the awaited one
@@ -63,7 +63,7 @@ repeated_answer : report ten (r ∷ a ∷ r ∷ Repeated Answers ∷ a ∷ []) �
   sent = 4;
   value = [];
 }
-unfolding request_row_in response_row_in reading_refusal begin_refusal completion_refusal has_object
+unfolding request_row_in response_row_in reading_refusal initiate_refusal completion_refusal has_object
 repeated_answer = refl
 
 -- the last answer is lost, and the client's time is over: it fails, though the entry is set. So it is of a client that is done
@@ -76,7 +76,7 @@ lost_answer : report ten (r ∷ a ∷ r ∷ a ∷ r ∷ Lost Answers ∷ ClientT
   sent = 4;
   value = [];
 }
-unfolding request_row_in response_row_in reading_refusal begin_refusal completion_refusal has_object
+unfolding request_row_in response_row_in reading_refusal initiate_refusal completion_refusal has_object
 lost_answer = refl
 
 -- the begin comes twice, and one of its two answers is lost; the channel ticks; the last segment comes twice, and the second is
@@ -92,11 +92,11 @@ disturbed_ten : report ten disturbed ≡ record {
   sent = 3;
   value = [];
 }
-unfolding request_row_in response_row_in reading_refusal begin_refusal completion_refusal has_object
+unfolding request_row_in response_row_in reading_refusal initiate_refusal completion_refusal has_object
 disturbed_ten = refl
 
 disturbed_is_done : outcome ten.call (world_after ten (reverse disturbed)).events ≡ Done
-unfolding request_row_in response_row_in reading_refusal begin_refusal completion_refusal has_object
+unfolding request_row_in response_row_in reading_refusal initiate_refusal completion_refusal has_object
 disturbed_is_done = refl
 
 -- so that the law says what the entry has
@@ -117,7 +117,7 @@ repeated_request : report nine (r ∷ a ∷ Repeated Requests ∷ r ∷ a ∷ r 
   sent = 3;
   value = [];
 }
-unfolding request_row_in response_row_in reading_refusal begin_refusal completion_refusal has_object
+unfolding request_row_in response_row_in reading_refusal initiate_refusal completion_refusal has_object
 repeated_request = refl
 
 -- the begin comes twice, and the second is lost on its way: the client is done
@@ -125,11 +125,11 @@ abbrev disturbed_reading : List WorldEvent
 disturbed_reading = Repeated Requests ∷ Lost Requests ∷ a ∷ r ∷ ClientTicked ∷ a ∷ r ∷ a ∷ []
 
 disturbed_nine : report nine disturbed_reading ≡ record { requests = []; answers = []; entry = Some (codes "ABCDEFGHI"); state = Done; sent = 3; value = codes "ABCDEFGHI" }
-unfolding request_row_in response_row_in reading_refusal begin_refusal completion_refusal has_object
+unfolding request_row_in response_row_in reading_refusal initiate_refusal completion_refusal has_object
 disturbed_nine = refl
 
 disturbed_is_read : outcome nine.call (world_after nine (reverse disturbed_reading)).events ≡ Done
-unfolding request_row_in response_row_in reading_refusal begin_refusal completion_refusal has_object
+unfolding request_row_in response_row_in reading_refusal initiate_refusal completion_refusal has_object
 disturbed_is_read = refl
 
 disturbed_value : IsAlone nine → result nine.call (world_after nine (reverse disturbed_reading)).events ≡ codes "ABCDEFGHI"
@@ -152,7 +152,7 @@ lost_segment : report nine_in_blocks (r ∷ a ∷ r ∷ Lost Answers ∷ a ∷ [
   sent = 3;
   value = [];
 }
-unfolding request_row_in response_row_in reading_refusal begin_refusal completion_refusal has_object
+unfolding request_row_in response_row_in reading_refusal initiate_refusal completion_refusal has_object
 lost_segment = refl
 
 -- then both are sent again, and the client is done
@@ -167,11 +167,11 @@ disturbed_blocks_done : report nine_in_blocks disturbed_blocks ≡ record {
   sent = 5;
   value = codes "ABCDEFGHI";
 }
-unfolding request_row_in response_row_in reading_refusal begin_refusal completion_refusal has_object
+unfolding request_row_in response_row_in reading_refusal initiate_refusal completion_refusal has_object
 disturbed_blocks_done = refl
 
 blocks_are_read : outcome nine_in_blocks.call (world_after nine_in_blocks (reverse disturbed_blocks)).events ≡ Done
-unfolding request_row_in response_row_in reading_refusal begin_refusal completion_refusal has_object
+unfolding request_row_in response_row_in reading_refusal initiate_refusal completion_refusal has_object
 blocks_are_read = refl
 
 disturbed_blocks_value : IsAlone nine_in_blocks → result nine_in_blocks.call (world_after nine_in_blocks (reverse disturbed_blocks)).events ≡ codes "ABCDEFGHI"
@@ -186,7 +186,7 @@ lost_last_segment : report nine_in_blocks (r ∷ a ∷ r ∷ a ∷ Lost Answers 
   sent = 2;
   value = [];
 }
-unfolding request_row_in response_row_in reading_refusal begin_refusal completion_refusal has_object
+unfolding request_row_in response_row_in reading_refusal initiate_refusal completion_refusal has_object
 lost_last_segment = refl
 
 -- ---- fourteen bytes to the domain, in blocks
@@ -200,7 +200,7 @@ lost_first : report fourteen (r ∷ a ∷ Lost Requests ∷ r ∷ []) ≡ record
   sent = 3;
   value = [];
 }
-unfolding request_row_in response_row_in reading_refusal begin_refusal completion_refusal has_object
+unfolding request_row_in response_row_in reading_refusal initiate_refusal completion_refusal has_object
 lost_first = refl
 
 -- then both are sent again, and the client is done
@@ -215,11 +215,11 @@ fourteen_done : report fourteen disturbed_fourteen ≡ record {
   sent = 6;
   value = [];
 }
-unfolding request_row_in response_row_in reading_refusal begin_refusal completion_refusal has_object
+unfolding request_row_in response_row_in reading_refusal initiate_refusal completion_refusal has_object
 fourteen_done = refl
 
 fourteen_is_done : outcome fourteen.call (world_after fourteen (reverse disturbed_fourteen)).events ≡ Done
-unfolding request_row_in response_row_in reading_refusal begin_refusal completion_refusal has_object
+unfolding request_row_in response_row_in reading_refusal initiate_refusal completion_refusal has_object
 fourteen_is_done = refl
 
 fourteen_entry : IsAlone fourteen → (world_after fourteen (reverse disturbed_fourteen)).contents fourteen.call.key ≡ Some (codes "0123456789ABCD")
@@ -234,5 +234,5 @@ given_up : report fourteen (r ∷ a ∷ ChannelTicked ∷ ChannelTicked ∷ Lost
   sent = 3;
   value = [];
 }
-unfolding request_row_in response_row_in reading_refusal begin_refusal completion_refusal has_object
+unfolding request_row_in response_row_in reading_refusal initiate_refusal completion_refusal has_object
 given_up = refl

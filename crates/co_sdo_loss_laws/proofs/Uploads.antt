@@ -7,7 +7,7 @@ use Rattle.std.proofs.lemmas.Bool.Decides.{nat_tests}
 use Rattle.co_value.specs.declared.key.Key.{Key}
 use Rattle.co_value.specs.Keys.{same_key-refl}
 use Rattle.co_frame.specs.declared.sdo_request.SdoRequest.TheVariants.{Upload as UploadRequest, UploadSegment as NextSegment}
-use Rattle.co_frame.specs.declared.sdo_response.SdoResponse.TheVariants.{UploadBegun, UploadSegment}
+use Rattle.co_frame.specs.declared.sdo_response.SdoResponse.TheVariants.{UploadInitiated, UploadSegment}
 use Rattle.co_frame.specs.SdoRequests.{request_in}
 use Rattle.co_frame.specs.SdoResponses.{response_in}
 use Rattle.co_sdo_client.specs.declared.stage.Stage.TheVariants.{Begun, Upload as Receiving}
@@ -30,7 +30,7 @@ use Rattle.co_sdo.specs.Replies.{aborted, is_in_sub_block, toggle_refusal}
 use Rattle.co_sdo.proofs.Continuations.{not_odd}
 use Rattle.co_sdo.proofs.StoreLemmas.{value_fits}
 use Rattle.co_sdo_laws.specs.World.{Setup}
-use Rattle.co_sdo_laws.proofs.Frames.{upload_read, next_read, upload_begun_read, segment_sent_read}
+use Rattle.co_sdo_laws.proofs.Frames.{upload_read, next_read, upload_initiated_read, segment_sent_read}
 use Rattle.co_sdo_laws.proofs.Segments.{same, joined, taken_all, part_small}
 use Rattle.co_sdo_laws.proofs.Server.{Serves, serves_first}
 use Rattle.co_sdo_laws.proofs.SegmentedUploads.{value, request, answer}
@@ -86,31 +86,31 @@ dictionary s m contents e = subst (IsDictionary s.description) (sym e) m.alone.d
 
 -- ---- the begin
 
-begin_taken : (d : Description) (contents : Contents) (current : Option OpenTransfer) (key : Key) (v frame : List ℕ) → is_in_sub_block current ≡ false → request_in frame ≡ Some (UploadRequest key)
+initiate_taken : (d : Description) (contents : Contents) (current : Option OpenTransfer) (key : Key) (v frame : List ℕ) → is_in_sub_block current ≡ false → request_in frame ≡ Some (UploadRequest key)
     → reading_refusal d contents key ≡ None → value_at contents key ≡ v → nat_le 1 (length v) && nat_le (length v) 4 ≡ false
-    → Steps d contents current frame (Response (UploadBegun key (Some (length v))) ∷ []) (Some (record { key = key; stage = Uploading 0; bytes = v })) contents
-begin_taken d contents current key v frame outside read free same long = record {
+    → Steps d contents current frame (Response (UploadInitiated key (Some (length v))) ∷ []) (Some (record { key = key; stage = Uploading 0; bytes = v })) contents
+initiate_taken d contents current key v frame outside read free same long = record {
   replies = rw (outside, read, free, same, long) refl;
   opens = rw (outside, read, free, same, long) refl;
   sets = rw (outside, read) refl;
 }
 
-begin_refused : (d : Description) (contents : Contents) (current : Option OpenTransfer) (key : Key) (frame : List ℕ) (code : ℕ) → is_in_sub_block current ≡ false → request_in frame ≡ Some (UploadRequest key)
+initiate_refused : (d : Description) (contents : Contents) (current : Option OpenTransfer) (key : Key) (frame : List ℕ) (code : ℕ) → is_in_sub_block current ≡ false → request_in frame ≡ Some (UploadRequest key)
     → reading_refusal d contents key ≡ Some code → Steps d contents current frame (aborted key code) None contents
-begin_refused d contents current key frame code outside read refused = record { replies = rw (outside, read, refused) refl; opens = rw (outside, read, refused) refl; sets = rw (outside, read) refl }
+initiate_refused d contents current key frame code outside read refused = record { replies = rw (outside, read, refused) refl; opens = rw (outside, read, refused) refl; sets = rw (outside, read) refl }
 
 begins_with : (s : Setup) → IsUpload s → (current : Option OpenTransfer) (log : Log) (contents : Contents) → is_in_sub_block current ≡ false → IsServing s (Lawful s) current log contents
     → (refusal : Option ℕ) → reading_refusal s.description contents s.call.key ≡ refusal
     → Takes s log contents (request s 0) (answer s 0) (Reached (last s) (Idle s) (Open s) IsSet 0) ⊎ Refuses s log contents (request s 0) (Idle s)
 begins_with s m current log contents outside h None e =
-    inl (takes_it s log contents (request s 0) (Response (UploadBegun s.call.key (Some (length (value s))))) (Some (open_at s 0)) contents _
+    inl (takes_it s log contents (request s 0) (Response (UploadInitiated s.call.key (Some (length (value s))))) (Some (open_at s 0)) contents _
     (is_served s log contents current (request s 0) _ _ _ h.serves (dictionary s m contents h.lawful) refl
-    (begin_taken s.description contents current s.call.key (value s) (request s 0) outside (upload_read s.call.key m.alone.key) e (ap (λ (c : Contents). value_at c s.call.key) h.lawful) m.not_short))
+    (initiate_taken s.description contents current s.call.key (value s) (request s 0) outside (upload_read s.call.key m.alone.key) e (ap (λ (c : Contents). value_at c s.call.key) h.lawful) m.not_short))
     (λ longer set serves kept. still (record { within = omega arith; serving = record { serves = serves; lawful = kept ∙ h.lawful } })))
 begins_with s m current log contents outside h (Some code) e =
     inr (refuses_it s (Lawful s) log contents (request s 0) s.call.key code h.lawful
     (is_served s log contents current (request s 0) _ _ _ h.serves (dictionary s m contents h.lawful) refl
-    (begin_refused s.description contents current s.call.key (request s 0) code outside (upload_read s.call.key m.alone.key) e)))
+    (initiate_refused s.description contents current s.call.key (request s 0) code outside (upload_read s.call.key m.alone.key) e)))
 
 pub begins : (s : Setup) → IsUpload s → (log : Log) (contents : Contents) → Idle s log contents ⊎ Open s 0 log contents
     → Takes s log contents (request s 0) (answer s 0) (Reached (last s) (Idle s) (Open s) IsSet 0) ⊎ Refuses s log contents (request s 0) (Idle s)
@@ -182,10 +182,10 @@ abbrev AtClient : Setup → ℕ → List ClientEvent → Type 0
 AtClient s k events = answers_of events ≡ first_answers s k
 
 -- the first answer, and the k segments after it
-abbrev since_begin : Setup → ℕ → Answers
-since_begin s k = record { first = answer s 0; later = later_answers s k }
+abbrev since_initiate : Setup → ℕ → Answers
+since_initiate s k = record { first = answer s 0; later = later_answers s k }
 
-first_and_later : (s : Setup) (k : ℕ) → since_first (first_answers s (suc k)) ≡ Some (since_begin s k)
+first_and_later : (s : Setup) (k : ℕ) → since_first (first_answers s (suc k)) ≡ Some (since_initiate s k)
 first_and_later s zero = refl
 first_and_later s (suc k) = ap (λ (a : Option Answers). Some (with_answer (answer s (suc k)) a)) (first_and_later s k)
 
@@ -200,33 +200,33 @@ later_joined : (s : Setup) (k : ℕ) → segments_joined (later_answers s k) ≡
 later_joined s zero = refl
 later_joined s (suc k) = rw (later_joined s k, is_read s k) (joined (value s) k)
 
-begin_is_read : (s : Setup) → IsUpload s → response_in (answer s 0) ≡ Some (UploadBegun s.call.key (Some (length (value s))))
-begin_is_read s m = let small = small_value s m.alone in upload_begun_read s.call.key (length (value s)) m.alone.key (omega arith)
+initiate_is_read : (s : Setup) → IsUpload s → response_in (answer s 0) ≡ Some (UploadInitiated s.call.key (Some (length (value s))))
+initiate_is_read s m = let small = small_value s m.alone in upload_initiated_read s.call.key (length (value s)) m.alone.key (omega arith)
 
 -- what an answer makes of a client, by what it has taken
 abbrev given : Setup → Option Answers → List ℕ → Type 0
 given s a frame = has_failed (state_by (answer_verdict s.call (stage_since s.call a) (held_since s.call a) frame)) ≡ true
 
-begin_goes_on : (s : Setup) → IsUpload s → nat_lt (cap_of s.call.job) (length (value s)) ≡ false
+initiate_goes_on : (s : Setup) → IsUpload s → nat_lt (cap_of s.call.job) (length (value s)) ≡ false
     → answer_verdict s.call (stage_since s.call None) (held_since s.call None) (answer s 0) ≡ GoesOn (Request (NextSegment false) ∷ [])
-begin_goes_on s m room = rw (begin_is_read s m, m.transfer, same_key-refl s.call.key, room) refl
+initiate_goes_on s m room = rw (initiate_is_read s m, m.transfer, same_key-refl s.call.key, room) refl
 
-begin_fails : (s : Setup) → IsUpload s → nat_lt (cap_of s.call.job) (length (value s)) ≡ true → given s None (answer s 0)
-begin_fails s m room = rw (begin_is_read s m, m.transfer, same_key-refl s.call.key, room) refl
+initiate_fails : (s : Setup) → IsUpload s → nat_lt (cap_of s.call.job) (length (value s)) ≡ true → given s None (answer s 0)
+initiate_fails s m room = rw (initiate_is_read s m, m.transfer, same_key-refl s.call.key, room) refl
 
 below_itself : (n : ℕ) → nat_lt n n ≡ false
 below_itself n = grind (arith, nat_tests)
 
 segment_verdict : (s : Setup) → IsUpload s → (k : ℕ) (end : Bool) → nat_le (length (value s)) (7 * k + 7) ≡ end → nat_lt (cap_of s.call.job) (length (take (7 * suc k) (value s))) ≡ false
-    → answer_verdict s.call (stage_since s.call (Some (since_begin s k))) (held_since s.call (Some (since_begin s k))) (answer s (suc k))
+    → answer_verdict s.call (stage_since s.call (Some (since_initiate s k))) (held_since s.call (Some (since_initiate s k))) (answer s (suc k))
     ≡ cond end (Ends [] (value s)) (GoesOn (Request (NextSegment (is_odd (suc k))) ∷ []))
 segment_verdict s m k true l room =
-    rw (m.transfer, begin_is_read s m, is_read s k, later_joined s k, later_count s k, same (is_odd k), joined (value s) k, room, l, taken_all (value s) k l, below_itself (length (value s))) refl
+    rw (m.transfer, initiate_is_read s m, is_read s k, later_joined s k, later_count s k, same (is_odd k), joined (value s) k, room, l, taken_all (value s) k l, below_itself (length (value s))) refl
 segment_verdict s m k false l room =
-    rw (m.transfer, begin_is_read s m, is_read s k, later_joined s k, later_count s k, same (is_odd k), joined (value s) k, room, l, not_odd k) refl
+    rw (m.transfer, initiate_is_read s m, is_read s k, later_joined s k, later_count s k, same (is_odd k), joined (value s) k, room, l, not_odd k) refl
 
-segment_fails : (s : Setup) → IsUpload s → (k : ℕ) → nat_lt (cap_of s.call.job) (length (take (7 * suc k) (value s))) ≡ true → given s (Some (since_begin s k)) (answer s (suc k))
-segment_fails s m k room = rw (m.transfer, begin_is_read s m, is_read s k, later_joined s k, later_count s k, same (is_odd k), joined (value s) k, room) refl
+segment_fails : (s : Setup) → IsUpload s → (k : ℕ) → nat_lt (cap_of s.call.job) (length (take (7 * suc k) (value s))) ≡ true → given s (Some (since_initiate s k)) (answer s (suc k))
+segment_fails s m k room = rw (m.transfer, initiate_is_read s m, is_read s k, later_joined s k, later_count s k, same (is_odd k), joined (value s) k, room) refl
 
 verdict_since : (s : Setup) (events : List ClientEvent) (frame : List ℕ) (a : Option Answers) → since_first (answers_of events) ≡ a
     → verdict s.call events (Answered frame) ≡ answer_verdict s.call (stage_since s.call a) (held_since s.call a) frame
@@ -236,15 +236,15 @@ fails_since : (s : Setup) (events : List ClientEvent) (frame : List ℕ) (a : Op
 fails_since s events frame a h g = ap (λ (x : Option Answers). has_failed (state_by (answer_verdict s.call (stage_since s.call x) (held_since s.call x) frame))) h ∙ g
 
 -- what the client took after the begin and k segments
-taken : (s : Setup) (k : ℕ) (events : List ClientEvent) → AtClient s (suc k) events → since_first (answers_of events) ≡ Some (since_begin s k)
+taken : (s : Setup) (k : ℕ) (events : List ClientEvent) → AtClient s (suc k) events → since_first (answers_of events) ≡ Some (since_initiate s k)
 taken s k events h = ap since_first h ∙ first_and_later s k
 
-begin_comes : (s : Setup) → IsUpload s → (events : List ClientEvent) → AtClient s 0 events → (over : Bool) → nat_lt (cap_of s.call.job) (length (value s)) ≡ over
+initiate_comes : (s : Setup) → IsUpload s → (events : List ClientEvent) → AtClient s 0 events → (over : Bool) → nat_lt (cap_of s.call.job) (length (value s)) ≡ over
     → GoesOnWith s events (answer s 0) (request s 1) (AtClient s 1) ⊎ Fails s events (answer s 0)
-begin_comes s m events h true e = inr (fails_since s events (answer s 0) None (ap since_first h) (begin_fails s m e))
-begin_comes s m events h false e = inl (record {
+initiate_comes s m events h true e = inr (fails_since s events (answer s 0) None (ap since_first h) (initiate_fails s m e))
+initiate_comes s m events h false e = inl (record {
   message = Request (NextSegment false);
-  goes_on = verdict_since s events (answer s 0) None (ap since_first h) ∙ begin_goes_on s m e;
+  goes_on = verdict_since s events (answer s 0) None (ap since_first h) ∙ initiate_goes_on s m e;
   asks = refl;
   next = ap (λ (xs : List (List ℕ)). answer s 0 ∷ xs) h;
 })
@@ -252,17 +252,17 @@ begin_comes s m events h false e = inl (record {
 segment_comes : (s : Setup) → IsUpload s → (k : ℕ) (events : List ClientEvent) → AtClient s (suc k) events → nat_le (length (value s)) (7 * k + 7) ≡ false
     → (over : Bool) → nat_lt (cap_of s.call.job) (length (take (7 * suc k) (value s))) ≡ over
     → GoesOnWith s events (answer s (suc k)) (request s (suc (suc k))) (AtClient s (suc (suc k))) ⊎ Fails s events (answer s (suc k))
-segment_comes s m k events h l true e = inr (fails_since s events (answer s (suc k)) (Some (since_begin s k)) (taken s k events h) (segment_fails s m k e))
+segment_comes s m k events h l true e = inr (fails_since s events (answer s (suc k)) (Some (since_initiate s k)) (taken s k events h) (segment_fails s m k e))
 segment_comes s m k events h l false e = inl (record {
   message = Request (NextSegment (is_odd (suc k)));
-  goes_on = verdict_since s events (answer s (suc k)) (Some (since_begin s k)) (taken s k events h) ∙ segment_verdict s m k false l e;
+  goes_on = verdict_since s events (answer s (suc k)) (Some (since_initiate s k)) (taken s k events h) ∙ segment_verdict s m k false l e;
   asks = refl;
   next = ap (λ (xs : List (List ℕ)). answer s (suc k) ∷ xs) h;
 })
 
 pub client_goes_on : (s : Setup) → IsUpload s → (k : ℕ) (events : List ClientEvent) → k < last s → AtClient s k events
     → GoesOnWith s events (answer s k) (request s (suc k)) (AtClient s (suc k)) ⊎ Fails s events (answer s k)
-client_goes_on s m zero events more h = begin_comes s m events h _ refl
+client_goes_on s m zero events more h = initiate_comes s m events h _ refl
 client_goes_on s m (suc k) events more h = segment_comes s m k events h (not_end k (length (value s)) more) _ refl
   where
     not_end : (k n : ℕ) → suc k < segments_for n → nat_le n (7 * k + 7) ≡ false
@@ -271,8 +271,8 @@ client_goes_on s m (suc k) events more h = segment_comes s m k events h (not_end
 last_comes : (s : Setup) → IsUpload s → (k : ℕ) (events : List ClientEvent) → AtClient s (suc k) events → nat_le (length (value s)) (7 * k + 7) ≡ true
     → (over : Bool) → nat_lt (cap_of s.call.job) (length (take (7 * suc k) (value s))) ≡ over
     → (verdict s.call events (Answered (answer s (suc k))) ≡ Ends [] (value s)) ⊎ Fails s events (answer s (suc k))
-last_comes s m k events h l true e = inr (fails_since s events (answer s (suc k)) (Some (since_begin s k)) (taken s k events h) (segment_fails s m k e))
-last_comes s m k events h l false e = inl (verdict_since s events (answer s (suc k)) (Some (since_begin s k)) (taken s k events h) ∙ segment_verdict s m k true l e)
+last_comes s m k events h l true e = inr (fails_since s events (answer s (suc k)) (Some (since_initiate s k)) (taken s k events h) (segment_fails s m k e))
+last_comes s m k events h l false e = inl (verdict_since s events (answer s (suc k)) (Some (since_initiate s k)) (taken s k events h) ∙ segment_verdict s m k true l e)
 
 pub client_ends : (s : Setup) → IsUpload s → (k : ℕ) (events : List ClientEvent) → k ≡ last s → AtClient s k events
     → (verdict s.call events (Answered (answer s k)) ≡ Ends [] (value s)) ⊎ Fails s events (answer s k)
@@ -283,15 +283,15 @@ client_ends s m (suc k) events e h = last_comes s m k events h (is_end k (length
     is_end k n h = grind (arith, nat_tests)
 
 -- the answer before the one that is awaited
-begin_again : (s : Setup) → IsUpload s → given s (Some (since_begin s 0)) (answer s 0)
-begin_again s m = rw (m.transfer, begin_is_read s m) refl
+initiate_again : (s : Setup) → IsUpload s → given s (Some (since_initiate s 0)) (answer s 0)
+initiate_again s m = rw (m.transfer, initiate_is_read s m) refl
 
-segment_again : (s : Setup) → IsUpload s → (k : ℕ) → given s (Some (since_begin s (suc k))) (answer s (suc k))
-segment_again s m k = rw (m.transfer, begin_is_read s m, later_count s k, is_read s k, toggles_differ k) refl
+segment_again : (s : Setup) → IsUpload s → (k : ℕ) → given s (Some (since_initiate s (suc k))) (answer s (suc k))
+segment_again s m k = rw (m.transfer, initiate_is_read s m, later_count s k, is_read s k, toggles_differ k) refl
 
 pub client_stale : (s : Setup) → IsUpload s → (k : ℕ) (events : List ClientEvent) → k < last s → AtClient s (suc k) events → Fails s events (answer s k)
-client_stale s m zero events more h = fails_since s events (answer s 0) (Some (since_begin s 0)) (taken s 0 events h) (begin_again s m)
-client_stale s m (suc k) events more h = fails_since s events (answer s (suc k)) (Some (since_begin s (suc k))) (taken s (suc k) events h) (segment_again s m k)
+client_stale s m zero events more h = fails_since s events (answer s 0) (Some (since_initiate s 0)) (taken s 0 events h) (initiate_again s m)
+client_stale s m (suc k) events more h = fails_since s events (answer s (suc k)) (Some (since_initiate s (suc k))) (taken s (suc k) events h) (segment_again s m k)
 
 pub abort_comes : (s : Setup) → transfer_of s.call ≡ transfer_by Segmented (UploadJob 0) → (a : Option Answers) (frame : List ℕ) → IsAbort frame → given s a frame
 abort_comes s t None frame h = aborted_fails s.call Begun [] (response_in frame) h

@@ -13,7 +13,7 @@ use Rattle.co_sheet.specs.Limits.{absent}
 use Rattle.co_sheet.specs.Content.{Row, SheetContent}
 use Rattle.conode_trace.specs.Printed.{digits_text, frame_text}
 use Rattle.conode_decode.specs.Names.{Names, name_of, name_text}
-use Rattle.conode_decode.specs.SdoTexts.{expedited_text, begin_text, segment_text, abort_text, acknowledge_text, block_end_text, request_text, request_key, answer_text, answer_key}
+use Rattle.conode_decode.specs.SdoTexts.{expedited_text, initiate_text, segment_text, abort_text, acknowledge_text, block_end_text, request_text, request_key, answer_text, answer_key}
 use Rattle.conode_decode.specs.Texts.{nmt_text, sync_text, of_node, emergency_text, pdo_text, named_request, named_answer, sdo_request_text, sdo_answer_text, text_of_frame, decoded_line}
 
 -- the text of a frame without a data sheet
@@ -204,91 +204,91 @@ last_identifier = refl
 -- ---- SDO requests
 
 download_expedited : text_of 0x605 (0x2B ∷ 0x17 ∷ 0x10 ∷ 0x00 ∷ 0xE8 ∷ 0x03 ∷ 0x00 ∷ 0x00 ∷ []) ≡ codes "SDO request node 5 download 1017:00 expedited E803"
-unfolding text_of_frame sdo_request_text named_request of_node digits digits_text request_row_in request_text request_key expedited_text begin_text segment_text abort_text acknowledge_text block_end_text name_text name_of
+unfolding text_of_frame sdo_request_text named_request of_node digits digits_text request_row_in request_text request_key expedited_text initiate_text segment_text abort_text acknowledge_text block_end_text name_text name_of
 download_expedited = refl
 
 download_expedited_without_size : text_of 0x605 (0x22 ∷ 0x01 ∷ 0x20 ∷ 0x80 ∷ 0x01 ∷ 0x02 ∷ 0x03 ∷ 0x04 ∷ []) ≡ codes "SDO request node 5 download 2001:80 expedited 01020304"
-unfolding text_of_frame sdo_request_text named_request of_node digits digits_text request_row_in request_text request_key expedited_text begin_text segment_text abort_text acknowledge_text block_end_text name_text name_of
+unfolding text_of_frame sdo_request_text named_request of_node digits digits_text request_row_in request_text request_key expedited_text initiate_text segment_text abort_text acknowledge_text block_end_text name_text name_of
 download_expedited_without_size = refl
 
-download_begin : text_of 0x605 (0x21 ∷ 0x01 ∷ 0x20 ∷ 0x00 ∷ 0x0A ∷ 0x00 ∷ 0x00 ∷ 0x00 ∷ []) ≡ codes "SDO request node 5 download 2001:00 size 10"
-unfolding text_of_frame sdo_request_text named_request of_node digits digits_text request_row_in request_text request_key expedited_text begin_text segment_text abort_text acknowledge_text block_end_text name_text name_of
-download_begin = refl
+download_initiate : text_of 0x605 (0x21 ∷ 0x01 ∷ 0x20 ∷ 0x00 ∷ 0x0A ∷ 0x00 ∷ 0x00 ∷ 0x00 ∷ []) ≡ codes "SDO request node 5 download 2001:00 size 10"
+unfolding text_of_frame sdo_request_text named_request of_node digits digits_text request_row_in request_text request_key expedited_text initiate_text segment_text abort_text acknowledge_text block_end_text name_text name_of
+download_initiate = refl
 
-download_begin_without_size : text_of 0x605 (0x20 ∷ 0x01 ∷ 0x20 ∷ 0x00 ∷ 0x0A ∷ 0x00 ∷ 0x00 ∷ 0x00 ∷ []) ≡ codes "SDO request node 5 download 2001:00"
-unfolding text_of_frame sdo_request_text named_request of_node digits digits_text request_row_in request_text request_key expedited_text begin_text segment_text abort_text acknowledge_text block_end_text name_text name_of
-download_begin_without_size = refl
+download_initiate_without_size : text_of 0x605 (0x20 ∷ 0x01 ∷ 0x20 ∷ 0x00 ∷ 0x0A ∷ 0x00 ∷ 0x00 ∷ 0x00 ∷ []) ≡ codes "SDO request node 5 download 2001:00"
+unfolding text_of_frame sdo_request_text named_request of_node digits digits_text request_row_in request_text request_key expedited_text initiate_text segment_text abort_text acknowledge_text block_end_text name_text name_of
+download_initiate_without_size = refl
 
 greatest_size : text_of 0x605 (0x21 ∷ 0x01 ∷ 0x20 ∷ 0x00 ∷ 0xFF ∷ 0xFF ∷ 0xFF ∷ 0xFF ∷ []) ≡ codes "SDO request node 5 download 2001:00 size 4294967295"
-unfolding text_of_frame sdo_request_text named_request of_node digits digits_text request_row_in request_text request_key expedited_text begin_text segment_text abort_text acknowledge_text block_end_text name_text name_of
+unfolding text_of_frame sdo_request_text named_request of_node digits digits_text request_row_in request_text request_key expedited_text initiate_text segment_text abort_text acknowledge_text block_end_text name_text name_of
 greatest_size = refl
 
 download_segment : text_of 0x605 (0x00 ∷ 0x31 ∷ 0x32 ∷ 0x33 ∷ 0x34 ∷ 0x35 ∷ 0x36 ∷ 0x37 ∷ []) ≡ codes "SDO request node 5 segment 0 31323334353637"
-unfolding text_of_frame sdo_request_text named_request of_node digits digits_text request_row_in request_text request_key expedited_text begin_text segment_text abort_text acknowledge_text block_end_text name_text name_of
+unfolding text_of_frame sdo_request_text named_request of_node digits digits_text request_row_in request_text request_key expedited_text initiate_text segment_text abort_text acknowledge_text block_end_text name_text name_of
 download_segment = refl
 
 last_download_segment : text_of 0x605 (0x1B ∷ 0x41 ∷ 0x42 ∷ 0x00 ∷ 0x00 ∷ 0x00 ∷ 0x00 ∷ 0x00 ∷ []) ≡ codes "SDO request node 5 segment 1 4142 last"
-unfolding text_of_frame sdo_request_text named_request of_node digits digits_text request_row_in request_text request_key expedited_text begin_text segment_text abort_text acknowledge_text block_end_text name_text name_of
+unfolding text_of_frame sdo_request_text named_request of_node digits digits_text request_row_in request_text request_key expedited_text initiate_text segment_text abort_text acknowledge_text block_end_text name_text name_of
 last_download_segment = refl
 
 empty_download_segment : text_of 0x605 (0x0F ∷ 0x00 ∷ 0x00 ∷ 0x00 ∷ 0x00 ∷ 0x00 ∷ 0x00 ∷ 0x00 ∷ []) ≡ codes "SDO request node 5 segment 0 - last"
-unfolding text_of_frame sdo_request_text named_request of_node digits digits_text request_row_in request_text request_key expedited_text begin_text segment_text abort_text acknowledge_text block_end_text name_text name_of
+unfolding text_of_frame sdo_request_text named_request of_node digits digits_text request_row_in request_text request_key expedited_text initiate_text segment_text abort_text acknowledge_text block_end_text name_text name_of
 empty_download_segment = refl
 
 upload : text_of 0x67F (0x40 ∷ 0x05 ∷ 0x00 ∷ 0x01 ∷ 0x00 ∷ 0x00 ∷ 0x00 ∷ 0x00 ∷ []) ≡ codes "SDO request node 127 upload 0005:01"
-unfolding text_of_frame sdo_request_text named_request of_node digits digits_text request_row_in request_text request_key expedited_text begin_text segment_text abort_text acknowledge_text block_end_text name_text name_of
+unfolding text_of_frame sdo_request_text named_request of_node digits digits_text request_row_in request_text request_key expedited_text initiate_text segment_text abort_text acknowledge_text block_end_text name_text name_of
 upload = refl
 
 upload_segment : text_of 0x601 (0x60 ∷ 0x00 ∷ 0x00 ∷ 0x00 ∷ 0x00 ∷ 0x00 ∷ 0x00 ∷ 0x00 ∷ []) ≡ codes "SDO request node 1 segment request 0"
-unfolding text_of_frame sdo_request_text named_request of_node digits digits_text request_row_in request_text request_key expedited_text begin_text segment_text abort_text acknowledge_text block_end_text name_text name_of
+unfolding text_of_frame sdo_request_text named_request of_node digits digits_text request_row_in request_text request_key expedited_text initiate_text segment_text abort_text acknowledge_text block_end_text name_text name_of
 upload_segment = refl
 
 upload_segment_toggled : text_of 0x605 (0x70 ∷ 0x00 ∷ 0x00 ∷ 0x00 ∷ 0x00 ∷ 0x00 ∷ 0x00 ∷ 0x00 ∷ []) ≡ codes "SDO request node 5 segment request 1"
-unfolding text_of_frame sdo_request_text named_request of_node digits digits_text request_row_in request_text request_key expedited_text begin_text segment_text abort_text acknowledge_text block_end_text name_text name_of
+unfolding text_of_frame sdo_request_text named_request of_node digits digits_text request_row_in request_text request_key expedited_text initiate_text segment_text abort_text acknowledge_text block_end_text name_text name_of
 upload_segment_toggled = refl
 
 abort : text_of 0x605 (0x80 ∷ 0x01 ∷ 0x20 ∷ 0x00 ∷ 0x00 ∷ 0x00 ∷ 0x04 ∷ 0x05 ∷ []) ≡ codes "SDO request node 5 abort 2001:00 05040000"
-unfolding text_of_frame sdo_request_text named_request of_node digits digits_text request_row_in request_text request_key expedited_text begin_text segment_text abort_text acknowledge_text block_end_text name_text name_of
+unfolding text_of_frame sdo_request_text named_request of_node digits digits_text request_row_in request_text request_key expedited_text initiate_text segment_text abort_text acknowledge_text block_end_text name_text name_of
 abort = refl
 
 block_upload : text_of 0x605 (0xA0 ∷ 0x00 ∷ 0x21 ∷ 0x00 ∷ 0x7F ∷ 0x00 ∷ 0x00 ∷ 0x00 ∷ []) ≡ codes "SDO request node 5 block upload 2100:00 size 127"
-unfolding text_of_frame sdo_request_text named_request of_node digits digits_text request_row_in request_text request_key expedited_text begin_text segment_text abort_text acknowledge_text block_end_text name_text name_of
+unfolding text_of_frame sdo_request_text named_request of_node digits digits_text request_row_in request_text request_key expedited_text initiate_text segment_text abort_text acknowledge_text block_end_text name_text name_of
 block_upload = refl
 
 block_upload_end : text_of 0x605 (0xA1 ∷ 0x00 ∷ 0x00 ∷ 0x00 ∷ 0x00 ∷ 0x00 ∷ 0x00 ∷ 0x00 ∷ []) ≡ codes "SDO request node 5 block upload end"
-unfolding text_of_frame sdo_request_text named_request of_node digits digits_text request_row_in request_text request_key expedited_text begin_text segment_text abort_text acknowledge_text block_end_text name_text name_of
+unfolding text_of_frame sdo_request_text named_request of_node digits digits_text request_row_in request_text request_key expedited_text initiate_text segment_text abort_text acknowledge_text block_end_text name_text name_of
 block_upload_end = refl
 
 block_upload_acknowledge : text_of 0x605 (0xA2 ∷ 0x10 ∷ 0x7F ∷ 0x00 ∷ 0x00 ∷ 0x00 ∷ 0x00 ∷ 0x00 ∷ []) ≡ codes "SDO request node 5 block ack 16 size 127"
-unfolding text_of_frame sdo_request_text named_request of_node digits digits_text request_row_in request_text request_key expedited_text begin_text segment_text abort_text acknowledge_text block_end_text name_text name_of
+unfolding text_of_frame sdo_request_text named_request of_node digits digits_text request_row_in request_text request_key expedited_text initiate_text segment_text abort_text acknowledge_text block_end_text name_text name_of
 block_upload_acknowledge = refl
 
 block_upload_start : text_of 0x605 (0xA3 ∷ 0x00 ∷ 0x00 ∷ 0x00 ∷ 0x00 ∷ 0x00 ∷ 0x00 ∷ 0x00 ∷ []) ≡ codes "SDO request node 5 block upload start"
-unfolding text_of_frame sdo_request_text named_request of_node digits digits_text request_row_in request_text request_key expedited_text begin_text segment_text abort_text acknowledge_text block_end_text name_text name_of
+unfolding text_of_frame sdo_request_text named_request of_node digits digits_text request_row_in request_text request_key expedited_text initiate_text segment_text abort_text acknowledge_text block_end_text name_text name_of
 block_upload_start = refl
 
 block_download : text_of 0x605 (0xC2 ∷ 0x01 ∷ 0x20 ∷ 0x00 ∷ 0x0E ∷ 0x00 ∷ 0x00 ∷ 0x00 ∷ []) ≡ codes "SDO request node 5 block download 2001:00 size 14"
-unfolding text_of_frame sdo_request_text named_request of_node digits digits_text request_row_in request_text request_key expedited_text begin_text segment_text abort_text acknowledge_text block_end_text name_text name_of
+unfolding text_of_frame sdo_request_text named_request of_node digits digits_text request_row_in request_text request_key expedited_text initiate_text segment_text abort_text acknowledge_text block_end_text name_text name_of
 block_download = refl
 
 block_download_without_size : text_of 0x605 (0xC0 ∷ 0x01 ∷ 0x20 ∷ 0x00 ∷ 0x00 ∷ 0x00 ∷ 0x00 ∷ 0x00 ∷ []) ≡ codes "SDO request node 5 block download 2001:00"
-unfolding text_of_frame sdo_request_text named_request of_node digits digits_text request_row_in request_text request_key expedited_text begin_text segment_text abort_text acknowledge_text block_end_text name_text name_of
+unfolding text_of_frame sdo_request_text named_request of_node digits digits_text request_row_in request_text request_key expedited_text initiate_text segment_text abort_text acknowledge_text block_end_text name_text name_of
 block_download_without_size = refl
 
 block_download_end : text_of 0x605 (0xC1 ∷ 0x00 ∷ 0x00 ∷ 0x00 ∷ 0x00 ∷ 0x00 ∷ 0x00 ∷ 0x00 ∷ []) ≡ codes "SDO request node 5 block download end unused 0"
-unfolding text_of_frame sdo_request_text named_request of_node digits digits_text request_row_in request_text request_key expedited_text begin_text segment_text abort_text acknowledge_text block_end_text name_text name_of
+unfolding text_of_frame sdo_request_text named_request of_node digits digits_text request_row_in request_text request_key expedited_text initiate_text segment_text abort_text acknowledge_text block_end_text name_text name_of
 block_download_end = refl
 
 block_download_end_unused : text_of 0x605 (0xDD ∷ 0x00 ∷ 0x00 ∷ 0x00 ∷ 0x00 ∷ 0x00 ∷ 0x00 ∷ 0x00 ∷ []) ≡ codes "SDO request node 5 block download end unused 7"
-unfolding text_of_frame sdo_request_text named_request of_node digits digits_text request_row_in request_text request_key expedited_text begin_text segment_text abort_text acknowledge_text block_end_text name_text name_of
+unfolding text_of_frame sdo_request_text named_request of_node digits digits_text request_row_in request_text request_key expedited_text initiate_text segment_text abort_text acknowledge_text block_end_text name_text name_of
 block_download_end_unused = refl
 
 other_request : text_of 0x605 (0xE0 ∷ 0x00 ∷ 0x00 ∷ 0x00 ∷ 0x00 ∷ 0x00 ∷ 0x00 ∷ 0x00 ∷ []) ≡ codes "SDO request node 5 unknown"
-unfolding text_of_frame sdo_request_text named_request of_node digits digits_text request_row_in request_text request_key expedited_text begin_text segment_text abort_text acknowledge_text block_end_text name_text name_of
+unfolding text_of_frame sdo_request_text named_request of_node digits digits_text request_row_in request_text request_key expedited_text initiate_text segment_text abort_text acknowledge_text block_end_text name_text name_of
 other_request = refl
 
 short_request : text_of 0x605 (0x40 ∷ 0x18 ∷ 0x10 ∷ 0x01 ∷ 0x00 ∷ 0x00 ∷ 0x00 ∷ []) ≡ codes "unknown"
-unfolding text_of_frame sdo_request_text named_request of_node digits digits_text request_row_in request_text request_key expedited_text begin_text segment_text abort_text acknowledge_text block_end_text name_text name_of
+unfolding text_of_frame sdo_request_text named_request of_node digits digits_text request_row_in request_text request_key expedited_text initiate_text segment_text abort_text acknowledge_text block_end_text name_text name_of
 short_request = refl
 
 other_600 : text_of 0x600 (0x40 ∷ 0x18 ∷ 0x10 ∷ 0x01 ∷ 0x00 ∷ 0x00 ∷ 0x00 ∷ 0x00 ∷ []) ≡ codes "unknown"
@@ -298,79 +298,79 @@ other_600 = refl
 -- ---- SDO answers
 
 download_done : text_of 0x585 (0x60 ∷ 0x17 ∷ 0x10 ∷ 0x00 ∷ 0x00 ∷ 0x00 ∷ 0x00 ∷ 0x00 ∷ []) ≡ codes "SDO answer node 5 download 1017:00 done"
-unfolding text_of_frame sdo_answer_text named_answer of_node digits digits_text response_row_in answer_text answer_key expedited_text begin_text segment_text abort_text acknowledge_text block_end_text name_text name_of
+unfolding text_of_frame sdo_answer_text named_answer of_node digits digits_text response_row_in answer_text answer_key expedited_text initiate_text segment_text abort_text acknowledge_text block_end_text name_text name_of
 download_done = refl
 
 download_segment_done : text_of 0x585 (0x20 ∷ 0x00 ∷ 0x00 ∷ 0x00 ∷ 0x00 ∷ 0x00 ∷ 0x00 ∷ 0x00 ∷ []) ≡ codes "SDO answer node 5 segment done 0"
-unfolding text_of_frame sdo_answer_text named_answer of_node digits digits_text response_row_in answer_text answer_key expedited_text begin_text segment_text abort_text acknowledge_text block_end_text name_text name_of
+unfolding text_of_frame sdo_answer_text named_answer of_node digits digits_text response_row_in answer_text answer_key expedited_text initiate_text segment_text abort_text acknowledge_text block_end_text name_text name_of
 download_segment_done = refl
 
 download_segment_done_toggled : text_of 0x585 (0x30 ∷ 0x00 ∷ 0x00 ∷ 0x00 ∷ 0x00 ∷ 0x00 ∷ 0x00 ∷ 0x00 ∷ []) ≡ codes "SDO answer node 5 segment done 1"
-unfolding text_of_frame sdo_answer_text named_answer of_node digits digits_text response_row_in answer_text answer_key expedited_text begin_text segment_text abort_text acknowledge_text block_end_text name_text name_of
+unfolding text_of_frame sdo_answer_text named_answer of_node digits digits_text response_row_in answer_text answer_key expedited_text initiate_text segment_text abort_text acknowledge_text block_end_text name_text name_of
 download_segment_done_toggled = refl
 
 upload_expedited : text_of 0x5FF (0x4F ∷ 0x01 ∷ 0x10 ∷ 0x00 ∷ 0x81 ∷ 0x00 ∷ 0x00 ∷ 0x00 ∷ []) ≡ codes "SDO answer node 127 upload 1001:00 expedited 81"
-unfolding text_of_frame sdo_answer_text named_answer of_node digits digits_text response_row_in answer_text answer_key expedited_text begin_text segment_text abort_text acknowledge_text block_end_text name_text name_of
+unfolding text_of_frame sdo_answer_text named_answer of_node digits digits_text response_row_in answer_text answer_key expedited_text initiate_text segment_text abort_text acknowledge_text block_end_text name_text name_of
 upload_expedited = refl
 
 upload_expedited_without_size : text_of 0x581 (0x42 ∷ 0x01 ∷ 0x20 ∷ 0x00 ∷ 0x01 ∷ 0x02 ∷ 0x03 ∷ 0x04 ∷ []) ≡ codes "SDO answer node 1 upload 2001:00 expedited 01020304"
-unfolding text_of_frame sdo_answer_text named_answer of_node digits digits_text response_row_in answer_text answer_key expedited_text begin_text segment_text abort_text acknowledge_text block_end_text name_text name_of
+unfolding text_of_frame sdo_answer_text named_answer of_node digits digits_text response_row_in answer_text answer_key expedited_text initiate_text segment_text abort_text acknowledge_text block_end_text name_text name_of
 upload_expedited_without_size = refl
 
-upload_begun : text_of 0x585 (0x41 ∷ 0x08 ∷ 0x10 ∷ 0x00 ∷ 0x11 ∷ 0x00 ∷ 0x00 ∷ 0x00 ∷ []) ≡ codes "SDO answer node 5 upload 1008:00 size 17"
-unfolding text_of_frame sdo_answer_text named_answer of_node digits digits_text response_row_in answer_text answer_key expedited_text begin_text segment_text abort_text acknowledge_text block_end_text name_text name_of
-upload_begun = refl
+upload_initiated : text_of 0x585 (0x41 ∷ 0x08 ∷ 0x10 ∷ 0x00 ∷ 0x11 ∷ 0x00 ∷ 0x00 ∷ 0x00 ∷ []) ≡ codes "SDO answer node 5 upload 1008:00 size 17"
+unfolding text_of_frame sdo_answer_text named_answer of_node digits digits_text response_row_in answer_text answer_key expedited_text initiate_text segment_text abort_text acknowledge_text block_end_text name_text name_of
+upload_initiated = refl
 
-upload_begun_without_size : text_of 0x585 (0x40 ∷ 0x08 ∷ 0x10 ∷ 0x00 ∷ 0x00 ∷ 0x00 ∷ 0x00 ∷ 0x00 ∷ []) ≡ codes "SDO answer node 5 upload 1008:00"
-unfolding text_of_frame sdo_answer_text named_answer of_node digits digits_text response_row_in answer_text answer_key expedited_text begin_text segment_text abort_text acknowledge_text block_end_text name_text name_of
-upload_begun_without_size = refl
+upload_initiated_without_size : text_of 0x585 (0x40 ∷ 0x08 ∷ 0x10 ∷ 0x00 ∷ 0x00 ∷ 0x00 ∷ 0x00 ∷ 0x00 ∷ []) ≡ codes "SDO answer node 5 upload 1008:00"
+unfolding text_of_frame sdo_answer_text named_answer of_node digits digits_text response_row_in answer_text answer_key expedited_text initiate_text segment_text abort_text acknowledge_text block_end_text name_text name_of
+upload_initiated_without_size = refl
 
 upload_segment_answer : text_of 0x585 (0x00 ∷ 0x54 ∷ 0x65 ∷ 0x6D ∷ 0x70 ∷ 0x65 ∷ 0x72 ∷ 0x61 ∷ []) ≡ codes "SDO answer node 5 segment 0 54656D70657261"
-unfolding text_of_frame sdo_answer_text named_answer of_node digits digits_text response_row_in answer_text answer_key expedited_text begin_text segment_text abort_text acknowledge_text block_end_text name_text name_of
+unfolding text_of_frame sdo_answer_text named_answer of_node digits digits_text response_row_in answer_text answer_key expedited_text initiate_text segment_text abort_text acknowledge_text block_end_text name_text name_of
 upload_segment_answer = refl
 
 last_upload_segment : text_of 0x585 (0x1D ∷ 0x61 ∷ 0x00 ∷ 0x00 ∷ 0x00 ∷ 0x00 ∷ 0x00 ∷ 0x00 ∷ []) ≡ codes "SDO answer node 5 segment 1 61 last"
-unfolding text_of_frame sdo_answer_text named_answer of_node digits digits_text response_row_in answer_text answer_key expedited_text begin_text segment_text abort_text acknowledge_text block_end_text name_text name_of
+unfolding text_of_frame sdo_answer_text named_answer of_node digits digits_text response_row_in answer_text answer_key expedited_text initiate_text segment_text abort_text acknowledge_text block_end_text name_text name_of
 last_upload_segment = refl
 
 abort_answer : text_of 0x585 (0x80 ∷ 0x01 ∷ 0x20 ∷ 0x00 ∷ 0x00 ∷ 0x00 ∷ 0x03 ∷ 0x05 ∷ []) ≡ codes "SDO answer node 5 abort 2001:00 05030000"
-unfolding text_of_frame sdo_answer_text named_answer of_node digits digits_text response_row_in answer_text answer_key expedited_text begin_text segment_text abort_text acknowledge_text block_end_text name_text name_of
+unfolding text_of_frame sdo_answer_text named_answer of_node digits digits_text response_row_in answer_text answer_key expedited_text initiate_text segment_text abort_text acknowledge_text block_end_text name_text name_of
 abort_answer = refl
 
-block_download_begun : text_of 0x585 (0xA4 ∷ 0x01 ∷ 0x20 ∷ 0x00 ∷ 0x7F ∷ 0x00 ∷ 0x00 ∷ 0x00 ∷ []) ≡ codes "SDO answer node 5 block download 2001:00 size 127"
-unfolding text_of_frame sdo_answer_text named_answer of_node digits digits_text response_row_in answer_text answer_key expedited_text begin_text segment_text abort_text acknowledge_text block_end_text name_text name_of
-block_download_begun = refl
+block_download_initiated : text_of 0x585 (0xA4 ∷ 0x01 ∷ 0x20 ∷ 0x00 ∷ 0x7F ∷ 0x00 ∷ 0x00 ∷ 0x00 ∷ []) ≡ codes "SDO answer node 5 block download 2001:00 size 127"
+unfolding text_of_frame sdo_answer_text named_answer of_node digits digits_text response_row_in answer_text answer_key expedited_text initiate_text segment_text abort_text acknowledge_text block_end_text name_text name_of
+block_download_initiated = refl
 
 block_download_done : text_of 0x585 (0xA1 ∷ 0x00 ∷ 0x00 ∷ 0x00 ∷ 0x00 ∷ 0x00 ∷ 0x00 ∷ 0x00 ∷ []) ≡ codes "SDO answer node 5 block download done"
-unfolding text_of_frame sdo_answer_text named_answer of_node digits digits_text response_row_in answer_text answer_key expedited_text begin_text segment_text abort_text acknowledge_text block_end_text name_text name_of
+unfolding text_of_frame sdo_answer_text named_answer of_node digits digits_text response_row_in answer_text answer_key expedited_text initiate_text segment_text abort_text acknowledge_text block_end_text name_text name_of
 block_download_done = refl
 
 block_download_acknowledge : text_of 0x585 (0xA2 ∷ 0x7F ∷ 0x10 ∷ 0x00 ∷ 0x00 ∷ 0x00 ∷ 0x00 ∷ 0x00 ∷ []) ≡ codes "SDO answer node 5 block ack 127 size 16"
-unfolding text_of_frame sdo_answer_text named_answer of_node digits digits_text response_row_in answer_text answer_key expedited_text begin_text segment_text abort_text acknowledge_text block_end_text name_text name_of
+unfolding text_of_frame sdo_answer_text named_answer of_node digits digits_text response_row_in answer_text answer_key expedited_text initiate_text segment_text abort_text acknowledge_text block_end_text name_text name_of
 block_download_acknowledge = refl
 
 other_block_download_answer : text_of 0x585 (0xA3 ∷ 0x00 ∷ 0x00 ∷ 0x00 ∷ 0x00 ∷ 0x00 ∷ 0x00 ∷ 0x00 ∷ []) ≡ codes "SDO answer node 5 unknown"
-unfolding text_of_frame sdo_answer_text named_answer of_node digits digits_text response_row_in answer_text answer_key expedited_text begin_text segment_text abort_text acknowledge_text block_end_text name_text name_of
+unfolding text_of_frame sdo_answer_text named_answer of_node digits digits_text response_row_in answer_text answer_key expedited_text initiate_text segment_text abort_text acknowledge_text block_end_text name_text name_of
 other_block_download_answer = refl
 
-block_upload_begun : text_of 0x585 (0xC2 ∷ 0x00 ∷ 0x21 ∷ 0x00 ∷ 0x79 ∷ 0x03 ∷ 0x00 ∷ 0x00 ∷ []) ≡ codes "SDO answer node 5 block upload 2100:00 size 889"
-unfolding text_of_frame sdo_answer_text named_answer of_node digits digits_text response_row_in answer_text answer_key expedited_text begin_text segment_text abort_text acknowledge_text block_end_text name_text name_of
-block_upload_begun = refl
+block_upload_initiated : text_of 0x585 (0xC2 ∷ 0x00 ∷ 0x21 ∷ 0x00 ∷ 0x79 ∷ 0x03 ∷ 0x00 ∷ 0x00 ∷ []) ≡ codes "SDO answer node 5 block upload 2100:00 size 889"
+unfolding text_of_frame sdo_answer_text named_answer of_node digits digits_text response_row_in answer_text answer_key expedited_text initiate_text segment_text abort_text acknowledge_text block_end_text name_text name_of
+block_upload_initiated = refl
 
-block_upload_begun_without_size : text_of 0x585 (0xC0 ∷ 0x00 ∷ 0x21 ∷ 0x00 ∷ 0x00 ∷ 0x00 ∷ 0x00 ∷ 0x00 ∷ []) ≡ codes "SDO answer node 5 block upload 2100:00"
-unfolding text_of_frame sdo_answer_text named_answer of_node digits digits_text response_row_in answer_text answer_key expedited_text begin_text segment_text abort_text acknowledge_text block_end_text name_text name_of
-block_upload_begun_without_size = refl
+block_upload_initiated_without_size : text_of 0x585 (0xC0 ∷ 0x00 ∷ 0x21 ∷ 0x00 ∷ 0x00 ∷ 0x00 ∷ 0x00 ∷ 0x00 ∷ []) ≡ codes "SDO answer node 5 block upload 2100:00"
+unfolding text_of_frame sdo_answer_text named_answer of_node digits digits_text response_row_in answer_text answer_key expedited_text initiate_text segment_text abort_text acknowledge_text block_end_text name_text name_of
+block_upload_initiated_without_size = refl
 
 block_upload_end_answer : text_of 0x585 (0xC9 ∷ 0x00 ∷ 0x00 ∷ 0x00 ∷ 0x00 ∷ 0x00 ∷ 0x00 ∷ 0x00 ∷ []) ≡ codes "SDO answer node 5 block upload end unused 2"
-unfolding text_of_frame sdo_answer_text named_answer of_node digits digits_text response_row_in answer_text answer_key expedited_text begin_text segment_text abort_text acknowledge_text block_end_text name_text name_of
+unfolding text_of_frame sdo_answer_text named_answer of_node digits digits_text response_row_in answer_text answer_key expedited_text initiate_text segment_text abort_text acknowledge_text block_end_text name_text name_of
 block_upload_end_answer = refl
 
 other_answer : text_of 0x585 (0xE0 ∷ 0x00 ∷ 0x00 ∷ 0x00 ∷ 0x00 ∷ 0x00 ∷ 0x00 ∷ 0x00 ∷ []) ≡ codes "SDO answer node 5 unknown"
-unfolding text_of_frame sdo_answer_text named_answer of_node digits digits_text response_row_in answer_text answer_key expedited_text begin_text segment_text abort_text acknowledge_text block_end_text name_text name_of
+unfolding text_of_frame sdo_answer_text named_answer of_node digits digits_text response_row_in answer_text answer_key expedited_text initiate_text segment_text abort_text acknowledge_text block_end_text name_text name_of
 other_answer = refl
 
 short_answer : text_of 0x585 (0x60 ∷ 0x17 ∷ 0x10 ∷ 0x00 ∷ 0x00 ∷ 0x00 ∷ 0x00 ∷ []) ≡ codes "unknown"
-unfolding text_of_frame sdo_answer_text named_answer of_node digits digits_text response_row_in answer_text answer_key expedited_text begin_text segment_text abort_text acknowledge_text block_end_text name_text name_of
+unfolding text_of_frame sdo_answer_text named_answer of_node digits digits_text response_row_in answer_text answer_key expedited_text initiate_text segment_text abort_text acknowledge_text block_end_text name_text name_of
 short_answer = refl
 
 -- ---- names

@@ -24,8 +24,8 @@ expedited_text service key expedited =
     service ++ key_text key ++ codes " expedited " ++ hex_text (expedited_part expedited)
 
 -- the begin of a transfer, with the size where it is indicated
-unfoldable pub begin_text : List ℕ → Key → Option ℕ → List ℕ
-begin_text service key size = service ++ key_text key ++ size_text size
+unfoldable pub initiate_text : List ℕ → Key → Option ℕ → List ℕ
+initiate_text service key size = service ++ key_text key ++ size_text size
 
 -- a segment, and whether it is the last
 unfoldable pub segment_text : Bool → List ℕ → Bool → List ℕ
@@ -50,26 +50,26 @@ block_end_text service unused = service ++ codes "end unused " ++ decimal unused
 -- what a client asks, each row of the table of requests
 unfoldable pub request_text : SdoRequest → List ℕ
 request_text (requests.DownloadExpedited key expedited) = expedited_text (codes "download ") key expedited
-request_text (requests.DownloadBegin key size) = begin_text (codes "download ") key size
+request_text (requests.DownloadInitiate key size) = initiate_text (codes "download ") key size
 request_text (requests.DownloadSegment toggle part last) = segment_text toggle part.items last
 request_text (requests.Upload key) = codes "upload " ++ key_text key
 request_text (requests.UploadSegment toggle) = codes "segment request " ++ toggle_text toggle
 request_text (requests.Abort key code) = abort_text key code
-request_text (requests.BlockUploadBegin key block_size threshold) = begin_text (codes "block upload ") key (Some block_size)
+request_text (requests.BlockUploadInitiate key block_size threshold) = initiate_text (codes "block upload ") key (Some block_size)
 request_text requests.BlockUploadEnd = codes "block upload end"
 request_text (requests.BlockUploadAcknowledge sequence block_size) = acknowledge_text sequence block_size
 request_text requests.BlockUploadStart = codes "block upload start"
-request_text (requests.BlockDownloadBegin key size) = begin_text (codes "block download ") key size
+request_text (requests.BlockDownloadInitiate key size) = initiate_text (codes "block download ") key size
 request_text (requests.BlockDownloadEnd unused) = block_end_text (codes "block download ") unused
 
 -- the key in a request's text
 unfoldable pub request_key : SdoRequest → Option Key
 request_key (requests.DownloadExpedited key expedited) = Some key
-request_key (requests.DownloadBegin key size) = Some key
+request_key (requests.DownloadInitiate key size) = Some key
 request_key (requests.Upload key) = Some key
 request_key (requests.Abort key code) = Some key
-request_key (requests.BlockUploadBegin key block_size threshold) = Some key
-request_key (requests.BlockDownloadBegin key size) = Some key
+request_key (requests.BlockUploadInitiate key block_size threshold) = Some key
+request_key (requests.BlockDownloadInitiate key size) = Some key
 request_key other = None
 
 -- ---- answers
@@ -79,21 +79,21 @@ unfoldable pub answer_text : SdoResponse → List ℕ
 answer_text (answers.DownloadDone key) = codes "download " ++ key_text key ++ codes " done"
 answer_text (answers.DownloadSegmentDone toggle) = codes "segment done " ++ toggle_text toggle
 answer_text (answers.UploadExpedited key expedited) = expedited_text (codes "upload ") key expedited
-answer_text (answers.UploadBegun key size) = begin_text (codes "upload ") key size
+answer_text (answers.UploadInitiated key size) = initiate_text (codes "upload ") key size
 answer_text (answers.UploadSegment toggle part last) = segment_text toggle part.items last
 answer_text (answers.Abort key code) = abort_text key code
-answer_text (answers.BlockDownloadBegun key block_size) = begin_text (codes "block download ") key (Some block_size)
+answer_text (answers.BlockDownloadInitiated key block_size) = initiate_text (codes "block download ") key (Some block_size)
 answer_text answers.BlockDownloadDone = codes "block download done"
 answer_text (answers.BlockDownloadAcknowledge sequence block_size) = acknowledge_text sequence block_size
-answer_text (answers.BlockUploadBegun key size) = begin_text (codes "block upload ") key size
+answer_text (answers.BlockUploadInitiated key size) = initiate_text (codes "block upload ") key size
 answer_text (answers.BlockUploadEnd unused) = block_end_text (codes "block upload ") unused
 
 -- the key in an answer's text
 unfoldable pub answer_key : SdoResponse → Option Key
 answer_key (answers.DownloadDone key) = Some key
 answer_key (answers.UploadExpedited key expedited) = Some key
-answer_key (answers.UploadBegun key size) = Some key
+answer_key (answers.UploadInitiated key size) = Some key
 answer_key (answers.Abort key code) = Some key
-answer_key (answers.BlockDownloadBegun key block_size) = Some key
-answer_key (answers.BlockUploadBegun key size) = Some key
+answer_key (answers.BlockDownloadInitiated key block_size) = Some key
+answer_key (answers.BlockUploadInitiated key size) = Some key
 answer_key other = None

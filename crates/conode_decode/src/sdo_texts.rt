@@ -3,7 +3,7 @@
 
 ghost use Rattle.std.specs.Prelude.{◌≡◌, ◌++◌, OnOk, Some, string_bytes};
 ghost use Rattle.conode_decode.specs.Numbers.{key_text, toggle_text};
-ghost use Rattle.conode_decode.specs.SdoTexts.{expedited_part, expedited_text, begin_text, segment_text, abort_text, acknowledge_text, block_end_text, request_text, request_key, answer_text, answer_key};
+ghost use Rattle.conode_decode.specs.SdoTexts.{expedited_part, expedited_text, initiate_text, segment_text, abort_text, acknowledge_text, block_end_text, request_text, request_key, answer_text, answer_key};
 
 use crate::numbers::{push_decimal, push_hex, push_key, push_size, push_toggle, push_words};
 use co_frame::{AbortCode, ExpeditedData, SdoRequest, SdoResponse};
@@ -36,31 +36,31 @@ fn push_expedited(
     push_hex(text, expedited_part(part))
 }
 
-#[tactic(auto, unfolding(crate::specs::SdoTexts::begin_text))]
-fn push_begin(
+#[tactic(auto, unfolding(crate::specs::SdoTexts::initiate_text))]
+fn push_initiate(
     text: &mut String,
     service: &str,
     key: Key,
     size: Option<u32>,
 ) -> Result<(), AllocError>
     ensures { OnOk result (string_bytes text.new
-        ≡ string_bytes text.old ++ begin_text service.now key size) }
+        ≡ string_bytes text.old ++ initiate_text service.now key size) }
 {
     push_words(text, service)?;
     push_key(text, key)?;
     push_size(text, size)
 }
 
-fn push_block_begin(
+fn push_block_initiate(
     text: &mut String,
     service: &str,
     key: Key,
     block_size: u8,
 ) -> Result<(), AllocError>
     ensures { OnOk result (string_bytes text.new
-        ≡ string_bytes text.old ++ begin_text service.now key (Some block_size)) }
+        ≡ string_bytes text.old ++ initiate_text service.now key (Some block_size)) }
 {
-    push_begin(text, service, key, Some(u32::from(block_size)))
+    push_initiate(text, service, key, Some(u32::from(block_size)))
 }
 
 fn push_with_key(text: &mut String, service: &str, key: Key) -> Result<(), AllocError>
@@ -132,7 +132,7 @@ pub(crate) fn push_request(text: &mut String, request: &SdoRequest) -> Result<()
         SdoRequest::DownloadExpedited { key, data } => {
             push_expedited(text, "download ", *key, data)
         }
-        SdoRequest::DownloadBegin { key, size } => push_begin(text, "download ", *key, *size),
+        SdoRequest::DownloadInitiate { key, size } => push_initiate(text, "download ", *key, *size),
         SdoRequest::DownloadSegment { toggle, data, last } => {
             push_segment(text, *toggle, data.as_slice(), *last)
         }
@@ -141,19 +141,19 @@ pub(crate) fn push_request(text: &mut String, request: &SdoRequest) -> Result<()
             push_with_toggle(text, "segment request ", *toggle)
         }
         SdoRequest::Abort { key, code } => push_abort(text, *key, *code),
-        SdoRequest::BlockUploadBegin {
+        SdoRequest::BlockUploadInitiate {
             key,
             block_size,
             threshold: _,
-        } => push_block_begin(text, "block upload ", *key, *block_size),
+        } => push_block_initiate(text, "block upload ", *key, *block_size),
         SdoRequest::BlockUploadEnd => push_words(text, "block upload end"),
         SdoRequest::BlockUploadAcknowledge {
             sequence,
             block_size,
         } => push_acknowledge(text, *sequence, *block_size),
         SdoRequest::BlockUploadStart => push_words(text, "block upload start"),
-        SdoRequest::BlockDownloadBegin { key, size } => {
-            push_begin(text, "block download ", *key, *size)
+        SdoRequest::BlockDownloadInitiate { key, size } => {
+            push_initiate(text, "block download ", *key, *size)
         }
         SdoRequest::BlockDownloadEnd { unused } => push_block_end(text, "block download ", *unused),
     }
@@ -166,11 +166,11 @@ pub(crate) fn request_key(request: &SdoRequest) -> Option<Key>
 {
     match request {
         SdoRequest::DownloadExpedited { key, .. }
-        | SdoRequest::DownloadBegin { key, .. }
+        | SdoRequest::DownloadInitiate { key, .. }
         | SdoRequest::Upload { key }
         | SdoRequest::Abort { key, .. }
-        | SdoRequest::BlockUploadBegin { key, .. }
-        | SdoRequest::BlockDownloadBegin { key, .. } => Some(*key),
+        | SdoRequest::BlockUploadInitiate { key, .. }
+        | SdoRequest::BlockDownloadInitiate { key, .. } => Some(*key),
         _ => None,
     }
 }
@@ -190,21 +190,21 @@ pub(crate) fn push_answer(text: &mut String, answer: &SdoResponse) -> Result<(),
             push_with_toggle(text, "segment done ", *toggle)
         }
         SdoResponse::UploadExpedited { key, data } => push_expedited(text, "upload ", *key, data),
-        SdoResponse::UploadBegun { key, size } => push_begin(text, "upload ", *key, *size),
+        SdoResponse::UploadInitiated { key, size } => push_initiate(text, "upload ", *key, *size),
         SdoResponse::UploadSegment { toggle, data, last } => {
             push_segment(text, *toggle, data.as_slice(), *last)
         }
         SdoResponse::Abort { key, code } => push_abort(text, *key, *code),
-        SdoResponse::BlockDownloadBegun { key, block_size } => {
-            push_block_begin(text, "block download ", *key, *block_size)
+        SdoResponse::BlockDownloadInitiated { key, block_size } => {
+            push_block_initiate(text, "block download ", *key, *block_size)
         }
         SdoResponse::BlockDownloadDone => push_words(text, "block download done"),
         SdoResponse::BlockDownloadAcknowledge {
             sequence,
             block_size,
         } => push_acknowledge(text, *sequence, *block_size),
-        SdoResponse::BlockUploadBegun { key, size } => {
-            push_begin(text, "block upload ", *key, *size)
+        SdoResponse::BlockUploadInitiated { key, size } => {
+            push_initiate(text, "block upload ", *key, *size)
         }
         SdoResponse::BlockUploadEnd { unused } => push_block_end(text, "block upload ", *unused),
     }
@@ -218,10 +218,10 @@ pub(crate) fn answer_key(answer: &SdoResponse) -> Option<Key>
     match answer {
         SdoResponse::DownloadDone { key }
         | SdoResponse::UploadExpedited { key, .. }
-        | SdoResponse::UploadBegun { key, .. }
+        | SdoResponse::UploadInitiated { key, .. }
         | SdoResponse::Abort { key, .. }
-        | SdoResponse::BlockDownloadBegun { key, .. }
-        | SdoResponse::BlockUploadBegun { key, .. } => Some(*key),
+        | SdoResponse::BlockDownloadInitiated { key, .. }
+        | SdoResponse::BlockUploadInitiated { key, .. } => Some(*key),
         _ => None,
     }
 }

@@ -27,7 +27,7 @@ fn requests(rt: HostRuntime) -> Result<(), Fail> {
     let rows = [
         (
             "605#210120000A000000",
-            SdoRequest::DownloadBegin {
+            SdoRequest::DownloadInitiate {
                 key: NAME,
                 size: Some(10),
             },
@@ -35,7 +35,7 @@ fn requests(rt: HostRuntime) -> Result<(), Fail> {
         ("605#4001200000000000", SdoRequest::Upload { key: NAME }),
         (
             "605#A00120007F000000",
-            SdoRequest::BlockUploadBegin {
+            SdoRequest::BlockUploadInitiate {
                 key: NAME,
                 block_size: 127,
                 threshold: 0,
@@ -50,7 +50,7 @@ fn requests(rt: HostRuntime) -> Result<(), Fail> {
         ),
         (
             "605#C20120000E000000",
-            SdoRequest::BlockDownloadBegin {
+            SdoRequest::BlockDownloadInitiate {
                 key: NAME,
                 size: Some(14),
             },
@@ -89,7 +89,7 @@ fn answers(rt: HostRuntime) -> Result<(), Fail> {
         ),
         (
             "585#A00120007F000000",
-            SdoResponse::BlockDownloadBegun {
+            SdoResponse::BlockDownloadInitiated {
                 key: NAME,
                 block_size: 127,
             },

@@ -5,9 +5,9 @@ pub returns-in-UploadSegment : goal.returns-in-UploadSegment
 unfolding request_text
 returns-in-UploadSegment c = rw c.in-UploadSegment.is c.push_with_toggle.ensures
 
-pub returns-in-BlockUploadBegin : goal.returns-in-BlockUploadBegin
+pub returns-in-BlockUploadInitiate : goal.returns-in-BlockUploadInitiate
 unfolding request_text
-returns-in-BlockUploadBegin c = rw c.in-BlockUploadBegin.is c.push_block_begin.ensures
+returns-in-BlockUploadInitiate c = rw c.in-BlockUploadInitiate.is c.push_block_initiate.ensures
 
 pub returns-in-BlockUploadEnd : goal.returns-in-BlockUploadEnd
 unfolding request_text

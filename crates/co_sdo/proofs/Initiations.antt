@@ -7,22 +7,22 @@ use Rattle.co_value.specs.declared.key.Key.{Key}
 use Rattle.co_frame.specs.SdoRequests.{request_in}
 use Rattle.co_frame.specs.declared.sdo_request.SdoRequest.{SdoRequest}
 use Rattle.co_frame.specs.declared.sdo_request.ExpeditedData.{ExpeditedData}
-use Rattle.co_frame.specs.declared.sdo_request.SdoRequest.TheVariants.{DownloadExpedited, DownloadBegin, Upload, BlockUploadBegin, BlockDownloadBegin}
-use Rattle.co_frame.specs.declared.sdo_response.SdoResponse.TheVariants.{DownloadDone, UploadExpedited, UploadBegun, BlockDownloadBegun, BlockUploadBegun}
+use Rattle.co_frame.specs.declared.sdo_request.SdoRequest.TheVariants.{DownloadExpedited, DownloadInitiate, Upload, BlockUploadInitiate, BlockDownloadInitiate}
+use Rattle.co_frame.specs.declared.sdo_response.SdoResponse.TheVariants.{DownloadDone, UploadExpedited, UploadInitiated, BlockDownloadInitiated, BlockUploadInitiated}
 use Rattle.co_frame.specs.declared.sdo_request.ExpeditedData.TheVariants.{Indicated}
 use Rattle.co_dict.specs.Rows.{Rows, Contents}
 use Rattle.co_dict.specs.Stores.{Description, IsDictionary}
 use Rattle.co_dict.specs.Refusals.{first_of}
-use Rattle.co_sdo.specs.declared.stage.Stage.TheVariants.{Download, SubBlock, BlockUploadBegun as Begun}
-use Rattle.co_sdo.specs.Refused.{reading_refusal, begin_refusal}
+use Rattle.co_sdo.specs.declared.stage.Stage.TheVariants.{Download, SubBlock, BlockUploadInitiated as Begun}
+use Rattle.co_sdo.specs.Refused.{reading_refusal, initiate_refusal}
 use Rattle.co_sdo.specs.Log.{Answer, Response, Exchange, is_abort}
 use Rattle.co_sdo.specs.Downloads.{is_whole_after}
-use Rattle.co_sdo.specs.Uploads.{value_at, upload_begun}
-use Rattle.co_sdo.specs.OpenTransfers.{Transfer, is_begin, is_uploaded, is_upload_end}
+use Rattle.co_sdo.specs.Uploads.{value_at, upload_initiated}
+use Rattle.co_sdo.specs.OpenTransfers.{Transfer, is_initiate, is_uploaded, is_upload_end}
 use Rattle.co_sdo.specs.Opened.{OpenTransfer, opened, opened_by}
-use Rattle.co_sdo.specs.Replies.{unless_refused, block_size_refusal, begin_answers}
+use Rattle.co_sdo.specs.Replies.{unless_refused, block_size_refusal, initiate_answers}
 use Rattle.co_sdo.specs.Completed.{unless}
-use Rattle.co_sdo.specs.Steps.{opened_at, after_upload_begin, after_begin}
+use Rattle.co_sdo.specs.Steps.{opened_at, after_upload_initiate, after_initiate}
 use Rattle.co_sdo.specs.Standing.{is_under_way, is_transfer_after}
 use Rattle.co_sdo.proofs.Logs.{begun}
 use Rattle.co_sdo.proofs.StoreLemmas.{value_fits}
@@ -68,40 +68,40 @@ expedited_step : (d : Description) (contents : Contents) (frame : List ℕ) (key
     → StepsTo d.rows None (begun (record { request = frame; contents = contents; answers = answers }))
 expedited_step d contents frame key expedited answers e = ends_at_once d.rows (exchange frame contents answers) _ e (or_true (list_any is_abort answers))
 
-download_step : (d : Description) (contents : Contents) (frame : List ℕ) (key : Key) (size : Option ℕ) (code : Option ℕ) → request_in frame ≡ Some (DownloadBegin key size)
+download_step : (d : Description) (contents : Contents) (frame : List ℕ) (key : Key) (size : Option ℕ) (code : Option ℕ) → request_in frame ≡ Some (DownloadInitiate key size)
     → StepsTo d.rows (unless code (opened_at key (Download size false) [])) (begun (record { request = frame; contents = contents; answers = unless_refused code key (Response (DownloadDone key) ∷ []) }))
 download_step d contents frame key size (Some code) e = record { opens = refl; under_way = tt }
 download_step d contents frame key size None e = stays_open d.rows _ (exchange frame contents (Response (DownloadDone key) ∷ [])) _ e refl refl (record { segments = refl; bytes = omega arith })
 
-block_download_step : (d : Description) (contents : Contents) (frame : List ℕ) (key : Key) (size : Option ℕ) (code : Option ℕ) → request_in frame ≡ Some (BlockDownloadBegin key size)
-    → StepsTo d.rows (unless code (opened_at key (SubBlock size 0) [])) (begun (record { request = frame; contents = contents; answers = unless_refused code key (Response (BlockDownloadBegun key 127) ∷ []) }))
+block_download_step : (d : Description) (contents : Contents) (frame : List ℕ) (key : Key) (size : Option ℕ) (code : Option ℕ) → request_in frame ≡ Some (BlockDownloadInitiate key size)
+    → StepsTo d.rows (unless code (opened_at key (SubBlock size 0) [])) (begun (record { request = frame; contents = contents; answers = unless_refused code key (Response (BlockDownloadInitiated key 127) ∷ []) }))
 block_download_step d contents frame key size (Some code) e = record { opens = refl; under_way = tt }
-block_download_step d contents frame key size None e = stays_open d.rows _ (exchange frame contents (Response (BlockDownloadBegun key 127) ∷ [])) _ e refl refl (record { inside = λ h. (omega arith, omega arith); bytes = omega arith })
+block_download_step d contents frame key size None e = stays_open d.rows _ (exchange frame contents (Response (BlockDownloadInitiated key 127) ∷ [])) _ e refl refl (record { inside = λ h. (omega arith, omega arith); bytes = omega arith })
 
-block_upload_step : (d : Description) (contents : Contents) (frame : List ℕ) (key : Key) (size threshold : ℕ) (code : Option ℕ) → request_in frame ≡ Some (BlockUploadBegin key size threshold) → IsDictionary d contents
+block_upload_step : (d : Description) (contents : Contents) (frame : List ℕ) (key : Key) (size threshold : ℕ) (code : Option ℕ) → request_in frame ≡ Some (BlockUploadInitiate key size threshold) → IsDictionary d contents
     → StepsTo d.rows (unless code (opened_at key (Begun size) (value_at contents key)))
-    (begun (record { request = frame; contents = contents; answers = unless_refused code key (Response (BlockUploadBegun key (Some (length (value_at contents key)))) ∷ []) }))
+    (begun (record { request = frame; contents = contents; answers = unless_refused code key (Response (BlockUploadInitiated key (Some (length (value_at contents key)))) ∷ []) }))
 block_upload_step d contents frame key size threshold (Some code) e s = record { opens = refl; under_way = tt }
-block_upload_step d contents frame key size threshold None e s = stays_open d.rows _ (exchange frame contents (Response (BlockUploadBegun key (Some (length (value_at contents key)))) ∷ [])) _ e (ap is_upload_end e) refl (value_fits d contents key s)
+block_upload_step d contents frame key size threshold None e s = stays_open d.rows _ (exchange frame contents (Response (BlockUploadInitiated key (Some (length (value_at contents key)))) ∷ [])) _ e (ap is_upload_end e) refl (value_fits d contents key s)
 
 upload_sent : (d : Description) (contents : Contents) (frame : List ℕ) (key : Key) (short : Bool) → request_in frame ≡ Some (Upload key) → IsDictionary d contents
     → nat_le 1 (length (value_at contents key)) && nat_le (length (value_at contents key)) 4 ≡ short
-    → StepsTo d.rows (after_upload_begin key (value_at contents key)) (begun (record { request = frame; contents = contents; answers = upload_begun key (value_at contents key) }))
+    → StepsTo d.rows (after_upload_initiate key (value_at contents key)) (begun (record { request = frame; contents = contents; answers = upload_initiated key (value_at contents key) }))
 upload_sent d contents frame key true e s b = rw b (ends_at_once d.rows (exchange frame contents (Response (UploadExpedited key (Indicated (record { items = value_at contents key }))) ∷ [])) _ e refl)
-upload_sent d contents frame key false e s b = rw b (stays_open d.rows _ (exchange frame contents (Response (UploadBegun key (Some (length (value_at contents key)))) ∷ [])) _ e refl refl (value_fits d contents key s))
+upload_sent d contents frame key false e s b = rw b (stays_open d.rows _ (exchange frame contents (Response (UploadInitiated key (Some (length (value_at contents key)))) ∷ [])) _ e refl refl (value_fits d contents key s))
 
 upload_step : (d : Description) (contents : Contents) (frame : List ℕ) (key : Key) (code : Option ℕ) → request_in frame ≡ Some (Upload key) → IsDictionary d contents
-    → StepsTo d.rows (unless code (after_upload_begin key (value_at contents key)))
-    (begun (record { request = frame; contents = contents; answers = unless_refused code key (upload_begun key (value_at contents key)) }))
+    → StepsTo d.rows (unless code (after_upload_initiate key (value_at contents key)))
+    (begun (record { request = frame; contents = contents; answers = unless_refused code key (upload_initiated key (value_at contents key)) }))
 upload_step d contents frame key (Some code) e s = record { opens = refl; under_way = tt }
 upload_step d contents frame key None e s = upload_sent d contents frame key _ e s refl
 
 -- a begin opens a transfer, unless it is refused or whole at once
-pub begin_step : (d : Description) (contents : Contents) (frame : List ℕ) (request : SdoRequest) → request_in frame ≡ Some request → is_begin (Some request) ≡ true → IsDictionary d contents
-    → StepsTo d.rows (after_begin d contents request) (begun (record { request = frame; contents = contents; answers = begin_answers d contents request }))
-begin_step d contents frame (DownloadExpedited key expedited) e b s = expedited_step d contents frame key expedited (begin_answers d contents (DownloadExpedited key expedited)) e
-begin_step d contents frame (DownloadBegin key size) e b s = download_step d contents frame key size (begin_refusal d key size) e
-begin_step d contents frame (Upload key) e b s = upload_step d contents frame key (reading_refusal d contents key) e s
-begin_step d contents frame (BlockUploadBegin key size threshold) e b s = block_upload_step d contents frame key size threshold (first_of (reading_refusal d contents key) (block_size_refusal size)) e s
-begin_step d contents frame (BlockDownloadBegin key size) e b s = block_download_step d contents frame key size (begin_refusal d key size) e
-begin_step d contents frame _ e b s = absurd (false≢true b)
+pub initiate_step : (d : Description) (contents : Contents) (frame : List ℕ) (request : SdoRequest) → request_in frame ≡ Some request → is_initiate (Some request) ≡ true → IsDictionary d contents
+    → StepsTo d.rows (after_initiate d contents request) (begun (record { request = frame; contents = contents; answers = initiate_answers d contents request }))
+initiate_step d contents frame (DownloadExpedited key expedited) e b s = expedited_step d contents frame key expedited (initiate_answers d contents (DownloadExpedited key expedited)) e
+initiate_step d contents frame (DownloadInitiate key size) e b s = download_step d contents frame key size (initiate_refusal d key size) e
+initiate_step d contents frame (Upload key) e b s = upload_step d contents frame key (reading_refusal d contents key) e s
+initiate_step d contents frame (BlockUploadInitiate key size threshold) e b s = block_upload_step d contents frame key size threshold (first_of (reading_refusal d contents key) (block_size_refusal size)) e s
+initiate_step d contents frame (BlockDownloadInitiate key size) e b s = block_download_step d contents frame key size (initiate_refusal d key size) e
+initiate_step d contents frame _ e b s = absurd (false≢true b)
