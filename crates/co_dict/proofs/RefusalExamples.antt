@@ -3,7 +3,7 @@ use Rattle.std.proofs.Common.{◌≡◌, ℕ, refl, Some, None, Option, List, re
 use Rattle.std.specs.Prelude.{if◌then◌else◌, ◌==◌}
 use Rattle.co_value.specs.Numbers.{low_bytes}
 use Rattle.co_value.specs.declared.data_type.DataType.TheVariants.{Unsigned32}
-use Rattle.co_sheet.specs.declared.entry.Access.TheVariants.{Rw}
+use Rattle.co_profile.specs.declared.access.Access.TheVariants.{Rw}
 use Rattle.co_dict.specs.Rows.{Rows, Contents}
 use Rattle.co_dict.specs.ErrorList.{error_room, pushed}
 use Rattle.co_dict.specs.ReadRefusals.{reading_refusal}

@@ -3,8 +3,8 @@ use Rattle.std.specs.Prelude.{ℕ, nat_lt, Bool, true, false, ◌||◌, is_some,
 use Rattle.co_value.specs.declared.key.Key.{Key}
 use Rattle.co_value.specs.Types.{width_of}
 use Rattle.co_value.specs.Numbers.{number_of}
-use Rattle.co_sheet.specs.declared.entry.Access.{Access}
-use Rattle.co_sheet.specs.declared.entry.Access.TheVariants.{Ro, Constant}
+use Rattle.co_profile.specs.declared.access.Access.{Access}
+use Rattle.co_profile.specs.declared.access.Access.TheVariants.{Ro, Constant}
 use Rattle.co_dict.specs.declared.row.Row.{Row}
 use Rattle.co_dict.specs.Rows.{Rows, Contents}
 use Rattle.co_dict.specs.Stores.{Description}

@@ -2,7 +2,7 @@
 
 ghost use Rattle.std.specs.Prelude.{◌≡◌, ◌≤◌, Some, true};
 ghost use Rattle.co_value.specs.declared.data_type.DataType.TheVariants.{Unsigned8, Unsigned32};
-ghost use Rattle.co_sheet.specs.FixedTypes.{fixed_type_of};
+ghost use Rattle.co_profile.specs.FixedTypes.{fixed_type_of};
 ghost use Rattle.co_dict.specs.Rows.{number_at};
 ghost use Rattle.co_dict.specs.Refusals.{refusal_in};
 ghost use Rattle.co_dict.specs.MappingCounts.{is_mapping_index, count_refusal};

@@ -9,7 +9,7 @@ use crate::error_list::error_count;
 use crate::objects::entry_row;
 use crate::store::{ObjectStore, store_laws};
 use co_frame::AbortCode;
-use co_sheet::Access;
+use co_profile::Access;
 use co_value::Key;
 
 // whether a sub-index of 1003h is above the number of errors

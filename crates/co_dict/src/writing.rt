@@ -12,7 +12,7 @@ use crate::own_rules::check_own_rule;
 use crate::row::Row;
 use crate::store::ObjectStore;
 use co_frame::AbortCode;
-use co_sheet::Access;
+use co_profile::Access;
 use co_value::Key;
 
 fn is_read_only(access: Access) -> bool

@@ -1,7 +1,7 @@
 mod Examples
 mod FaultExamples
 mod Edges
-mod FixedTypeExamples
+mod TypeCodeExamples
 mod LargeSheet
 mod TypeLemmas
 pub mod Words

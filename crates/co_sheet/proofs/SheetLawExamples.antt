@@ -6,10 +6,10 @@ use Rattle.co_sheet_text.specs.Names.{is_hexadecimal_digit}
 use Rattle.std.specs.Prelude.{AllPairs}
 use Rattle.std.proofs.lemmas.List.Elements.{All-from_recursion}
 use Rattle.std.proofs.lemmas.List.Kept.{AllPairs-cons}
-use Rattle.co_sheet.specs.FixedTypes.{fixed_type_of}
+use Rattle.co_profile.specs.FixedTypes.{fixed_type_of}
 use Rattle.co_value.specs.declared.data_type.DataType.{DataType}
 use Rattle.co_value.specs.declared.data_type.DataType.TheVariants.{Integer8, Unsigned8, Unsigned32, VisibleString, OctetString, Domain}
-use Rattle.co_sheet.specs.declared.entry.Access.TheVariants.{Rw}
+use Rattle.co_profile.specs.declared.access.Access.TheVariants.{Rw}
 use Rattle.co_sheet.specs.declared.object.ObjectType.TheVariants.{Var}
 use Rattle.co_sheet.specs.Limits.{Default, absent, number, node_id, text, pairs, is_pairs}
 use Rattle.co_sheet.specs.Content.{Row, ObjectRow, SheetContent}

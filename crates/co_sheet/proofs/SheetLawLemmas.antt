@@ -12,7 +12,7 @@ use Rattle.co_value.specs.Types.{code_of, least_of, greatest_of, InRange}
 use Rattle.co_sheet_text.specs.declared.section_kind.SectionKind.{SectionKind}
 use Rattle.co_sheet_text.specs.declared.section_kind.SectionKind.TheVariants.{Object, SubIndex}
 use Rattle.co_sheet_text.specs.Names.{same_kind}
-use Rattle.co_sheet.specs.declared.entry.Access.{Access}
+use Rattle.co_profile.specs.declared.access.Access.{Access}
 use Rattle.co_sheet.specs.declared.fault.FaultKind.TheVariants.{BadLimits, BadDefault, BadType, MissingMandatory}
 use Rattle.co_sheet.specs.declared.fault.SheetFault.{SheetFault}
 use Rattle.co_sheet_text.specs.declared.numeral.NumeralFault.{NumeralFault}
@@ -20,7 +20,7 @@ use Rattle.co_sheet_text.specs.Text.{trim, same_name}
 use Rattle.co_sheet_text.specs.Sections.{Property, TextSection, property_at, section_at}
 use Rattle.co_sheet_text.specs.Numerals.{result_map, unsigned_number}
 use Rattle.co_sheet.specs.ObjectLists.{is_one_of, Listing, listings, is_listed}
-use Rattle.co_sheet.specs.FixedTypes.{fixed_type_of}
+use Rattle.co_profile.specs.FixedTypes.{fixed_type_of}
 use Rattle.co_sheet.specs.Entries.{single_codes, compound_codes, object_code, sub_index_in, sub_indices, entries_in, ListedObject, is_domain, listed_objects, Entry, entries_of, data_type_with, type_code, data_type_of, access_of}
 use Rattle.co_sheet.specs.Limits.{Default, absent, number, node_id, text, pairs, number_at_type, is_node_id, is_plus, node_id_sum, numeric_default, is_numeric, limit_at, low_limit, high_limit, at_most, is_in_type, is_in_limits, default_with, default_of}
 use Rattle.co_sheet.specs.Checks.{left_out_codes, fault_if, at_key, is_bad_type, bad_type, type_line, in_numeric, limit_outside, limits_crossed, bad_limits, is_bad_default, bad_default, checks}

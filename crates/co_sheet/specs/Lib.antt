@@ -5,7 +5,7 @@ pub use Rattle.co_sheet_text.specs.Numerals
 pub use Rattle.co_sheet_text.specs.Properties
 pub use Rattle.co_sheet_text.specs.SectionLaws
 pub mod ObjectLists
-pub mod FixedTypes
+pub use Rattle.co_profile.specs.FixedTypes
 pub mod Entries
 pub mod Limits
 pub mod Notes

@@ -6,7 +6,7 @@ use Rattle.co_value.specs.declared.data_type.DataType.{DataType}
 use Rattle.co_value.specs.declared.data_type.DataType.TheVariants.{VisibleString, OctetString, Domain}
 use Rattle.co_value.specs.Types.{least_of, greatest_of, InRange}
 use Rattle.co_sheet_text.specs.Names.{is_hexadecimal_digit}
-use Rattle.co_sheet.specs.FixedTypes.{fixed_type_of}
+use Rattle.co_profile.specs.FixedTypes.{fixed_type_of}
 use Rattle.co_sheet.specs.Limits.{absent, number, node_id, text, pairs, is_pairs, is_numeric}
 use Rattle.co_value.specs.Keys.{is_key_before}
 use Rattle.co_sheet.specs.Content.{Row, row_of, ObjectRow, SheetContent}

@@ -17,7 +17,8 @@ mod sheet;
 mod tables;
 mod text_fault;
 
-pub use entry::{Access, EntryRow, Preset};
+pub use co_profile::Access;
+pub use entry::{EntryRow, Preset};
 pub use fault::{FaultKind, SheetFault};
 pub use note::{Note, NoteKind};
 pub use object::{Object, ObjectType};

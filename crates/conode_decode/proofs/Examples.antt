@@ -8,7 +8,7 @@ use Rattle.co_value.specs.declared.data_type.DataType.TheVariants.{Unsigned16}
 use Rattle.co_frame.specs.FrameContent.{FrameContent}
 use Rattle.co_frame.specs.SdoRequests.{request_row_in}
 use Rattle.co_frame.specs.SdoResponses.{response_row_in}
-use Rattle.co_sheet.specs.declared.entry.Access.TheVariants.{Rw}
+use Rattle.co_profile.specs.declared.access.Access.TheVariants.{Rw}
 use Rattle.co_sheet.specs.Limits.{absent}
 use Rattle.co_sheet.specs.Content.{Row, SheetContent}
 use Rattle.conode_trace.specs.Printed.{digits_text, frame_text}

@@ -1,12 +1,9 @@
--- The types that are fixed, at both ends of each row and just past them, and the codes of data types, computed from the definitions.
-use Rattle.std.proofs.Common.{◌≡◌, ℕ, List, [], ◌∷◌, refl, Option, Some, None, true, false}
+-- The types that are fixed, at both ends of each row and just past them, computed from the definitions.
+use Rattle.std.proofs.Common.{◌≡◌, ℕ, List, [], ◌∷◌, refl, Option, Some, None}
 use Rattle.std.specs.Prelude.{map}
 use Rattle.co_value.specs.declared.data_type.DataType.{DataType}
 use Rattle.co_value.specs.declared.data_type.DataType.TheVariants.{Unsigned8, Unsigned16, Unsigned32}
-use Rattle.co_sheet.specs.ObjectLists.{is_one_of}
-use Rattle.co_sheet.specs.Entries.{data_type_with}
-use Rattle.co_sheet.specs.FixedTypes.{fixed_type_of}
-use Rattle.co_sheet.specs.Checks.{left_out_codes}
+use Rattle.co_profile.specs.FixedTypes.{fixed_type_of}
 
 -- the types that are fixed at these sub-indices of an object
 abbrev types_at : ℕ → List ℕ → List (Option DataType)
@@ -122,18 +119,3 @@ last_tpdo_mapping = refl
 
 after_tpdo_mappings : types_at 0x1C00 (0 ∷ 1 ∷ []) ≡ None ∷ None ∷ []
 after_tpdo_mappings = refl
-
--- ---- codes
-
--- the five codes that are left out, and their neighbours
-left_out : map (λ code. is_one_of left_out_codes (Some code)) (0x08 ∷ 0x0B ∷ 0x0C ∷ 0x0D ∷ 0x11 ∷ [])
-    ≡ true ∷ true ∷ true ∷ true ∷ true ∷ []
-left_out = refl
-
-not_left_out : map (λ code. is_one_of left_out_codes (Some code)) (0 ∷ 0x07 ∷ 0x09 ∷ 0x0A ∷ 0x0E ∷ 0x0F ∷ 0x10 ∷ 0x12 ∷ [])
-    ≡ false ∷ false ∷ false ∷ false ∷ false ∷ false ∷ false ∷ false ∷ []
-not_left_out = refl
-
-no_types : map data_type_with (0 ∷ 0x08 ∷ 0x0B ∷ 0x0C ∷ 0x0D ∷ 0x0E ∷ 0x11 ∷ 0x17 ∷ 0x1C ∷ [])
-    ≡ None ∷ None ∷ None ∷ None ∷ None ∷ None ∷ None ∷ None ∷ None ∷ []
-no_types = refl

@@ -1,6 +1,6 @@
 use Rattle.std.proofs.Common.{◌≡◌, ◌&&◌, nat_le, drop}
 use Rattle.std.specs.Prelude.{find}
-use Rattle.co_sheet.proofs.data_type.type_among.Given as goal
+use Rattle.co_profile.proofs.fixed_types.type_among.Given as goal
 
 -- what is found in the rest is found in all
 abbrev pub invariant-loop-fixed : goal.invariant-loop-fixed

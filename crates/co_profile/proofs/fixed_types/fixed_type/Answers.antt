@@ -1,7 +1,7 @@
 use Rattle.std.proofs.Common.{◌∙◌}
-use Rattle.co_sheet.specs.declared.data_type.TheConstants.{FIXED_TYPES}
-use Rattle.co_sheet.proofs.TypeLemmas.{find-rows, none-fixed}
-use Rattle.co_sheet.proofs.data_type.fixed_type.Goals as goal
+use Rattle.co_profile.specs.declared.fixed_types.TheConstants.{FIXED_TYPES}
+use Rattle.co_profile.proofs.FixedTypeLemmas.{find-rows, none-fixed}
+use Rattle.co_profile.proofs.fixed_types.fixed_type.Goals as goal
 
 pub returns-then-key-gt-LAST_FIXED_INDEX : goal.returns-then-key-gt-LAST_FIXED_INDEX
 returns-then-key-gt-LAST_FIXED_INDEX c = none-fixed c.args.key c.if-key-gt-LAST_FIXED_INDEX.true
