@@ -2,17 +2,18 @@
 use Rattle.std.specs.Prelude.{ℕ, ◌+◌, ◌==◌, ◌&&◌, ◌||◌, Bool, not, nat_le, is_some, List}
 use Rattle.std.specs.List.{filter, range_with_len}
 use Rattle.co_value.specs.declared.key.Key.{Key}
+use Rattle.co_profile.specs.Indices.{nth, tpdo_communication, tpdo_mapping}
 use Rattle.co_dict.specs.Rows.{Rows, Contents, number_at}
 use Rattle.co_dict.specs.CobIds.{is_valid}
 use Rattle.co_pdo.specs.declared.settings.Settings.{Settings}
 
 -- a sub-index of the communication parameter of TPDO k
 abbrev pub tpdo_key : ℕ → ℕ → Key
-tpdo_key k sub = record { index = 0x1800 + k; sub = sub }
+tpdo_key k sub = record { index = nth tpdo_communication k; sub = sub }
 
 -- how many objects are mapped into TPDO k
 abbrev pub tpdo_count_key : ℕ → Key
-tpdo_count_key k = record { index = 0x1A00 + k; sub = 0 }
+tpdo_count_key k = record { index = nth tpdo_mapping k; sub = 0 }
 
 -- the transmission types that are supported: 0 to 240, 254 and 255
 abbrev pub is_supported_type : ℕ → Bool

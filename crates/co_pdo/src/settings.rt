@@ -4,6 +4,7 @@ ghost use Rattle.std.specs.Prelude.{◌≡◌, ◌<◌};
 ghost use Rattle.co_pdo.specs.Tpdos.{tpdo_key, tpdo_count_key, is_active, is_supported_type, settings_of, has_tpdo};
 
 use co_dict::{CobId, ObjectStore, number_u8, number_u16, number_u32};
+use co_profile::IndexRange;
 use co_value::Key;
 
 /// What the dictionary says of one TPDO (CiA 301, 7.5.2.37).
@@ -32,7 +33,7 @@ fn tpdo_key(k: u16, sub: u8) -> Key
     ensures { result ≡ tpdo_key k sub }
 {
     Key {
-        index: 0x1800 + k,
+        index: IndexRange::TPDO_COMMUNICATION.nth(k),
         sub,
     }
 }
@@ -43,7 +44,7 @@ fn tpdo_count_key(k: u16) -> Key
     ensures { result ≡ tpdo_count_key k }
 {
     Key {
-        index: 0x1A00 + k,
+        index: IndexRange::TPDO_MAPPING.nth(k),
         sub: 0,
     }
 }

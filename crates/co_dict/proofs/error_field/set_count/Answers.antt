@@ -1,9 +1,9 @@
 use Rattle.std.proofs.Common.{refl, ap, ◌∙◌}
 use Rattle.co_value.specs.declared.data_type.DataType.TheVariants.{Unsigned8}
 use Rattle.co_dict.specs.Rows.{takes}
-use Rattle.co_dict.specs.ErrorList.{error_key}
+use Rattle.co_dict.specs.ErrorField.{error_key}
 use Rattle.co_dict.proofs.StoreLemmas.{takes_width}
-use Rattle.co_dict.proofs.error_list.set_count.Goals as goal
+use Rattle.co_dict.proofs.error_field.set_count.Goals as goal
 
 pub set-requires : goal.set-requires
 set-requires g c =

@@ -1,9 +1,9 @@
 use Rattle.std.proofs.Common.{◌+◌, refl, sym, ap, ◌∙◌, arith}
 use Rattle.co_dict.specs.Rows.{written}
 use Rattle.co_dict.specs.Objects.{has_sub}
-use Rattle.co_dict.specs.ErrorList.{error_key}
+use Rattle.co_dict.specs.ErrorField.{error_key}
 use Rattle.co_dict.proofs.PushLemmas.{sub_present, moved_none, moved_next, next_error}
-use Rattle.co_dict.proofs.error_list.move_down.Goals as goal
+use Rattle.co_dict.proofs.error_field.move_down.Goals as goal
 
 pub loop-earlier-init : goal.loop-earlier-init
 loop-earlier-init g c = record { contents = sym (moved_none _ _); description = refl; carried = refl }

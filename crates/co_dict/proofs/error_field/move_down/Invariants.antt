@@ -1,6 +1,6 @@
 use Rattle.std.proofs.Common.{◌≡◌, ◌+◌, Some}
-use Rattle.co_dict.specs.ErrorList.{moved_bytes, moved_down}
-use Rattle.co_dict.proofs.error_list.move_down.Given as goal
+use Rattle.co_dict.specs.ErrorField.{moved_bytes, moved_down}
+use Rattle.co_dict.proofs.error_field.move_down.Given as goal
 
 -- so many errors have moved, and the next one to move is carried
 abbrev pub invariant-loop-earlier : goal.invariant-loop-earlier

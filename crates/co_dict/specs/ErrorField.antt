@@ -2,6 +2,7 @@
 use Rattle.std.specs.Prelude.{ℕ, ◌+◌, ◌-◌, ◌==◌, nat_lt, nat_le, min, Bool, ◌&&◌, not, if◌then◌else◌, Option, Some, List}
 use Rattle.co_value.specs.declared.key.Key.{Key}
 use Rattle.co_value.specs.Numbers.{low_bytes}
+use Rattle.co_profile.specs.Indices.{error_field}
 use Rattle.co_dict.specs.Rows.{Rows, Contents, number_at, written}
 use Rattle.co_dict.specs.Refusals.{refused_if}
 use Rattle.co_dict.specs.Objects.{has_sub, subs_present}
@@ -9,7 +10,7 @@ use Rattle.co_frame.specs.AbortCodes.{invalid_value}
 
 -- where an error is, or with 0 the number of errors
 abbrev pub error_key : ℕ → Key
-error_key sub = record { index = 0x1003; sub = sub }
+error_key sub = record { index = error_field; sub = sub }
 
 -- the number of errors
 abbrev pub error_count : Contents → ℕ
@@ -17,15 +18,15 @@ error_count contents = number_at contents (error_key 0)
 
 -- a sub-index of 1003h above the number of errors: it has no error to read
 abbrev pub is_past_errors : Contents → Key → Bool
-is_past_errors contents key = (key.index == 0x1003) && nat_lt (error_count contents) key.sub
+is_past_errors contents key = (key.index == error_field) && nat_lt (error_count contents) key.sub
 
--- 1003:00: 0 alone may be written, which clears the list
+-- 1003:00: 0 alone may be written, which clears the field
 abbrev pub error_count_refusal : ℕ → Option ℕ
 error_count_refusal count = refused_if (not (count == 0)) invalid_value
 
--- how many errors the list has room for: the greatest number up to 254 such that 1003:01 to it are there; none without 1003:00
+-- how many errors the field has room for: the greatest number up to 254 such that 1003:01 to it are there; none without 1003:00
 abbrev pub error_room : Rows → ℕ
-error_room rows = if has_sub rows 0x1003 0 then subs_present rows 0x1003 254 else 0
+error_room rows = if has_sub rows error_field 0 then subs_present rows error_field 254 else 0
 
 -- what a sub-index has after the errors moved down by one: the first one these bytes, each other one those before it
 abbrev pub moved_bytes : Contents → List ℕ → ℕ → Option (List ℕ)
@@ -34,7 +35,7 @@ moved_bytes contents first sub = if sub == 1 then Some first else contents (erro
 -- the contents after 1003:01 to a last sub-index moved down by one
 abbrev pub moved_down : Contents → List ℕ → ℕ → Contents
 moved_down contents first last = λ key.
-    if (key.index == 0x1003) && nat_le 1 key.sub && nat_le key.sub last then moved_bytes contents first key.sub else contents key
+    if (key.index == error_field) && nat_le 1 key.sub && nat_le key.sub last then moved_bytes contents first key.sub else contents key
 
 -- the number of errors after one more, up to the room
 abbrev pub next_count : Contents → ℕ → ℕ
