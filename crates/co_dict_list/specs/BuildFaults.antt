@@ -161,6 +161,14 @@ bad_mapping d contents = smallest_key (is_bad_mapping d contents) d.keys
 abbrev pub room_fault : Limits → List SheetRow → Option BuildFault
 room_fault limits rows = fault_if (is_too_many (length rows) (sum_by (capacity_of limits) rows)) TooMany
 
+-- the first fault of the parameters of a dictionary, by what never changes of it and by its first contents
+abbrev pub parameter_fault : Description → Contents → Option BuildFault
+parameter_fault d contents = first_there (
+    option_map BadCobId (bad_cob_id d contents)
+    ∷ option_map PdoPair (unpaired d)
+    ∷ option_map BadMapping (bad_mapping d contents)
+    ∷ [])
+
 -- the first fault of what never changes of a dictionary and of its first contents
 abbrev pub dictionary_fault : Limits → List SheetRow → Description → Contents → Option BuildFault
 dictionary_fault limits rows d contents = first_there (
