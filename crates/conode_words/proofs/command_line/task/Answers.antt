@@ -1,8 +1,8 @@
 use Rattle.std.proofs.Common.{◌≡◌, ◌∙◌, ap, subst, map, [], rules}
 use Rattle.clap.specs.Words.{App, app_of, fault_of, is_simple_and_free}
-use Rattle.conode.specs.Tasks.{conode_command}
-use Rattle.conode.proofs.TaskLemmas.{is_free_command}
-use Rattle.conode.proofs.command_line.task.Goals as goal
+use Rattle.conode_words.specs.Tasks.{conode_command}
+use Rattle.conode_words.proofs.TaskLemmas.{is_free_command}
+use Rattle.conode_words.proofs.command_line.task.Goals as goal
 
 pub returns-clause-fault : goal.returns-clause-fault
 returns-clause-fault c =

@@ -4,7 +4,7 @@ use Rattle.clap.specs.Words.{Text, fault_of, is_simple_and_free, subcommand_of}
 use Rattle.clap.specs.declared.error.kind.ErrorKind.{ErrorKind}
 use Rattle.clap.specs.declared.error.kind.ErrorKind.TheVariants as kind
 use Rattle.clap.proofs.OnLiterals.{clap_on_literals}
-use Rattle.conode.specs.Tasks.{Asked, check, decode, asked_of, conode_command}
+use Rattle.conode_words.specs.Tasks.{Asked, check, decode, asked_of, conode_command}
 
 abbrev asked : List Text → Option Asked
 asked words = asked_of (subcommand_of conode_command (codes "conode" ∷ words))

@@ -6,8 +6,8 @@ use Rattle.std.specs.Str.Parse.{digits_value, without_leading_plus}
 use Rattle.clap.specs.ValueTests.{is_numeral}
 use Rattle.clap.specs.Words.{App, Row, Rule, Text, first_of, new_app, new_rule, with_rule, with_subcommand}
 use Rattle.clap.specs.declared.builder.value_parser.ValueParser.TheVariants.{Unsigned}
-use Rattle.conode.specs.declared.tasks.Task.{Task}
-use Rattle.conode.specs.declared.tasks.Task.TheVariants.{Check, Decode}
+use Rattle.conode_words.specs.declared.tasks.Task.{Task}
+use Rattle.conode_words.specs.declared.tasks.Task.TheVariants.{Check, Decode}
 
 -- a word that has to be there
 abbrev pub wanted : Text → Rule

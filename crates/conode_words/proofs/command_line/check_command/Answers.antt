@@ -3,8 +3,8 @@ use Rattle.std.specs.Prelude.{◌||◌}
 use Rattle.std.proofs.lemmas.Result.{IfOk-weaker}
 use Rattle.clap.specs.Words.{App, app_of, new_app, rule_of, with_rule}
 use Rattle.clap.specs.declared.builder.command.Command.TheViews.{out-Command}
-use Rattle.conode.specs.Tasks.{domains_option, node_option, strings_option, wanted}
-use Rattle.conode.proofs.command_line.check_command.Goals as goal
+use Rattle.conode_words.specs.Tasks.{domains_option, node_option, strings_option, wanted}
+use Rattle.conode_words.proofs.command_line.check_command.Goals as goal
 
 abbrev none : App
 none = new_app (codes "check")

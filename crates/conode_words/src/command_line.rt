@@ -3,7 +3,7 @@
 ghost use Rattle.std.specs.Prelude.{◌≡◌, map, IfOk, option_map, false, [], codes};
 ghost use Rattle.clap.specs.Words.{FailsBy, app_of, fault_of, found_of, rows_of, rule_of, subcommand_of, subcommand_rows_of};
 ghost use Rattle.clap.specs.declared.builder.command.Command.TheViews.{out-Command};
-ghost use Rattle.conode.specs.Tasks.{asked_by, asked_check, asked_decode, asked_in, asked_of, check_command, conode_command, decode_command, number_for, numbered, sheet_option, wanted};
+ghost use Rattle.conode_words.specs.Tasks.{asked_by, asked_check, asked_decode, asked_in, asked_of, check_command, conode_command, decode_command, number_for, numbered, sheet_option, wanted};
 
 use crate::help;
 use crate::tasks::Task;

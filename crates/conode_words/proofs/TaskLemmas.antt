@@ -11,7 +11,7 @@ use Rattle.clap.specs.ValueTests.{is_numeral}
 use Rattle.clap.specs.declared.parser.matches.Found.{Found}
 use Rattle.clap.proofs.OnLiterals.{clap_on_literals}
 use Rattle.clap.proofs.WalkLemmas.{both, first_value-rows}
-use Rattle.conode.specs.Tasks.{conode_command, number_of_bits}
+use Rattle.conode_words.specs.Tasks.{conode_command, number_of_bits}
 
 pub is_free_command : is_simple_and_free conode_command ≡ true
 unfolding clap_on_literals

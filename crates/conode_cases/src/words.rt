@@ -1,8 +1,7 @@
 //! Command lines.
 
-use crate::command_line::task;
-use crate::tasks::Task;
 use clap::error::ErrorKind;
+use conode_words::{Task, task};
 use std::test::Fail;
 
 #[test]
