@@ -15,6 +15,10 @@ tpdo_key k sub = record { index = nth tpdo_communication k; sub = sub }
 abbrev pub tpdo_count_key : ℕ → Key
 tpdo_count_key k = record { index = nth tpdo_mapping k; sub = 0 }
 
+-- the synchronous counter overflow value (7.5.2.22)
+abbrev pub counter_overflow_key : Key
+counter_overflow_key = record { index = 0x1019; sub = 0 }
+
 -- the transmission types that are supported: 0 to 240, 254 and 255
 abbrev pub is_supported_type : ℕ → Bool
 is_supported_type kind = nat_le kind 240 || (kind == 254 || kind == 255)
@@ -26,13 +30,15 @@ is_active contents k =
     && not (number_at contents (tpdo_count_key k) == 0)
     && is_supported_type (number_at contents (tpdo_key k 2))
 
--- the transmission type, the inhibit time in 100 µs and the event timer in ms of TPDO k; 0 where there is no such entry
+-- the transmission type, the inhibit time in 100 µs, the event timer in ms and the SYNC start value of TPDO k; 0 where
+-- there is no such entry
 abbrev pub settings_of : Contents → ℕ → Settings
 settings_of contents k = record {
   is_active = is_active contents k;
   transmission_type = number_at contents (tpdo_key k 2);
   inhibit_time = number_at contents (tpdo_key k 3);
   event_timer = number_at contents (tpdo_key k 5);
+  start_value = number_at contents (tpdo_key k 6);
 }
 
 -- the dictionary has TPDO k: there is its COB-ID word
