@@ -4,7 +4,7 @@ use Rattle.co_dict.specs.declared.side.Side.TheVariants.{Rpdo, Tpdo}
 use Rattle.std.specs.Prelude.{map}
 use Rattle.co_dict.specs.declared.side.Side.{Side}
 use Rattle.co_dict.specs.declared.own_rule.OwnRule.{OwnRule}
-use Rattle.co_dict.specs.declared.own_rule.OwnRule.TheVariants.{ErrorCount, SyncCobId, StoredParameters, CobId, ConsumerHeartbeat, SyncCounterOverflow, ErrorBehavior, TransmissionType, InhibitTime, SyncStartValue, MappingCount, MappingEntry}
+use Rattle.co_dict.specs.declared.own_rule.OwnRule.TheVariants.{ErrorCount, SyncCobId, StoredParameters, CobId, ConsumerHeartbeat, SyncCounterOverflow, ErrorBehaviour, TransmissionType, InhibitTime, SyncStartValue, MappingCount, MappingEntry}
 use Rattle.co_value.specs.Numbers.{low_bytes}
 use Rattle.co_dict.specs.Rows.{Contents}
 use Rattle.co_dict.specs.ConsumerHeartbeats.{is_consumer}
@@ -34,7 +34,7 @@ sub_index_0 = refl
 
 -- and at sub-index 1
 sub_index_1 : of_indexes (0x1003 ∷ 0x1005 ∷ 0x1014 ∷ 0x1015 ∷ 0x1016 ∷ 0x1017 ∷ 0x1019 ∷ 0x1028 ∷ 0x1029 ∷ 0x102A ∷ []) 1
-    ≡ None ∷ None ∷ None ∷ None ∷ Some ConsumerHeartbeat ∷ None ∷ None ∷ None ∷ Some ErrorBehavior ∷ None ∷ []
+    ≡ None ∷ None ∷ None ∷ None ∷ Some ConsumerHeartbeat ∷ None ∷ None ∷ None ∷ Some ErrorBehaviour ∷ None ∷ []
 sub_index_1 = refl
 
 stored_parameters : of_indexes (0x100F ∷ 0x1010 ∷ 0x1011 ∷ 0x1012 ∷ []) 0 ≡ None ∷ Some StoredParameters ∷ Some StoredParameters ∷ None ∷ []
@@ -46,8 +46,8 @@ last_stored_parameters = refl
 consumers : of_subs 0x1016 (0 ∷ 1 ∷ 0x7F ∷ 0x80 ∷ []) ≡ None ∷ Some ConsumerHeartbeat ∷ Some ConsumerHeartbeat ∷ None ∷ []
 consumers = refl
 
-error_behavior : of_subs 0x1029 (0 ∷ 1 ∷ 2 ∷ []) ≡ None ∷ Some ErrorBehavior ∷ None ∷ []
-error_behavior = refl
+error_behaviour : of_subs 0x1029 (0 ∷ 1 ∷ 2 ∷ []) ≡ None ∷ Some ErrorBehaviour ∷ None ∷ []
+error_behaviour = refl
 
 -- sub-indices 0 to 7 of communication parameters, at each end of their indexes
 abbrev to_7 : List ℕ

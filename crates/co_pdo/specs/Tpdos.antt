@@ -2,6 +2,7 @@
 use Rattle.std.specs.Prelude.{ℕ, ◌+◌, Bool, is_some, List}
 use Rattle.std.specs.List.{filter, range_with_len}
 use Rattle.co_value.specs.declared.key.Key.{Key}
+use Rattle.co_profile.specs.Indices.{nth, sync_counter_overflow, tpdo_communication, tpdo_mapping}
 use Rattle.co_dict.specs.Rows.{Rows, Contents, number_at}
 use Rattle.co_dict.specs.declared.side.Side.TheVariants.{Tpdo}
 use Rattle.co_pdo.specs.Pdos.{is_pdo_active}
@@ -9,15 +10,15 @@ use Rattle.co_pdo.specs.declared.settings.Settings.{Settings}
 
 -- a sub-index of the communication parameter of TPDO k
 abbrev pub tpdo_key : ℕ → ℕ → Key
-tpdo_key k sub = record { index = 0x1800 + k; sub = sub }
+tpdo_key k sub = record { index = nth tpdo_communication k; sub = sub }
 
 -- how many objects are mapped into TPDO k
 abbrev pub tpdo_count_key : ℕ → Key
-tpdo_count_key k = record { index = 0x1A00 + k; sub = 0 }
+tpdo_count_key k = record { index = nth tpdo_mapping k; sub = 0 }
 
 -- the synchronous counter overflow value (7.5.2.22)
 abbrev pub counter_overflow_key : Key
-counter_overflow_key = record { index = 0x1019; sub = 0 }
+counter_overflow_key = record { index = sync_counter_overflow; sub = 0 }
 
 -- TPDO k is active
 abbrev pub is_active : Contents → ℕ → Bool

@@ -8,6 +8,7 @@ ghost use Rattle.co_pdo.specs.Mappings.{communication_of, mapping_index, has_pdo
 ghost use Rattle.co_pdo.specs.Pdos.{cob_id_of, is_supported_type, is_pdo_active};
 
 use co_dict::{CobId, ObjectStore, Side, number_u8, number_u32};
+use co_profile::IndexRange;
 use co_value::Key;
 
 /// The index of the communication parameter of PDO k.
@@ -18,8 +19,8 @@ fn communication_index(side: Side, k: u16) -> u16
     ensures kind { fixed_type_of (record { index = result; sub = 2 }) ≡ Some Unsigned8 }
 {
     match side {
-        Side::Rpdo => 0x1400 + k,
-        Side::Tpdo => 0x1800 + k,
+        Side::Rpdo => IndexRange::RPDO_COMMUNICATION.nth(k),
+        Side::Tpdo => IndexRange::TPDO_COMMUNICATION.nth(k),
     }
 }
 
@@ -30,8 +31,8 @@ pub(crate) fn mapping_index(side: Side, k: u16) -> u16
     ensures side { is_mapping_index side result ≡ true }
 {
     match side {
-        Side::Rpdo => 0x1600 + k,
-        Side::Tpdo => 0x1A00 + k,
+        Side::Rpdo => IndexRange::RPDO_MAPPING.nth(k),
+        Side::Tpdo => IndexRange::TPDO_MAPPING.nth(k),
     }
 }
 

@@ -7,6 +7,7 @@ ghost use Rattle.co_pdo.specs.Due.{waits_for_none, begins_count};
 
 use crate::pdos::is_active;
 use co_dict::{ObjectStore, Side, number_u8, number_u16};
+use co_profile::{IndexRange, SYNC_COUNTER_OVERFLOW};
 use co_value::Key;
 
 /// What the dictionary says of one TPDO (CiA 301, 7.5.2.37).
@@ -30,7 +31,7 @@ fn tpdo_key(k: u16, sub: u8) -> Key
     ensures { result ≡ tpdo_key k sub }
 {
     Key {
-        index: 0x1800 + k,
+        index: IndexRange::TPDO_COMMUNICATION.nth(k),
         sub,
     }
 }
@@ -56,7 +57,7 @@ pub(crate) fn counter_overflow<S: ObjectStore>(store: &S) -> u8
     number_u8(
         store,
         Key {
-            index: 0x1019,
+            index: SYNC_COUNTER_OVERFLOW,
             sub: 0,
         },
     )

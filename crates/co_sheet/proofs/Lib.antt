@@ -20,6 +20,7 @@ mod ContentLemmas
 mod AcceptedLemmas
 mod PlaceLemmas
 mod KeyLemmas
+mod EachEntryLemmas
 mod SheetLawLemmas
 mod ViewLemmas
 mod SheetLawExamples
