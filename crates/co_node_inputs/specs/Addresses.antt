@@ -1,0 +1,74 @@
+-- Who takes a frame: the first of NMT, SYNC, the SDO channels by number, the active RPDOs by number, and heartbeats
+-- (CiA 301, 7.3.5).
+use Rattle.std.specs.Prelude.{ℕ, ◌-◌, ◌==◌, ◌&&◌, not, nat_lt, nat_le, Bool, Option, Some, None, if◌then◌else◌, find}
+use Rattle.std.specs.List.{range_with_len}
+use Rattle.co_frame.specs.FrameContent.{FrameContent}
+use Rattle.co_dict.specs.Rows.{Contents, number_at}
+use Rattle.co_dict.specs.CobIds.{identifier_of, is_valid}
+use Rattle.co_dict.specs.SdoChannels.{is_channel, request_id}
+use Rattle.co_pdo.specs.Tpdos.{is_supported_type}
+use Rattle.co_node_inputs.specs.Keys.{sync_key, rpdo_key, rpdo_count_key}
+use Rattle.co_node_inputs.specs.declared.address.Address.{Address}
+use Rattle.co_node_inputs.specs.declared.address.Address.TheVariants.{Nmt, Sync, Channel, Rpdo, ErrorControl, Nobody}
+
+-- an identifier is that of SYNC; there is none without 1005:00, or where it is 0
+abbrev pub is_sync_id : Contents → ℕ → Bool
+is_sync_id contents id = not (number_at contents sync_key == 0) && identifier_of (number_at contents sync_key) == id
+
+-- channel j exists, and its requests have an identifier
+abbrev pub hears : ℕ → Contents → ℕ → ℕ → Bool
+hears node contents id j = is_channel contents j && request_id node contents j == id
+
+-- the first SDO channel whose requests have an identifier
+unfoldable pub channel_with : ℕ → Contents → ℕ → Option ℕ
+channel_with node contents id = find (hears node contents id) (range_with_len 0 128)
+
+-- the COB-ID word of RPDO k
+abbrev pub rpdo_word : Contents → ℕ → ℕ
+rpdo_word contents k = number_at contents (rpdo_key k 1)
+
+-- the transmission type of RPDO k
+abbrev pub rpdo_type : Contents → ℕ → ℕ
+rpdo_type contents k = number_at contents (rpdo_key k 2)
+
+-- RPDO k is active: its COB-ID word is valid, something is mapped, and its transmission type is supported
+abbrev pub is_rpdo_active : Contents → ℕ → Bool
+is_rpdo_active contents k =
+    is_valid (rpdo_word contents k)
+    && not (number_at contents (rpdo_count_key k) == 0)
+    && is_supported_type (rpdo_type contents k)
+
+-- RPDO k is active, and has an identifier
+abbrev pub is_rpdo_with : Contents → ℕ → ℕ → Bool
+is_rpdo_with contents id k = is_rpdo_active contents k && identifier_of (rpdo_word contents k) == id
+
+-- the first active RPDO with an identifier
+unfoldable pub rpdo_with : Contents → ℕ → Option ℕ
+rpdo_with contents id = find (is_rpdo_with contents id) (range_with_len 0 512)
+
+-- an identifier is that of the error control of a node with node-ID 1 to 127
+abbrev pub is_error_control : ℕ → Bool
+is_error_control id = nat_lt 0x700 id && nat_le id 0x77F
+
+-- ---- the first that takes a frame
+
+-- error control
+abbrev pub address_last : ℕ → Address
+address_last id = if is_error_control id then ErrorControl (id - 0x700) else Nobody
+
+-- an RPDO
+abbrev pub address_unless_rpdo : Option ℕ → ℕ → Address
+address_unless_rpdo (Some k) id = Rpdo k
+address_unless_rpdo None id = address_last id
+
+-- an SDO channel
+abbrev pub address_unless_channel : Option ℕ → Contents → ℕ → Address
+address_unless_channel (Some j) contents id = Channel j
+address_unless_channel None contents id = address_unless_rpdo (rpdo_with contents id) id
+
+-- who takes a frame with an identifier, in a dictionary of a node with this node-ID
+abbrev pub address_of : ℕ → Contents → ℕ → Address
+address_of node contents id =
+    if id == 0 then Nmt
+    else (if is_sync_id contents id then Sync
+    else address_unless_channel (channel_with node contents id) contents id)

@@ -1,0 +1,44 @@
+//! The entries of the communication profile that a device itself looks at.
+
+ghost use Rattle.std.specs.Prelude.{◌≡◌, ◌<◌};
+ghost use Rattle.co_node_inputs.specs.Keys as keys;
+
+use co_value::Key;
+
+/// The COB-ID of SYNC (CiA 301, 7.5.2.5).
+pub(crate) const SYNC_COB_ID: Key = Key {
+    index: 0x1005,
+    sub: 0,
+};
+/// The COB-ID of EMCY (CiA 301, 7.5.2.17).
+pub(crate) const EMERGENCY_COB_ID: Key = Key {
+    index: 0x1014,
+    sub: 0,
+};
+/// The producer heartbeat time (CiA 301, 7.5.2.20).
+pub(crate) const PRODUCER_HEARTBEAT_TIME: Key = Key {
+    index: 0x1017,
+    sub: 0,
+};
+
+/// The key of a sub-index of the communication parameter of RPDO k.
+pub(crate) fn rpdo_key(k: u16, sub: u8) -> Key
+    requires { k < 512 }
+    ensures { result ≡ keys.rpdo_key k sub }
+{
+    Key {
+        index: 0x1400 + k,
+        sub,
+    }
+}
+
+/// The key of the number of objects that are mapped into RPDO k.
+pub(crate) fn rpdo_count_key(k: u16) -> Key
+    requires { k < 512 }
+    ensures { result ≡ keys.rpdo_count_key k }
+{
+    Key {
+        index: 0x1600 + k,
+        sub: 0,
+    }
+}
