@@ -1,0 +1,7 @@
+pub mod ExampleNode
+mod StateExamples
+mod LossExamples
+mod ErrorExamples
+mod TpdoExamples
+mod RpdoExamples
+mod EventExamples

@@ -1,0 +1,6 @@
+pub mod Moments
+pub mod TpdoTurns
+pub mod Logs
+pub mod Received
+pub mod Phases
+pub mod Histories
