@@ -1,5 +1,7 @@
 //! Why a text is no data sheet.
 
+use arrayvec::ArrayString;
+use co_text::decimal_digits;
 use std::error::Error;
 use std::fmt;
 
@@ -50,7 +52,7 @@ pub enum FaultKind {
 }
 
 impl FaultKind {
-    ghost use Rattle.std.specs.Prelude.{◌≡◌};
+    ghost use Rattle.std.specs.Prelude.{◌≡◌, ◌≤◌, length};
     ghost use Rattle.co_sheet.specs.FaultTexts.{fault_number, fault_name};
 
     /// The number of the kind, from 1 to 20.
@@ -62,7 +64,8 @@ impl FaultKind {
 
     /// The name of the kind, as `BadList`.
     pub fn name(self) -> &'static str
-        ensures { result.now ≡ fault_name self }
+        ensures name { result.now ≡ fault_name self }
+        ensures short { length result.now ≤ 17 }
     {
         match self {
             FaultKind::TooLarge => "TooLarge",
@@ -109,7 +112,26 @@ pub struct SheetFault {
     pub line: usize,
 }
 
-/// Prints number, name and line, as `fault 9 BadList line 1`.
+impl SheetFault {
+    ghost use Rattle.std.specs.Prelude.{◌≡◌};
+    ghost use Rattle.co_sheet.specs.FaultTexts.{fault_text};
+
+    /// Number, name and line, as `fault 9 BadList line 1`.
+    pub fn text(&self) -> ArrayString<80>
+        ensures { result.bytes ≡ fault_text self.now }
+    {
+        let mut text = ArrayString::new();
+        text.push_str("fault ");
+        text.push_str(decimal_digits(u64::from(self.kind.number())).as_str());
+        text.push(' ');
+        text.push_str(self.kind.name());
+        text.push_str(" line ");
+        text.push_str(decimal_digits(self.line as u64).as_str());
+        text
+    }
+}
+
+/// Prints the fault as `text` has it.
 impl fmt::Display for SheetFault {
     ghost use Rattle.std.specs.Prelude.{Some};
     ghost use Rattle.co_sheet.specs.FaultTexts.{fault_text};
@@ -117,10 +139,7 @@ impl fmt::Display for SheetFault {
     ghost output = { λ fault. Some (fault_text fault) };
 
     fn fmt<W: fmt::Write>(&self, f: &mut fmt::Formatter<W>) -> fmt::Result {
-        let number = self.kind.number();
-        let name = self.kind.name();
-        let line = self.line;
-        write!(f, "fault {number} {name} line {line}")
+        f.write_str(self.text().as_str())
     }
 }
 

@@ -1,5 +1,7 @@
 //! What is odd in a data sheet, and no fault.
 
+use arrayvec::ArrayString;
+use co_text::decimal_digits;
 use std::fmt;
 
 /// What is odd.
@@ -12,12 +14,13 @@ pub enum NoteKind {
 }
 
 impl NoteKind {
-    ghost use Rattle.std.specs.Prelude.{◌≡◌};
+    ghost use Rattle.std.specs.Prelude.{◌≡◌, ◌≤◌, length};
     ghost use Rattle.co_sheet.specs.FaultTexts.{note_name};
 
     /// The name of the kind, as `SubNumber`.
     pub fn name(self) -> &'static str
-        ensures { result.now ≡ note_name self }
+        ensures name { result.now ≡ note_name self }
+        ensures short { length result.now ≤ 9 }
     {
         match self {
             NoteKind::SubNumber => "SubNumber",
@@ -46,7 +49,24 @@ pub struct Note {
     pub line: usize,
 }
 
-/// Prints line and name, as `note 12 SubNumber`.
+impl Note {
+    ghost use Rattle.std.specs.Prelude.{◌≡◌};
+    ghost use Rattle.co_sheet.specs.FaultTexts.{note_text};
+
+    /// Line and name, as `note 12 SubNumber`.
+    pub fn text(&self) -> ArrayString<40>
+        ensures { result.bytes ≡ note_text self.now }
+    {
+        let mut text = ArrayString::new();
+        text.push_str("note ");
+        text.push_str(decimal_digits(self.line as u64).as_str());
+        text.push(' ');
+        text.push_str(self.kind.name());
+        text
+    }
+}
+
+/// Prints the note as `text` has it.
 impl fmt::Display for Note {
     ghost use Rattle.std.specs.Prelude.{Some};
     ghost use Rattle.co_sheet.specs.FaultTexts.{note_text};
@@ -54,8 +74,6 @@ impl fmt::Display for Note {
     ghost output = { λ note. Some (note_text note) };
 
     fn fmt<W: fmt::Write>(&self, f: &mut fmt::Formatter<W>) -> fmt::Result {
-        let line = self.line;
-        let name = self.kind.name();
-        write!(f, "note {line} {name}")
+        f.write_str(self.text().as_str())
     }
 }
