@@ -9,7 +9,7 @@ pub mod MappingWords
 pub mod MappingCounts
 pub mod CobIdRules
 pub mod ConsumerHeartbeats
-pub mod ErrorList
+pub mod ErrorField
 pub mod PdoRules
 pub mod OwnRules
 pub mod ReadRefusals

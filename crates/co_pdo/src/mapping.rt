@@ -8,6 +8,7 @@ use arrayvec::ArrayVec;
 use co_dict::{
     MappingWord, ObjectStore, Side, check_count, mapping_word, number_u8, usable_dummy, word_width,
 };
+use co_profile::IndexRange;
 use co_value::Key;
 use std::marker::Model;
 
@@ -80,8 +81,8 @@ fn mapping_index(side: Side, k: u16) -> u16
     ensures side { is_mapping_index side result ≡ true }
 {
     match side {
-        Side::Rpdo => 0x1600 + k,
-        Side::Tpdo => 0x1A00 + k,
+        Side::Rpdo => IndexRange::RPDO_MAPPING.nth(k),
+        Side::Tpdo => IndexRange::TPDO_MAPPING.nth(k),
     }
 }
 
@@ -91,8 +92,8 @@ fn has_pdo<S: ObjectStore>(store: &S, side: Side, k: u16) -> bool
     ensures { result ≡ has_pdo side (S.description store.now).rows k }
 {
     let index = match side {
-        Side::Rpdo => 0x1400 + k,
-        Side::Tpdo => 0x1800 + k,
+        Side::Rpdo => IndexRange::RPDO_COMMUNICATION.nth(k),
+        Side::Tpdo => IndexRange::TPDO_COMMUNICATION.nth(k),
     };
     store.row(Key { index, sub: 1 }).is_some()
 }

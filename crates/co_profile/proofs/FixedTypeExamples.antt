@@ -59,14 +59,14 @@ counter_overflow = refl
 after_counter_overflow : types_at 0x101A (0 ∷ []) ≡ None ∷ []
 after_counter_overflow = refl
 
-before_error_behavior : types_at 0x1028 (1 ∷ []) ≡ None ∷ []
-before_error_behavior = refl
+before_error_behaviour : types_at 0x1028 (1 ∷ []) ≡ None ∷ []
+before_error_behaviour = refl
 
-error_behavior : types_at 0x1029 (0 ∷ 1 ∷ 2 ∷ []) ≡ None ∷ Some Unsigned8 ∷ None ∷ []
-error_behavior = refl
+error_behaviour : types_at 0x1029 (0 ∷ 1 ∷ 2 ∷ []) ≡ None ∷ Some Unsigned8 ∷ None ∷ []
+error_behaviour = refl
 
-after_error_behavior : types_at 0x102A (1 ∷ []) ≡ None ∷ []
-after_error_behavior = refl
+after_error_behaviour : types_at 0x102A (1 ∷ []) ≡ None ∷ []
+after_error_behaviour = refl
 
 before_channels : types_at 0x11FF (1 ∷ 2 ∷ []) ≡ None ∷ None ∷ []
 before_channels = refl

@@ -1,42 +1,114 @@
 //! The entries whose data type is fixed in every dictionary.
 
 ghost use Rattle.std.specs.Prelude.{◌≡◌, ◌&&◌, nat_le, find, option_map};
+ghost use Rattle.co_profile.specs.Indices.{is_within};
 ghost use Rattle.co_profile.specs.FixedTypes.{fixed_type_of};
 
-use co_value::{DataType, Key};
+use crate::indices::{
+    CONSUMER_HEARTBEAT, DEVICE_TYPE, EMERGENCY_COB_ID, EMERGENCY_INHIBIT_TIME, ERROR_BEHAVIOUR,
+    ERROR_FIELD, ERROR_REGISTER, EVENT_TIMER, INHIBIT_TIME, IndexRange, PDO_COB_ID,
+    PRODUCER_HEARTBEAT, SYNC_COB_ID, SYNC_COUNTER_OVERFLOW, SYNC_START_VALUE, TRANSMISSION_TYPE,
+};
+use co_value::DataType::{self, Unsigned8, Unsigned16, Unsigned32};
+use co_value::Key;
 
-// a type, the first and the last index, and the first and the last sub-index of the entries that have it
+// a type, the indices, and the first and the last sub-index of the entries that have it
 #[derive(Clone, Copy)]
-struct FixedType(DataType, u16, u16, u8, u8);
+struct FixedType(DataType, IndexRange, u8, u8);
 
 const FIXED_TYPES: [FixedType; 23] = [
-    FixedType(DataType::Unsigned32, 0x1000, 0x1000, 0, 0),
-    FixedType(DataType::Unsigned8, 0x1001, 0x1001, 0, 0),
-    FixedType(DataType::Unsigned8, 0x1003, 0x1003, 0, 0),
-    FixedType(DataType::Unsigned32, 0x1003, 0x1003, 0x01, 0xFE),
-    FixedType(DataType::Unsigned32, 0x1005, 0x1005, 0, 0),
-    FixedType(DataType::Unsigned32, 0x1014, 0x1014, 0, 0),
-    FixedType(DataType::Unsigned16, 0x1015, 0x1015, 0, 0),
-    FixedType(DataType::Unsigned32, 0x1016, 0x1016, 0x01, 0x7F),
-    FixedType(DataType::Unsigned16, 0x1017, 0x1017, 0, 0),
-    FixedType(DataType::Unsigned8, 0x1019, 0x1019, 0, 0),
-    FixedType(DataType::Unsigned8, 0x1029, 0x1029, 1, 1),
-    FixedType(DataType::Unsigned32, 0x1200, 0x127F, 1, 2),
-    FixedType(DataType::Unsigned32, 0x1400, 0x15FF, 1, 1),
-    FixedType(DataType::Unsigned8, 0x1400, 0x15FF, 2, 2),
-    FixedType(DataType::Unsigned8, 0x1600, 0x17FF, 0, 0),
-    FixedType(DataType::Unsigned32, 0x1600, 0x17FF, 1, 64),
-    FixedType(DataType::Unsigned32, 0x1800, 0x19FF, 1, 1),
-    FixedType(DataType::Unsigned8, 0x1800, 0x19FF, 2, 2),
-    FixedType(DataType::Unsigned16, 0x1800, 0x19FF, 3, 3),
-    FixedType(DataType::Unsigned16, 0x1800, 0x19FF, 5, 5),
-    FixedType(DataType::Unsigned8, 0x1800, 0x19FF, 6, 6),
-    FixedType(DataType::Unsigned8, 0x1A00, 0x1BFF, 0, 0),
-    FixedType(DataType::Unsigned32, 0x1A00, 0x1BFF, 1, 64),
+    FixedType(Unsigned32, IndexRange(DEVICE_TYPE, DEVICE_TYPE), 0, 0),
+    FixedType(Unsigned8, IndexRange(ERROR_REGISTER, ERROR_REGISTER), 0, 0),
+    FixedType(Unsigned8, IndexRange(ERROR_FIELD, ERROR_FIELD), 0, 0),
+    FixedType(Unsigned32, IndexRange(ERROR_FIELD, ERROR_FIELD), 0x01, 0xFE),
+    FixedType(Unsigned32, IndexRange(SYNC_COB_ID, SYNC_COB_ID), 0, 0),
+    FixedType(
+        Unsigned32,
+        IndexRange(EMERGENCY_COB_ID, EMERGENCY_COB_ID),
+        0,
+        0,
+    ),
+    FixedType(
+        Unsigned16,
+        IndexRange(EMERGENCY_INHIBIT_TIME, EMERGENCY_INHIBIT_TIME),
+        0,
+        0,
+    ),
+    FixedType(
+        Unsigned32,
+        IndexRange(CONSUMER_HEARTBEAT, CONSUMER_HEARTBEAT),
+        0x01,
+        0x7F,
+    ),
+    FixedType(
+        Unsigned16,
+        IndexRange(PRODUCER_HEARTBEAT, PRODUCER_HEARTBEAT),
+        0,
+        0,
+    ),
+    FixedType(
+        Unsigned8,
+        IndexRange(SYNC_COUNTER_OVERFLOW, SYNC_COUNTER_OVERFLOW),
+        0,
+        0,
+    ),
+    FixedType(
+        Unsigned8,
+        IndexRange(ERROR_BEHAVIOUR, ERROR_BEHAVIOUR),
+        1,
+        1,
+    ),
+    FixedType(Unsigned32, IndexRange::SDO_SERVER, 1, 2),
+    FixedType(
+        Unsigned32,
+        IndexRange::RPDO_COMMUNICATION,
+        PDO_COB_ID,
+        PDO_COB_ID,
+    ),
+    FixedType(
+        Unsigned8,
+        IndexRange::RPDO_COMMUNICATION,
+        TRANSMISSION_TYPE,
+        TRANSMISSION_TYPE,
+    ),
+    FixedType(Unsigned8, IndexRange::RPDO_MAPPING, 0, 0),
+    FixedType(Unsigned32, IndexRange::RPDO_MAPPING, 1, 64),
+    FixedType(
+        Unsigned32,
+        IndexRange::TPDO_COMMUNICATION,
+        PDO_COB_ID,
+        PDO_COB_ID,
+    ),
+    FixedType(
+        Unsigned8,
+        IndexRange::TPDO_COMMUNICATION,
+        TRANSMISSION_TYPE,
+        TRANSMISSION_TYPE,
+    ),
+    FixedType(
+        Unsigned16,
+        IndexRange::TPDO_COMMUNICATION,
+        INHIBIT_TIME,
+        INHIBIT_TIME,
+    ),
+    FixedType(
+        Unsigned16,
+        IndexRange::TPDO_COMMUNICATION,
+        EVENT_TIMER,
+        EVENT_TIMER,
+    ),
+    FixedType(
+        Unsigned8,
+        IndexRange::TPDO_COMMUNICATION,
+        SYNC_START_VALUE,
+        SYNC_START_VALUE,
+    ),
+    FixedType(Unsigned8, IndexRange::TPDO_MAPPING, 0, 0),
+    FixedType(Unsigned32, IndexRange::TPDO_MAPPING, 1, 64),
 ];
 
 // most entries of a large data sheet are past it
-const LAST_FIXED_INDEX: u16 = 0x1BFF;
+const LAST_FIXED_INDEX: u16 = IndexRange::TPDO_MAPPING.1;
 
 /// The type that the entry of this key has to have, if it is fixed (CiA 301, object dictionary).
 pub fn fixed_type(key: Key) -> Option<DataType>
@@ -49,8 +121,8 @@ pub fn fixed_type(key: Key) -> Option<DataType>
 }
 
 fn type_among(types: &[FixedType], key: Key) -> Option<DataType>
-    ensures { result ≡ option_map (λ f. f.0) (find (λ f. nat_le f.1 key.index
-        && nat_le key.index f.2 && nat_le f.3 key.sub && nat_le key.sub f.4) types.now) }
+    ensures { result ≡ option_map (λ f. f.0) (find (λ f. is_within f.1 key.index
+        && nat_le f.2 key.sub && nat_le key.sub f.3) types.now) }
 {
     for fixed in types {
         if is_covered(fixed, key) {
@@ -61,9 +133,9 @@ fn type_among(types: &[FixedType], key: Key) -> Option<DataType>
 }
 
 fn is_covered(fixed: &FixedType, key: Key) -> bool
-    ensures { result ≡ (nat_le fixed.now.1 key.index && nat_le key.index fixed.now.2
-        && nat_le fixed.now.3 key.sub && nat_le key.sub fixed.now.4) }
+    ensures { result ≡ (is_within fixed.now.1 key.index
+        && nat_le fixed.now.2 key.sub && nat_le key.sub fixed.now.3) }
 {
-    let FixedType(_, first, last, low, high) = *fixed;
-    first <= key.index && key.index <= last && low <= key.sub && key.sub <= high
+    let FixedType(_, indices, first, last) = *fixed;
+    indices.contains(key.index) && first <= key.sub && key.sub <= last
 }
