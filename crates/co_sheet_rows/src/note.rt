@@ -15,7 +15,7 @@ pub enum NoteKind {
 
 impl NoteKind {
     ghost use Rattle.std.specs.Prelude.{◌≡◌, ◌≤◌, length};
-    ghost use Rattle.co_sheet.specs.FaultTexts.{note_name};
+    ghost use Rattle.co_sheet_rows.specs.FaultTexts.{note_name};
 
     /// The name of the kind, as `SubNumber`.
     pub fn name(self) -> &'static str
@@ -32,7 +32,7 @@ impl NoteKind {
 /// Prints the name, as `SubNumber`.
 impl fmt::Display for NoteKind {
     ghost use Rattle.std.specs.Prelude.{Some};
-    ghost use Rattle.co_sheet.specs.FaultTexts.{note_name};
+    ghost use Rattle.co_sheet_rows.specs.FaultTexts.{note_name};
 
     ghost output = { λ kind. Some (note_name kind) };
 
@@ -51,7 +51,7 @@ pub struct Note {
 
 impl Note {
     ghost use Rattle.std.specs.Prelude.{◌≡◌};
-    ghost use Rattle.co_sheet.specs.FaultTexts.{note_text};
+    ghost use Rattle.co_sheet_rows.specs.FaultTexts.{note_text};
 
     /// Line and name, as `note 12 SubNumber`.
     pub fn text(&self) -> ArrayString<40>
@@ -69,7 +69,7 @@ impl Note {
 /// Prints the note as `text` has it.
 impl fmt::Display for Note {
     ghost use Rattle.std.specs.Prelude.{Some};
-    ghost use Rattle.co_sheet.specs.FaultTexts.{note_text};
+    ghost use Rattle.co_sheet_rows.specs.FaultTexts.{note_text};
 
     ghost output = { λ note. Some (note_text note) };
 

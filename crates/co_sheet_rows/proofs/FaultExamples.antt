@@ -2,10 +2,10 @@
 use Rattle.std.proofs.Common.{◌≡◌, List, [], ◌∷◌, refl, codes}
 use Rattle.std.specs.Prelude.{map}
 use Rattle.std.specs.Fmt.{digits}
-use Rattle.co_sheet.specs.declared.fault.FaultKind.{FaultKind}
-use Rattle.co_sheet.specs.declared.fault.FaultKind.TheVariants.{TooLarge, BadLine, KeyOutsideSection, DuplicateSection, DuplicateKey, MissingSection, BadNumber, AmbiguousNumber, BadList, ListedTwice, MissingKey, BadType, LeftOutType, BadAccess, BadLimits, BadDefault, MissingSub0, CompactForm, MissingMandatory, Memory}
-use Rattle.co_sheet.specs.declared.note.NoteKind.TheVariants.{SubNumber, Unlisted}
-use Rattle.co_sheet.specs.FaultTexts.{fault_number, fault_name, fault_text, note_name, note_text}
+use Rattle.co_sheet_rows.specs.declared.fault.FaultKind.{FaultKind}
+use Rattle.co_sheet_rows.specs.declared.fault.FaultKind.TheVariants.{TooLarge, BadLine, KeyOutsideSection, DuplicateSection, DuplicateKey, MissingSection, BadNumber, AmbiguousNumber, BadList, ListedTwice, MissingKey, BadType, LeftOutType, BadAccess, BadLimits, BadDefault, MissingSub0, CompactForm, MissingMandatory, Memory}
+use Rattle.co_sheet_rows.specs.declared.note.NoteKind.TheVariants.{SubNumber, Unlisted}
+use Rattle.co_sheet_rows.specs.FaultTexts.{fault_number, fault_name, fault_text, note_name, note_text}
 
 -- faults 1 to 10, and 11 to 20
 abbrev first_ten : List FaultKind

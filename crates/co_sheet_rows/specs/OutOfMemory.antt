@@ -1,6 +1,6 @@
 -- Out of memory, which is no line's fault.
-use Rattle.co_sheet.specs.declared.fault.FaultKind.TheVariants.{Memory}
-use Rattle.co_sheet.specs.declared.fault.SheetFault.{SheetFault}
+use Rattle.co_sheet_rows.specs.declared.fault.FaultKind.TheVariants.{Memory}
+use Rattle.co_sheet_rows.specs.declared.fault.SheetFault.{SheetFault}
 
 -- it has no line
 abbrev pub out_of_memory : SheetFault

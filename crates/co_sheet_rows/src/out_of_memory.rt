@@ -1,7 +1,7 @@
 //! Out of memory while a data sheet is read.
 
 ghost use Rattle.std.specs.Prelude.{◌≡◌};
-ghost use Rattle.co_sheet.specs.OutOfMemory.{out_of_memory};
+ghost use Rattle.co_sheet_rows.specs.OutOfMemory.{out_of_memory};
 
 use crate::fault::{FaultKind, SheetFault};
 use std::alloc::{AllocError, AllocFailed};

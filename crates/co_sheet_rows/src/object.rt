@@ -1,8 +1,5 @@
 //! The objects of a data sheet.
 
-ghost use Rattle.std.specs.Prelude.{◌≡◌};
-ghost use Rattle.co_sheet.specs.Entries.{object_type_with};
-
 /// What an object is made of (CiA 301, object codes; CiA 306, object description).
 #[derive(Clone, Copy, Debug, PartialEq, Eq, Hash)]
 pub enum ObjectType {
@@ -14,21 +11,6 @@ pub enum ObjectType {
     Array = 8,
     /// Entries of any types.
     Record = 9,
-}
-
-impl ObjectType {
-    /// The object type with this code (CiA 301, object codes); `None` for every other code.
-    pub(crate) fn of_code(code: u64) -> Option<ObjectType>
-        ensures { result ≡ object_type_with code }
-    {
-        match code {
-            2 => Some(ObjectType::Domain),
-            7 => Some(ObjectType::Var),
-            8 => Some(ObjectType::Array),
-            9 => Some(ObjectType::Record),
-            _ => None,
-        }
-    }
 }
 
 /// An object that the object lists name, from 1000h on.

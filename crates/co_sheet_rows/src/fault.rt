@@ -53,7 +53,7 @@ pub enum FaultKind {
 
 impl FaultKind {
     ghost use Rattle.std.specs.Prelude.{◌≡◌, ◌≤◌, length};
-    ghost use Rattle.co_sheet.specs.FaultTexts.{fault_number, fault_name};
+    ghost use Rattle.co_sheet_rows.specs.FaultTexts.{fault_number, fault_name};
 
     /// The number of the kind, from 1 to 20.
     pub fn number(self) -> u8
@@ -95,7 +95,7 @@ impl FaultKind {
 /// Prints the name, as `BadList`.
 impl fmt::Display for FaultKind {
     ghost use Rattle.std.specs.Prelude.{Some};
-    ghost use Rattle.co_sheet.specs.FaultTexts.{fault_name};
+    ghost use Rattle.co_sheet_rows.specs.FaultTexts.{fault_name};
 
     ghost output = { λ kind. Some (fault_name kind) };
 
@@ -114,7 +114,7 @@ pub struct SheetFault {
 
 impl SheetFault {
     ghost use Rattle.std.specs.Prelude.{◌≡◌};
-    ghost use Rattle.co_sheet.specs.FaultTexts.{fault_text};
+    ghost use Rattle.co_sheet_rows.specs.FaultTexts.{fault_text};
 
     /// Number, name and line, as `fault 9 BadList line 1`.
     pub fn text(&self) -> ArrayString<80>
@@ -134,7 +134,7 @@ impl SheetFault {
 /// Prints the fault as `text` has it.
 impl fmt::Display for SheetFault {
     ghost use Rattle.std.specs.Prelude.{Some};
-    ghost use Rattle.co_sheet.specs.FaultTexts.{fault_text};
+    ghost use Rattle.co_sheet_rows.specs.FaultTexts.{fault_text};
 
     ghost output = { λ fault. Some (fault_text fault) };
 
