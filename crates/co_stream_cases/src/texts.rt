@@ -14,12 +14,8 @@ fn each_cut_gives_the_same_text(rt: HostRuntime) -> Result<(), Fail> {
     for size in [1, 7, 512, 1000] {
         text.push(b'x')?;
         let mut reader = Pieces::new(SHEET.as_bytes(), size);
-        assert_eq!(rt;
-            read_text(&mut reader, &mut text),
-            Ok(()),
-            "{size} at a time"
-        );
-        assert_eq!(rt; text.as_slice(), SHEET.as_bytes(), "{size} at a time");
+        assert_eq!(rt; read_text(&mut reader, &mut text), Ok(()));
+        assert_eq!(rt; text.as_slice(), SHEET.as_bytes());
     }
     Ok(())
 }
@@ -41,12 +37,8 @@ fn a_read_fails(rt: HostRuntime) -> Result<(), Fail> {
             size: 2,
             calls,
         };
-        assert_eq!(rt;
-            read_text(&mut reader, &mut text),
-            Err(StreamFault::Read),
-            "{calls}"
-        );
-        assert_eq!(rt; text.len(), (calls as usize * 2).min(7), "{calls}");
+        assert_eq!(rt; read_text(&mut reader, &mut text), Err(StreamFault::Read));
+        assert_eq!(rt; text.len(), (calls as usize * 2).min(7));
     }
     Ok(())
 }
