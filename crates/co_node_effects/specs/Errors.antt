@@ -4,7 +4,7 @@ use Rattle.std.specs.Prelude.{ℕ, ◌-◌, bit_or, bit_and, is_some, List, [], 
 use Rattle.co_value.specs.Numbers.{low_bytes}
 use Rattle.co_frame.specs.declared.emergency.Emergency.{Emergency}
 use Rattle.co_dict.specs.Rows.{Rows, Contents, number_at, written}
-use Rattle.co_dict.specs.ErrorList.{pushed}
+use Rattle.co_dict.specs.ErrorField.{pushed}
 use Rattle.co_node_inputs.specs.Keys.{error_register_key}
 use Rattle.co_node_effects.specs.declared.device_error.DeviceError.{DeviceError}
 

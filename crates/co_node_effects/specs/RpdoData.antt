@@ -13,7 +13,7 @@ use Rattle.co_pdo.specs.declared.data.PdoFault.TheVariants.{OutOfLimits}
 use Rattle.co_pdo.specs.Due.{is_event_driven}
 use Rattle.co_pdo.specs.Images.{fault_of, contents_after}
 use Rattle.co_pdo.specs.Mappings.{mapping_of}
-use Rattle.co_node_inputs.specs.Keys.{counter_overflow_key}
+use Rattle.co_pdo.specs.Tpdos.{counter_overflow_key}
 use Rattle.co_node_inputs.specs.Addresses.{rpdo_type}
 use Rattle.co_node_inputs.specs.Slots.{mapped_length, is_short}
 use Rattle.co_node_effects.specs.declared.device_error.DeviceError.{DeviceError}

@@ -5,11 +5,12 @@ ghost use Rattle.co_node_effects.specs.Errors as errors;
 
 use co_dict::{ObjectStore, number_u8, store_laws};
 use co_frame::Emergency;
+use co_profile::ERROR_REGISTER as ERROR_REGISTER_INDEX;
 use co_value::Key;
 
 /// The error register, object 1001h (CiA 301, 7.5.2.2).
 const ERROR_REGISTER: Key = Key {
-    index: 0x1001,
+    index: ERROR_REGISTER_INDEX,
     sub: 0,
 };
 

@@ -3,7 +3,7 @@ use Rattle.std.proofs.Common.{◌≡◌, ℕ, true, false, Some, None, List, [],
 use Rattle.std.proofs.Math.ListN.{replicate}
 use Rattle.co_node_parts.specs.declared.nmt_state.NodeState.TheVariants.{PreOperational, Operational, Stopped}
 use Rattle.co_node_inputs.specs.Inputs.{InputView, Ticked, Applied, Written, ChangedAt, Cleared}
-use Rattle.co_sheet.specs.declared.entry.Access.TheVariants.{Rw}
+use Rattle.co_profile.specs.declared.access.Access.TheVariants.{Rw}
 use Rattle.co_dict.proofs.ExampleDevice.{at}
 use Rattle.co_node_history.specs.Moments.{Constants}
 use Rattle.co_node_history.specs.Histories.{after_all, app_after, prescribed, frame_bound}

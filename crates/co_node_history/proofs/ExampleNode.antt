@@ -9,13 +9,14 @@ use Rattle.co_value.specs.declared.data_type.DataType.TheVariants.{Unsigned8, Un
 use Rattle.co_value.specs.Numbers.{low_bytes}
 use Rattle.co_frame.specs.FrameContent.{FrameContent}
 use Rattle.co_frame.specs.SdoRequests.{request_row_in}
-use Rattle.co_sheet.specs.declared.entry.Access.{Access}
-use Rattle.co_sheet.specs.declared.entry.Access.TheVariants.{Ro, Rw}
+use Rattle.co_profile.specs.declared.access.Access.{Access}
+use Rattle.co_profile.specs.declared.access.Access.TheVariants.{Ro, Rw}
 use Rattle.co_dict.specs.declared.row.Row.{Row}
 use Rattle.co_dict.specs.Rows.{Rows, Contents, number_at}
 use Rattle.co_dict.specs.Stores.{Description}
 use Rattle.co_dict.specs.Objects.{has_object, subs_present}
 use Rattle.co_dict.specs.SdoChannels.{is_sdo_id}
+use Rattle.co_sdo_bank.specs.Channels.{channels_below}
 use Rattle.co_dict.specs.ConsumerHeartbeats.{is_consumed_elsewhere}
 use Rattle.co_dict.proofs.ExampleDevice.{at, number_row, text_row}
 use Rattle.co_node_parts.specs.declared.nmt_state.NodeState.{NodeState}
@@ -23,7 +24,7 @@ use Rattle.co_node_parts.specs.ConsumerTables.{entry_subs}
 use Rattle.co_pdo.specs.Tpdos.{tpdo_numbers}
 use Rattle.co_sdo.specs.Refused.{reading_refusal, initiate_refusal, completion_refusal}
 use Rattle.co_node_inputs.specs.Inputs.{InputView, Inputs, Framed, Ticked, Applied, Raised, EventOn}
-use Rattle.co_node_inputs.specs.Addresses.{channel_with, rpdo_with}
+use Rattle.co_node_inputs.specs.Addresses.{rpdo_with}
 use Rattle.co_node_inputs.specs.Words.{consumer_words}
 use Rattle.co_node_history.specs.Moments.{Constants}
 use Rattle.co_node_history.specs.Histories.{prescribed, contents_of, state_of, after_all}
@@ -97,6 +98,7 @@ device_of es time = record {
     keys = map (λ e. e.key) es;
   };
   start = bytes_of es;
+  greatest = 889;
   time = time;
 }
 
@@ -189,5 +191,5 @@ state_after k more = state_of k (after_all [] more)
 
 -- what the examples compute by going through sub-indices, channels, PDOs and consumers
 unfoldable pub searches : Unit {0}
-unfolding has_object subs_present is_sdo_id is_consumed_elsewhere channel_with rpdo_with consumer_words entry_subs tpdo_numbers reading_refusal initiate_refusal completion_refusal request_row_in
+unfolding has_object subs_present is_sdo_id is_consumed_elsewhere channels_below rpdo_with consumer_words entry_subs tpdo_numbers reading_refusal initiate_refusal completion_refusal request_row_in
 searches = tt

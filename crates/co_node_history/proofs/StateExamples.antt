@@ -5,7 +5,7 @@ use Rattle.co_node_inputs.specs.Inputs.{InputView, Ticked}
 use Rattle.co_node_history.specs.Moments.{Constants}
 use Rattle.co_node_history.specs.Histories.{held_of, after_all}
 use Rattle.co_node_history.proofs.ExampleNode.{device, device_with, u8, u16, u32, frame, came, request, response, emcy, start, stop, enter_pre_operational, reset_node, reset_communication, sync, raise, ticks, answered, first_answered, number_after, value_after, state_after, searches}
-use Rattle.co_sheet.specs.declared.entry.Access.TheVariants.{Rw}
+use Rattle.co_profile.specs.declared.access.Access.TheVariants.{Rw}
 
 built : state_after device [] ≡ PreOperational
 built = refl

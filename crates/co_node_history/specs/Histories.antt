@@ -1,6 +1,6 @@
 -- What a device does over all its inputs: the frames that are prescribed, its state, its entries, and what it holds for
 -- SDO transfers.
-use Rattle.std.specs.Prelude.{ℕ, ◌+◌, List, [], ◌∷◌, ◌++◌, map, length, Option, Some, None, if◌then◌else◌}
+use Rattle.std.specs.Prelude.{ℕ, ◌+◌, List, [], ◌∷◌, ◌++◌, map, length, Option, Some, None}
 use Rattle.co_frame.specs.FrameContent.{FrameContent}
 use Rattle.co_frame.specs.Emergencies.{emergency_bytes}
 use Rattle.co_frame.specs.Heartbeats.{heartbeat_bytes}
@@ -10,34 +10,23 @@ use Rattle.co_dict.specs.declared.side.Side.TheVariants as side
 use Rattle.co_dict.specs.Rows.{Rows, Contents, number_at}
 use Rattle.co_dict.specs.Stores.{Description}
 use Rattle.co_dict.specs.CobIds.{identifier_of}
-use Rattle.co_dict.specs.SdoChannels.{is_channel, answer_id}
-use Rattle.co_sdo.specs.Log.{Log, Answer, Exchange, frames_on}
-use Rattle.co_sdo.specs.Opened.{held_bytes}
 use Rattle.co_sdo.specs.Standing.{room_after}
+use Rattle.co_sdo_bank.specs.Events.{frames_at, held_on}
 use Rattle.co_pdo.specs.Images.{image_of}
 use Rattle.co_pdo.specs.Mappings.{mapping_of}
 use Rattle.co_pdo.specs.Tpdos.{tpdo_key, tpdos_of}
 use Rattle.co_node_parts.specs.declared.nmt_state.NodeState.{NodeState}
 use Rattle.co_node_inputs.specs.Inputs.{InputView, Inputs, Framed, Ticked, Applied}
 use Rattle.co_node_inputs.specs.Keys.{emergency_key}
-use Rattle.co_node_inputs.specs.Addresses.{address_of}
 use Rattle.co_node_inputs.specs.declared.address.Address.{Address}
 use Rattle.co_node_inputs.specs.declared.address.Address.TheVariants.{Nmt, Sync, Channel, Rpdo, ErrorControl, Nobody}
 use Rattle.co_node_inputs.specs.declared.app_answer.AppAnswer.{AppAnswer}
-use Rattle.co_node_history.specs.Moments.{Constants, Moment, History}
-use Rattle.co_node_history.specs.Logs.{contents_at, app_at, state_at, channel_log}
+use Rattle.co_node_history.specs.Moments.{Constants, Moment, History, channels}
+use Rattle.co_node_history.specs.Logs.{contents_at, app_at, state_at, channel_logs}
+use Rattle.co_node_history.specs.Received.{address_at}
 use Rattle.co_node_history.specs.Phases.{moment}
 
 -- ---- the frames of a moment, in their order: SDO, EMCY, boot-up or heartbeat, TPDOs by number
-
--- the answers to a request, or what is sent where the time of a transfer is over, on the channel's identifier
-abbrev pub exchange_frames : Constants → Option (ℕ × Exchange) → List FrameContent
-exchange_frames k None = []
-exchange_frames k (Some exchange) = frames_on (answer_id k.description.node k.start exchange.0) exchange.1.answers
-
-abbrev pub time_out_frames : Constants → Option (ℕ × List Answer) → List FrameContent
-time_out_frames k None = []
-time_out_frames k (Some sent) = frames_on (answer_id k.description.node k.start sent.0) sent.1
 
 -- an emergency on the identifier that 1014h has at the end of the input (CiA 301, 7.5.2.17)
 abbrev pub emergency_frames : Contents → Option Emergency → List FrameContent
@@ -58,7 +47,7 @@ tpdo_frame d contents n =
 -- all frames of a moment
 abbrev pub frames : Constants → Moment → List FrameContent
 frames k m =
-    exchange_frames k m.exchange ++ time_out_frames k m.timed_out
+    frames_at m.exchange ++ frames_at m.timed_out
     ++ emergency_frames m.contents m.emergency
     ++ life_frames k.description.node m.life
     ++ map (tpdo_frame k.description m.contents) m.due
@@ -91,11 +80,11 @@ app_after k inputs = app_at (moments k inputs)
 
 -- how many bytes are held for the transfer of SDO channel j, 0 where there is no such channel
 abbrev pub held_of : Constants → Inputs → ℕ → ℕ
-held_of k inputs j = if is_channel k.start j then held_bytes (channel_log j (moments k inputs)) else 0
+held_of k inputs j = held_on (channels k) (channel_logs (moments k inputs)) j
 
 -- how many may be held for it: the capacity of the entry that is transferred and 889
 abbrev pub room_of : Constants → Inputs → ℕ → ℕ
-room_of k inputs j = room_after k.description.rows (channel_log j (moments k inputs))
+room_of k inputs j = room_after k.description.rows (channel_logs (moments k inputs) j)
 
 -- ---- inputs one after another, the first one first
 
@@ -126,6 +115,6 @@ tpdo_count rows = length (tpdos_of rows)
 
 -- by the kind of input
 abbrev pub frame_bound : Constants → Inputs → InputView → ℕ
-frame_bound k inputs (Framed frame) = bound_at (address_of k.description.node (contents_of k inputs) frame.id) (tpdo_count k.description.rows)
+frame_bound k inputs (Framed frame) = bound_at (address_at k (moments k inputs) frame.id) (tpdo_count k.description.rows)
 frame_bound k inputs Ticked = tpdo_count k.description.rows + 2
 frame_bound k inputs (Applied event) = tpdo_count k.description.rows + 1

@@ -1,7 +1,8 @@
 -- What happened to each part of a device: its log, read off the history.
-use Rattle.std.specs.Prelude.{ℕ, ◌==◌, ◌||◌, Bool, true, false, List, [], ◌∷◌, Option, Some, None, if◌then◌else◌}
+use Rattle.std.specs.Prelude.{ℕ, ◌||◌, Bool, true, false, List, [], ◌∷◌}
 use Rattle.co_dict.specs.Rows.{Contents, number_at}
-use Rattle.co_sdo.specs.Log.{Log, Answer, Exchange, Exchanged, Ticked, TimedOut, Dropped}
+use Rattle.co_sdo.specs.Log.{Log, Ticked, Dropped}
+use Rattle.co_sdo_bank.specs.Events.{with_each, logs_after}
 use Rattle.co_node_parts.specs.declared.nmt_state.NodeState.{NodeState}
 use Rattle.co_node_parts.specs.declared.nmt_state.NodeState.TheVariants.{Stopped}
 use Rattle.co_node_parts.specs.declared.nmt_state.Transition.{Transition}
@@ -47,38 +48,28 @@ state_at history = state_after (state_log history)
 abbrev pub transition_of : Moment → History → Transition
 transition_of m history = record { before = state_at history; after = state_at (m ∷ history) }
 
--- ---- SDO channels (7.2.4): requests with their answers, ticks, the end of a transfer's time, and drops
+-- ---- SDO channels (7.2.4): requests with their responses, ticks, the end of a transfer's time, and drops
 
--- a request of channel j and its answers, if it came
-abbrev pub with_exchange : ℕ → Option (ℕ × Exchange) → Log → Log
-with_exchange j None log = log
-with_exchange j (Some exchange) log = if exchange.0 == j then Exchanged exchange.1 ∷ log else log
-
--- a tick, if it was one
-abbrev pub with_tick : Bool → Log → Log
-with_tick true log = Ticked ∷ log
-with_tick false log = log
-
--- the time of the transfer of channel j was over, if it was
-abbrev pub with_time_out : ℕ → Option (ℕ × List Answer) → Log → Log
-with_time_out j None log = log
-with_time_out j (Some sent) log = if sent.0 == j then TimedOut sent.1 ∷ log else log
+-- a tick of every channel, if it was one
+abbrev pub with_tick : Bool → (ℕ → Log) → ℕ → Log
+with_tick true logs = with_each Ticked logs
+with_tick false logs = logs
 
 -- all transfers were dropped, if they were
-abbrev pub with_drop : Bool → Log → Log
-with_drop true log = Dropped ∷ log
-with_drop false log = log
+abbrev pub with_drop : Bool → (ℕ → Log) → ℕ → Log
+with_drop true logs = with_each Dropped logs
+with_drop false logs = logs
 
 -- a reset, and entering stopped, drop all transfers
 abbrev pub drops : Moment → History → Bool
 drops m history = is_reset m.marks || enters Stopped (transition_of m history)
 
--- the log of channel j
-abbrev pub channel_log : ℕ → History → Log
-channel_log j [] = []
-channel_log j (m ∷ history) =
+-- the log of each channel, by its number
+abbrev pub channel_logs : History → ℕ → Log
+channel_logs [] = λ j. []
+channel_logs (m ∷ history) =
     with_drop (drops m history)
-    (with_time_out j m.timed_out (with_tick m.marks.ticked (with_exchange j m.exchange (channel_log j history))))
+    (logs_after m.timed_out (with_tick m.marks.ticked (logs_after m.exchange (channel_logs history))))
 
 -- ---- heartbeats of others (7.2.8.3.2): each entry of 1016h begins as the device is built
 

@@ -1,6 +1,5 @@
 -- What an input is as it is received: it alone is looked at by its kind.
-use Rattle.std.specs.Prelude.{ℕ, ◌==◌, ◌&&◌, ◌||◌, not, is_some, bit_or, Bool, true, false, List, [], ◌∷◌, length, find, option_map, Option, Some, None, if◌then◌else◌}
-use Rattle.std.specs.List.{range_with_len}
+use Rattle.std.specs.Prelude.{ℕ, ◌==◌, ◌||◌, is_some, bit_or, Bool, true, false, List, [], ◌∷◌, Option, Some, None, if◌then◌else◌}
 use Rattle.co_value.specs.declared.key.Key.{Key}
 use Rattle.co_frame.specs.FrameContent.{FrameContent}
 use Rattle.co_frame.specs.Heartbeats.{heartbeat_in}
@@ -14,11 +13,9 @@ use Rattle.co_frame.specs.declared.nmt.NmtService.TheVariants.{Start, Stop, Ente
 use Rattle.co_dict.specs.declared.area.Area.TheVariants.{Communication, All}
 use Rattle.co_dict.specs.Rows.{Contents, written, restored}
 use Rattle.co_dict.specs.Stores.{Description}
-use Rattle.co_dict.specs.SdoChannels.{is_channel}
-use Rattle.co_sdo.specs.Log.{Log, Answer, Ticked}
-use Rattle.co_sdo.specs.Opened.{is_time_over}
-use Rattle.co_sdo.specs.Replies.{reply_to, time_out_reply}
-use Rattle.co_sdo.specs.Completed.{set_by, contents_with, key_set}
+use Rattle.co_sdo.specs.Log.{Log, Ticked}
+use Rattle.co_sdo.specs.Completed.{contents_with, key_set}
+use Rattle.co_sdo_bank.specs.Events.{ChannelEvent, with_each, number_for, exchange_of, set_of, time_out_of}
 use Rattle.co_node_parts.specs.declared.nmt_state.NodeState.{NodeState}
 use Rattle.co_node_parts.specs.declared.nmt_state.NodeState.TheVariants.{Operational, Stopped}
 use Rattle.co_node_parts.specs.declared.nmt_state.StateEvent.TheVariants as state
@@ -35,8 +32,8 @@ use Rattle.co_node_inputs.specs.declared.marks.Asked.TheVariants as asked
 use Rattle.co_node_inputs.specs.declared.marks.Marks.{Marks}
 use Rattle.co_node_effects.specs.declared.device_error.DeviceError.{DeviceError}
 use Rattle.co_node_effects.specs.Errors.{raised, emergency_of, cleared, clearing_of}
-use Rattle.co_node_history.specs.Moments.{Constants, Moment, History}
-use Rattle.co_node_history.specs.Logs.{contents_at, state_at, channel_log}
+use Rattle.co_node_history.specs.Moments.{Constants, Moment, History, channels}
+use Rattle.co_node_history.specs.Logs.{contents_at, state_at, channel_logs}
 
 -- an input of which nothing came
 abbrev pub nothing_of : InputView → Contents → Moment
@@ -87,19 +84,19 @@ with_sync state frame m = if is_state Stopped state then m else record m { marks
 
 -- ---- SDO (7.2.4): not while stopped; a frame that hasn't eight bytes is ignored
 
--- a request of channel j, which has this log
-abbrev pub with_request : Description → ℕ → Log → List ℕ → Moment → Moment
-with_request d j log request m =
-    let set = set_by d m.received log request in
+-- a frame to a channel, with the log of each
+abbrev pub with_request : Constants → (ℕ → Log) → FrameContent → Moment → Moment
+with_request k logs frame m =
+    let set = set_of (channels k) k.description m.received logs frame in
     record m {
       marks = record quiet { set = key_set set };
-      exchange = Some (j, record { request = request; contents = m.received; answers = reply_to d m.received log request });
+      exchange = exchange_of (channels k) k.description m.received logs frame;
       received = contents_with m.received set;
     }
 
-abbrev pub with_channel_frame : Description → ℕ → Log → NodeState → FrameContent → Moment → Moment
-with_channel_frame d j log state frame m =
-    if not (is_state Stopped state) && length frame.bytes == 8 then with_request d j log frame.bytes m else m
+abbrev pub with_channel_frame : Constants → History → FrameContent → Moment → Moment
+with_channel_frame k history frame m =
+    if is_state Stopped (state_at history) then m else with_request k (channel_logs history) frame m
 
 -- ---- RPDOs (7.2.2): in operational alone
 
@@ -126,26 +123,20 @@ abbrev pub with_frame : Constants → History → Address → FrameContent → M
 with_frame k history Nmt frame m =
     with_service k.description.initial (service_for k.description.node (nmt_command_in frame)) m
 with_frame k history Sync frame m = with_sync (state_at history) frame m
-with_frame k history (Channel j) frame m =
-    with_channel_frame k.description j (channel_log j history) (state_at history) frame m
+with_frame k history (Channel j) frame m = with_channel_frame k history frame m
 with_frame k history (Rpdo n) frame m = with_rpdo n (state_at history) frame m
 with_frame k history (ErrorControl node) frame m = with_error_control node frame m
 with_frame k history Nobody frame m = m
 
 -- ---- ticks (7.2.4): of the SDO channels whose time is over with this tick the lowest is aborted; the others wait
 
--- the lowest channel whose time is over
-abbrev pub expired_at : Constants → History → Option ℕ
-expired_at k history =
-    find (λ j. is_channel k.start j && is_time_over k.time (Ticked ∷ channel_log j history)) (range_with_len 0 128)
-
-abbrev pub with_tick : Option (ℕ × List Answer) → Moment → Moment
+abbrev pub with_tick : Option ChannelEvent → Moment → Moment
 with_tick timed_out m =
     record m { marks = record quiet { ticked = true; timed_out = is_some timed_out }; timed_out = timed_out }
 
 -- the channel that is aborted, with what is sent
-abbrev pub timed_out_at : Constants → History → Option (ℕ × List Answer)
-timed_out_at k history = option_map (λ j. (j, time_out_reply (Ticked ∷ channel_log j history))) (expired_at k history)
+abbrev pub timed_out_at : Constants → History → Option ChannelEvent
+timed_out_at k history = time_out_of (channels k) (with_each Ticked (channel_logs history))
 
 -- ---- application events, where they aren't refused
 
@@ -189,9 +180,12 @@ with_app_event d event None m = record m {
 
 -- ---- an input as it is received
 
+-- who takes a frame
+abbrev pub address_at : Constants → History → ℕ → Address
+address_at k history id = address_of (number_for (channels k) id) (contents_at k history) id
+
 abbrev pub with_input : Constants → History → InputView → Moment → Moment
-with_input k history (Framed frame) m =
-    with_frame k history (address_of k.description.node (contents_at k history) frame.id) frame m
+with_input k history (Framed frame) m = with_frame k history (address_at k history frame.id) frame m
 with_input k history inputs.Ticked m = with_tick (timed_out_at k history) m
 with_input k history (Applied event) m = with_app_event k.description event (event_refusal k.description m.received event) m
 

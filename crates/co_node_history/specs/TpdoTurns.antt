@@ -6,7 +6,7 @@ use Rattle.co_dict.specs.Stores.{Description}
 use Rattle.co_pdo.specs.declared.tpdo.Occasion.TheVariants as occasion
 use Rattle.co_pdo.specs.declared.tpdo.Part.TheVariants.{Whole}
 use Rattle.co_pdo.specs.Tpdos.{tpdos_of}
-use Rattle.co_pdo.specs.Schedules.{History, with_start, with_sync, with_event, with_tick, is_among, is_tpdo_due, all_due}
+use Rattle.co_pdo.specs.Schedules.{History, with_start, sync_with, with_sync, with_event, with_tick, is_among, is_tpdo_due, all_due}
 use Rattle.co_node_inputs.specs.Asked.{numbers_asked}
 use Rattle.co_node_inputs.specs.declared.turn.Turn.{Turn}
 use Rattle.co_node_inputs.specs.declared.turn.Turn.TheVariants.{Quiet, StartAll, Start, Sync, Asked, Tick}
@@ -16,7 +16,7 @@ abbrev pub due_at : Description → Turn → Contents → History → List ℕ
 due_at d Quiet contents history = []
 due_at d StartAll contents history = []
 due_at d (Start n part) contents history = []
-due_at d (Sync counter) contents history = all_due contents history occasion.Sync
+due_at d (Sync counter) contents history = all_due contents history (sync_with counter contents)
 due_at d (Asked asked) contents history = filter (is_tpdo_due contents history occasion.Event) (numbers_asked d contents asked)
 due_at d Tick contents history = all_due contents history occasion.Tick
 
@@ -36,6 +36,6 @@ abbrev pub with_turn : Description → Turn → Contents → List ℕ → Histor
 with_turn d Quiet contents due history = history
 with_turn d StartAll contents due history = with_starts (tpdos_of d.rows) contents history
 with_turn d (Start n part) contents due history = with_start n part contents history
-with_turn d (Sync counter) contents due history = with_sync contents due history
+with_turn d (Sync counter) contents due history = with_sync counter contents due history
 with_turn d (Asked asked) contents due history = with_events (numbers_asked d contents asked) contents due history
 with_turn d Tick contents due history = with_tick contents due history

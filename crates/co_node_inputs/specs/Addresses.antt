@@ -1,11 +1,11 @@
 -- Who takes a frame: the first of NMT, SYNC, the SDO channels by number, the active RPDOs by number, and heartbeats
 -- (CiA 301, 7.3.5).
-use Rattle.std.specs.Prelude.{ℕ, ◌-◌, ◌==◌, ◌&&◌, not, nat_lt, nat_le, Bool, Option, Some, None, if◌then◌else◌, find}
+use Rattle.std.specs.Prelude.{ℕ, ◌-◌, ◌<◌, ◌≤◌, ◌==◌, ◌&&◌, not, nat_lt, nat_le, Bool, Option, Some, None, if◌then◌else◌, find}
 use Rattle.std.specs.List.{range_with_len}
 use Rattle.co_frame.specs.FrameContent.{FrameContent}
 use Rattle.co_dict.specs.Rows.{Contents, number_at}
 use Rattle.co_dict.specs.CobIds.{identifier_of, is_valid}
-use Rattle.co_dict.specs.SdoChannels.{is_channel, request_id}
+use Rattle.co_profile.specs.Indices.{pdo_cob_id, transmission_type}
 use Rattle.co_pdo.specs.Tpdos.{is_supported_type}
 use Rattle.co_node_inputs.specs.Keys.{sync_key, rpdo_key, rpdo_count_key}
 use Rattle.co_node_inputs.specs.declared.address.Address.{Address}
@@ -15,21 +15,13 @@ use Rattle.co_node_inputs.specs.declared.address.Address.TheVariants.{Nmt, Sync,
 abbrev pub is_sync_id : Contents → ℕ → Bool
 is_sync_id contents id = not (number_at contents sync_key == 0) && identifier_of (number_at contents sync_key) == id
 
--- channel j exists, and its requests have an identifier
-abbrev pub hears : ℕ → Contents → ℕ → ℕ → Bool
-hears node contents id j = is_channel contents j && request_id node contents j == id
-
--- the first SDO channel whose requests have an identifier
-unfoldable pub channel_with : ℕ → Contents → ℕ → Option ℕ
-channel_with node contents id = find (hears node contents id) (range_with_len 0 128)
-
 -- the COB-ID word of RPDO k
 abbrev pub rpdo_word : Contents → ℕ → ℕ
-rpdo_word contents k = number_at contents (rpdo_key k 1)
+rpdo_word contents k = number_at contents (rpdo_key k pdo_cob_id)
 
 -- the transmission type of RPDO k
 abbrev pub rpdo_type : Contents → ℕ → ℕ
-rpdo_type contents k = number_at contents (rpdo_key k 2)
+rpdo_type contents k = number_at contents (rpdo_key k transmission_type)
 
 -- RPDO k is active: its COB-ID word is valid, something is mapped, and its transmission type is supported
 abbrev pub is_rpdo_active : Contents → ℕ → Bool
@@ -66,9 +58,18 @@ abbrev pub address_unless_channel : Option ℕ → Contents → ℕ → Address
 address_unless_channel (Some j) contents id = Channel j
 address_unless_channel None contents id = address_unless_rpdo (rpdo_with contents id) id
 
--- who takes a frame with an identifier, in a dictionary of a node with this node-ID
-abbrev pub address_of : ℕ → Contents → ℕ → Address
-address_of node contents id =
+-- who takes a frame with an identifier, where this is the SDO channel whose requests have it, if one has
+abbrev pub address_of : Option ℕ → Contents → ℕ → Address
+address_of channel contents id =
     if id == 0 then Nmt
     else (if is_sync_id contents id then Sync
-    else address_unless_channel (channel_with node contents id) contents id)
+    else address_unless_channel channel contents id)
+
+-- the numbers of channels are up to 127, of RPDOs up to 511, and node-IDs 1 to 127
+abbrev pub HasNumber : Address → Type 0
+HasNumber (Channel j) = j < 128
+HasNumber (Rpdo k) = k < 512
+HasNumber (ErrorControl node) = (1 ≤ node) × (node ≤ 127)
+HasNumber Nmt = Unit {0}
+HasNumber Sync = Unit {0}
+HasNumber Nobody = Unit {0}

@@ -4,7 +4,7 @@ use Rattle.co_value.specs.declared.key.Key.{Key}
 use Rattle.co_dict.specs.declared.side.Side.TheVariants.{Rpdo}
 use Rattle.co_dict.specs.Rows.{Contents}
 use Rattle.co_dict.specs.Stores.{Description}
-use Rattle.co_dict.specs.CobIds.{is_from_to}
+use Rattle.co_profile.specs.Indices.{rpdo_communication, pdo_cob_id, transmission_type, is_within}
 use Rattle.co_node_parts.specs.declared.nmt_state.NodeState.TheVariants.{Operational}
 use Rattle.co_node_parts.specs.declared.nmt_state.Transition.{Transition}
 use Rattle.co_node_parts.specs.declared.rpdo_slots.KeptFrame.{KeptFrame}
@@ -30,12 +30,12 @@ is_short d contents rpdo = nat_lt (length rpdo.frame.bytes) (mapped_length d con
 
 -- the COB-ID or the transmission type of an RPDO, 1400h to 15FFh, sub-index 1 or 2
 abbrev pub empties_slot : Key → Bool
-empties_slot key = is_from_to 0x1400 0x15FF key.index && is_from_to 1 2 key.sub
+empties_slot key = is_within rpdo_communication key.index && (key.sub == pdo_cob_id || key.sub == transmission_type)
 
 -- an entry that was written drops the frame of its RPDO
 abbrev pub emptied_by : Option Key → SlotEvent
 emptied_by None = Quiet
-emptied_by (Some key) = if empties_slot key then Empty (key.index - 0x1400) else Quiet
+emptied_by (Some key) = if empties_slot key then Empty (key.index - rpdo_communication.0) else Quiet
 
 -- a frame that came for an RPDO waits where its type is synchronous and it isn't short
 abbrev pub kept_by : Description → Contents → Option KeptFrame → SlotEvent

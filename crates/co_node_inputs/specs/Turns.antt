@@ -3,7 +3,7 @@ use Rattle.std.specs.Prelude.{ℕ, ◌-◌, ◌==◌, ◌&&◌, ◌||◌, not, i
 use Rattle.co_value.specs.declared.key.Key.{Key}
 use Rattle.co_frame.specs.FrameContent.{FrameContent}
 use Rattle.co_frame.specs.Syncs.{sync_in}
-use Rattle.co_dict.specs.CobIds.{is_from_to}
+use Rattle.co_profile.specs.Indices.{tpdo_communication, pdo_cob_id, transmission_type, event_timer, is_within}
 use Rattle.co_node_parts.specs.declared.nmt_state.NodeState.TheVariants.{Operational}
 use Rattle.co_node_parts.specs.declared.nmt_state.Transition.{Transition}
 use Rattle.co_node_parts.specs.NmtStates.{is_state}
@@ -20,7 +20,7 @@ counter_in frame = option_and_then (λ sync. sync.counter) (sync_in frame.bytes)
 
 -- the part of a TPDO that a write to a sub-index of its communication parameter starts
 abbrev pub part_started : ℕ → Option Part
-part_started sub = if is_from_to 1 2 sub then Some Whole else (if sub == 5 then Some Timer else None)
+part_started sub = if sub == pdo_cob_id || sub == transmission_type then Some Whole else (if sub == event_timer then Some Timer else None)
 
 -- a start of TPDO k, if there is one
 abbrev pub start_turn : ℕ → Option Part → Turn
@@ -29,7 +29,7 @@ start_turn k (Some part) = turn.Start k part
 
 -- what was written starts a TPDO
 abbrev pub turn_by_write : Key → Turn
-turn_by_write key = if is_from_to 0x1800 0x19FF key.index then start_turn (key.index - 0x1800) (part_started key.sub) else turn.Quiet
+turn_by_write key = if is_within tpdo_communication key.index then start_turn (key.index - tpdo_communication.0) (part_started key.sub) else turn.Quiet
 
 -- a SYNC came, or not
 abbrev pub turn_by_sync : Option FrameContent → Turn

@@ -6,6 +6,7 @@ use Rattle.co_frame.specs.declared.nmt.NmtService.{NmtService}
 use Rattle.co_frame.specs.declared.nmt.NmtService.TheVariants.{Start, Stop, EnterPreOperational, ResetNode, ResetCommunication}
 use Rattle.co_frame.specs.declared.heartbeat.Heartbeat.{Heartbeat}
 use Rattle.co_frame.specs.declared.heartbeat.Heartbeat.TheVariants.{BootUp}
+use Rattle.co_profile.specs.Indices.{consumer_heartbeat}
 use Rattle.co_dict.specs.Rows.{Contents, number_at}
 use Rattle.co_dict.specs.CobIds.{is_valid, is_from_to}
 use Rattle.co_dict.specs.ConsumerHeartbeats.{consumer_key}
@@ -60,7 +61,7 @@ state_event marks = commanded_event marks.command
 
 -- an entry of 1016h, sub-indices 1 to 127
 abbrev pub is_consumer_key : Key → Bool
-is_consumer_key key = key.index == 0x1016 && is_from_to 1 127 key.sub
+is_consumer_key key = key.index == consumer_heartbeat && is_from_to 1 127 key.sub
 
 -- the words of 1016:01 to 7F, in their order
 unfoldable pub consumer_words : Contents → List ℕ

@@ -1,10 +1,11 @@
 //! Who takes a frame.
 
 ghost use Rattle.std.specs.Prelude.{◌≡◌, ◌<◌, IfSome};
-ghost use Rattle.co_node_inputs.specs.Addresses.{is_sync_id, hears, channel_with, rpdo_word, rpdo_type, is_rpdo_active, is_rpdo_with, rpdo_with, address_of};
+ghost use Rattle.co_node_inputs.specs.Addresses.{is_sync_id, is_rpdo_with, rpdo_with, address_of, HasNumber};
 
 use crate::keys::{SYNC_COB_ID, rpdo_count_key, rpdo_key};
-use co_dict::{CobId, ObjectStore, number_u8, number_u32, sdo_channel};
+use co_dict::{CobId, ObjectStore, number_u8, number_u32};
+use co_profile::{PDO_COB_ID, TRANSMISSION_TYPE};
 
 /// Who takes a received frame: the first that its identifier fits, in this order (CiA 301, 7.3.5).
 #[derive(Clone, Copy, Debug, PartialEq, Eq, Hash)]
@@ -31,24 +32,14 @@ fn is_sync_id<S: ObjectStore>(store: &S, id: u16) -> bool
     word != 0 && CobId(word).identifier() == id
 }
 
-/// The number of the first SDO channel whose requests have an identifier.
-#[tactic(auto, unfolding(crate::specs::Addresses::channel_with))]
-fn channel_with<S: ObjectStore>(store: &S, id: u16) -> Option<u8>
-    ensures number { result ≡
-        channel_with (S.description store.now).node (S.contents store.now) id }
-{
-    (0..128u8).find(|&number| sdo_channel(store, number).is_some_and(|channel| channel.request
-        == id))
-}
-
 /// Whether an RPDO is active, and has an identifier.
 fn is_rpdo_with<S: ObjectStore>(store: &S, id: u16, number: u16) -> bool
     requires { number < 512 }
     ensures { result ≡ is_rpdo_with (S.contents store.now) id number }
 {
-    let word = CobId(number_u32(store, rpdo_key(number, 1)));
+    let word = CobId(number_u32(store, rpdo_key(number, PDO_COB_ID)));
     let count = number_u8(store, rpdo_count_key(number));
-    let kind = number_u8(store, rpdo_key(number, 2));
+    let kind = number_u8(store, rpdo_key(number, TRANSMISSION_TYPE));
     word.is_valid()
         && count != 0
         && (kind <= 240 || kind == 254 || kind == 255)
@@ -59,14 +50,18 @@ fn is_rpdo_with<S: ObjectStore>(store: &S, id: u16, number: u16) -> bool
 #[tactic(auto, unfolding(crate::specs::Addresses::rpdo_with))]
 fn rpdo_with<S: ObjectStore>(store: &S, id: u16) -> Option<u16>
     ensures number { result ≡ rpdo_with (S.contents store.now) id }
+    ensures below { IfSome result (λ number. number < 512) }
 {
     (0..512u16).find(|&number| is_rpdo_with(store, id, number))
 }
 
 impl Address {
-    /// Who takes a frame with this identifier.
-    pub fn of<S: ObjectStore>(store: &S, id: u16) -> Address
-        ensures { result ≡ address_of (S.description store.now).node (S.contents store.now) id }
+    /// Who takes a frame with this identifier, where `channel` is the SDO channel whose requests have
+    /// it, if one has.
+    pub fn of<S: ObjectStore>(store: &S, id: u16, channel: Option<u8>) -> Address
+        requires { IfSome channel (λ number. number < 128) }
+        ensures address { result ≡ address_of channel (S.contents store.now) id }
+        ensures number { HasNumber result }
     {
         if id == 0 {
             return Address::Nmt;
@@ -74,7 +69,7 @@ impl Address {
         if is_sync_id(store, id) {
             return Address::Sync;
         }
-        if let Some(channel) = channel_with(store, id) {
+        if let Some(channel) = channel {
             return Address::Channel(channel);
         }
         if let Some(number) = rpdo_with(store, id) {

@@ -3,21 +3,22 @@
 ghost use Rattle.std.specs.Prelude.{◌≡◌, ◌<◌};
 ghost use Rattle.co_node_inputs.specs.Keys as keys;
 
+use co_profile::{EMERGENCY_COB_ID as EMERGENCY_INDEX, IndexRange, PRODUCER_HEARTBEAT, SYNC_COB_ID as SYNC_INDEX};
 use co_value::Key;
 
 /// The COB-ID of SYNC (CiA 301, 7.5.2.5).
 pub(crate) const SYNC_COB_ID: Key = Key {
-    index: 0x1005,
+    index: SYNC_INDEX,
     sub: 0,
 };
 /// The COB-ID of EMCY (CiA 301, 7.5.2.17).
 pub(crate) const EMERGENCY_COB_ID: Key = Key {
-    index: 0x1014,
+    index: EMERGENCY_INDEX,
     sub: 0,
 };
 /// The producer heartbeat time (CiA 301, 7.5.2.20).
 pub(crate) const PRODUCER_HEARTBEAT_TIME: Key = Key {
-    index: 0x1017,
+    index: PRODUCER_HEARTBEAT,
     sub: 0,
 };
 
@@ -27,7 +28,7 @@ pub(crate) fn rpdo_key(k: u16, sub: u8) -> Key
     ensures { result ≡ keys.rpdo_key k sub }
 {
     Key {
-        index: 0x1400 + k,
+        index: IndexRange::RPDO_COMMUNICATION.nth(k),
         sub,
     }
 }
@@ -38,7 +39,7 @@ pub(crate) fn rpdo_count_key(k: u16) -> Key
     ensures { result ≡ keys.rpdo_count_key k }
 {
     Key {
-        index: 0x1600 + k,
+        index: IndexRange::RPDO_MAPPING.nth(k),
         sub: 0,
     }
 }

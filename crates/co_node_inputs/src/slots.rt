@@ -9,6 +9,7 @@ use crate::marks::Marks;
 use co_dict::{ObjectStore, Side, number_u8};
 use co_node_parts::{KeptFrame, NodeState, SlotEvent, Transition};
 use co_pdo::Mapping;
+use co_profile::{IndexRange, PDO_COB_ID, TRANSMISSION_TYPE};
 use co_value::Key;
 
 /// Whether a frame of an RPDO has fewer bytes than are mapped.
@@ -24,10 +25,14 @@ fn is_short<S: ObjectStore>(store: &S, rpdo: &KeptFrame) -> bool
 fn emptied_by(set: Option<Key>) -> SlotEvent
     ensures { result ≡ emptied_by set }
 {
-    match set {
-        Some(key) if key.index >= 0x1400 && key.index <= 0x15FF && (key.sub == 1 || key.sub == 2) =>
-            { SlotEvent::Empty(key.index - 0x1400) }
-        _ => SlotEvent::Quiet,
+    let Some(key) = set else {
+        return SlotEvent::Quiet;
+    };
+    let is_named = key.sub == PDO_COB_ID || key.sub == TRANSMISSION_TYPE;
+    if IndexRange::RPDO_COMMUNICATION.contains(key.index) && is_named {
+        SlotEvent::Empty(key.index - IndexRange::RPDO_COMMUNICATION.0)
+    } else {
+        SlotEvent::Quiet
     }
 }
 
@@ -39,7 +44,7 @@ fn kept_by<S: ObjectStore>(store: &S, rpdo: &Option<KeptFrame>) -> SlotEvent
     let Some(rpdo) = *rpdo else {
         return SlotEvent::Quiet;
     };
-    if number_u8(store, rpdo_key(rpdo.number, 2)) <= 240 && !is_short(store, &rpdo) {
+    if number_u8(store, rpdo_key(rpdo.number, TRANSMISSION_TYPE)) <= 240 && !is_short(store, &rpdo) {
         SlotEvent::Keep(rpdo.number, rpdo.frame)
     } else {
         SlotEvent::Quiet

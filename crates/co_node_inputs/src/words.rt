@@ -14,6 +14,7 @@ use co_node_parts::{
     ConsumersEvent, EmergencyEvent, NodeState, ProducerEvent, StateEvent, Transition,
 };
 use co_pdo::Part;
+use co_profile::{CONSUMER_HEARTBEAT, EVENT_TIMER, IndexRange, PDO_COB_ID, TRANSMISSION_TYPE};
 use co_value::Key;
 
 impl Marks {
@@ -88,7 +89,7 @@ impl Marks {
             return ConsumersEvent::Heard(node);
         }
         match self.set {
-            Some(key) if key.index == 0x1016 && 1 <= key.sub && key.sub <= 127 => {
+            Some(key) if key.index == CONSUMER_HEARTBEAT && 1 <= key.sub && key.sub <= 127 => {
                 ConsumersEvent::Begin(key.sub, number_u32(store, key))
             }
             _ => ConsumersEvent::Quiet,
@@ -171,14 +172,16 @@ impl Turn {
     fn by_write(key: Key) -> Turn
         ensures { result ≡ turn_by_write key }
     {
-        if key.index < 0x1800 || key.index > 0x19FF {
+        if !IndexRange::TPDO_COMMUNICATION.contains(key.index) {
             return Turn::Quiet;
         }
-        let number = key.index - 0x1800;
-        match key.sub {
-            1 | 2 => Turn::Start(number, Part::Whole),
-            5 => Turn::Start(number, Part::Timer),
-            _ => Turn::Quiet,
+        let number = key.index - IndexRange::TPDO_COMMUNICATION.0;
+        if key.sub == PDO_COB_ID || key.sub == TRANSMISSION_TYPE {
+            Turn::Start(number, Part::Whole)
+        } else if key.sub == EVENT_TIMER {
+            Turn::Start(number, Part::Timer)
+        } else {
+            Turn::Quiet
         }
     }
 }

@@ -16,3 +16,5 @@ mod fakes;
 mod sheets;
 #[cfg(test)]
 mod traces;
+#[cfg(test)]
+mod words;
