@@ -1,11 +1,9 @@
 -- Errors, and the emergencies that they queue, computed from the definitions.
-use Rattle.std.proofs.Common.{◌≡◌, ℕ, true, false, Some, None, List, [], ◌∷◌, ◌++◌, refl}
-use Rattle.co_node_parts.specs.declared.nmt_state.NodeState.TheVariants.{PreOperational, Operational, Stopped}
-use Rattle.co_node_inputs.specs.Inputs.{InputView, Ticked, Applied, Written, ChangedAt, Raised, Cleared}
+use Rattle.std.proofs.Common.{◌≡◌, List, [], ◌∷◌, ◌++◌, refl}
+use Rattle.co_node_inputs.specs.Inputs.{InputView, Ticked, Applied, Raised, Cleared}
 use Rattle.co_profile.specs.declared.access.Access.TheVariants.{Rw}
-use Rattle.co_dict.proofs.ExampleDevice.{at}
 use Rattle.co_node_history.specs.Moments.{Constants}
-use Rattle.co_node_history.proofs.ExampleNode.{device, device_with, u8, u16, u32, frame, came, request, response, emcy, start, stop, enter_pre_operational, reset_node, reset_communication, sync, raise, event, ticks, first_answered, number_after, value_after, state_after, searches}
+use Rattle.co_node_history.proofs.ExampleNode.{device, device_with, u8, u16, u32, frame, came, request, response, emcy, start, stop, reset_communication, sync, raise, ticks, first_answered, number_after, searches}
 
 -- ---- after one error: 1003:00 is cleared by 0 alone
 

@@ -1,7 +1,6 @@
 -- Application events, and how many frames an input prescribes, computed from the definitions.
-use Rattle.std.proofs.Common.{◌≡◌, ℕ, true, false, Some, None, List, [], ◌∷◌, ◌++◌, length, refl}
+use Rattle.std.proofs.Common.{◌≡◌, ℕ, List, [], ◌∷◌, ◌++◌, length, refl}
 use Rattle.std.proofs.Math.ListN.{replicate}
-use Rattle.co_node_parts.specs.declared.nmt_state.NodeState.TheVariants.{PreOperational, Operational, Stopped}
 use Rattle.co_node_inputs.specs.Inputs.{InputView, Ticked, Applied, Written, ChangedAt, Cleared}
 use Rattle.co_profile.specs.declared.access.Access.TheVariants.{Rw}
 use Rattle.co_dict.proofs.ExampleDevice.{at}
@@ -9,7 +8,7 @@ use Rattle.co_node_history.specs.Moments.{Constants}
 use Rattle.co_node_history.specs.Histories.{after_all, app_after, prescribed, frame_bound}
 use Rattle.co_node_inputs.specs.declared.app_answer.AppAnswer.{AppAnswer}
 use Rattle.co_node_inputs.specs.declared.app_answer.AppAnswer.TheVariants.{None as AppNone, Done, Refused}
-use Rattle.co_node_history.proofs.ExampleNode.{device, device_with, u8, u16, u32, frame, came, request, response, emcy, start, stop, enter_pre_operational, reset_node, reset_communication, sync, raise, event, ticks, answered, first_answered, number_after, value_after, state_after, searches}
+use Rattle.co_node_history.proofs.ExampleNode.{device, device_with, u16, u32, frame, came, request, response, emcy, start, stop, sync, raise, event, ticks, answered, first_answered, number_after, searches}
 
 -- the answer to the last of some inputs
 abbrev answer_after : Constants → List InputView → AppAnswer

@@ -1,10 +1,9 @@
 -- A small device with node-ID 5, whose inputs the closed examples give: two SDO channels, an RPDO, two TPDOs, heartbeats
 -- and emergencies.
-use Rattle.std.proofs.Common.{ℕ, zero, suc, List, [], ◌∷◌, ◌++◌, Some, None, true, false}
-use Rattle.std.specs.Prelude.{Bool, pos, Option, find, map, reverse, option_map, ◌+◌, ◌*◌}
+use Rattle.std.proofs.Common.{ℕ, zero, suc, List, [], ◌∷◌, ◌++◌, true, false}
+use Rattle.std.specs.Prelude.{pos, Option, find, map, reverse, option_map, ◌+◌, ◌*◌}
 use Rattle.co_value.specs.declared.key.Key.{Key}
 use Rattle.co_value.specs.Keys.{same_key}
-use Rattle.co_value.specs.declared.data_type.DataType.{DataType}
 use Rattle.co_value.specs.declared.data_type.DataType.TheVariants.{Unsigned8, Unsigned16, Unsigned32, VisibleString, Domain}
 use Rattle.co_value.specs.Numbers.{low_bytes}
 use Rattle.co_frame.specs.FrameContent.{FrameContent}
@@ -13,7 +12,6 @@ use Rattle.co_profile.specs.declared.access.Access.{Access}
 use Rattle.co_profile.specs.declared.access.Access.TheVariants.{Ro, Rw}
 use Rattle.co_dict.specs.declared.row.Row.{Row}
 use Rattle.co_dict.specs.Rows.{Rows, Contents, number_at}
-use Rattle.co_dict.specs.Stores.{Description}
 use Rattle.co_dict.specs.Objects.{has_object, subs_present}
 use Rattle.co_dict.specs.SdoChannels.{is_sdo_id}
 use Rattle.co_sdo_bank.specs.Channels.{channels_below}

@@ -5,3 +5,5 @@ mod ErrorExamples
 mod TpdoExamples
 mod RpdoExamples
 mod EventExamples
+pub mod Answers
+pub mod Resets

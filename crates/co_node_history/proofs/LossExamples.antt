@@ -1,11 +1,10 @@
 -- Heartbeats of other nodes, and what their loss does, computed from the definitions.
-use Rattle.std.proofs.Common.{◌≡◌, ℕ, true, false, Some, None, List, [], ◌∷◌, ◌++◌, refl}
+use Rattle.std.proofs.Common.{◌≡◌, ℕ, [], ◌∷◌, ◌++◌, refl}
 use Rattle.co_node_parts.specs.declared.nmt_state.NodeState.TheVariants.{PreOperational, Operational, Stopped}
-use Rattle.co_node_inputs.specs.Inputs.{InputView, Ticked, Applied, Written, ChangedAt, Cleared}
+use Rattle.co_node_inputs.specs.Inputs.{InputView, Ticked}
 use Rattle.co_profile.specs.declared.access.Access.TheVariants.{Rw}
-use Rattle.co_dict.proofs.ExampleDevice.{at}
 use Rattle.co_node_history.specs.Moments.{Constants}
-use Rattle.co_node_history.proofs.ExampleNode.{device, device_with, u8, u16, u32, frame, came, request, response, emcy, start, stop, enter_pre_operational, reset_node, reset_communication, sync, raise, event, ticks, first_answered, number_after, value_after, state_after, searches}
+use Rattle.co_node_history.proofs.ExampleNode.{device, device_with, u8, u16, u32, frame, came, request, response, emcy, start, stop, enter_pre_operational, ticks, first_answered, number_after, state_after, searches}
 
 -- 1016:01 monitors node 7 with a time of 3 ms
 abbrev monitoring : ℕ → Constants

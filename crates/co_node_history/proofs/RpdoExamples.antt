@@ -1,12 +1,11 @@
 -- RPDOs, and what their data do, computed from the definitions.
-use Rattle.std.proofs.Common.{◌≡◌, ℕ, true, false, Some, None, List, [], ◌∷◌, ◌++◌, refl}
-use Rattle.co_node_parts.specs.declared.nmt_state.NodeState.TheVariants.{PreOperational, Operational, Stopped}
-use Rattle.co_node_inputs.specs.Inputs.{InputView, Ticked, Applied, Written, ChangedAt, Cleared}
+use Rattle.std.proofs.Common.{◌≡◌, ℕ, List, [], ◌∷◌, ◌++◌, refl}
+use Rattle.co_node_inputs.specs.Inputs.{InputView, Ticked, Applied, Written}
 use Rattle.co_profile.specs.declared.access.Access.TheVariants.{Rw}
 use Rattle.co_dict.proofs.ExampleDevice.{at}
 use Rattle.co_node_history.specs.Moments.{Constants}
 use Rattle.co_node_history.specs.Histories.{after_all}
-use Rattle.co_node_history.proofs.ExampleNode.{device, device_with, u8, u16, u32, frame, came, request, response, emcy, start, stop, enter_pre_operational, reset_node, reset_communication, sync, raise, event, ticks, answered, first_answered, number_after, value_after, state_after, searches}
+use Rattle.co_node_history.proofs.ExampleNode.{device, device_with, u8, u32, frame, came, request, response, emcy, start, enter_pre_operational, sync, answered, first_answered, number_after, searches}
 
 -- RPDO 0, which maps the four bytes of 2002:00, with a transmission type
 abbrev rpdo : ℕ → Constants

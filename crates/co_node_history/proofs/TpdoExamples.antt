@@ -1,12 +1,11 @@
 -- When TPDOs are sent, computed from the definitions.
-use Rattle.std.proofs.Common.{◌≡◌, ℕ, true, false, Some, None, List, [], ◌∷◌, ◌++◌, refl}
-use Rattle.co_node_parts.specs.declared.nmt_state.NodeState.TheVariants.{PreOperational, Operational, Stopped}
-use Rattle.co_node_inputs.specs.Inputs.{InputView, Ticked, Applied, Written, ChangedAt, Cleared}
+use Rattle.std.proofs.Common.{◌≡◌, ℕ, true, [], ◌∷◌, ◌++◌, refl}
+use Rattle.co_node_inputs.specs.Inputs.{InputView, Ticked, Applied, Written, ChangedAt}
 use Rattle.co_profile.specs.declared.access.Access.TheVariants.{Ro, Rw}
 use Rattle.co_value.specs.declared.data_type.DataType.TheVariants.{Unsigned8}
 use Rattle.co_dict.proofs.ExampleDevice.{at, number_row}
 use Rattle.co_node_history.specs.Moments.{Constants}
-use Rattle.co_node_history.proofs.ExampleNode.{device, device_with, u8, u16, u32, frame, came, request, response, emcy, start, stop, enter_pre_operational, reset_node, reset_communication, sync, raise, event, ticks, first_answered, number_after, value_after, state_after, searches}
+use Rattle.co_node_history.proofs.ExampleNode.{device, device_with, u8, u16, u32, frame, came, request, response, emcy, start, enter_pre_operational, sync, raise, event, ticks, first_answered, searches}
 
 -- TPDO 0, which maps 2002:00, with a transmission type, an inhibit time in 100 µs and an event timer in ms
 abbrev tpdo : ℕ → ℕ → ℕ → Constants
@@ -46,6 +45,39 @@ type_0 = refl
 type_0_event_before : first_answered (tpdo 0 0 0) (event 0 ∷ start ∷ sync ∷ []) ≡ [] ∷ [] ∷ [] ∷ []
 unfolding searches
 type_0_event_before = refl
+
+-- ---- the SYNC start value 2, of counters up to 4, and type 2: the count begins at the counter 2
+
+abbrev start_value : Constants
+start_value = device_with (u8 Rw 0x1019 0 4 ∷ u8 Rw 0x1800 2 2 ∷ u8 Rw 0x1800 6 2 ∷ [])
+
+-- a SYNC with a counter
+abbrev counter : ℕ → InputView
+counter n = came 0x080 1 n
+
+from_counter_2 : first_answered start_value (start ∷ counter 1 ∷ counter 2 ∷ counter 3 ∷ counter 4 ∷ counter 1 ∷ [])
+    ≡ [] ∷ [] ∷ [] ∷ (frame 0x185 4 0 ∷ []) ∷ [] ∷ (frame 0x185 4 0 ∷ []) ∷ []
+unfolding searches
+from_counter_2 = refl
+
+-- a SYNC without a counter is an error, and begins no count
+without_counter : first_answered start_value (start ∷ sync ∷ counter 1 ∷ counter 2 ∷ counter 3 ∷ [])
+    ≡ [] ∷ (emcy 0x4082_1100_0000_0000 ∷ []) ∷ [] ∷ [] ∷ (frame 0x185 4 0 ∷ []) ∷ []
+unfolding searches
+without_counter = refl
+
+-- nor does one of two bytes, whose first is 2
+two_bytes : first_answered start_value (start ∷ came 0x080 2 0x0203 ∷ counter 3 ∷ counter 2 ∷ counter 3 ∷ [])
+    ≡ [] ∷ (emcy 0x4082_1100_0000_0000 ∷ []) ∷ [] ∷ [] ∷ (frame 0x185 4 0 ∷ []) ∷ []
+unfolding searches
+two_bytes = refl
+
+-- the start value is written while the COB-ID isn't valid
+start_value_written : first_answered start_value
+    (request 0x2F00_1806_0300_0000 ∷ request 0x2300_1801_8501_0080 ∷ request 0x2F00_1806_F100_0000 ∷ request 0x2F00_1806_0300_0000 ∷ [])
+    ≡ (response 0x8000_1806_2200_0008 ∷ []) ∷ (response 0x6000_1801_0000_0000 ∷ []) ∷ (response 0x8000_1806_3000_0906 ∷ []) ∷ (response 0x6000_1806_0000_0000 ∷ []) ∷ []
+unfolding searches
+start_value_written = refl
 
 -- ---- types 254 and 255
 

@@ -4,3 +4,4 @@ pub mod Logs
 pub mod Received
 pub mod Phases
 pub mod Histories
+pub mod Laws

@@ -1,5 +1,5 @@
 -- What happened to each part of a device: its log, read off the history.
-use Rattle.std.specs.Prelude.{ℕ, ◌||◌, Bool, true, false, List, [], ◌∷◌}
+use Rattle.std.specs.Prelude.{ℕ, ◌||◌, Bool, true, false, [], ◌∷◌}
 use Rattle.co_dict.specs.Rows.{Contents, number_at}
 use Rattle.co_sdo.specs.Log.{Log, Ticked, Dropped}
 use Rattle.co_sdo_bank.specs.Events.{with_each, logs_after}
@@ -15,7 +15,6 @@ use Rattle.co_node_parts.specs.RpdoSlots.{SlotLog}
 use Rattle.co_pdo.specs.Schedules.{History as Schedule}
 use Rattle.co_node_inputs.specs.declared.app_answer.AppAnswer.{AppAnswer}
 use Rattle.co_node_inputs.specs.declared.app_answer.AppAnswer.TheVariants as answer
-use Rattle.co_node_inputs.specs.declared.marks.Marks.{Marks}
 use Rattle.co_node_inputs.specs.declared.turn.Turn.{Turn}
 use Rattle.co_node_inputs.specs.Keys.{producer_key, emergency_inhibit_key}
 use Rattle.co_node_inputs.specs.Words.{is_reset, state_event, consumers_call, consumer_words, emergency_event, producer_event}

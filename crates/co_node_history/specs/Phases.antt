@@ -1,6 +1,6 @@
 -- The phases of an input after it was received: lost heartbeats, SYNC and RPDOs, the emergency, the boot-up or heartbeat,
 -- and the TPDOs; each reads what those before it gave.
-use Rattle.std.specs.Prelude.{ℕ, List, [], ◌∷◌, ◌++◌, map, Option}
+use Rattle.std.specs.Prelude.{ℕ, List, [], ◌∷◌, ◌++◌, map}
 use Rattle.co_dict.specs.Rows.{Contents, number_at}
 use Rattle.co_dict.specs.Stores.{Description}
 use Rattle.co_node_parts.specs.declared.nmt_state.StateEvent.{StateEvent}

@@ -1,6 +1,5 @@
 -- What an input is as it is received: it alone is looked at by its kind.
 use Rattle.std.specs.Prelude.{ℕ, ◌==◌, ◌||◌, is_some, bit_or, Bool, true, false, List, [], ◌∷◌, Option, Some, None, if◌then◌else◌}
-use Rattle.co_value.specs.declared.key.Key.{Key}
 use Rattle.co_frame.specs.FrameContent.{FrameContent}
 use Rattle.co_frame.specs.Heartbeats.{heartbeat_in}
 use Rattle.co_frame.specs.Nmt.{nmt_command_in}

@@ -1,12 +1,9 @@
 -- What the schedule of TPDOs is asked at an input, and which TPDOs are due at it (CiA 301, 7.2.2.2 to 7.2.2.4).
-use Rattle.std.specs.Prelude.{ℕ, List, [], ◌∷◌}
-use Rattle.std.specs.List.{filter}
+use Rattle.std.specs.Prelude.{ℕ, List, []}
 use Rattle.co_dict.specs.Rows.{Contents}
 use Rattle.co_dict.specs.Stores.{Description}
 use Rattle.co_pdo.specs.declared.tpdo.Occasion.TheVariants as occasion
-use Rattle.co_pdo.specs.declared.tpdo.Part.TheVariants.{Whole}
-use Rattle.co_pdo.specs.Tpdos.{tpdos_of}
-use Rattle.co_pdo.specs.Schedules.{History, with_start, sync_with, with_sync, with_event, with_tick, is_among, is_tpdo_due, all_due}
+use Rattle.co_pdo.specs.Schedules.{History, with_start, with_all_started, sync_with, with_sync, with_events, with_tick, all_due, all_due_among}
 use Rattle.co_node_inputs.specs.Asked.{numbers_asked}
 use Rattle.co_node_inputs.specs.declared.turn.Turn.{Turn}
 use Rattle.co_node_inputs.specs.declared.turn.Turn.TheVariants.{Quiet, StartAll, Start, Sync, Asked, Tick}
@@ -17,24 +14,13 @@ due_at d Quiet contents history = []
 due_at d StartAll contents history = []
 due_at d (Start n part) contents history = []
 due_at d (Sync counter) contents history = all_due contents history (sync_with counter contents)
-due_at d (Asked asked) contents history = filter (is_tpdo_due contents history occasion.Event) (numbers_asked d contents asked)
+due_at d (Asked asked) contents history = all_due_among (numbers_asked d contents asked) contents history
 due_at d Tick contents history = all_due contents history occasion.Tick
-
--- each of some TPDOs started
-abbrev pub with_starts : List ℕ → Contents → History → History
-with_starts [] contents history = history
-with_starts (n ∷ numbers) contents history = with_starts numbers contents (with_start n Whole contents history)
-
--- an event on each of some TPDOs, of which these were sent
-abbrev pub with_events : List ℕ → Contents → List ℕ → History → History
-with_events [] contents due history = history
-with_events (n ∷ numbers) contents due history =
-    with_events numbers contents due (with_event n contents (is_among n due) history)
 
 -- the calls of the schedule with those of one more input, at which these TPDOs were sent
 abbrev pub with_turn : Description → Turn → Contents → List ℕ → History → History
 with_turn d Quiet contents due history = history
-with_turn d StartAll contents due history = with_starts (tpdos_of d.rows) contents history
+with_turn d StartAll contents due history = with_all_started contents history
 with_turn d (Start n part) contents due history = with_start n part contents history
 with_turn d (Sync counter) contents due history = with_sync counter contents due history
 with_turn d (Asked asked) contents due history = with_events (numbers_asked d contents asked) contents due history

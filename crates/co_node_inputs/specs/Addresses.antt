@@ -2,12 +2,12 @@
 -- (CiA 301, 7.3.5).
 use Rattle.std.specs.Prelude.{ℕ, ◌-◌, ◌<◌, ◌≤◌, ◌==◌, ◌&&◌, not, nat_lt, nat_le, Bool, Option, Some, None, if◌then◌else◌, find}
 use Rattle.std.specs.List.{range_with_len}
-use Rattle.co_frame.specs.FrameContent.{FrameContent}
 use Rattle.co_dict.specs.Rows.{Contents, number_at}
-use Rattle.co_dict.specs.CobIds.{identifier_of, is_valid}
-use Rattle.co_profile.specs.Indices.{pdo_cob_id, transmission_type}
-use Rattle.co_pdo.specs.Tpdos.{is_supported_type}
-use Rattle.co_node_inputs.specs.Keys.{sync_key, rpdo_key, rpdo_count_key}
+use Rattle.co_dict.specs.CobIds.{identifier_of}
+use Rattle.co_profile.specs.Indices.{transmission_type}
+use Rattle.co_dict.specs.declared.side.Side.TheVariants as side
+use Rattle.co_pdo.specs.Pdos.{communication_key, cob_id_of, is_pdo_active}
+use Rattle.co_node_inputs.specs.Keys.{sync_key}
 use Rattle.co_node_inputs.specs.declared.address.Address.{Address}
 use Rattle.co_node_inputs.specs.declared.address.Address.TheVariants.{Nmt, Sync, Channel, Rpdo, ErrorControl, Nobody}
 
@@ -15,24 +15,13 @@ use Rattle.co_node_inputs.specs.declared.address.Address.TheVariants.{Nmt, Sync,
 abbrev pub is_sync_id : Contents → ℕ → Bool
 is_sync_id contents id = not (number_at contents sync_key == 0) && identifier_of (number_at contents sync_key) == id
 
--- the COB-ID word of RPDO k
-abbrev pub rpdo_word : Contents → ℕ → ℕ
-rpdo_word contents k = number_at contents (rpdo_key k pdo_cob_id)
-
 -- the transmission type of RPDO k
 abbrev pub rpdo_type : Contents → ℕ → ℕ
-rpdo_type contents k = number_at contents (rpdo_key k transmission_type)
-
--- RPDO k is active: its COB-ID word is valid, something is mapped, and its transmission type is supported
-abbrev pub is_rpdo_active : Contents → ℕ → Bool
-is_rpdo_active contents k =
-    is_valid (rpdo_word contents k)
-    && not (number_at contents (rpdo_count_key k) == 0)
-    && is_supported_type (rpdo_type contents k)
+rpdo_type contents k = number_at contents (communication_key side.Rpdo k transmission_type)
 
 -- RPDO k is active, and has an identifier
 abbrev pub is_rpdo_with : Contents → ℕ → ℕ → Bool
-is_rpdo_with contents id k = is_rpdo_active contents k && identifier_of (rpdo_word contents k) == id
+is_rpdo_with contents id k = is_pdo_active side.Rpdo contents k && identifier_of (cob_id_of side.Rpdo contents k) == id
 
 -- the first active RPDO with an identifier
 unfoldable pub rpdo_with : Contents → ℕ → Option ℕ

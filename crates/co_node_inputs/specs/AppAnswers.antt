@@ -1,5 +1,5 @@
 -- What an application event is answered: done, or why it is refused.
-use Rattle.std.specs.Prelude.{ℕ, ◌==◌, ◌&&◌, not, nat_lt, Bool, true, false, Option, Some, None}
+use Rattle.std.specs.Prelude.{ℕ, ◌==◌, ◌&&◌, not, nat_lt, Bool, Option, Some, None}
 use Rattle.co_frame.specs.AbortCodes.{object_missing, invalid_value}
 use Rattle.co_dict.specs.Rows.{Rows, Contents}
 use Rattle.co_dict.specs.Stores.{Description}

@@ -1,5 +1,5 @@
 -- On which TPDOs the application gave an event (CiA 301, 7.2.2.2).
-use Rattle.std.specs.Prelude.{ℕ, ◌&&◌, Bool, false, List, [], ◌∷◌, Option, Some, None}
+use Rattle.std.specs.Prelude.{ℕ, ◌&&◌, Bool, false, List, [], ◌∷◌}
 use Rattle.std.specs.List.{filter, list_any}
 use Rattle.co_value.specs.declared.key.Key.{Key}
 use Rattle.co_value.specs.Keys.{same_key}

@@ -1,8 +1,8 @@
 -- The entries of the communication profile that a device itself looks at (CiA 301, 7.5.2).
-use Rattle.std.specs.Prelude.{ℕ, Bool, false, Option, Some, None}
+use Rattle.std.specs.Prelude.{Bool, false, Option, Some, None}
 use Rattle.co_value.specs.declared.key.Key.{Key}
 use Rattle.co_value.specs.Keys.{same_key}
-use Rattle.co_profile.specs.Indices.{error_register, sync_cob_id, emergency_cob_id, emergency_inhibit_time, producer_heartbeat, error_behaviour, rpdo_communication, rpdo_mapping, nth}
+use Rattle.co_profile.specs.Indices.{error_register, sync_cob_id, emergency_cob_id, emergency_inhibit_time, producer_heartbeat, error_behaviour}
 
 -- 1001:00, the error register
 abbrev pub error_register_key : Key
@@ -27,14 +27,6 @@ producer_key = record { index = producer_heartbeat; sub = 0 }
 -- 1029:01, the error behaviour at a communication error
 abbrev pub error_behaviour_key : Key
 error_behaviour_key = record { index = error_behaviour; sub = 1 }
-
--- a sub-index of the communication parameter of RPDO k
-abbrev pub rpdo_key : ℕ → ℕ → Key
-rpdo_key k sub = record { index = nth rpdo_communication k; sub = sub }
-
--- how many objects are mapped into RPDO k
-abbrev pub rpdo_count_key : ℕ → Key
-rpdo_count_key k = record { index = nth rpdo_mapping k; sub = 0 }
 
 -- the entry that was written, if one was, is this one
 abbrev pub is_set : Option Key → Key → Bool

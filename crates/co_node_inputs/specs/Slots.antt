@@ -1,5 +1,5 @@
 -- What an input was to the RPDO frames that wait for a SYNC, by its marks (CiA 301, 7.2.2.2 and 7.5.2.35).
-use Rattle.std.specs.Prelude.{ℕ, ◌-◌, ◌==◌, ◌&&◌, ◌||◌, not, nat_le, nat_lt, is_some, Bool, false, Option, Some, None, List, length, if◌then◌else◌}
+use Rattle.std.specs.Prelude.{ℕ, ◌-◌, ◌==◌, ◌&&◌, ◌||◌, not, nat_le, nat_lt, is_some, Bool, Option, Some, None, length, if◌then◌else◌}
 use Rattle.co_value.specs.declared.key.Key.{Key}
 use Rattle.co_dict.specs.declared.side.Side.TheVariants.{Rpdo}
 use Rattle.co_dict.specs.Rows.{Contents}

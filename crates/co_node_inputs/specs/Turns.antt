@@ -1,5 +1,5 @@
 -- What an input was to the schedule of TPDOs, by its marks (CiA 301, 7.2.2.2 to 7.2.2.4 and 7.5.2.37).
-use Rattle.std.specs.Prelude.{ℕ, ◌-◌, ◌==◌, ◌&&◌, ◌||◌, not, is_some, Bool, false, Option, Some, None, option_and_then, if◌then◌else◌}
+use Rattle.std.specs.Prelude.{ℕ, ◌-◌, ◌==◌, ◌||◌, not, is_some, Option, Some, None, option_and_then, if◌then◌else◌}
 use Rattle.co_value.specs.declared.key.Key.{Key}
 use Rattle.co_frame.specs.FrameContent.{FrameContent}
 use Rattle.co_frame.specs.Syncs.{sync_in}

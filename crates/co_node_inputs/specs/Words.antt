@@ -1,5 +1,5 @@
 -- What an input was to the state, the heartbeats and the emergencies of the device, by its marks.
-use Rattle.std.specs.Prelude.{ℕ, ◌==◌, ◌&&◌, ◌||◌, not, nat_le, is_none, Bool, true, false, Option, Some, None, List, [], ◌∷◌, map, if◌then◌else◌}
+use Rattle.std.specs.Prelude.{ℕ, ◌==◌, ◌&&◌, ◌||◌, not, is_none, Bool, true, false, Option, Some, None, List, map, if◌then◌else◌}
 use Rattle.std.specs.List.{range_with_len}
 use Rattle.co_value.specs.declared.key.Key.{Key}
 use Rattle.co_frame.specs.declared.nmt.NmtService.{NmtService}

@@ -3,9 +3,9 @@
 ghost use Rattle.std.specs.Prelude.{◌≡◌, ◌<◌, IfSome};
 ghost use Rattle.co_node_inputs.specs.Addresses.{is_sync_id, is_rpdo_with, rpdo_with, address_of, HasNumber};
 
-use crate::keys::{SYNC_COB_ID, rpdo_count_key, rpdo_key};
-use co_dict::{CobId, ObjectStore, number_u8, number_u32};
-use co_profile::{PDO_COB_ID, TRANSMISSION_TYPE};
+use crate::keys::SYNC_COB_ID;
+use co_dict::{CobId, ObjectStore, Side, number_u32};
+use co_pdo::{cob_id, is_active};
 
 /// Who takes a received frame: the first that its identifier fits, in this order (CiA 301, 7.3.5).
 #[derive(Clone, Copy, Debug, PartialEq, Eq, Hash)]
@@ -37,13 +37,7 @@ fn is_rpdo_with<S: ObjectStore>(store: &S, id: u16, number: u16) -> bool
     requires { number < 512 }
     ensures { result ≡ is_rpdo_with (S.contents store.now) id number }
 {
-    let word = CobId(number_u32(store, rpdo_key(number, PDO_COB_ID)));
-    let count = number_u8(store, rpdo_count_key(number));
-    let kind = number_u8(store, rpdo_key(number, TRANSMISSION_TYPE));
-    word.is_valid()
-        && count != 0
-        && (kind <= 240 || kind == 254 || kind == 255)
-        && word.identifier() == id
+    is_active(store, Side::Rpdo, number) && cob_id(store, Side::Rpdo, number).identifier() == id
 }
 
 /// The number of the first active RPDO with an identifier.

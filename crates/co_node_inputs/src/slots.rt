@@ -4,13 +4,27 @@ ghost use Rattle.std.specs.Prelude.{◌≡◌, ◌<◌, IfSome};
 ghost use Rattle.co_node_inputs.specs.Addresses.{rpdo_type};
 ghost use Rattle.co_node_inputs.specs.Slots.{is_short, emptied_by, kept_by, slot_event};
 
-use crate::keys::rpdo_key;
 use crate::marks::Marks;
 use co_dict::{ObjectStore, Side, number_u8};
 use co_node_parts::{KeptFrame, NodeState, SlotEvent, Transition};
 use co_pdo::Mapping;
 use co_profile::{IndexRange, PDO_COB_ID, TRANSMISSION_TYPE};
 use co_value::Key;
+
+/// The transmission type of RPDO k.
+fn rpdo_type<S: ObjectStore>(store: &S, k: u16) -> u8
+    requires { k < 512 }
+    ensures { result ≡ rpdo_type (S.contents store.now) k }
+{
+    let index = IndexRange::RPDO_COMMUNICATION.nth(k);
+    number_u8(
+        store,
+        Key {
+            index,
+            sub: TRANSMISSION_TYPE,
+        },
+    )
+}
 
 /// Whether a frame of an RPDO has fewer bytes than are mapped.
 fn is_short<S: ObjectStore>(store: &S, rpdo: &KeptFrame) -> bool
@@ -44,7 +58,7 @@ fn kept_by<S: ObjectStore>(store: &S, rpdo: &Option<KeptFrame>) -> SlotEvent
     let Some(rpdo) = *rpdo else {
         return SlotEvent::Quiet;
     };
-    if number_u8(store, rpdo_key(rpdo.number, TRANSMISSION_TYPE)) <= 240 && !is_short(store, &rpdo) {
+    if rpdo_type(store, rpdo.number) <= 240 && !is_short(store, &rpdo) {
         SlotEvent::Keep(rpdo.number, rpdo.frame)
     } else {
         SlotEvent::Quiet
