@@ -5,6 +5,7 @@ use Rattle.co_value.specs.declared.key.Key.{Key}
 use Rattle.co_value.specs.Keys.{same_key}
 use Rattle.co_value.specs.Types.{width_of}
 use Rattle.co_value.specs.Numbers.{unsigned_of}
+use Rattle.co_profile.specs.Indices.{is_within, communication_profile}
 use Rattle.co_dict.specs.declared.row.Row.{Row}
 use Rattle.co_dict.specs.declared.area.Area.{Area}
 use Rattle.co_dict.specs.declared.area.Area.TheVariants.{Communication, All}
@@ -35,7 +36,7 @@ written contents key bytes = λ other. if same_key other key then Some bytes els
 
 -- the entries that a reset restores: the communication profile's, 1000h to 1FFFh, or all
 abbrev pub is_in_area : Area → Key → Bool
-is_in_area Communication key = nat_le 0x1000 key.index && nat_le key.index 0x1FFF
+is_in_area Communication key = is_within communication_profile key.index
 is_in_area All key = true
 
 -- the contents after a reset of an area to its initial bytes

@@ -6,7 +6,7 @@ use Rattle.co_value.specs.Keys.{same_key}
 use Rattle.co_value.specs.Types.{width_of, InRange}
 use Rattle.co_value.specs.Numbers.{AreBytes}
 use Rattle.co_value.specs.declared.data_type.DataType.{DataType}
-use Rattle.co_sheet.specs.FixedTypes.{fixed_type_of}
+use Rattle.co_profile.specs.FixedTypes.{fixed_type_of}
 use Rattle.co_dict.specs.declared.row.Row.{Row}
 use Rattle.co_dict.specs.Rows.{Rows, Contents, fits}
 

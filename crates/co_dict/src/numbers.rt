@@ -3,7 +3,7 @@
 ghost use Rattle.std.specs.Prelude.{◌≡◌, Some, true, length};
 ghost use Rattle.co_value.specs.Numbers.{unsigned_of};
 ghost use Rattle.co_value.specs.declared.data_type.DataType.TheVariants.{Unsigned8, Unsigned16, Unsigned32};
-ghost use Rattle.co_sheet.specs.FixedTypes.{fixed_type_of};
+ghost use Rattle.co_profile.specs.FixedTypes.{fixed_type_of};
 ghost use Rattle.co_dict.specs.Rows.{number_at, takes};
 
 use crate::store::{ObjectStore, store_laws};

@@ -292,10 +292,11 @@ fn pdo_communication_parameter(rt: HostRuntime) -> Result<(), Fail> {
         (0x1400_02, 240, 0),
         // the inhibit time, and the SYNC start value
         (0x1800_03, 25, 0x0800_0022),
-        (0x1800_06, 1, 0x0609_0030),
-        (0x1800_06, 0, 0),
+        (0x1800_06, 1, 0x0800_0022),
         (0x1800_01, 0x8000_0185, 0),
         (0x1800_03, 25, 0),
+        (0x1800_06, 241, 0x0609_0030),
+        (0x1800_06, 240, 0),
     ];
     assert_eq!(rt; otherwise(&mut store, &steps), None);
     Ok(())

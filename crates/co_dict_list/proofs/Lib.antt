@@ -5,6 +5,7 @@ mod EntryBytes
 mod Faults
 mod GreatestCapacity
 mod InitialLemmas
+mod Roomless
 mod ListExamples
 mod Pairs
 mod Places

@@ -8,7 +8,7 @@ ghost use Rattle.co_sheet.specs.SheetLaws.{IsSheetRow};
 ghost use Rattle.co_dict_list.specs.SheetRows.{IsReady};
 ghost use Rattle.co_dict_list.specs.Capacities.{limits_view};
 ghost use Rattle.co_dict_list.specs.Built.{dummies_of, plan_of, plan_in, built_description, built_contents};
-ghost use Rattle.co_dict_list.specs.BuildFaults.{is_node, bad_cob_id, unpaired, bad_mapping, room_fault, dictionary_fault, build_fault, IsBuildFault};
+ghost use Rattle.co_dict_list.specs.BuildFaults.{is_node, bad_cob_id, unpaired, bad_mapping, parameter_fault, build_fault, IsBuildFault};
 
 mod cob_ids;
 mod entries;
@@ -53,32 +53,14 @@ fn mapping_fault<S: ObjectStore>(store: &S, rows: &[EntryRow<'_>]) -> Option<Bui
     bad_mapping(store, rows).map(BuildFault::BadMapping)
 }
 
-fn room_fault(limits: &Limits<'_>, rows: &[EntryRow<'_>]) -> Option<BuildFault>
-    requires { All (λ row. IsSheetRow (row_view row)) rows.now }
-    ensures { result ≡ room_fault (limits_view limits.now) (map row_view rows.now) }
-{
-    if is_too_many(limits, rows) {
-        Some(BuildFault::TooMany)
-    } else {
-        None
-    }
-}
-
-// the first fault of a dictionary that was made from the rows of a sheet
-fn dictionary_fault<S: ObjectStore>(
-    store: &S,
-    limits: &Limits<'_>,
-    rows: &[EntryRow<'_>],
-) -> Option<BuildFault>
-    requires sheet { All (λ row. IsSheetRow (row_view row)) rows.now }
-    requires keys { (S.description store.now).keys ≡ map (λ row. row.key) rows.now }
-    ensures { result ≡ dictionary_fault (limits_view limits.now) (map row_view rows.now)
-        (S.description store.now) (S.contents store.now) }
+// the first fault of the parameters of a dictionary that was made from the rows of a sheet
+fn parameter_fault<S: ObjectStore>(store: &S, rows: &[EntryRow<'_>]) -> Option<BuildFault>
+    requires { (S.description store.now).keys ≡ map (λ row. row.key) rows.now }
+    ensures { result ≡ parameter_fault (S.description store.now) (S.contents store.now) }
 {
     word_fault(store, rows)
         .or(pair_fault(store, rows))
         .or(mapping_fault(store, rows))
-        .or(room_fault(limits, rows))
 }
 
 // the dictionary of rows of a sheet
@@ -102,7 +84,33 @@ fn store_of(
     Ok(ListStore::new(node_id, dummies, entries))
 }
 
-// The dictionary of rows of a sheet, or its first fault. Nothing asks for memory before a node-ID or a sum was at fault.
+// The first fault of the parameters, whatever the limits are: found in a dictionary whose strings and domains have no
+// room besides that of their defaults, since none of these faults looks at the room.
+fn parameter_fault_of(
+    alloc: Global,
+    node_id: u8,
+    rows: &[EntryRow<'_>],
+    dummies: [bool; 6],
+) -> Result<Option<BuildFault>, AllocError>
+    requires first_node { 1 ≤ node_id }
+    requires last_node { node_id ≤ 127 }
+    requires ready { All (λ row. IsReady node_id (row_view row)) rows.now }
+    requires increase { AllPairs (λ e f. is_key_before e.key f.key ≡ true) rows.now }
+    ensures { IfOk result (λ fault. (limits : Limits)
+        → fault ≡ parameter_fault (built_description (plan_in node_id limits rows.now dummies))
+        (built_contents (plan_in node_id limits rows.now dummies))) }
+{
+    let no_room = Limits {
+        strings: 0,
+        domains: 0,
+        own: &[],
+    };
+    let store = store_of(alloc, node_id, &no_room, rows, dummies)?;
+    Ok(parameter_fault(&store, rows))
+}
+
+// The dictionary of rows of a sheet, or its first fault. Nothing asks for memory before a node-ID or a sum was at fault,
+// nor for the room of strings and domains before it is known that there is not too much of it.
 fn build_rows(
     alloc: Global,
     node_id: u8,
@@ -127,8 +135,14 @@ fn build_rows(
     if let Some(key) = value_out_of_range(node_id, rows) {
         return Err(BuildFault::ValueRange(key));
     }
+    if is_too_many(limits, rows) {
+        return match parameter_fault_of(alloc, node_id, rows, dummies) {
+            Ok(fault) => Err(fault.unwrap_or(BuildFault::TooMany)),
+            Err(_) => Err(BuildFault::Memory),
+        };
+    }
     match store_of(alloc, node_id, limits, rows, dummies) {
-        Ok(store) => match dictionary_fault(&store, limits, rows) {
+        Ok(store) => match parameter_fault(&store, rows) {
             Some(fault) => Err(fault),
             None => Ok(store),
         },

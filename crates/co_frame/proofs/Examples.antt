@@ -1,5 +1,5 @@
 -- Worked examples, computed from the definitions: each row of the SDO tables in both directions, the edges between rows, and the other services.
-use Rattle.std.proofs.Common.{◌≡◌, ℕ, List, [], ◌∷◌, true, false, None, Some, Option, refl, lit<, lit≤, arith}
+use Rattle.std.proofs.Common.{◌≡◌, ℕ, ◌*◌, replicate, List, [], ◌∷◌, true, false, None, Some, Option, refl, lit<, lit≤, arith}
 use Rattle.co_value.specs.declared.key.Key.{Key}
 use Rattle.arrayvec.specs.ArrayVec.{ArrayVec}
 use Rattle.co_frame.specs.declared.sdo_request.ExpeditedData.TheVariants.{Indicated, NotIndicated}
@@ -16,6 +16,8 @@ use Rattle.co_frame.specs.BlockSegments.{IsBlockSegment, block_segment_in, block
 use Rattle.co_frame.specs.Emergencies.{emergency_in, emergency_bytes}
 use Rattle.co_frame.specs.FrameContent.{IsFrame}
 use Rattle.co_frame.specs.Heartbeats.{heartbeat_in}
+use Rattle.co_frame.specs.Outboxes.{HasRoomFor}
+use Rattle.co_frame.specs.SegmentSizes.{bytes_per_segment, segments_per_sub_block, bytes_per_sub_block}
 use Rattle.co_frame.specs.Nmt.{IsNmtCommand, nmt_command_in, nmt_command_bytes}
 use Rattle.co_frame.specs.Syncs.{sync_in}
 use Rattle.co_frame.specs.SdoRequests.{IsSdoRequest, request_in, request_row_in, request_bytes}
@@ -316,6 +318,17 @@ last_segment = (refl, refl)
 
 no_segment_0 : (block_segment_in (segment 0x00) ≡ None) × (block_segment_in (segment 0x80) ≡ None)
 no_segment_0 = (refl, refl)
+
+-- a whole sub-block
+sub_block_size : segments_per_sub_block * bytes_per_segment ≡ bytes_per_sub_block
+sub_block_size = refl
+
+-- 387 frames leave room for a sub-block, 388 do not
+room_for_sub_block : HasRoomFor segments_per_sub_block (record { items = replicate 387 (record { id = 0; bytes = [] }) })
+room_for_sub_block = lit≤ tt
+
+no_room_for_sub_block : HasRoomFor segments_per_sub_block (record { items = replicate 388 (record { id = 0; bytes = [] }) }) → ⊥
+no_room_for_sub_block h = omega arith
 
 -- ---- the other services
 

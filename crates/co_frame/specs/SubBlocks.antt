@@ -2,12 +2,13 @@
 -- receiver got after the begin, newest first.
 use Rattle.std.specs.Prelude.{ℕ, ◌+◌, ◌==◌, ◌||◌, Bool, false, List, [], ◌∷◌, ◌++◌, length, Option, Some, None, if◌then◌else◌}
 use Rattle.std.specs.Option.{option_map_or}
+use Rattle.co_frame.specs.SegmentSizes.{segments_per_sub_block}
 use Rattle.co_frame.specs.BlockSegments.{block_segment_in}
 use Rattle.co_frame.specs.declared.block_segment.BlockSegment.{BlockSegment}
 
 -- a sub-block ends at the first segment, taken or not, with c or with the sequence number 127
 abbrev pub ends_sub_block : List ℕ → Bool
-ends_sub_block frame = option_map_or (λ segment. segment.last || (segment.sequence == 127)) (block_segment_in frame) false
+ends_sub_block frame = option_map_or (λ segment. segment.last || (segment.sequence == segments_per_sub_block)) (block_segment_in frame) false
 
 -- the frames of the sub-block that the next frame falls into: all, or those since a sub-block ended
 abbrev pub sub_block : List (List ℕ) → List (List ℕ)

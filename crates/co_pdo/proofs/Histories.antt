@@ -17,7 +17,7 @@ use Rattle.co_pdo.specs.Tpdos.{tpdo_key, is_active, settings_of, has_tpdo, tpdo_
 use Rattle.co_pdo.specs.Log.{Log, LogEntry, Started, Happened}
 use Rattle.co_pdo.specs.Due.{is_due, is_due_at_sync, is_due_by_event}
 use Rattle.co_pdo.specs.Countdowns.{IsAfter, IsCurrent}
-use Rattle.co_pdo.specs.Schedules.{Moment, History, is_among, log_of, with_start, with_sync, with_event, with_tick, is_tpdo_due, all_due, IsTable, AllAfter, AllCurrentAfter, with_occasion, IsScheduleAfter, AllCurrent}
+use Rattle.co_pdo.specs.Schedules.{Call, Moment, History, is_among, part_of, log_of, with_start, with_event, is_tpdo_due, all_due, IsTable, AllAfter, AllCurrentAfter, with_occasion, IsScheduleAfter, AllCurrent}
 use Rattle.co_pdo.proofs.Lists.{numbers_set, number_at_place}
 use Rattle.co_pdo.proofs.Numbers.{one_tpdo, position-None}
 
@@ -40,7 +40,7 @@ inactive d contents k laws h =
     rw absent refl
 
 not_due : (s : Settings) (log : Log) (o : Occasion) → s.is_active ≡ false → is_due s log o ≡ false
-not_due s log Sync e = ap (λ b. b && is_due_at_sync s.transmission_type log) e
+not_due s log (Sync overflow counter) e = ap (λ b. b && is_due_at_sync s.transmission_type log (Happened (Sync overflow counter) s false)) e
 not_due s log Event e = ap (λ b. b && is_due_by_event s (Happened Event s false ∷ log)) e
 not_due s log Tick e = ap (λ b. b && is_due_by_event s (Happened Tick s false ∷ log)) e
 
@@ -242,22 +242,15 @@ module _ (d : Description) (contents : Contents) (laws : IsDictionary d contents
       subst (λ (b : Bool). IsAfter (get_or new i e) (Happened o (settings_of contents (get_or new i e).number) b ∷ log_of (get_or new i e).number history))
       (sym (ap (is_among (get_or new i e).number) all_due_is ∙ due_among contents history o (get_or new i e).number small)) (after (λ k. log_of k history) had.countdowns current i e lt)
 
-pub after_sync : (d : Description) (contents : Contents) (laws : IsDictionary d contents) (value old new : List Tpdo) (history : History) (sent : List ℕ) (same : old ≡ value) (table : IsTable old)
+pub after_occasion : (d : Description) (contents : Contents) (laws : IsDictionary d contents) (value old new : List Tpdo) (history : History) (o : Occasion) (sent : List ℕ) (same : old ≡ value) (table : IsTable old)
     (numbers : map (λ t. t.number) new ≡ map (λ t. t.number) old) (given : IsScheduleAfter d value history) (current : AllCurrent contents history)
-    (due : (logs : ℕ → Log) → AllAfter old logs → AllCurrentAfter contents logs → sent ≡ filter (λ k. is_due (settings_of contents k) (logs k) Sync) (map (λ t. t.number) old))
-    (after : (logs : ℕ → Log) → AllAfter old logs → AllCurrentAfter contents logs → AllAfter new (with_occasion contents Sync logs)) (written : List Tpdo) → written ≡ new
-    → IsScheduleAfter d written (with_sync contents sent history)
-after_sync d contents laws value old new history sent same table numbers given current due after written e = rw e (record {
+    (due : (logs : ℕ → Log) → AllAfter old logs → AllCurrentAfter contents logs → sent ≡ filter (λ k. is_due (settings_of contents k) (logs k) o) (map (λ t. t.number) old))
+    (after : (logs : ℕ → Log) → AllAfter old logs → AllCurrentAfter contents logs → AllAfter new (with_occasion contents o logs))
+    (call : Call) → ((k : ℕ) → Happened o (settings_of contents k) (is_among k sent) ∷ [] ≡ part_of k call contents sent) → (written : List Tpdo) → written ≡ new
+    → IsScheduleAfter d written (record { call = call; contents = contents; sent = sent } ∷ history)
+after_occasion d contents laws value old new history o sent same table numbers given current due after call each written e = rw e (record {
   numbers = numbers ∙ ap (map (λ t. t.number)) same ∙ given.numbers;
-  countdowns = each_after d contents laws value old new history Sync sent same table numbers given current due after;
-})
-
-pub after_tick : (d : Description) (contents : Contents) (laws : IsDictionary d contents) (value old new : List Tpdo) (history : History) (sent : List ℕ) (same : old ≡ value) (table : IsTable old)
-    (numbers : map (λ t. t.number) new ≡ map (λ t. t.number) old) (given : IsScheduleAfter d value history) (current : AllCurrent contents history)
-    (due : (logs : ℕ → Log) → AllAfter old logs → AllCurrentAfter contents logs → sent ≡ filter (λ k. is_due (settings_of contents k) (logs k) Tick) (map (λ t. t.number) old))
-    (after : (logs : ℕ → Log) → AllAfter old logs → AllCurrentAfter contents logs → AllAfter new (with_occasion contents Tick logs)) (written : List Tpdo) → written ≡ new
-    → IsScheduleAfter d written (with_tick contents sent history)
-after_tick d contents laws value old new history sent same table numbers given current due after written e = rw e (record {
-  numbers = numbers ∙ ap (map (λ t. t.number)) same ∙ given.numbers;
-  countdowns = each_after d contents laws value old new history Tick sent same table numbers given current due after;
+  countdowns = λ i t lt.
+      subst (λ (entries : Log). IsAfter (get_or new i t) (entries ++ log_of (get_or new i t).number history)) (each (get_or new i t).number)
+      (each_after d contents laws value old new history o sent same table numbers given current due after i t lt);
 })

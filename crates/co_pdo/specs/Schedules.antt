@@ -1,13 +1,13 @@
 -- What a schedule was asked and answered, the newest first, and which TPDOs are due after that.
-use Rattle.std.specs.Prelude.{◌≡◌, ℕ, ◌<◌, ◌≤◌, ◌==◌, Bool, List, [], ◌∷◌, ◌++◌, length, map, if◌then◌else◌}
+use Rattle.std.specs.Prelude.{◌≡◌, ℕ, ◌<◌, ◌≤◌, ◌==◌, Bool, Option, List, [], ◌∷◌, ◌++◌, length, map, if◌then◌else◌}
 use Rattle.std.specs.List.{filter, list_any, slice_index_or}
-use Rattle.co_dict.specs.Rows.{Contents}
+use Rattle.co_dict.specs.Rows.{Contents, number_at}
 use Rattle.co_dict.specs.Stores.{Description}
 use Rattle.co_pdo.specs.declared.tpdo.Part.{Part}
 use Rattle.co_pdo.specs.declared.tpdo.Occasion.{Occasion}
 use Rattle.co_pdo.specs.declared.tpdo.Occasion.TheVariants.{Sync, Event, Tick}
 use Rattle.co_pdo.specs.declared.tpdo.Tpdo.{Tpdo}
-use Rattle.co_pdo.specs.Tpdos.{settings_of, tpdo_numbers, tpdos_of}
+use Rattle.co_pdo.specs.Tpdos.{counter_overflow_key, settings_of, tpdo_numbers, tpdos_of}
 use Rattle.co_pdo.specs.Log.{Log, Started, Happened}
 use Rattle.co_pdo.specs.Due.{is_due}
 use Rattle.co_pdo.specs.Countdowns.{IsAfter, IsCurrent}
@@ -15,7 +15,7 @@ use Rattle.co_pdo.specs.Countdowns.{IsAfter, IsCurrent}
 -- one call of a schedule
 pub data Call : Type 0 where
   Start : ℕ → Part → Call
-  OnSync : Call
+  OnSync : Option ℕ → Call
   OnEvent : ℕ → Call
   OnTick : Call
 
@@ -29,6 +29,10 @@ pub record Moment : Type 0 where
 abbrev pub History : Type 0
 History = List Moment
 
+-- a SYNC with this counter, with the counter overflow value of the dictionary then
+abbrev pub sync_with : Option ℕ → Contents → Occasion
+sync_with counter contents = Sync (number_at contents counter_overflow_key) counter
+
 -- a number is one of those
 abbrev pub is_among : ℕ → List ℕ → Bool
 is_among k numbers = list_any (λ j. j == k) numbers
@@ -36,7 +40,7 @@ is_among k numbers = list_any (λ j. j == k) numbers
 -- what one call is to TPDO k
 abbrev pub part_of : ℕ → Call → Contents → List ℕ → Log
 part_of k (Start j part) contents sent = if j == k then Started part (settings_of contents k) ∷ [] else []
-part_of k OnSync contents sent = Happened Sync (settings_of contents k) (is_among k sent) ∷ []
+part_of k (OnSync counter) contents sent = Happened (sync_with counter contents) (settings_of contents k) (is_among k sent) ∷ []
 part_of k (OnEvent j) contents sent = if j == k then Happened Event (settings_of contents k) (is_among k sent) ∷ [] else []
 part_of k OnTick contents sent = Happened Tick (settings_of contents k) (is_among k sent) ∷ []
 
@@ -45,12 +49,12 @@ abbrev pub log_of : ℕ → History → Log
 log_of k [] = []
 log_of k (m ∷ history) = part_of k m.call m.contents m.sent ++ log_of k history
 
--- a history with one more call: a start, a SYNC, an event on TPDO k that was sent or not, or a tick
+-- a history with one more call: a start, a SYNC with a counter or none, an event on TPDO k that was sent or not, or a tick
 abbrev pub with_start : ℕ → Part → Contents → History → History
 with_start k part contents history = record { call = Start k part; contents = contents; sent = [] } ∷ history
 
-abbrev pub with_sync : Contents → List ℕ → History → History
-with_sync contents sent history = record { call = OnSync; contents = contents; sent = sent } ∷ history
+abbrev pub with_sync : Option ℕ → Contents → List ℕ → History → History
+with_sync counter contents sent history = record { call = OnSync counter; contents = contents; sent = sent } ∷ history
 
 abbrev pub with_event : ℕ → Contents → Bool → History → History
 with_event k contents is_sent history = record { call = OnEvent k; contents = contents; sent = if is_sent then k ∷ [] else [] } ∷ history

@@ -4,9 +4,9 @@ ghost use Rattle.std.specs.Prelude.{◌≡◌, ℕ, ◌<◌, ◌==◌, false, []
 ghost use Rattle.co_pdo.specs.declared.settings.Settings.{Settings};
 ghost use Rattle.co_pdo.specs.Tpdos.{settings_of};
 ghost use Rattle.co_pdo.specs.Countdowns.{IsCurrent, IsAsStarted};
-ghost use Rattle.co_pdo.specs.Schedules.{History, log_of, with_start, with_sync, with_event, with_tick, is_tpdo_due, all_due, IsScheduleAfter, IsCurrentOn, AllCurrent};
+ghost use Rattle.co_pdo.specs.Schedules.{History, log_of, sync_with, with_start, with_sync, with_event, with_tick, is_tpdo_due, all_due, IsScheduleAfter, IsCurrentOn, AllCurrent};
 
-use crate::settings::read_settings;
+use crate::settings::{counter_overflow, read_settings};
 use crate::tpdo::{Occasion, Part, Tpdo};
 use crate::tpdos::{Due, all_happen, place_of, tpdos_in};
 use co_dict::ObjectStore;
@@ -18,7 +18,8 @@ use std::marker::Model;
 ///
 /// Each call has the contents of the dictionary then. What the dictionary says of a TPDO has to be current when a SYNC,
 /// an event or a tick comes: after a write of its COB-ID, transmission type, inhibit time or mapping it was started whole
-/// if it is active, and after a write of its event timer it was started, whole or its timer alone.
+/// if it is active, and after a write of its event timer it was started, whole or its timer alone. Its SYNC start value
+/// and 1019h are read at each SYNC before its count begins.
 #[derive(Drop)]
 pub struct Schedule {
     tpdos: Vec<Tpdo>,
@@ -70,22 +71,27 @@ impl Schedule {
         }
     }
 
-    /// A SYNC came: the numbers of the TPDOs that are due, increasing. They count as sent.
-    pub fn on_sync<S: ObjectStore>(&mut self, store: &S) -> Due
+    /// A SYNC came, with the counter in its one byte or with none: the numbers of the TPDOs that are due, increasing. They
+    /// count as sent. A TPDO of type 1 to 240 with a SYNC start value of 1 to 240 counts from the SYNC on whose counter that
+    /// is, unless 1019h is 0 or absent; each other one from the first SYNC after its start (CiA 301, 7.5.2.37).
+    pub fn on_sync<S: ObjectStore>(&mut self, store: &S, counter: Option<u8>) -> Due
         ensures due { (history : History) →
             IsScheduleAfter (S.description store.now) self.old history →
             AllCurrent (S.contents store.now) history →
-            result.items ≡ all_due (S.contents store.now) history Occasion.Sync }
+            result.items ≡
+            all_due (S.contents store.now) history (sync_with counter (S.contents store.now)) }
         ensures after { (history : History) →
             IsScheduleAfter (S.description store.now) self.old history →
             AllCurrent (S.contents store.now) history →
             IsScheduleAfter (S.description store.now) self.new
-            (with_sync (S.contents store.now) result.items history) }
+            (with_sync counter (S.contents store.now) result.items history) }
         ensures current { (history : History) (j : ℕ) (s : Settings) →
             IsCurrent s (log_of j history) →
-            IsCurrent s (log_of j (with_sync (S.contents store.now) result.items history)) }
+            IsCurrent s
+            (log_of j (with_sync counter (S.contents store.now) result.items history)) }
     {
-        all_happen(&mut self.tpdos, Occasion::Sync, store)
+        let sync = Occasion::Sync(counter_overflow(store), counter);
+        all_happen(&mut self.tpdos, sync, store)
     }
 
     /// An event came for TPDO k, 0 to 511: whether the TPDO is due, and then counts as sent. False where there is none.

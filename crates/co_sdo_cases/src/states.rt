@@ -3,7 +3,7 @@
 
 use crate::device::{Device, frame_of, small_device};
 use crate::reply_table::{
-    Outcome, block_upload_initiated, block_upload_ended, block_upload_sent, full_sub_block, idle,
+    Outcome, block_upload_ended, block_upload_initiated, block_upload_sent, full_sub_block, idle,
     last_segment_taken, segmented_download, segmented_upload, sub_block,
 };
 use arrayvec::ArrayVec;

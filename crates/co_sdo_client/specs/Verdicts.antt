@@ -3,6 +3,7 @@ use Rattle.std.specs.Prelude.{ℕ, ◌+◌, ◌==◌, ◌&&◌, Bool, false, not
 use Rattle.std.specs.Option.{option_map_or}
 use Rattle.co_value.specs.declared.key.Key.{Key}
 use Rattle.co_value.specs.Keys.{same_key}
+use Rattle.co_frame.specs.SegmentSizes.{segments_per_sub_block}
 use Rattle.co_frame.specs.AbortCodes.{toggle_not_alternated, timed_out, unknown_command, invalid_block_size, invalid_sequence_number, out_of_memory, too_long, too_short}
 use Rattle.co_frame.specs.BlockSegments.{block_segment_in, is_abort_in_sub_block}
 use Rattle.co_frame.specs.SdoParts.{code_in}
@@ -74,7 +75,7 @@ below_indicated size total = (is_below_size size total, too_short)
 
 -- a block size is 1 to 127
 abbrev pub bad_block_size : ℕ → Bool × ℕ
-bad_block_size size = (not (nat_le 1 size && nat_le size 127), invalid_block_size)
+bad_block_size size = (not (nat_le 1 size && nat_le size segments_per_sub_block), invalid_block_size)
 
 -- more segments are acknowledged than were sent
 abbrev pub bad_sequence : ℕ → ℕ → Bool × ℕ
@@ -154,7 +155,7 @@ held_with held taken frame = held ++ bytes_taken (segment_next taken frame)
 abbrev pub sub_block_end : Call → ℕ → List ℕ → List ℕ → Verdict
 sub_block_end call taken held frame =
     unless_fault ((if is_last_taken (segment_next taken frame) then (false, 0) else no_room call (length (held_with held taken frame))) ∷ [])
-    (GoesOn (Request (BlockUploadAcknowledge (taken_with taken frame) 127) ∷ []))
+    (GoesOn (Request (BlockUploadAcknowledge (taken_with taken frame) segments_per_sub_block) ∷ []))
 
 -- a frame inside a sub-block: 80h is an abort, all others are segments, or nothing
 abbrev pub sub_block_verdict : Call → ℕ → List ℕ → List ℕ → Verdict

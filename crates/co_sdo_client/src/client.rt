@@ -14,7 +14,7 @@ use crate::mode::Mode;
 use crate::stage::Stage;
 use crate::state::ClientState;
 use crate::transfer::Transfer;
-use co_frame::{Frame, Ids, Outbox};
+use co_frame::{BYTES_PER_SUB_BLOCK, Frame, Ids, Outbox};
 use co_value::Key;
 use std::alloc::{AllocError, Global};
 use std::marker::Model;
@@ -120,7 +120,7 @@ impl<'a> Client<'a> {
         })) }
     {
         let room = match mode {
-            Mode::Block => usize::from(cap) + 889,
+            Mode::Block => usize::from(cap) + BYTES_PER_SUB_BLOCK,
             _ => usize::from(cap),
         };
         Ok(Client {

@@ -74,7 +74,8 @@ impl<S: ObjectStore + Drop> Served<S> {
             request: 0x605,
             answer: 0x585,
         };
-        let channel = Channel::new(alloc, ids, 65535, 1000)?;
+        // the greatest capacity, and the longest time
+        let channel = Channel::new(alloc, ids, 65535, 65535)?;
         Ok(Served { channel, store })
     }
 

@@ -40,37 +40,52 @@ fn value(alloc: Global, length: u16) -> Result<Vec<u8>, Fail> {
     Ok(bytes)
 }
 
-// how many bytes, and how many frames a client sends: a plain download, a segmented one, one by blocks, an upload by
-// segments, one by blocks
-const ROWS: [(u16, [u64; 5]); 10] = [
-    (0, [2, 2, 3, 2, 4]),
-    (1, [1, 2, 3, 1, 4]),
-    (4, [1, 2, 3, 1, 4]),
-    (5, [2, 2, 3, 2, 4]),
-    (7, [2, 2, 3, 2, 4]),
-    (8, [3, 3, 4, 3, 4]),
-    (14, [3, 3, 4, 3, 4]),
-    (889, [128, 128, 129, 128, 4]),
-    (890, [129, 129, 130, 129, 5]),
-    (65535, [9364, 9364, 9365, 9364, 77]),
-];
+const MODES: [Mode; 3] = [Mode::Plain, Mode::Segmented, Mode::Block];
+
+// How many bytes, and how many frames the client of a download sends: plain, segmented, in blocks.
+const DOWNLOADS: &str = "\
+0 2 2 3
+1 1 2 3
+4 1 2 3
+5 2 2 3
+7 2 2 3
+8 3 3 4
+14 3 3 4
+889 128 128 129
+890 129 129 130
+65535 9364 9364 9365
+";
+
+// The same of an upload.
+const UPLOADS: &str = "\
+0 2 2 4
+1 1 1 4
+4 1 1 4
+5 2 2 4
+7 2 2 4
+8 3 3 4
+14 3 3 4
+889 128 128 4
+890 129 129 5
+65535 9364 9364 77
+";
 
 #[test]
 fn downloads(rt: HostRuntime) -> Result<(), Fail> {
-    for (length, counts) in ROWS {
+    for line in DOWNLOADS.lines() {
+        let mut words = line.split_whitespace();
+        let length = words.next().ok_or("no length")?.parse()?;
         let bytes = value(rt.alloc(), length)?;
         assert!(rt; bytes.len() <= 65535);
-        for (mode, count) in [Mode::Plain, Mode::Segmented, Mode::Block]
-            .iter()
-            .zip(counts.iter())
-        {
+        for mode in MODES {
+            let count: u64 = words.next().ok_or("no count")?.parse()?;
             for indicated in [true, false] {
                 let mut server = server(rt.alloc(), 65535)?;
-                let mut client = Client::download(IDS, KEY, bytes.as_slice(), *mode, indicated, 1);
+                let mut client = Client::download(IDS, KEY, bytes.as_slice(), mode, indicated, 1);
                 runs(&mut client, &mut server);
-                assert_eq!(rt; client.state(), ClientState::Done, "{length} bytes");
-                assert_eq!(rt; client.sent(), *count, "{length} bytes");
-                assert_eq!(rt; server.bytes(), Some(bytes.as_slice()), "{length} bytes");
+                assert_eq!(rt; client.state(), ClientState::Done, "{line}");
+                assert_eq!(rt; client.sent(), count, "{line}");
+                assert_eq!(rt; server.bytes(), Some(bytes.as_slice()), "{line}");
             }
         }
     }
@@ -79,20 +94,19 @@ fn downloads(rt: HostRuntime) -> Result<(), Fail> {
 
 #[test]
 fn uploads(rt: HostRuntime) -> Result<(), Fail> {
-    for (length, [_, _, _, by_segments, by_blocks]) in ROWS {
+    for line in UPLOADS.lines() {
+        let mut words = line.split_whitespace();
+        let length = words.next().ok_or("no length")?.parse()?;
         let bytes = value(rt.alloc(), length)?;
-        for (mode, count) in [
-            (Mode::Plain, by_segments),
-            (Mode::Segmented, by_segments),
-            (Mode::Block, by_blocks),
-        ] {
+        for mode in MODES {
+            let count: u64 = words.next().ok_or("no count")?.parse()?;
             let mut server = server(rt.alloc(), 65535)?;
             server.write(bytes.as_slice())?;
-            let mut client = Client::upload(rt.alloc(), IDS, KEY, length, mode, 1)?;
+            let mut client = Client::upload(rt.alloc(), IDS, KEY, length, mode, 65535)?;
             runs(&mut client, &mut server);
-            assert_eq!(rt; client.state(), ClientState::Done, "{length} bytes");
-            assert_eq!(rt; client.sent(), count, "{length} bytes");
-            assert_eq!(rt; client.result(), bytes.as_slice(), "{length} bytes");
+            assert_eq!(rt; client.state(), ClientState::Done, "{line}");
+            assert_eq!(rt; client.sent(), count, "{line}");
+            assert_eq!(rt; client.result(), bytes.as_slice(), "{line}");
         }
     }
     Ok(())

@@ -8,7 +8,7 @@ use Rattle.co_value.specs.Keys.{same_key, same_key-is}
 use Rattle.co_value.specs.Numbers.{AreBytes}
 use Rattle.co_value.specs.declared.data_type.DataType.TheVariants.{VisibleString, Domain}
 use Rattle.co_value.specs.declared.data_type.DataType.{DataType}
-use Rattle.co_sheet.specs.FixedTypes.{fixed_type_of}
+use Rattle.co_profile.specs.FixedTypes.{fixed_type_of}
 use Rattle.co_value.specs.Types.{width_of}
 use Rattle.co_frame.specs.SdoRequests.{request_row_in}
 use Rattle.co_frame.specs.SdoResponses.{response_row_in}

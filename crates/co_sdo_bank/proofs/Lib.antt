@@ -1,0 +1,5 @@
+mod Searches
+mod Numbers
+mod Changes
+mod Places
+mod Outcomes
