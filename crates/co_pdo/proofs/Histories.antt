@@ -1,6 +1,6 @@
 -- One more call in the history of a schedule.
 use Rattle.std.proofs.Common.{◌≡◌, ◌≢◌, ℕ, zero, suc, ◌+◌, ◌<◌, ◌≤◌, Bool, true, false, cond, eqb, List, [], ◌∷◌, ◌++◌, length, map, get_or, set, take, Option, Some, None, refl, sym, ap, ◌∙◌, subst, arith, get_or-set_same, get_or-set_other, length-set}
-use Rattle.std.specs.Prelude.{◌&&◌, ◌||◌, is_some, position}
+use Rattle.std.specs.Prelude.{◌&&◌, ◌||◌, position}
 use Rattle.std.specs.List.{filter, range_with_len}
 use Rattle.std.proofs.Math.Bool.{and-false}
 use Rattle.std.proofs.Math.Seq.{take-append_seam}
@@ -14,11 +14,13 @@ use Rattle.co_pdo.specs.declared.tpdo.Part.{Part}
 use Rattle.co_pdo.specs.declared.tpdo.Occasion.{Occasion}
 use Rattle.co_pdo.specs.declared.tpdo.Occasion.TheVariants.{Sync, Event, Tick}
 use Rattle.co_pdo.specs.declared.tpdo.Tpdo.{Tpdo}
-use Rattle.co_pdo.specs.Tpdos.{tpdo_key, is_active, settings_of, has_tpdo, tpdo_numbers, tpdos_of}
+use Rattle.co_pdo.specs.Tpdos.{settings_of, has_tpdo, tpdo_numbers, tpdos_of}
 use Rattle.co_pdo.specs.Log.{Log, LogEntry, Started, Happened}
 use Rattle.co_pdo.specs.Due.{is_due, is_due_at_sync, is_due_by_event}
 use Rattle.co_pdo.specs.Countdowns.{IsAfter, IsCurrent}
 use Rattle.co_pdo.specs.Schedules.{Call, Moment, History, is_among, part_of, log_of, with_start, with_all_started, with_event, with_events, is_tpdo_due, all_due, all_due_among, IsTable, AllAfter, AllCurrentAfter, with_occasion, with_whole_start, with_events_among, IsScheduleAfter, AllCurrent}
+use Rattle.co_dict.specs.declared.side.Side.TheVariants as side
+use Rattle.co_pdo.proofs.Actives.{inactive}
 use Rattle.co_pdo.proofs.Lists.{numbers_set, number_at_place}
 use Rattle.co_pdo.proofs.Numbers.{one_tpdo, position-None}
 
@@ -31,22 +33,13 @@ eqb_same n = grind (arith, nat_tests)
 
 -- ---- a TPDO that the dictionary doesn't have is never due
 
-no_bytes : {X Y : Type 0} (o : Option X) (r : Option Y) → is_some o ≡ is_some r → is_some r ≡ false → o ≡ None
-no_bytes None r e h = refl
-no_bytes (Some x) r e h = cc
-
-pub inactive : (d : Description) (contents : Contents) (k : ℕ) → IsDictionary d contents → has_tpdo d.rows k ≡ false → is_active contents k ≡ false
-inactive d contents k laws h =
-    let absent : contents (tpdo_key k 1) ≡ None = no_bytes (contents (tpdo_key k 1)) (d.rows (tpdo_key k 1)) (laws.filled.present (tpdo_key k 1)) h in
-    rw absent refl
-
 not_due : (s : Settings) (log : Log) (o : Occasion) → s.is_active ≡ false → is_due s log o ≡ false
 not_due s log (Sync overflow counter) e = ap (λ b. b && is_due_at_sync s.transmission_type log (Happened (Sync overflow counter) s false)) e
 not_due s log Event e = ap (λ b. b && is_due_by_event s (Happened Event s false ∷ log)) e
 not_due s log Tick e = ap (λ b. b && is_due_by_event s (Happened Tick s false ∷ log)) e
 
 pub absent_not_due : (d : Description) (contents : Contents) (history : History) (o : Occasion) (k : ℕ) → IsDictionary d contents → has_tpdo d.rows k ≡ false → is_tpdo_due contents history o k ≡ false
-absent_not_due d contents history o k laws h = not_due (settings_of contents k) (log_of k history) o (inactive d contents k laws h)
+absent_not_due d contents history o k laws h = not_due (settings_of contents k) (log_of k history) o (inactive side.Tpdo d contents k laws h)
 
 filter_within : (p q : ℕ → Bool) → ((k : ℕ) → q k ≡ false → p k ≡ false) → (xs : List ℕ) → filter p (filter q xs) ≡ filter p xs
 filter_within p q never [] = refl

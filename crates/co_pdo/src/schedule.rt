@@ -64,6 +64,7 @@ impl Schedule {
         ensures others { (history : History) (j : ℕ) (s : Settings) → (k == j) ≡ false →
             IsCurrent s (log_of j history) →
             IsCurrent s (log_of j (with_start k part (S.contents store.now) history)) }
+        ensures size { length self.new ≡ length self.old }
     {
         if let Some(i) = place_of(&self.tpdos, k) {
             let settings = read_settings(store, k);
@@ -124,6 +125,7 @@ impl Schedule {
         ensures current { (history : History) (j : ℕ) (s : Settings) →
             IsCurrent s (log_of j history) →
             IsCurrent s (log_of j (with_event k (S.contents store.now) result history)) }
+        ensures size { length self.new ≡ length self.old }
     {
         match place_of(&self.tpdos, k) {
             Some(i) => self.tpdos[i].happens(Occasion::Event, store),
