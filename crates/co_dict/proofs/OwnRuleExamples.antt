@@ -314,9 +314,26 @@ sync_start_0 : byte nothing 0x1800 6 0 ≡ None
 unfolding searches
 sync_start_0 = refl
 
-sync_start_1 : byte nothing 0x1800 6 1 ≡ Some 0x0609_0030
+sync_start_240 : byte (with_u32 0x1800 1 0x8000_0185 nothing) 0x1800 6 240 ≡ None
 unfolding searches
-sync_start_1 = refl
+sync_start_240 = refl
+
+sync_start_241 : byte (with_u32 0x1800 1 0x8000_0185 nothing) 0x1800 6 241 ≡ Some 0x0609_0030
+unfolding searches
+sync_start_241 = refl
+
+-- the state comes before the value, and 0 is refused as well
+sync_start_of_a_valid_pdo : byte (with_u32 0x1800 1 0x185 nothing) 0x1800 6 241 ≡ Some 0x0800_0022
+unfolding searches
+sync_start_of_a_valid_pdo = refl
+
+sync_start_0_of_a_valid_pdo : byte (with_u32 0x19FF 1 0x185 nothing) 0x19FF 6 0 ≡ Some 0x0800_0022
+unfolding searches
+sync_start_0_of_a_valid_pdo = refl
+
+sync_start_beside_a_valid_pdo : byte (with_u32 0x1801 1 0x185 nothing) 0x1800 6 1 ≡ None
+unfolding searches
+sync_start_beside_a_valid_pdo = refl
 
 -- ---- mapping parameters of PDOs
 

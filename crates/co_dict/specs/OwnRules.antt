@@ -61,6 +61,7 @@ own_rule_of key = option_map (λ r. r.0) (find (λ r. is_within r.1 key.index &&
 -- what a rule's index is: a communication parameter of a TPDO, or a mapping parameter of a side
 abbrev pub is_rule_index : OwnRule → ℕ → Bool
 is_rule_index InhibitTime index = is_within tpdo_communication index
+is_rule_index SyncStartValue index = is_within tpdo_communication index
 is_rule_index (MappingCount side) index = is_mapping_index side index
 is_rule_index (MappingEntry side) index = is_mapping_index side index
 is_rule_index rule index = true
@@ -91,7 +92,7 @@ rule_refusal SyncCounterOverflow d contents key number = counter_overflow_refusa
 rule_refusal ErrorBehaviour d contents key number = error_behaviour_refusal number
 rule_refusal TransmissionType d contents key number = transmission_type_refusal number
 rule_refusal InhibitTime d contents key number = inhibit_time_refusal contents key.index
-rule_refusal SyncStartValue d contents key number = sync_start_refusal number
+rule_refusal SyncStartValue d contents key number = sync_start_refusal contents key.index number
 rule_refusal (MappingCount side) d contents key number = mapping_count_refusal side d contents key.index number
 rule_refusal (MappingEntry side) d contents key number = mapping_entry_refusal side d contents key.index number
 

@@ -80,7 +80,9 @@ pub(crate) fn check_own_rule<S: ObjectStore>(
         OwnRule::ErrorBehaviour => check_error_behaviour(byte_for(store, key, bytes)),
         OwnRule::TransmissionType => check_transmission_type(byte_for(store, key, bytes)),
         OwnRule::InhibitTime => check_inhibit_time(store, key.index),
-        OwnRule::SyncStartValue => check_sync_start(byte_for(store, key, bytes)),
+        OwnRule::SyncStartValue => {
+            check_sync_start(store, key.index, byte_for(store, key, bytes))
+        }
         OwnRule::MappingCount(side) => check_mapping_count(
             store,
             side,

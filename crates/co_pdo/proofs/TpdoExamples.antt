@@ -4,7 +4,7 @@ use Rattle.co_pdo.specs.declared.settings.Settings.{Settings}
 use Rattle.co_pdo.specs.declared.tpdo.Occasion.{Occasion}
 use Rattle.co_pdo.specs.declared.tpdo.Occasion.TheVariants.{Sync, Event, Tick}
 use Rattle.co_pdo.specs.declared.tpdo.Part.TheVariants.{Whole, Timer}
-use Rattle.co_pdo.specs.Tpdos.{is_supported_type}
+use Rattle.co_pdo.specs.Pdos.{is_supported_type}
 use Rattle.co_pdo.specs.Log.{Log, Started, Happened}
 use Rattle.co_pdo.specs.Due.{in_ms, begins_count, is_due}
 

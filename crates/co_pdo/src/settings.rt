@@ -2,11 +2,12 @@
 
 ghost use Rattle.std.specs.Prelude.{◌≡◌, ◌<◌};
 ghost use Rattle.co_dict.specs.Rows.{number_at};
-ghost use Rattle.co_pdo.specs.Tpdos.{tpdo_key, tpdo_count_key, counter_overflow_key, is_active, is_supported_type, settings_of, has_tpdo};
+ghost use Rattle.co_pdo.specs.Tpdos.{tpdo_key, counter_overflow_key, settings_of};
 ghost use Rattle.co_pdo.specs.Due.{waits_for_none, begins_count};
 
-use co_dict::{CobId, ObjectStore, number_u8, number_u16, number_u32};
-use co_profile::IndexRange;
+use crate::pdos::is_active;
+use co_dict::{ObjectStore, Side, number_u8, number_u16};
+use co_profile::{IndexRange, SYNC_COUNTER_OVERFLOW};
 use co_value::Key;
 
 /// What the dictionary says of one TPDO (CiA 301, 7.5.2.37).
@@ -24,13 +25,6 @@ pub struct Settings {
     pub start_value: u8,
 }
 
-/// Whether a transmission type is supported: 0 to 240, 254 and 255.
-fn is_supported(transmission_type: u8) -> bool
-    ensures { result ≡ is_supported_type transmission_type }
-{
-    transmission_type <= 240 || transmission_type == 254 || transmission_type == 255
-}
-
 /// The key of a sub-index of the communication parameter of TPDO k.
 fn tpdo_key(k: u16, sub: u8) -> Key
     requires { k < 512 }
@@ -42,43 +36,13 @@ fn tpdo_key(k: u16, sub: u8) -> Key
     }
 }
 
-/// The key of the number of objects that are mapped into TPDO k.
-fn tpdo_count_key(k: u16) -> Key
-    requires { k < 512 }
-    ensures { result ≡ tpdo_count_key k }
-{
-    Key {
-        index: IndexRange::TPDO_MAPPING.nth(k),
-        sub: 0,
-    }
-}
-
-/// Whether the dictionary has TPDO k.
-pub(crate) fn exists<S: ObjectStore>(store: &S, k: u16) -> bool
-    requires { k < 512 }
-    ensures { result ≡ has_tpdo (S.description store.now).rows k }
-{
-    store.row(tpdo_key(k, 1)).is_some()
-}
-
-/// Whether TPDO k is active.
-pub(crate) fn is_active_now<S: ObjectStore>(store: &S, k: u16) -> bool
-    requires { k < 512 }
-    ensures { result ≡ is_active (S.contents store.now) k }
-{
-    let word = CobId(number_u32(store, tpdo_key(k, 1)));
-    let count = number_u8(store, tpdo_count_key(k));
-    let transmission_type = number_u8(store, tpdo_key(k, 2));
-    word.is_valid() && count != 0 && is_supported(transmission_type)
-}
-
 /// What the dictionary says of TPDO k.
 pub(crate) fn read_settings<S: ObjectStore>(store: &S, k: u16) -> Settings
     requires { k < 512 }
     ensures { result ≡ settings_of (S.contents store.now) k }
 {
     Settings {
-        is_active: is_active_now(store, k),
+        is_active: is_active(store, Side::Tpdo, k),
         transmission_type: number_u8(store, tpdo_key(k, 2)),
         inhibit_time: number_u16(store, tpdo_key(k, 3)),
         event_timer: number_u16(store, tpdo_key(k, 5)),
@@ -93,7 +57,7 @@ pub(crate) fn counter_overflow<S: ObjectStore>(store: &S) -> u8
     number_u8(
         store,
         Key {
-            index: 0x1019,
+            index: SYNC_COUNTER_OVERFLOW,
             sub: 0,
         },
     )

@@ -8,8 +8,9 @@ ghost use Rattle.co_pdo.specs.Due.{is_due, is_event_driven};
 ghost use Rattle.co_pdo.specs.Countdowns.{IsAfter, IsCurrent};
 ghost use Rattle.co_pdo.specs.Steps.{counts, counted, wants, marked};
 
-use crate::settings::{Settings, begins_count, is_active_now};
-use co_dict::ObjectStore;
+use crate::pdos::is_active;
+use crate::settings::{Settings, begins_count};
+use co_dict::{ObjectStore, Side};
 
 /// What may happen to a TPDO.
 #[derive(Clone, Copy, Debug)]
@@ -183,7 +184,7 @@ impl Tpdo {
             IsAfter self.new (Happened occasion s result ∷ log) }
     {
         let counts = self.counts(occasion, store);
-        let due = self.count(occasion, counts) && is_active_now(store, self.number);
+        let due = self.count(occasion, counts) && is_active(store, Side::Tpdo, self.number);
         if due {
             self.mark_sent();
         }

@@ -7,10 +7,10 @@ ghost use Rattle.co_pdo.specs.Log.{Log};
 ghost use Rattle.co_pdo.specs.Due.{is_due};
 ghost use Rattle.co_pdo.specs.Schedules.{IsTable, AllAfter, AllCurrentAfter, with_occasion};
 
-use crate::settings::exists;
+use crate::pdos::has_pdo;
 use crate::tpdo::{Occasion, Tpdo};
 use arrayvec::ArrayVec;
-use co_dict::ObjectStore;
+use co_dict::{ObjectStore, Side};
 use std::alloc::{AllocError, Global};
 
 /// The numbers of TPDOs that are due, increasing.
@@ -25,7 +25,7 @@ pub(crate) fn tpdos_in<S: ObjectStore>(alloc: Global, store: &S) -> Result<Vec<T
 {
     let mut tpdos = Vec::with_capacity(alloc, 512)?;
     for k in 0..512u16 {
-        if exists(store, k) {
+        if has_pdo(store, Side::Tpdo, k) {
             tpdos.push_reserved(Tpdo::new(k));
         }
     }

@@ -11,7 +11,7 @@ use co_pdo::{Part, Schedule};
 use std::alloc::Global;
 use std::test::Fail;
 
-const SCRIPTS: [&str; 3] = [
+const SCRIPTS: [&str; 6] = [
     // the inhibit time of TPDO 0 is 3 ticks, and the timer of TPDO 1 begins again after the fourth
     "180001=80000185 180003=19 180001=185 180105=A s. u. e0 e. f1 t. t. t0 t. r.
      t. t. t. t. t. t. t. t. t. t1 t. t.",
@@ -19,6 +19,12 @@ const SCRIPTS: [&str; 3] = [
     "180001=80000185 180003=FFFF 180001=185 180005=FFFF n. s. e0 e. t. e. t.",
     // type 3, and then type 0
     "180002=3 s. -. -. -0 -. 180002=0 s. -. e. -0 -.",
+    // from the counter 2 on, type 2
+    "101900=4 180001=80000185 180006=2 180001=185 180002=2 s. 1. 2. 30 4. 10",
+    // a SYNC without a counter before them
+    "101900=4 180001=80000185 180006=2 180001=185 180002=2 s. -. 1. 2. 30 4. 10",
+    // what may be written into the SYNC start value
+    "180006=3:08000022 180001=80000185 180006=F1:06090030 180006=3",
 ];
 
 /// The number that hexadecimal digits spell.
