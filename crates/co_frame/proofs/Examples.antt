@@ -1,5 +1,5 @@
 -- Worked examples, computed from the definitions: each row of the SDO tables in both directions, the edges between rows, and the other services.
-use Rattle.std.proofs.Common.{◌≡◌, ℕ, List, [], ◌∷◌, true, false, None, Some, Option, refl, lit<, lit≤, arith}
+use Rattle.std.proofs.Common.{◌≡◌, ℕ, ◌*◌, replicate, List, [], ◌∷◌, true, false, None, Some, Option, refl, lit<, lit≤, arith}
 use Rattle.co_value.specs.declared.key.Key.{Key}
 use Rattle.arrayvec.specs.ArrayVec.{ArrayVec}
 use Rattle.co_frame.specs.declared.sdo_request.ExpeditedData.TheVariants.{Indicated, NotIndicated}
@@ -16,6 +16,8 @@ use Rattle.co_frame.specs.BlockSegments.{IsBlockSegment, block_segment_in, block
 use Rattle.co_frame.specs.Emergencies.{emergency_in, emergency_bytes}
 use Rattle.co_frame.specs.FrameContent.{IsFrame}
 use Rattle.co_frame.specs.Heartbeats.{heartbeat_in}
+use Rattle.co_frame.specs.Outboxes.{HasRoomFor}
+use Rattle.co_frame.specs.SegmentSizes.{bytes_per_segment, segments_per_sub_block, bytes_per_sub_block}
 use Rattle.co_frame.specs.Nmt.{IsNmtCommand, nmt_command_in, nmt_command_bytes}
 use Rattle.co_frame.specs.Syncs.{sync_in}
 use Rattle.co_frame.specs.SdoRequests.{IsSdoRequest, request_in, request_row_in, request_bytes}
@@ -33,9 +35,9 @@ counted bytes = record { items = bytes }
 abbrev pub IsRequest : SdoRequest → List ℕ → Type 0
 IsRequest request bytes = (request_bytes request ≡ bytes) × (request_in bytes ≡ Some request)
 
--- an answer and its bytes
-abbrev pub IsAnswer : SdoResponse → List ℕ → Type 0
-IsAnswer response bytes = (response_bytes response ≡ bytes) × (response_in bytes ≡ Some response)
+-- a response and its bytes
+abbrev pub IsResponse : SdoResponse → List ℕ → Type 0
+IsResponse response bytes = (response_bytes response ≡ bytes) × (response_in bytes ≡ Some response)
 
 -- ---- requests
 
@@ -119,71 +121,71 @@ block_download_end_seven_unused : IsRequest (requests.BlockDownloadEnd 7) (0xDD 
 unfolding request_row_in
 block_download_end_seven_unused = (refl, refl)
 
--- ---- answers
+-- ---- responses
 
-download_done : IsAnswer (responses.DownloadDone key) (0x60 ∷ 0x18 ∷ 0x10 ∷ 1 ∷ 0 ∷ 0 ∷ 0 ∷ 0 ∷ [])
+download_done : IsResponse (responses.DownloadDone key) (0x60 ∷ 0x18 ∷ 0x10 ∷ 1 ∷ 0 ∷ 0 ∷ 0 ∷ 0 ∷ [])
 unfolding response_row_in
 download_done = (refl, refl)
 
-download_segment_done : IsAnswer (responses.DownloadSegmentDone false) (0x20 ∷ 0 ∷ 0 ∷ 0 ∷ 0 ∷ 0 ∷ 0 ∷ 0 ∷ [])
+download_segment_done : IsResponse (responses.DownloadSegmentDone false) (0x20 ∷ 0 ∷ 0 ∷ 0 ∷ 0 ∷ 0 ∷ 0 ∷ 0 ∷ [])
 unfolding response_row_in
 download_segment_done = (refl, refl)
 
-download_segment_done_toggled : IsAnswer (responses.DownloadSegmentDone true) (0x30 ∷ 0 ∷ 0 ∷ 0 ∷ 0 ∷ 0 ∷ 0 ∷ 0 ∷ [])
+download_segment_done_toggled : IsResponse (responses.DownloadSegmentDone true) (0x30 ∷ 0 ∷ 0 ∷ 0 ∷ 0 ∷ 0 ∷ 0 ∷ 0 ∷ [])
 unfolding response_row_in
 download_segment_done_toggled = (refl, refl)
 
-upload_four_bytes : IsAnswer (responses.UploadExpedited key (Indicated (counted (0x91 ∷ 1 ∷ 0 ∷ 0 ∷ [])))) (0x43 ∷ 0x18 ∷ 0x10 ∷ 1 ∷ 0x91 ∷ 1 ∷ 0 ∷ 0 ∷ [])
+upload_four_bytes : IsResponse (responses.UploadExpedited key (Indicated (counted (0x91 ∷ 1 ∷ 0 ∷ 0 ∷ [])))) (0x43 ∷ 0x18 ∷ 0x10 ∷ 1 ∷ 0x91 ∷ 1 ∷ 0 ∷ 0 ∷ [])
 unfolding response_row_in
 upload_four_bytes = (refl, refl)
 
-upload_one_byte : IsAnswer (responses.UploadExpedited key (Indicated (counted (5 ∷ [])))) (0x4F ∷ 0x18 ∷ 0x10 ∷ 1 ∷ 5 ∷ 0 ∷ 0 ∷ 0 ∷ [])
+upload_one_byte : IsResponse (responses.UploadExpedited key (Indicated (counted (5 ∷ [])))) (0x4F ∷ 0x18 ∷ 0x10 ∷ 1 ∷ 5 ∷ 0 ∷ 0 ∷ 0 ∷ [])
 unfolding response_row_in
 upload_one_byte = (refl, refl)
 
-upload_without_s : IsAnswer (responses.UploadExpedited key (NotIndicated (5 ∷ 6 ∷ 7 ∷ 8 ∷ []))) (0x42 ∷ 0x18 ∷ 0x10 ∷ 1 ∷ 5 ∷ 6 ∷ 7 ∷ 8 ∷ [])
+upload_without_s : IsResponse (responses.UploadExpedited key (NotIndicated (5 ∷ 6 ∷ 7 ∷ 8 ∷ []))) (0x42 ∷ 0x18 ∷ 0x10 ∷ 1 ∷ 5 ∷ 6 ∷ 7 ∷ 8 ∷ [])
 unfolding response_row_in
 upload_without_s = (refl, refl)
 
-upload_with_size : IsAnswer (responses.UploadInitiated key (Some 10)) (0x41 ∷ 0x18 ∷ 0x10 ∷ 1 ∷ 0x0A ∷ 0 ∷ 0 ∷ 0 ∷ [])
+upload_with_size : IsResponse (responses.UploadInitiated key (Some 10)) (0x41 ∷ 0x18 ∷ 0x10 ∷ 1 ∷ 0x0A ∷ 0 ∷ 0 ∷ 0 ∷ [])
 unfolding response_row_in
 upload_with_size = (refl, refl)
 
-upload_without_size : IsAnswer (responses.UploadInitiated key None) (0x40 ∷ 0x18 ∷ 0x10 ∷ 1 ∷ 0 ∷ 0 ∷ 0 ∷ 0 ∷ [])
+upload_without_size : IsResponse (responses.UploadInitiated key None) (0x40 ∷ 0x18 ∷ 0x10 ∷ 1 ∷ 0 ∷ 0 ∷ 0 ∷ 0 ∷ [])
 unfolding response_row_in
 upload_without_size = (refl, refl)
 
-upload_last_segment : IsAnswer (responses.UploadSegment true (counted (0x37 ∷ 0x38 ∷ 0x39 ∷ [])) true) (0x19 ∷ 0x37 ∷ 0x38 ∷ 0x39 ∷ 0 ∷ 0 ∷ 0 ∷ 0 ∷ [])
+upload_last_segment : IsResponse (responses.UploadSegment true (counted (0x37 ∷ 0x38 ∷ 0x39 ∷ [])) true) (0x19 ∷ 0x37 ∷ 0x38 ∷ 0x39 ∷ 0 ∷ 0 ∷ 0 ∷ 0 ∷ [])
 unfolding response_row_in
 upload_last_segment = (refl, refl)
 
-answer_abort : IsAnswer (responses.Abort key (record { 0 = 0x06020000 })) (0x80 ∷ 0x18 ∷ 0x10 ∷ 1 ∷ 0 ∷ 0 ∷ 2 ∷ 6 ∷ [])
+response_abort : IsResponse (responses.Abort key (record { 0 = 0x06020000 })) (0x80 ∷ 0x18 ∷ 0x10 ∷ 1 ∷ 0 ∷ 0 ∷ 2 ∷ 6 ∷ [])
 unfolding response_row_in
-answer_abort = (refl, refl)
+response_abort = (refl, refl)
 
-block_download_initiated : IsAnswer (responses.BlockDownloadInitiated key 0x7F) (0xA0 ∷ 0x18 ∷ 0x10 ∷ 1 ∷ 0x7F ∷ 0 ∷ 0 ∷ 0 ∷ [])
+block_download_initiated : IsResponse (responses.BlockDownloadInitiated key 0x7F) (0xA0 ∷ 0x18 ∷ 0x10 ∷ 1 ∷ 0x7F ∷ 0 ∷ 0 ∷ 0 ∷ [])
 unfolding response_row_in
 block_download_initiated = (refl, refl)
 
-block_download_done : IsAnswer (responses.BlockDownloadDone) (0xA1 ∷ 0 ∷ 0 ∷ 0 ∷ 0 ∷ 0 ∷ 0 ∷ 0 ∷ [])
+block_download_done : IsResponse (responses.BlockDownloadDone) (0xA1 ∷ 0 ∷ 0 ∷ 0 ∷ 0 ∷ 0 ∷ 0 ∷ 0 ∷ [])
 unfolding response_row_in
 block_download_done = (refl, refl)
 
-block_download_acknowledge : IsAnswer (responses.BlockDownloadAcknowledge 2 0x7F) (0xA2 ∷ 2 ∷ 0x7F ∷ 0 ∷ 0 ∷ 0 ∷ 0 ∷ 0 ∷ [])
+block_download_acknowledge : IsResponse (responses.BlockDownloadAcknowledge 2 0x7F) (0xA2 ∷ 2 ∷ 0x7F ∷ 0 ∷ 0 ∷ 0 ∷ 0 ∷ 0 ∷ [])
 unfolding response_row_in
 block_download_acknowledge = (refl, refl)
 
-block_upload_initiated : IsAnswer (responses.BlockUploadInitiated key (Some 4)) (0xC2 ∷ 0x18 ∷ 0x10 ∷ 1 ∷ 4 ∷ 0 ∷ 0 ∷ 0 ∷ [])
+block_upload_initiated : IsResponse (responses.BlockUploadInitiated key (Some 4)) (0xC2 ∷ 0x18 ∷ 0x10 ∷ 1 ∷ 4 ∷ 0 ∷ 0 ∷ 0 ∷ [])
 unfolding response_row_in
 block_upload_initiated = (refl, refl)
 
-block_upload_initiated_without_size : IsAnswer (responses.BlockUploadInitiated key None) (0xC0 ∷ 0x18 ∷ 0x10 ∷ 1 ∷ 0 ∷ 0 ∷ 0 ∷ 0 ∷ [])
+block_upload_initiated_without_size : IsResponse (responses.BlockUploadInitiated key None) (0xC0 ∷ 0x18 ∷ 0x10 ∷ 1 ∷ 0 ∷ 0 ∷ 0 ∷ 0 ∷ [])
 unfolding response_row_in
 block_upload_initiated_without_size = (refl, refl)
 
-block_upload_answer_end : IsAnswer (responses.BlockUploadEnd 3) (0xCD ∷ 0 ∷ 0 ∷ 0 ∷ 0 ∷ 0 ∷ 0 ∷ 0 ∷ [])
+block_upload_response_end : IsResponse (responses.BlockUploadEnd 3) (0xCD ∷ 0 ∷ 0 ∷ 0 ∷ 0 ∷ 0 ∷ 0 ∷ 0 ∷ [])
 unfolding response_row_in
-block_upload_answer_end = (refl, refl)
+block_upload_response_end = (refl, refl)
 
 -- ---- the edges between rows, with every reserved bit set
 
@@ -316,6 +318,17 @@ last_segment = (refl, refl)
 
 no_segment_0 : (block_segment_in (segment 0x00) ≡ None) × (block_segment_in (segment 0x80) ≡ None)
 no_segment_0 = (refl, refl)
+
+-- a whole sub-block
+sub_block_size : segments_per_sub_block * bytes_per_segment ≡ bytes_per_sub_block
+sub_block_size = refl
+
+-- 387 frames leave room for a sub-block, 388 do not
+room_for_sub_block : HasRoomFor segments_per_sub_block (record { items = replicate 387 (record { id = 0; bytes = [] }) })
+room_for_sub_block = lit≤ tt
+
+no_room_for_sub_block : HasRoomFor segments_per_sub_block (record { items = replicate 388 (record { id = 0; bytes = [] }) }) → ⊥
+no_room_for_sub_block h = omega arith
 
 -- ---- the other services
 

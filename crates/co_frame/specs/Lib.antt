@@ -11,6 +11,7 @@ pub mod Nmt
 pub mod Outboxes
 pub mod Scs
 pub mod Segments
+pub mod SegmentSizes
 pub mod SdoFields
 pub mod SdoParts
 pub mod SdoRequests

@@ -1,6 +1,7 @@
 -- The segments that bytes are sent in, by either end (CiA 301, 7.2.4.3.4, 7.2.4.3.7, 7.2.4.3.10 and
 -- 7.2.4.3.14).
 use Rattle.std.specs.Prelude.{ℕ, ◌+◌, ◌-◌, ◌*◌, ◌/◌, ◌%◌, ◌==◌, Bool, true, false, not, max, min, List, length, take, drop}
+use Rattle.co_frame.specs.SegmentSizes.{bytes_per_segment}
 use Rattle.co_frame.specs.SdoFields.{padded}
 use Rattle.co_frame.specs.declared.block_segment.BlockSegment.{BlockSegment}
 
@@ -15,13 +16,13 @@ same_bool false b = not b
 
 -- seven of the bytes, fewer at their end: those after so many segments
 abbrev pub part_after : ℕ → List ℕ → List ℕ
-part_after count bytes = take 7 (drop (7 * count) bytes)
+part_after count bytes = take bytes_per_segment (drop (bytes_per_segment * count) bytes)
 
 -- ---- in blocks
 
 -- how many segments so many bytes have: one for each seven or fewer, and one where there are none
 abbrev pub segments_for : ℕ → ℕ
-segments_for size = max 1 ((size + 6) / 7)
+segments_for size = max 1 ((size + 6) / bytes_per_segment)
 
 abbrev pub segment_count : List ℕ → ℕ
 segment_count bytes = segments_for (length bytes)
@@ -31,7 +32,7 @@ abbrev pub block_segment : List ℕ → ℕ → ℕ → BlockSegment
 block_segment bytes position number = record {
   last = position + number == segment_count bytes;
   sequence = number;
-  bytes = padded 7 (part_after (position + number - 1) bytes);
+  bytes = padded bytes_per_segment (part_after (position + number - 1) bytes);
 }
 
 -- how many segments a sub-block has after so many: as many as it may have, or as are left

@@ -1,13 +1,14 @@
 -- The sub-blocks of a block transfer (CiA 301, 7.2.4.3.10 and 7.2.4.3.14): the frames that its
--- receiver got after the begin, newest first.
+-- receiver got after initiate, newest first.
 use Rattle.std.specs.Prelude.{ℕ, ◌+◌, ◌==◌, ◌||◌, Bool, false, List, [], ◌∷◌, ◌++◌, length, Option, Some, None, if◌then◌else◌}
 use Rattle.std.specs.Option.{option_map_or}
+use Rattle.co_frame.specs.SegmentSizes.{segments_per_sub_block}
 use Rattle.co_frame.specs.BlockSegments.{block_segment_in}
 use Rattle.co_frame.specs.declared.block_segment.BlockSegment.{BlockSegment}
 
 -- a sub-block ends at the first segment, taken or not, with c or with the sequence number 127
 abbrev pub ends_sub_block : List ℕ → Bool
-ends_sub_block frame = option_map_or (λ segment. segment.last || (segment.sequence == 127)) (block_segment_in frame) false
+ends_sub_block frame = option_map_or (λ segment. segment.last || (segment.sequence == segments_per_sub_block)) (block_segment_in frame) false
 
 -- the frames of the sub-block that the next frame falls into: all, or those since a sub-block ended
 abbrev pub sub_block : List (List ℕ) → List (List ℕ)

@@ -16,6 +16,7 @@ mod sdo_bytes;
 mod sdo_fields;
 mod sdo_request;
 mod sdo_response;
+mod segment_sizes;
 mod subcommands;
 mod sync;
 
@@ -30,4 +31,7 @@ pub use nmt::{NmtCommand, NmtService};
 pub use outbox::{Outbox, outbox_room};
 pub use sdo_request::{ExpeditedData, SdoRequest};
 pub use sdo_response::SdoResponse;
+pub use segment_sizes::{
+    BYTES_PER_SEGMENT, BYTES_PER_SUB_BLOCK, SEGMENTS_PER_SUB_BLOCK, segment_numbers,
+};
 pub use sync::Sync;

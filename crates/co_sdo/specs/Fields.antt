@@ -1,5 +1,6 @@
 -- What the fields of a channel are seen as, and what holds of them.
 use Rattle.std.specs.Prelude.{ℕ, ◌+◌, ◌*◌, ◌≤◌, ◌<◌, List, Option, Some, None}
+use Rattle.co_frame.specs.SegmentSizes.{bytes_per_segment, segments_per_sub_block, bytes_per_sub_block}
 use Rattle.co_sdo.specs.declared.stage.Stage.{Stage}
 use Rattle.co_sdo.specs.declared.stage.Stage.TheVariants.{Download, Upload, SubBlock, LastTaken, BlockUploadInitiated, BlockUpload, BlockUploadEnded}
 use Rattle.co_sdo.specs.declared.stage.Ongoing.{Ongoing}
@@ -13,11 +14,11 @@ opened_in (Some ongoing) buffer = Some (record { key = ongoing.key; stage = ongo
 -- the buffer has room for what may still come, and positions are within it
 abbrev pub stage_room : Stage → ℕ → ℕ → Type 0
 stage_room (Download indicated toggle) held greatest = held ≤ greatest
-stage_room (Upload sent) held greatest = (held ≤ greatest) × (7 * sent ≤ held)
-stage_room (SubBlock indicated taken) held greatest = (held ≤ greatest + 7 * taken) × (taken < 127)
-stage_room (LastTaken indicated) held greatest = held ≤ greatest + 889
-stage_room (BlockUploadInitiated block_size) held greatest = (held ≤ greatest) × (1 ≤ block_size) × (block_size ≤ 127)
-stage_room (BlockUpload acknowledged sent) held greatest = (held ≤ greatest) × (acknowledged + sent ≤ segments_for held) × (sent ≤ 127)
+stage_room (Upload sent) held greatest = (held ≤ greatest) × (bytes_per_segment * sent ≤ held)
+stage_room (SubBlock indicated taken) held greatest = (held ≤ greatest + bytes_per_segment * taken) × (taken < segments_per_sub_block)
+stage_room (LastTaken indicated) held greatest = held ≤ greatest + bytes_per_sub_block
+stage_room (BlockUploadInitiated block_size) held greatest = (held ≤ greatest) × (1 ≤ block_size) × (block_size ≤ segments_per_sub_block)
+stage_room (BlockUpload acknowledged sent) held greatest = (held ≤ greatest) × (acknowledged + sent ≤ segments_for held) × (sent ≤ segments_per_sub_block)
 stage_room BlockUploadEnded held greatest = held ≤ greatest
 
 abbrev pub has_room : Option Ongoing → ℕ → ℕ → Type 0

@@ -2,6 +2,7 @@
 use Rattle.std.specs.Prelude.{ℕ, ◌+◌, ◌==◌, ◌&&◌, Bool, true, false, not, nat_lt, nat_le, List, [], ◌∷◌, ◌++◌, length, Option, Some, None, if◌then◌else◌}
 use Rattle.std.specs.Option.{option_map_or}
 use Rattle.co_value.specs.declared.key.Key.{Key}
+use Rattle.co_frame.specs.SegmentSizes.{segments_per_sub_block}
 use Rattle.co_frame.specs.AbortCodes.{unknown_command, toggle_not_alternated, too_long, invalid_block_size, invalid_sequence_number, timed_out}
 use Rattle.co_frame.specs.BlockSegments.{block_segment_in}
 use Rattle.co_frame.specs.SdoRequests.{request_in}
@@ -49,7 +50,7 @@ room_refusal rows key bytes = refused_if (nat_lt (capacity_at rows key) (length 
 
 -- a block size is 1 to 127
 abbrev pub block_size_refusal : ℕ → Option ℕ
-block_size_refusal size = refused_if (not (nat_le 1 size && nat_le size 127)) invalid_block_size
+block_size_refusal size = refused_if (not (nat_le 1 size && nat_le size segments_per_sub_block)) invalid_block_size
 
 -- ---- downloads
 
@@ -87,7 +88,7 @@ sub_block_refusal rows o taken frame =
 abbrev pub sub_block_answers : Rows → OpenTransfer → ℕ → List ℕ → List Answer
 sub_block_answers rows o taken frame =
     if ends_sub_block frame
-    then unless_refused (sub_block_refusal rows o taken frame) o.key (Response (BlockDownloadAcknowledge (taken_with taken frame) 127) ∷ [])
+    then unless_refused (sub_block_refusal rows o taken frame) o.key (Response (BlockDownloadAcknowledge (taken_with taken frame) segments_per_sub_block) ∷ [])
     else []
 
 -- the answers to the end of a block download
@@ -127,7 +128,7 @@ upload_end_answers o _ = unexpected (Some o)
 
 -- ---- the table
 
--- the answers to a begin: its first refusal, or its confirmation; those to an abort: none
+-- the answers to an initiate: its first refusal, or its confirmation; those to an abort: none
 abbrev pub initiate_answers : Description → Contents → SdoRequest → List Answer
 initiate_answers d contents (DownloadExpedited key expedited) =
     unless_refused (completion_refusal d contents key None (expedited_part d.rows key expedited)) key (Response (DownloadDone key) ∷ [])
@@ -135,7 +136,7 @@ initiate_answers d contents (DownloadInitiate key size) = unless_refused (initia
 initiate_answers d contents (Upload key) = unless_refused (reading_refusal d contents key) key (upload_initiated key (value_at contents key))
 initiate_answers d contents (BlockUploadInitiate key block_size threshold) =
     unless_refused (first_of (reading_refusal d contents key) (block_size_refusal block_size)) key (Response (BlockUploadInitiated key (Some (length (value_at contents key)))) ∷ [])
-initiate_answers d contents (BlockDownloadInitiate key size) = unless_refused (initiate_refusal d key size) key (Response (BlockDownloadInitiated key 127) ∷ [])
+initiate_answers d contents (BlockDownloadInitiate key size) = unless_refused (initiate_refusal d key size) key (Response (BlockDownloadInitiated key segments_per_sub_block) ∷ [])
 initiate_answers d contents _ = []
 
 -- the answers to a request that goes on with what is open

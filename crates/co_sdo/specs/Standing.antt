@@ -2,6 +2,7 @@
 use Rattle.std.specs.Prelude.{◌≡◌, ℕ, ◌+◌, ◌*◌, ◌-◌, ◌<◌, ◌≤◌, ◌&&◌, Bool, true, false, nat_lt, not, is_some, List, [], ◌∷◌, length, Option, Some, None, if◌then◌else◌}
 use Rattle.std.specs.Option.{option_map_or}
 use Rattle.co_value.specs.declared.key.Key.{Key}
+use Rattle.co_frame.specs.SegmentSizes.{bytes_per_segment, segments_per_sub_block, bytes_per_sub_block}
 use Rattle.co_frame.specs.FrameContent.{FrameContent}
 use Rattle.co_frame.specs.SdoRequests.{request_in}
 use Rattle.co_frame.specs.declared.sdo_request.SdoRequest.{SdoRequest}
@@ -33,8 +34,8 @@ pub record Standing : Type 0 where
 
 -- the bytes of an open block download: no more than the entry has room for and seven for each segment taken
 pub record IsBlockDownload (capacity : ℕ) (later : List (List ℕ)) : Type 0 where
-  pub inside : has_last later ≡ false → (length (block_bytes later) ≤ capacity + 7 * length (taken_segments (sub_block later))) × (length (taken_segments (sub_block later)) < 127)
-  pub bytes : length (block_bytes later) ≤ capacity + 889
+  pub inside : has_last later ≡ false → (length (block_bytes later) ≤ capacity + bytes_per_segment * length (taken_segments (sub_block later))) × (length (taken_segments (sub_block later)) < segments_per_sub_block)
+  pub bytes : length (block_bytes later) ≤ capacity + bytes_per_sub_block
 
 -- the segments of an open segmented download: in turn, none of them the last, and the entry has room for their data
 pub record IsSegmentedDownload (capacity : ℕ) (later : List (List ℕ)) : Type 0 where
@@ -83,9 +84,9 @@ log_on id d contents log frame =
     then Exchanged (record { request = frame.bytes; contents = contents; answers = reply_to d contents log frame.bytes }) ∷ log
     else log
 
--- how many bytes may be held after a log: the capacity of the open entry and a sub-block's 127 times 7
+-- how many bytes may be held after a log: the capacity of the open entry and a sub-block
 abbrev pub room_after : Rows → Log → ℕ
-room_after rows log = option_map_or (λ o. capacity_at rows o.key + 889) (opened_after log) 0
+room_after rows log = option_map_or (λ o. capacity_at rows o.key + bytes_per_sub_block) (opened_after log) 0
 
 -- ---- time
 

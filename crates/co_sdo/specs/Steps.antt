@@ -1,6 +1,7 @@
 -- What one frame makes of the open transfer, without the log.
 use Rattle.std.specs.Prelude.{ℕ, ◌+◌, ◌*◌, ◌==◌, ◌&&◌, Bool, false, not, nat_lt, nat_le, List, [], ◌++◌, length, Option, Some, None, if◌then◌else◌}
 use Rattle.co_value.specs.declared.key.Key.{Key}
+use Rattle.co_frame.specs.SegmentSizes.{bytes_per_segment}
 use Rattle.co_frame.specs.AbortCodes.{invalid_sequence_number}
 use Rattle.co_frame.specs.SdoFields.{command}
 use Rattle.co_frame.specs.SdoRequests.{request_in}
@@ -42,7 +43,7 @@ after_frame rows o indicated taken frame =
 
 abbrev pub after_upload_segment : OpenTransfer → Stage → Bool → Option OpenTransfer
 after_upload_segment o (Uploading sent) toggle =
-    unless (toggle_refusal toggle (is_odd sent)) (if nat_le (length o.bytes) (7 * sent + 7) then None else opened_at o.key (Uploading (sent + 1)) o.bytes)
+    unless (toggle_refusal toggle (is_odd sent)) (if nat_le (length o.bytes) (bytes_per_segment * sent + bytes_per_segment) then None else opened_at o.key (Uploading (sent + 1)) o.bytes)
 after_upload_segment o _ toggle = None
 
 abbrev pub after_start : OpenTransfer → Stage → Option OpenTransfer

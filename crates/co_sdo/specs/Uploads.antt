@@ -3,6 +3,7 @@
 use Rattle.std.specs.Prelude.{ℕ, ◌+◌, ◌-◌, ◌*◌, ◌&&◌, Bool, nat_le, List, [], ◌∷◌, length, map, Some, if◌then◌else◌, unwrap_or}
 use Rattle.std.specs.List.{range_with_len}
 use Rattle.co_value.specs.declared.key.Key.{Key}
+use Rattle.co_frame.specs.SegmentSizes.{bytes_per_segment}
 use Rattle.co_frame.specs.declared.sdo_request.ExpeditedData.TheVariants.{Indicated}
 use Rattle.co_frame.specs.declared.sdo_response.SdoResponse.TheVariants.{UploadExpedited, UploadInitiated, UploadSegment, BlockUploadEnd}
 use Rattle.co_dict.specs.Rows.{Contents}
@@ -23,7 +24,7 @@ upload_initiated key value =
 -- the segment after so many, with c where no bytes remain
 abbrev pub upload_segment : Bool → ℕ → List ℕ → List Answer
 upload_segment toggle count value =
-    Response (UploadSegment toggle (record { items = part_after count value }) (nat_le (length value) (7 * count + 7))) ∷ []
+    Response (UploadSegment toggle (record { items = part_after count value }) (nat_le (length value) (bytes_per_segment * count + bytes_per_segment))) ∷ []
 
 -- the sub-block after so many segments, numbered from 1
 abbrev pub sub_block_sent : List ℕ → ℕ → ℕ → List Answer
@@ -31,4 +32,4 @@ sub_block_sent value position size = map (λ number. Segment (block_segment valu
 
 -- the end of a block upload, with the number of bytes that its last segment leaves unused
 abbrev pub block_upload_end : List ℕ → List Answer
-block_upload_end value = Response (BlockUploadEnd (7 * segment_count value - length value)) ∷ []
+block_upload_end value = Response (BlockUploadEnd (bytes_per_segment * segment_count value - length value)) ∷ []

@@ -4,6 +4,8 @@ ghost use Rattle.std.specs.Prelude.{◌≡◌, ℕ, ◌+◌, ◌*◌, ◌<◌, �
 ghost use Rattle.std.specs.Option.{option_map_or};
 ghost use Rattle.arrayvec.specs.ArrayVec.{array_vec_len};
 ghost use Rattle.co_value.specs.declared.key.Key.{Key};
+ghost use Rattle.co_frame.specs.SegmentSizes.{segments_per_sub_block, bytes_per_segment};
+ghost use Rattle.co_frame.specs.Outboxes.{HasRoomFor};
 ghost use Rattle.co_frame.specs.declared.sdo_request.SdoRequest.TheVariants.{BlockDownloadInitiate};
 ghost use Rattle.co_sdo.specs.Log.{frames_on};
 ghost use Rattle.co_sdo.specs.Refused.{capacity_at};
@@ -19,21 +21,21 @@ use crate::refusals::initiate_refusal;
 use crate::request::segment_data;
 use crate::stage::{Ongoing, Stage};
 use co_dict::ObjectStore;
-use co_frame::{AbortCode, BlockSegment, Frame, Outbox, SdoResponse};
+use co_frame::{AbortCode, BlockSegment, Frame, Outbox, SEGMENTS_PER_SUB_BLOCK, SdoResponse};
 use co_value::Key;
 
 // Appends the data of a segment, if it is the next of its sub-block, and gives how many are then taken in it.
 fn append_next(buffer: &mut Buffer, taken: u8, segment: &BlockSegment, bytes: &[u8]) -> u8
     requires bytes { bytes.now ≡ segment.now.bytes }
-    requires seven { length bytes.now ≡ 7 }
-    requires room { length buffer.old.bytes + 7 ≤ buffer.old.room }
-    requires few { taken < 127 }
+    requires seven { length bytes.now ≡ bytes_per_segment }
+    requires room { length buffer.old.bytes + bytes_per_segment ≤ buffer.old.room }
+    requires few { taken < segments_per_sub_block }
     ensures bytes { buffer.new ≡ record buffer.old {
       bytes = buffer.old.bytes ++ bytes_taken (segment_taken taken (Some segment.now));
     } }
     ensures taken { result ≡ option_map_or (λ next. taken + 1) (segment_taken taken (Some
         segment.now)) taken }
-    ensures len { length buffer.new.bytes + 7 * taken ≡ length buffer.old.bytes + 7 * result }
+    ensures len { length buffer.new.bytes + bytes_per_segment * taken ≡ length buffer.old.bytes + bytes_per_segment * result }
 {
     if segment.sequence != taken + 1 {
         return taken;
@@ -43,7 +45,7 @@ fn append_next(buffer: &mut Buffer, taken: u8, segment: &BlockSegment, bytes: &[
 }
 
 impl Channel {
-    // The begin of a block download: initiate SDO block download, ccs = 6, cs = 0.
+    // Initiate SDO block download, ccs = 6, cs = 0.
     #[inline(never)]
     pub(crate) fn initiate_block_download<S: ObjectStore>(
         &mut self,
@@ -52,8 +54,8 @@ impl Channel {
         size: Option<u32>,
         outbox: &mut Outbox,
     )
-        requires room { array_vec_len outbox.old < 514 }
-        ensures few { array_vec_len outbox.new ≤ array_vec_len outbox.old + 127 }
+        requires room { HasRoomFor 1 outbox.old }
+        ensures few { array_vec_len outbox.new ≤ array_vec_len outbox.old + segments_per_sub_block }
         ensures answers { outbox.new.items ≡ outbox.old.items ++ frames_on self.old.answer
             (initiate_answers (S.description store.now) (S.contents store.now) (BlockDownloadInitiate
             key size)) }
@@ -74,8 +76,11 @@ impl Channel {
                         taken: 0,
                     },
                 });
-                let block_size = 127;
-                self.sender.send(SdoResponse::BlockDownloadInitiated { key, block_size }, outbox);
+                let block_size = SEGMENTS_PER_SUB_BLOCK;
+                self.sender.send(
+                    SdoResponse::BlockDownloadInitiated { key, block_size },
+                    outbox,
+                );
             }
         }
     }
@@ -87,11 +92,11 @@ impl Channel {
         frame: &Frame,
         outbox: &mut Outbox,
     )
-        requires room { array_vec_len outbox.old < 514 }
+        requires room { HasRoomFor 1 outbox.old }
         requires eight { length frame.now.bytes ≡ 8 }
         requires greatest { (key : Key) → capacity_at (S.description store.now).rows key ≤
             self.old.greatest }
-        ensures few { array_vec_len outbox.new ≤ array_vec_len outbox.old + 127 }
+        ensures few { array_vec_len outbox.new ≤ array_vec_len outbox.old + segments_per_sub_block }
         ensures answers { outbox.new.items ≡ outbox.old.items ++ frames_on self.old.answer
             (on_open self.old.current (λ o stage. frame_answers (S.description store.now).rows o
             stage frame.now.bytes)) }
@@ -118,7 +123,7 @@ impl Channel {
             return;
         };
         let count = append_next(&mut self.buffer, taken, &segment, segment_data(frame));
-        if !segment.last && segment.sequence != 127 {
+        if !segment.last && segment.sequence != SEGMENTS_PER_SUB_BLOCK {
             // the rest of what is open stays, and isn't copied
             if let Some(ongoing) = &mut self.current {
                 if let Stage::SubBlock {
@@ -148,7 +153,7 @@ impl Channel {
         self.current = Some(Ongoing { key, stage });
         let acknowledge = SdoResponse::BlockDownloadAcknowledge {
             sequence: count,
-            block_size: 127,
+            block_size: SEGMENTS_PER_SUB_BLOCK,
         };
         self.sender.send(acknowledge, outbox);
     }
@@ -161,8 +166,8 @@ impl Channel {
         unused: u8,
         outbox: &mut Outbox,
     ) -> Option<Key>
-        requires room { array_vec_len outbox.old < 514 }
-        ensures few { array_vec_len outbox.new ≤ array_vec_len outbox.old + 127 }
+        requires room { HasRoomFor 1 outbox.old }
+        ensures few { array_vec_len outbox.new ≤ array_vec_len outbox.old + segments_per_sub_block }
         ensures answers { outbox.new.items ≡ outbox.old.items ++ frames_on self.old.answer
             (on_open self.old.current (λ o stage. block_end_answers (S.description store.old)
             (S.contents store.old) o stage unused)) }

@@ -3,6 +3,8 @@
 ghost use Rattle.std.specs.Prelude.{◌≡◌, ℕ, ◌+◌, ◌-◌, ◌*◌, ◌^◌, ◌<◌, ◌≤◌, ◌++◌, [], ◌∷◌, Some, None, true, false, length};
 ghost use Rattle.arrayvec.specs.ArrayVec.{array_vec_len};
 ghost use Rattle.co_value.specs.declared.key.Key.{Key};
+ghost use Rattle.co_frame.specs.SegmentSizes.{segments_per_sub_block, bytes_per_segment};
+ghost use Rattle.co_frame.specs.Outboxes.{HasRoomFor};
 ghost use Rattle.co_frame.specs.declared.sdo_request.SdoRequest.TheVariants.{BlockUploadInitiate};
 ghost use Rattle.co_sdo.specs.Log.{frames_on};
 ghost use Rattle.co_sdo.specs.Refused.{capacity_at};
@@ -16,26 +18,28 @@ use crate::sender::Sender;
 use crate::stage::{Ongoing, Stage};
 use crate::upload::{copy_value, part_after};
 use co_dict::ObjectStore;
-use co_frame::{AbortCode, BlockSegment, Outbox, SdoResponse};
+use co_frame::{
+    AbortCode, BYTES_PER_SEGMENT, BlockSegment, Outbox, SEGMENTS_PER_SUB_BLOCK, SdoResponse,
+};
 use co_value::Key;
 
 // How many segments a value has.
 fn segment_count(value: &[u8]) -> usize
     requires { length value.now < 2 ^ 40 }
     ensures count { result ≡ segment_count value.now }
-    ensures bytes { length value.now ≤ 7 * result }
-    ensures segments { 7 * result ≤ length value.now + 7 }
+    ensures bytes { length value.now ≤ bytes_per_segment * result }
+    ensures segments { bytes_per_segment * result ≤ length value.now + bytes_per_segment }
     ensures some { 1 ≤ result }
 {
-    ((value.len() + 6) / 7).max(1)
+    ((value.len() + 6) / BYTES_PER_SEGMENT).max(1)
 }
 
 // A segment of a sub-block that begins after so many segments.
 fn block_segment(value: &[u8], position: usize, number: u8) -> BlockSegment
     requires len { length value.now < 2 ^ 40 }
     requires first { 1 ≤ number }
-    requires last { number ≤ 127 }
-    requires start { 7 * (position + number) ≤ length value.now + 7 }
+    requires last { number ≤ segments_per_sub_block }
+    requires start { bytes_per_segment * (position + number) ≤ length value.now + bytes_per_segment }
     ensures segment { result ≡ block_segment value.now position number }
     ensures number { result.sequence ≡ number }
 {
@@ -60,15 +64,15 @@ impl Sender {
         outbox: &mut Outbox,
     ) -> u8
         requires id { self.answer < 2048 }
-        requires room { array_vec_len outbox.old + 127 ≤ 514 }
+        requires room { HasRoomFor segments_per_sub_block outbox.old }
         requires len { length value.now < 2 ^ 40 }
-        requires few { block_size ≤ 127 }
+        requires few { block_size ≤ segments_per_sub_block }
         requires position { position ≤ segment_count value.now }
-        ensures few { array_vec_len outbox.new ≤ array_vec_len outbox.old + 127 }
+        ensures few { array_vec_len outbox.new ≤ array_vec_len outbox.old + segments_per_sub_block }
         ensures answers { outbox.new.items ≡ outbox.old.items ++ frames_on self.answer
             (sub_block_sent value.now position block_size) }
         ensures count { result ≡ sub_block_length value.now position block_size }
-        ensures most { result ≤ 127 }
+        ensures most { result ≤ segments_per_sub_block }
         ensures within { position + result ≤ segment_count value.now }
     {
         let left = segment_count(value) - position;
@@ -81,7 +85,7 @@ impl Sender {
 }
 
 impl Channel {
-    // The begin of a block upload: initiate SDO block upload, ccs = 5, cs = 0.
+    // Initiate SDO block upload, ccs = 5, cs = 0.
     #[inline(never)]
     pub(crate) fn initiate_block_upload<S: ObjectStore>(
         &mut self,
@@ -91,10 +95,10 @@ impl Channel {
         threshold: u8,
         outbox: &mut Outbox,
     )
-        requires room { array_vec_len outbox.old < 514 }
+        requires room { HasRoomFor 1 outbox.old }
         requires greatest { (key : Key) → capacity_at (S.description store.now).rows key ≤
             self.old.greatest }
-        ensures few { array_vec_len outbox.new ≤ array_vec_len outbox.old + 127 }
+        ensures few { array_vec_len outbox.new ≤ array_vec_len outbox.old + segments_per_sub_block }
         ensures answers { outbox.new.items ≡ outbox.old.items ++ frames_on self.old.answer
             (initiate_answers (S.description store.now) (S.contents store.now) (BlockUploadInitiate key
             block_size threshold)) }
@@ -110,7 +114,7 @@ impl Channel {
             self.sender.refuse(key, code, outbox);
             return;
         }
-        if block_size == 0 || 127 < block_size {
+        if block_size == 0 || SEGMENTS_PER_SUB_BLOCK < block_size {
             self.sender
                 .refuse(key, AbortCode::INVALID_BLOCK_SIZE, outbox);
             return;
@@ -128,8 +132,8 @@ impl Channel {
     // The start of a block upload: cs = 3.
     #[inline(never)]
     pub(crate) fn start_block_upload(&mut self, outbox: &mut Outbox)
-        requires room { array_vec_len outbox.old + 127 ≤ 514 }
-        ensures few { array_vec_len outbox.new ≤ array_vec_len outbox.old + 127 }
+        requires room { HasRoomFor segments_per_sub_block outbox.old }
+        ensures few { array_vec_len outbox.new ≤ array_vec_len outbox.old + segments_per_sub_block }
         ensures answers { outbox.new.items ≡ outbox.old.items ++ frames_on self.old.answer
             (on_open self.old.current start_answers) }
         ensures channel { self.new ≡ record self.old {
@@ -167,8 +171,8 @@ impl Channel {
         block_size: u8,
         outbox: &mut Outbox,
     )
-        requires room { array_vec_len outbox.old + 127 ≤ 514 }
-        ensures few { array_vec_len outbox.new ≤ array_vec_len outbox.old + 127 }
+        requires room { HasRoomFor segments_per_sub_block outbox.old }
+        ensures few { array_vec_len outbox.new ≤ array_vec_len outbox.old + segments_per_sub_block }
         ensures answers { outbox.new.items ≡ outbox.old.items ++ frames_on self.old.answer
             (on_open self.old.current (λ o stage. acknowledge_answers o stage sequence
             block_size)) }
@@ -194,7 +198,7 @@ impl Channel {
         let position = acknowledged as usize + sequence as usize;
         let count = segment_count(self.buffer.as_slice());
         if position == count {
-            let unused = (7 * count - self.buffer.len()) as u8;
+            let unused = (BYTES_PER_SEGMENT * count - self.buffer.len()) as u8;
             self.current = Some(Ongoing {
                 key,
                 stage: Stage::BlockUploadEnded,
@@ -203,7 +207,7 @@ impl Channel {
                 .send(SdoResponse::BlockUploadEnd { unused }, outbox);
             return;
         }
-        if block_size < 1 || 127 < block_size {
+        if block_size < 1 || SEGMENTS_PER_SUB_BLOCK < block_size {
             self.give_up(AbortCode::INVALID_BLOCK_SIZE, outbox);
             return;
         }
@@ -220,8 +224,8 @@ impl Channel {
     // The client's end of a block upload: cs = 1.
     #[inline(never)]
     pub(crate) fn end_block_upload(&mut self, outbox: &mut Outbox)
-        requires room { array_vec_len outbox.old < 514 }
-        ensures few { array_vec_len outbox.new ≤ array_vec_len outbox.old + 127 }
+        requires room { HasRoomFor 1 outbox.old }
+        ensures few { array_vec_len outbox.new ≤ array_vec_len outbox.old + segments_per_sub_block }
         ensures answers { outbox.new.items ≡ outbox.old.items ++ frames_on self.old.answer
             (on_open self.old.current upload_end_answers) }
         ensures channel { self.new ≡ record self.old { current = None } }

@@ -5,8 +5,13 @@ ghost use Rattle.arrayvec.specs.ArrayVec.{array_vec_len};
 ghost use Rattle.co_sdo.specs.Log.{frames_on};
 ghost use Rattle.co_dict.specs.Stores.{Description};
 ghost use Rattle.co_value.specs.declared.key.Key.{Key};
+ghost use Rattle.co_frame.specs.SegmentSizes.{segments_per_sub_block};
+ghost use Rattle.co_frame.specs.Outboxes.{HasRoomFor};
 ghost use Rattle.co_sdo.specs.Log.{Log};
-ghost use Rattle.co_sdo.specs.Refused.{capacity_at};
+ghost use Rattle.co_frame.specs.FrameContent.{FrameContent};
+ghost use Rattle.co_dict.specs.Rows.{Contents};
+ghost use Rattle.co_sdo.specs.Downloads.{Download};
+ghost use Rattle.co_sdo.specs.Refused.{capacity_at, completion_refusal};
 ghost use Rattle.co_sdo.specs.Replies.{aborted, open_key};
 ghost use Rattle.co_sdo.specs.Completed.{contents_with, key_set};
 ghost use Rattle.co_sdo.specs.Standing.{Stands, reply_on, set_on, log_on};
@@ -15,7 +20,7 @@ use crate::buffer::Buffer;
 use crate::sender::Sender;
 use crate::stage::Ongoing;
 use co_dict::{ObjectStore, store_laws};
-use co_frame::{AbortCode, Frame, Ids, Outbox};
+use co_frame::{AbortCode, BYTES_PER_SUB_BLOCK, Frame, Ids, Outbox};
 use co_value::Key;
 use std::alloc::{AllocError, Global};
 use std::marker::Model;
@@ -28,14 +33,15 @@ pub struct Channel {
     pub(crate) greatest: u32,
     pub(crate) time: u16,
     pub(crate) left: u16,
-    // of the entry of a segmented download, looked up at its begin alone
+    // capacity of the entry being downloaded in segments; looked up once, at initiate
     pub(crate) room: usize,
     pub(crate) current: Option<Ongoing>,
     pub(crate) buffer: Buffer,
 }
 
 impl Model for Channel {
-    ghost use Rattle.std.specs.Prelude.{◌+◌, ◌<◌, ◌≤◌, length};
+    ghost use Rattle.std.specs.Prelude.{◌≡◌, ◌+◌, ◌<◌, ◌≤◌, length};
+    ghost use Rattle.co_frame.specs.SegmentSizes.{bytes_per_sub_block};
     ghost use Rattle.co_sdo.specs.Standing.{Standing};
     ghost use Rattle.co_sdo.specs.Fields.{opened_in, has_room};
 
@@ -51,8 +57,9 @@ impl Model for Channel {
       current = opened_in c.current c.buffer.bytes;
     } };
 
-    ghost invariant = { λ c. (c.sender.answer < 2048) × (c.greatest + 889 ≤ c.buffer.room) ×
-        (c.room ≤ c.greatest) × has_room c.current (length c.buffer.bytes) c.greatest };
+    ghost invariant = { λ c. (c.sender.answer < 2048) ×
+        (c.greatest + bytes_per_sub_block ≡ c.buffer.room) × (c.room ≤ c.greatest) ×
+        has_room c.current (length c.buffer.bytes) c.greatest };
 }
 
 impl Channel {
@@ -73,7 +80,7 @@ impl Channel {
           current = None;
         }) }
     {
-        let buffer = Buffer::new(alloc, greatest as usize + 889)?;
+        let buffer = Buffer::new(alloc, greatest as usize + BYTES_PER_SUB_BLOCK)?;
         Ok(Channel {
             request: ids.request,
             sender: Sender { answer: ids.answer },
@@ -86,6 +93,26 @@ impl Channel {
         })
     }
 
+    /// The identifiers of its requests and its answers.
+    pub fn ids(&self) -> Ids
+        ensures request { result.request ≡ self.now.request }
+        ensures answer { result.answer ≡ self.now.answer }
+    {
+        Ids {
+            request: self.request,
+            answer: self.sender.answer,
+        }
+    }
+
+    /// An entry is set only where the dictionary permits the download: nothing refuses its completion. This is a law: a
+    /// call of it changes nothing.
+    pub fn set_is_permitted()
+        ensures permitted { (id : ℕ) (d : Description) (contents : Contents) (log : Log)
+            (frame : FrameContent) (download : Download) →
+            set_on id d contents log frame ≡ Some download →
+            completion_refusal d contents download.key download.indicated download.bytes ≡ None }
+    {}
+
     /// Takes a frame. One that hasn't eight bytes, or has another identifier than the channel's requests, is passed over.
     /// Else the answers are put into the outbox, at most 127 frames. Where the frame completes a download that the
     /// dictionary permits, its entry is set, and its key is given; nothing else in the store changes.
@@ -95,10 +122,10 @@ impl Channel {
         frame: &Frame,
         outbox: &mut Outbox,
     ) -> Option<Key>
-        requires room { array_vec_len outbox.old + 127 ≤ 514 }
+        requires room { HasRoomFor segments_per_sub_block outbox.old }
         requires greatest { (key : Key) → capacity_at (S.description store.old).rows key ≤
             self.old.greatest }
-        ensures few { array_vec_len outbox.new ≤ array_vec_len outbox.old + 127 }
+        ensures few { array_vec_len outbox.new ≤ array_vec_len outbox.old + segments_per_sub_block }
         ensures answers { (log : Log) → Stands (S.description store.old) self.old log →
             outbox.new.items ≡ outbox.old.items ++ frames_on self.old.answer (reply_on
             self.old.request (S.description store.old) (S.contents store.old) log frame.now) }
@@ -129,8 +156,9 @@ impl Channel {
     #[cold]
     #[inline(never)]
     pub(crate) fn give_up(&mut self, code: AbortCode, outbox: &mut Outbox)
-        requires room { array_vec_len outbox.old < 514 }
-        ensures few { array_vec_len outbox.new ≤ array_vec_len outbox.old + 127 }
+        requires room { HasRoomFor 1 outbox.old }
+        ensures few { array_vec_len outbox.new ≤ array_vec_len outbox.old + segments_per_sub_block }
+        ensures one { array_vec_len outbox.new ≡ array_vec_len outbox.old + 1 }
         ensures answers { outbox.new.items ≡ outbox.old.items ++ frames_on self.old.answer
             (aborted (open_key self.old.current) code.0) }
         ensures channel { self.new ≡ record self.old { current = None } }

@@ -3,6 +3,8 @@
 ghost use Rattle.std.specs.Prelude.{◌≡◌, ℕ, ◌+◌, ◌<◌, ◌≤◌, ◌++◌, [], ◌∷◌, Some, None, true, false, length};
 ghost use Rattle.arrayvec.specs.ArrayVec.{array_vec_len};
 ghost use Rattle.co_value.specs.declared.key.Key.{Key};
+ghost use Rattle.co_frame.specs.SegmentSizes.{segments_per_sub_block, bytes_per_segment};
+ghost use Rattle.co_frame.specs.Outboxes.{HasRoomFor};
 ghost use Rattle.co_frame.specs.SdoResponses.{IsSdoResponse};
 ghost use Rattle.co_frame.specs.declared.sdo_request.SdoRequest.TheVariants.{DownloadExpedited, DownloadInitiate};
 ghost use Rattle.co_sdo.specs.Log.{Response, frames_on};
@@ -14,7 +16,7 @@ ghost use Rattle.co_sdo.specs.Standing.{is_room_for};
 ghost use Rattle.co_sdo.specs.Steps.{next_on, after_segment, after_initiate, whole, set_expedited, set_on_open, set_by_segment};
 
 use crate::channel::Channel;
-use crate::refusals::{initiate_refusal, completion_refusal};
+use crate::refusals::{completion_refusal, initiate_refusal};
 use crate::sender::Sender;
 use crate::stage::{Ongoing, Stage};
 use co_dict::ObjectStore;
@@ -60,9 +62,9 @@ impl Sender {
         outbox: &mut Outbox,
     ) -> Option<Key>
         requires id { self.answer < 2048 }
-        requires room { array_vec_len outbox.old < 514 }
+        requires room { HasRoomFor 1 outbox.old }
         requires spellable { IsSdoResponse response }
-        ensures few { array_vec_len outbox.new ≤ array_vec_len outbox.old + 127 }
+        ensures few { array_vec_len outbox.new ≤ array_vec_len outbox.old + segments_per_sub_block }
         ensures answers { outbox.new.items ≡ outbox.old.items ++ frames_on self.answer
             (unless_refused (completion_refusal (S.description store.old) (S.contents store.old)
             key indicated bytes.now) key (Response response ∷ [])) }
@@ -97,8 +99,8 @@ impl Channel {
         data: &ExpeditedData,
         outbox: &mut Outbox,
     ) -> Option<Key>
-        requires room { array_vec_len outbox.old < 514 }
-        ensures few { array_vec_len outbox.new ≤ array_vec_len outbox.old + 127 }
+        requires room { HasRoomFor 1 outbox.old }
+        ensures few { array_vec_len outbox.new ≤ array_vec_len outbox.old + segments_per_sub_block }
         ensures answers { outbox.new.items ≡ outbox.old.items ++ frames_on self.old.answer
             (initiate_answers (S.description store.old) (S.contents store.old) (DownloadExpedited key
             data.now)) }
@@ -116,7 +118,7 @@ impl Channel {
         self.sender.complete(store, key, None, bytes, done, outbox)
     }
 
-    // The begin of a segmented download: initiate SDO download, ccs = 1, e = 0.
+    // Initiate SDO download, ccs = 1, e = 0: a segmented one.
     #[inline(never)]
     pub(crate) fn initiate_download<S: ObjectStore>(
         &mut self,
@@ -125,10 +127,10 @@ impl Channel {
         size: Option<u32>,
         outbox: &mut Outbox,
     )
-        requires room { array_vec_len outbox.old < 514 }
+        requires room { HasRoomFor 1 outbox.old }
         requires greatest { (key : Key) → capacity_at (S.description store.now).rows key ≤
             self.old.greatest }
-        ensures few { array_vec_len outbox.new ≤ array_vec_len outbox.old + 127 }
+        ensures few { array_vec_len outbox.new ≤ array_vec_len outbox.old + segments_per_sub_block }
         ensures answers { outbox.new.items ≡ outbox.old.items ++ frames_on self.old.answer
             (initiate_answers (S.description store.now) (S.contents store.now) (DownloadInitiate key
             size)) }
@@ -166,9 +168,9 @@ impl Channel {
         last: bool,
         outbox: &mut Outbox,
     ) -> Option<Key>
-        requires room { array_vec_len outbox.old < 514 }
-        requires few { length part.now ≤ 7 }
-        ensures few { array_vec_len outbox.new ≤ array_vec_len outbox.old + 127 }
+        requires room { HasRoomFor 1 outbox.old }
+        requires few { length part.now ≤ bytes_per_segment }
+        ensures few { array_vec_len outbox.new ≤ array_vec_len outbox.old + segments_per_sub_block }
         ensures answers { is_room_for (S.description store.old).rows self.old.room
             self.old.current → outbox.new.items ≡ outbox.old.items ++ frames_on self.old.answer
             (on_open self.old.current (λ o stage. segment_answers (S.description store.old)

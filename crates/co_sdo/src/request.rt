@@ -4,6 +4,8 @@
 ghost use Rattle.std.specs.Prelude.{◌≡◌, ℕ, ◌+◌, ◌<◌, ◌≤◌, ◌++◌, [], ◌∷◌, Some, None, true, false, length, drop};
 ghost use Rattle.arrayvec.specs.ArrayVec.{array_vec_len};
 ghost use Rattle.co_value.specs.declared.key.Key.{Key};
+ghost use Rattle.co_frame.specs.SegmentSizes.{segments_per_sub_block, bytes_per_segment};
+ghost use Rattle.co_frame.specs.Outboxes.{HasRoomFor};
 ghost use Rattle.co_frame.specs.SdoRequests.{SpellsSdoRequest};
 ghost use Rattle.co_sdo.specs.Log.{frames_on};
 ghost use Rattle.co_sdo.specs.Refused.{capacity_at};
@@ -22,7 +24,7 @@ use co_value::Key;
 pub(crate) fn segment_data(frame: &Frame) -> &[u8]
     requires { length frame.now.bytes ≡ 8 }
     ensures data { result.now ≡ drop 1 frame.now.bytes }
-    ensures seven { length result.now ≡ 7 }
+    ensures seven { length result.now ≡ bytes_per_segment }
 {
     &frame.bytes()[1..8]
 }
@@ -36,12 +38,12 @@ impl Channel {
         frame: &Frame,
         outbox: &mut Outbox,
     ) -> Option<Key>
-        requires room { array_vec_len outbox.old + 127 ≤ 514 }
+        requires room { HasRoomFor segments_per_sub_block outbox.old }
         requires greatest { (key : Key) → capacity_at (S.description store.old).rows key ≤
             self.old.greatest }
         requires eight { length frame.now.bytes ≡ 8 }
         requires spelled { SpellsSdoRequest request.now frame.now.bytes }
-        ensures few { array_vec_len outbox.new ≤ array_vec_len outbox.old + 127 }
+        ensures few { array_vec_len outbox.new ≤ array_vec_len outbox.old + segments_per_sub_block }
         ensures answers { is_room_for (S.description store.old).rows self.old.room
             self.old.current → outbox.new.items ≡ outbox.old.items ++ frames_on self.old.answer
             (request_answers (S.description store.old) (S.contents store.old) self.old.current
@@ -125,11 +127,11 @@ impl Channel {
         frame: &Frame,
         outbox: &mut Outbox,
     ) -> Option<Key>
-        requires room { array_vec_len outbox.old + 127 ≤ 514 }
+        requires room { HasRoomFor segments_per_sub_block outbox.old }
         requires eight { length frame.now.bytes ≡ 8 }
         requires greatest { (key : Key) → capacity_at (S.description store.old).rows key ≤
             self.old.greatest }
-        ensures few { array_vec_len outbox.new ≤ array_vec_len outbox.old + 127 }
+        ensures few { array_vec_len outbox.new ≤ array_vec_len outbox.old + segments_per_sub_block }
         ensures answers { is_room_for (S.description store.old).rows self.old.room
             self.old.current → outbox.new.items ≡ outbox.old.items ++ frames_on self.old.answer
             (answers_to (S.description store.old) (S.contents store.old) self.old.current

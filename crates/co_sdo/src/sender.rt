@@ -2,6 +2,8 @@
 
 ghost use Rattle.std.specs.Prelude.{◌≡◌, ◌+◌, ◌≤◌, ◌<◌, ◌++◌, [], ◌∷◌};
 ghost use Rattle.arrayvec.specs.ArrayVec.{array_vec_len};
+ghost use Rattle.co_frame.specs.SegmentSizes.{segments_per_sub_block};
+ghost use Rattle.co_frame.specs.Outboxes.{HasRoomFor};
 ghost use Rattle.co_frame.specs.SdoResponses.{IsSdoResponse};
 ghost use Rattle.co_sdo.specs.Log.{Response, frames_on};
 ghost use Rattle.co_sdo.specs.Replies.{aborted};
@@ -21,9 +23,10 @@ impl Sender {
     #[inline(always)]
     pub(crate) fn send(self, response: SdoResponse, outbox: &mut Outbox)
         requires id { self.answer < 2048 }
-        requires room { array_vec_len outbox.old < 514 }
+        requires room { HasRoomFor 1 outbox.old }
         requires spellable { IsSdoResponse response }
-        ensures few { array_vec_len outbox.new ≤ array_vec_len outbox.old + 127 }
+        ensures few { array_vec_len outbox.new ≤ array_vec_len outbox.old + segments_per_sub_block }
+        ensures one { array_vec_len outbox.new ≡ array_vec_len outbox.old + 1 }
         ensures answers { outbox.new.items ≡ outbox.old.items ++ frames_on self.answer (Response
             response ∷ []) }
     {
@@ -35,8 +38,9 @@ impl Sender {
     #[inline(never)]
     pub(crate) fn refuse(self, key: Key, code: AbortCode, outbox: &mut Outbox)
         requires id { self.answer < 2048 }
-        requires room { array_vec_len outbox.old < 514 }
-        ensures few { array_vec_len outbox.new ≤ array_vec_len outbox.old + 127 }
+        requires room { HasRoomFor 1 outbox.old }
+        ensures few { array_vec_len outbox.new ≤ array_vec_len outbox.old + segments_per_sub_block }
+        ensures one { array_vec_len outbox.new ≡ array_vec_len outbox.old + 1 }
         ensures answers { outbox.new.items ≡ outbox.old.items ++ frames_on self.answer (aborted
             key code.0) }
     {

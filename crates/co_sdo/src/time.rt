@@ -2,6 +2,8 @@
 
 ghost use Rattle.std.specs.Prelude.{◌≡◌, ℕ, ◌+◌, ◌-◌, ◌<◌, ◌≤◌, ◌++◌, [], ◌∷◌, Some, None, true, length};
 ghost use Rattle.arrayvec.specs.ArrayVec.{array_vec_len};
+ghost use Rattle.co_frame.specs.SegmentSizes.{segments_per_sub_block};
+ghost use Rattle.co_frame.specs.Outboxes.{HasRoomFor};
 ghost use Rattle.co_dict.specs.Stores.{Description};
 ghost use Rattle.co_sdo.specs.Log.{Log, Ticked, TimedOut, Dropped, frames_on};
 ghost use Rattle.co_sdo.specs.Opened.{held_bytes, bytes_held, is_time_over};
@@ -32,9 +34,10 @@ impl Channel {
 
     /// Gives up the transfer whose time is over, with an abort (05040000h, SDO protocol timed out).
     pub fn time_out(&mut self, outbox: &mut Outbox)
-        requires room { array_vec_len outbox.old < 514 }
+        requires room { HasRoomFor 1 outbox.old }
         requires expired { is_expired self.old ≡ true }
-        ensures few { array_vec_len outbox.new ≤ array_vec_len outbox.old + 127 }
+        ensures few { array_vec_len outbox.new ≤ array_vec_len outbox.old + segments_per_sub_block }
+        ensures one { array_vec_len outbox.new ≡ array_vec_len outbox.old + 1 }
         ensures answers { (d : Description) (log : Log) → Stands d self.old log →
             outbox.new.items ≡ outbox.old.items ++ frames_on self.old.answer (time_out_reply log) }
         ensures stands { (d : Description) (log : Log) → Stands d self.old log →

@@ -3,6 +3,8 @@
 ghost use Rattle.std.specs.Prelude.{◌≡◌, ℕ, ◌+◌, ◌*◌, ◌<◌, ◌≤◌, ◌++◌, [], ◌∷◌, Some, None, true, false, length};
 ghost use Rattle.arrayvec.specs.ArrayVec.{array_vec_len};
 ghost use Rattle.co_value.specs.declared.key.Key.{Key};
+ghost use Rattle.co_frame.specs.SegmentSizes.{segments_per_sub_block, bytes_per_segment};
+ghost use Rattle.co_frame.specs.Outboxes.{HasRoomFor};
 ghost use Rattle.co_frame.specs.declared.sdo_request.SdoRequest.TheVariants.{Upload};
 ghost use Rattle.co_sdo.specs.Log.{frames_on};
 ghost use Rattle.co_sdo.specs.Refused.{capacity_at};
@@ -16,7 +18,7 @@ use crate::refusals::reading_refusal;
 use crate::stage::{Ongoing, Stage};
 use arrayvec::ArrayVec;
 use co_dict::{ObjectStore, store_laws};
-use co_frame::{AbortCode, ExpeditedData, Outbox, SdoResponse};
+use co_frame::{AbortCode, BYTES_PER_SEGMENT, ExpeditedData, Outbox, SdoResponse};
 use co_value::Key;
 
 // Copies the value of an entry into a buffer that has room for it.
@@ -34,12 +36,12 @@ pub(crate) fn copy_value<S: ObjectStore>(store: &S, key: Key, buffer: &mut Buffe
 
 // The seven bytes of a value after so many segments, fewer at its end.
 pub(crate) fn part_after(value: &[u8], count: usize) -> &[u8]
-    requires { 7 * count ≤ length value.now }
+    requires { bytes_per_segment * count ≤ length value.now }
     ensures part { result.now ≡ part_after count value.now }
-    ensures few { length result.now ≤ 7 }
+    ensures few { length result.now ≤ bytes_per_segment }
 {
-    let rest = &value[7 * count..];
-    if rest.len() < 7 { rest } else { &rest[..7] }
+    let rest = &value[BYTES_PER_SEGMENT * count..];
+    &rest[..rest.len().min(BYTES_PER_SEGMENT)]
 }
 
 // The bytes of an expedited upload.
@@ -57,7 +59,7 @@ fn expedited(value: &[u8]) -> ArrayVec<u8, 4>
 
 // The bytes of a segment.
 fn segment(part: &[u8]) -> ArrayVec<u8, 7>
-    requires { length part.now ≤ 7 }
+    requires { length part.now ≤ bytes_per_segment }
     ensures { result.items ≡ part.now }
 {
     let mut data = ArrayVec::new();
@@ -69,13 +71,18 @@ fn segment(part: &[u8]) -> ArrayVec<u8, 7>
 }
 
 impl Channel {
-    // The begin of an upload: initiate SDO upload, ccs = 2.
+    // Initiate SDO upload, ccs = 2.
     #[inline(never)]
-    pub(crate) fn initiate_upload<S: ObjectStore>(&mut self, store: &S, key: Key, outbox: &mut Outbox)
-        requires room { array_vec_len outbox.old < 514 }
+    pub(crate) fn initiate_upload<S: ObjectStore>(
+        &mut self,
+        store: &S,
+        key: Key,
+        outbox: &mut Outbox,
+    )
+        requires room { HasRoomFor 1 outbox.old }
         requires greatest { (key : Key) → capacity_at (S.description store.now).rows key ≤
             self.old.greatest }
-        ensures few { array_vec_len outbox.new ≤ array_vec_len outbox.old + 127 }
+        ensures few { array_vec_len outbox.new ≤ array_vec_len outbox.old + segments_per_sub_block }
         ensures answers { outbox.new.items ≡ outbox.old.items ++ frames_on self.old.answer
             (initiate_answers (S.description store.now) (S.contents store.now) (Upload key)) }
         ensures channel { self.new ≡ record self.old {
@@ -107,8 +114,8 @@ impl Channel {
 
     // The request of a segment: upload SDO segment, ccs = 3.
     pub(crate) fn take_upload_segment(&mut self, toggle: bool, outbox: &mut Outbox)
-        requires room { array_vec_len outbox.old < 514 }
-        ensures few { array_vec_len outbox.new ≤ array_vec_len outbox.old + 127 }
+        requires room { HasRoomFor 1 outbox.old }
+        ensures few { array_vec_len outbox.new ≤ array_vec_len outbox.old + segments_per_sub_block }
         ensures answers { outbox.new.items ≡ outbox.old.items ++ frames_on self.old.answer
             (on_open self.old.current (λ o stage. upload_answers o stage toggle)) }
         ensures channel { self.new ≡ record self.old {
@@ -131,7 +138,7 @@ impl Channel {
             return;
         }
         let data = segment(part_after(self.buffer.as_slice(), sent as usize));
-        let last = self.buffer.len() <= 7 * sent as usize + 7;
+        let last = self.buffer.len() <= BYTES_PER_SEGMENT * sent as usize + BYTES_PER_SEGMENT;
         if last {
             self.current = None;
         } else {

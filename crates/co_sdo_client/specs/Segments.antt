@@ -1,6 +1,7 @@
 -- The segments that a client sends of its bytes (CiA 301, 7.2.4.3.4 and 7.2.4.3.10).
 use Rattle.std.specs.Prelude.{ℕ, ◌+◌, ◌-◌, ◌*◌, ◌/◌, ◌&&◌, Bool, max, nat_le, List, [], ◌∷◌, length, map, Option, Some, None, if◌then◌else◌}
 use Rattle.std.specs.List.{range_with_len}
+use Rattle.co_frame.specs.SegmentSizes.{bytes_per_segment, segments_per_sub_block}
 use Rattle.co_frame.specs.declared.sdo_request.ExpeditedData.TheVariants.{Indicated}
 use Rattle.co_frame.specs.declared.sdo_request.SdoRequest.TheVariants.{DownloadExpedited, DownloadInitiate, DownloadSegment, Upload as UploadRequest, BlockUploadInitiate, BlockDownloadInitiate, BlockDownloadEnd}
 use Rattle.co_sdo_client.specs.declared.mode.Mode.{Mode}
@@ -20,7 +21,7 @@ abbrev pub cap_of : Job → ℕ
 cap_of (Download bytes tells) = 0
 cap_of (Upload cap) = cap
 
--- the size that a begin indicates
+-- the size that initiate indicates
 abbrev pub size_sent : Job → Option ℕ
 size_sent (Download bytes tells) = if tells then Some (length bytes) else None
 size_sent (Upload cap) = None
@@ -46,20 +47,20 @@ initiate_request call ExpeditedDownload = Request (DownloadExpedited call.key (I
 initiate_request call SegmentedDownload = Request (DownloadInitiate call.key (size_sent call.job))
 initiate_request call BlockDownload = Request (BlockDownloadInitiate call.key (size_sent call.job))
 initiate_request call SegmentedUpload = Request (UploadRequest call.key)
-initiate_request call BlockUpload = Request (BlockUploadInitiate call.key 127 0)
+initiate_request call BlockUpload = Request (BlockUploadInitiate call.key segments_per_sub_block 0)
 
--- what a client sends at its begin
+-- the initiate request
 abbrev pub initiate_messages : Call → List Message
 initiate_messages call = initiate_request call (transfer_of call) ∷ []
 
--- how many requests a segmented download of so many bytes needs: the begin, and one for each seven bytes or fewer (in the
+-- how many requests a segmented download of so many bytes needs: initiate, and one for each seven bytes or fewer (in the
 -- plain mode 1 to 4 bytes need one request alone)
 abbrev pub requests_needed : ℕ → ℕ
-requests_needed size = 1 + max 1 ((size + 6) / 7)
+requests_needed size = 1 + max 1 ((size + 6) / bytes_per_segment)
 
 -- the segment after so many is the last: no bytes remain after it
 abbrev pub is_last_after : ℕ → List ℕ → Bool
-is_last_after count bytes = nat_le (length bytes) (7 * count + 7)
+is_last_after count bytes = nat_le (length bytes) (bytes_per_segment * count + bytes_per_segment)
 
 -- the segment after so many, with their parity as its toggle
 abbrev pub segment_after : ℕ → List ℕ → Message
@@ -73,4 +74,4 @@ sub_block_sent bytes position size = map (λ number. Segment (block_segment byte
 
 -- the end of a block download, with the number of bytes that its last segment leaves unused
 abbrev pub block_download_end : List ℕ → List Message
-block_download_end bytes = Request (BlockDownloadEnd (7 * segment_count bytes - length bytes)) ∷ []
+block_download_end bytes = Request (BlockDownloadEnd (bytes_per_segment * segment_count bytes - length bytes)) ∷ []

@@ -3,6 +3,7 @@ use Rattle.std.specs.Prelude.{ℕ, ◌+◌, ◌==◌, ◌&&◌, Bool, false, not
 use Rattle.std.specs.Option.{option_map_or}
 use Rattle.co_value.specs.declared.key.Key.{Key}
 use Rattle.co_value.specs.Keys.{same_key}
+use Rattle.co_frame.specs.SegmentSizes.{segments_per_sub_block}
 use Rattle.co_frame.specs.AbortCodes.{toggle_not_alternated, timed_out, unknown_command, invalid_block_size, invalid_sequence_number, out_of_memory, too_long, too_short}
 use Rattle.co_frame.specs.BlockSegments.{block_segment_in, is_abort_in_sub_block}
 use Rattle.co_frame.specs.SdoParts.{code_in}
@@ -74,7 +75,7 @@ below_indicated size total = (is_below_size size total, too_short)
 
 -- a block size is 1 to 127
 abbrev pub bad_block_size : ℕ → Bool × ℕ
-bad_block_size size = (not (nat_le 1 size && nat_le size 127), invalid_block_size)
+bad_block_size size = (not (nat_le 1 size && nat_le size segments_per_sub_block), invalid_block_size)
 
 -- more segments are acknowledged than were sent
 abbrev pub bad_sequence : ℕ → ℕ → Bool × ℕ
@@ -82,7 +83,7 @@ bad_sequence sent sequence = (nat_lt sent sequence, invalid_sequence_number)
 
 -- ---- downloads
 
--- the confirmation of a download's begin
+-- the confirmation of initiate SDO download
 abbrev pub download_confirmed : Call → Transfer → Key → Verdict
 download_confirmed call ExpeditedDownload key = unless_fault (other_key call key ∷ []) (Ends [] [])
 download_confirmed call SegmentedDownload key = unless_fault (other_key call key ∷ []) (GoesOn (segment_after 0 (bytes_of call.job) ∷ []))
@@ -92,7 +93,7 @@ download_confirmed call _ key = unexpected
 abbrev pub segment_confirmed : List ℕ → ℕ → Verdict
 segment_confirmed bytes count = if is_last_after count bytes then Ends [] [] else GoesOn (segment_after (count + 1) bytes ∷ [])
 
--- the confirmation of a block download's begin, with the first sub-block's size
+-- the confirmation of initiate SDO block download, with the first sub-block's size
 abbrev pub block_download_confirmed : Call → Transfer → Key → ℕ → Verdict
 block_download_confirmed call InBlocks key block_size =
     unless_fault (other_key call key ∷ bad_block_size block_size ∷ []) (GoesOn (sub_block_sent (bytes_of call.job) 0 block_size))
@@ -116,7 +117,7 @@ abbrev pub upload_expedited : Call → Transfer → Key → List ℕ → Verdict
 upload_expedited call SegmentedUpload key value = unless_fault (other_key call key ∷ no_room call (length value) ∷ []) (Ends [] value)
 upload_expedited call _ key value = unexpected
 
--- the confirmation of an upload's begin: the first segment is asked for
+-- the confirmation of initiate SDO upload: the first segment is asked for
 abbrev pub upload_confirmed : Call → Transfer → Key → Option ℕ → Verdict
 upload_confirmed call SegmentedUpload key size =
     unless_fault (other_key call key ∷ no_room_indicated call size ∷ []) (GoesOn (Request (NextSegment false) ∷ []))
@@ -132,7 +133,7 @@ upload_segment_taken call size expected value toggle last =
     unless_fault (other_toggle toggle expected ∷ no_room call (length value) ∷ [])
     (if last then upload_complete size value else GoesOn (Request (NextSegment (not expected)) ∷ []))
 
--- the confirmation of a block upload's begin: the upload is started
+-- the confirmation of initiate SDO block upload: the upload is started
 abbrev pub block_upload_confirmed : Call → Transfer → Key → Option ℕ → Verdict
 block_upload_confirmed call BlockUpload key size =
     unless_fault (other_key call key ∷ no_room_indicated call size ∷ []) (GoesOn (Request BlockUploadStart ∷ []))
@@ -154,7 +155,7 @@ held_with held taken frame = held ++ bytes_taken (segment_next taken frame)
 abbrev pub sub_block_end : Call → ℕ → List ℕ → List ℕ → Verdict
 sub_block_end call taken held frame =
     unless_fault ((if is_last_taken (segment_next taken frame) then (false, 0) else no_room call (length (held_with held taken frame))) ∷ [])
-    (GoesOn (Request (BlockUploadAcknowledge (taken_with taken frame) 127) ∷ []))
+    (GoesOn (Request (BlockUploadAcknowledge (taken_with taken frame) segments_per_sub_block) ∷ []))
 
 -- a frame inside a sub-block: 80h is an abort, all others are segments, or nothing
 abbrev pub sub_block_verdict : Call → ℕ → List ℕ → List ℕ → Verdict

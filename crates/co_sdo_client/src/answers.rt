@@ -2,6 +2,8 @@
 
 ghost use Rattle.std.specs.Prelude.{◌≡◌, ◌+◌, ◌-◌, ◌<◌, ◌≤◌, ◌++◌, [], ◌∷◌, None, Some, length};
 ghost use Rattle.arrayvec.specs.ArrayVec.{array_vec_len};
+ghost use Rattle.co_frame.specs.SegmentSizes.{segments_per_sub_block};
+ghost use Rattle.co_frame.specs.Outboxes.{HasRoomFor};
 ghost use Rattle.co_sdo_client.specs.Calls.{frames_on};
 ghost use Rattle.co_sdo_client.specs.Steps.{messages_to, after_response, messages_to_frame, after_frame};
 
@@ -13,8 +15,8 @@ use co_frame::{AbortCode, Frame, Outbox, SdoResponse};
 impl<'a> Client<'a> {
     // An answer outside a sub-block.
     fn take_response(&mut self, response: &SdoResponse, outbox: &mut Outbox)
-        requires room { array_vec_len outbox.old + 127 ≤ 514 }
-        ensures few { array_vec_len outbox.new ≤ array_vec_len outbox.old + 127 }
+        requires room { HasRoomFor segments_per_sub_block outbox.old }
+        ensures few { array_vec_len outbox.new ≤ array_vec_len outbox.old + segments_per_sub_block }
         ensures messages { outbox.new.items ≡ outbox.old.items ++ frames_on self.old.request
             (messages_to self.old (Some response.now)) }
         ensures client { self.new ≡ after_response self.old (Some response.now) }
@@ -45,9 +47,9 @@ impl<'a> Client<'a> {
 
     // A frame of eight bytes on the answer identifier, while the client waits.
     pub(crate) fn take_answer(&mut self, frame: &Frame, outbox: &mut Outbox)
-        requires room { array_vec_len outbox.old + 127 ≤ 514 }
+        requires room { HasRoomFor segments_per_sub_block outbox.old }
         requires eight { length frame.now.bytes ≡ 8 }
-        ensures few { array_vec_len outbox.new ≤ array_vec_len outbox.old + 127 }
+        ensures few { array_vec_len outbox.new ≤ array_vec_len outbox.old + segments_per_sub_block }
         ensures messages { outbox.new.items ≡ outbox.old.items ++ frames_on self.old.request
             (messages_to_frame self.old frame.now.bytes) }
         ensures client { self.new ≡ after_frame (record self.old { left = self.old.call.time })

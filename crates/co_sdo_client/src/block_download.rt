@@ -2,6 +2,8 @@
 
 ghost use Rattle.std.specs.Prelude.{◌≡◌, ◌+◌, ◌*◌, ◌<◌, ◌≤◌, ◌++◌, [], ◌∷◌, Some, length};
 ghost use Rattle.arrayvec.specs.ArrayVec.{array_vec_len};
+ghost use Rattle.co_frame.specs.SegmentSizes.{segments_per_sub_block, bytes_per_segment};
+ghost use Rattle.co_frame.specs.Outboxes.{HasRoomFor};
 ghost use Rattle.co_frame.specs.declared.sdo_response.SdoResponse.TheVariants.{BlockDownloadInitiated, BlockDownloadDone, BlockDownloadAcknowledge};
 ghost use Rattle.co_sdo_client.specs.declared.stage.Stage.TheVariants.{BlockDownload};
 ghost use Rattle.co_sdo_client.specs.Calls.{frames_on};
@@ -14,26 +16,28 @@ use crate::sending::part_after;
 use crate::stage::Stage;
 use crate::state::ClientState;
 use crate::transfer::Transfer;
-use co_frame::{AbortCode, BlockSegment, Outbox, SdoRequest};
+use co_frame::{
+    AbortCode, BYTES_PER_SEGMENT, BlockSegment, Outbox, SEGMENTS_PER_SUB_BLOCK, SdoRequest,
+};
 use co_value::Key;
 
 // How many segments so many bytes have.
 fn segment_count(bytes: &[u8]) -> usize
     requires { length bytes.now ≤ 65535 }
     ensures count { result ≡ segment_count bytes.now }
-    ensures bytes { length bytes.now ≤ 7 * result }
-    ensures segments { 7 * result ≤ length bytes.now + 7 }
+    ensures bytes { length bytes.now ≤ bytes_per_segment * result }
+    ensures segments { bytes_per_segment * result ≤ length bytes.now + bytes_per_segment }
     ensures some { 1 ≤ result }
 {
-    ((bytes.len() + 6) / 7).max(1)
+    ((bytes.len() + 6) / BYTES_PER_SEGMENT).max(1)
 }
 
 // A segment of a sub-block that begins after so many segments.
 fn block_segment(bytes: &[u8], position: usize, number: u8) -> BlockSegment
     requires len { length bytes.now ≤ 65535 }
     requires first { 1 ≤ number }
-    requires last { number ≤ 127 }
-    requires start { 7 * (position + number) ≤ length bytes.now + 7 }
+    requires last { number ≤ segments_per_sub_block }
+    requires start { bytes_per_segment * (position + number) ≤ length bytes.now + bytes_per_segment }
     ensures segment { result ≡ block_segment bytes.now position number }
     ensures number { result.sequence ≡ number }
 {
@@ -51,16 +55,16 @@ fn block_segment(bytes: &[u8], position: usize, number: u8) -> BlockSegment
 // Sends a sub-block on an identifier, and gives the number of its segments.
 fn send_segments(id: u16, bytes: &[u8], position: usize, block_size: u8, outbox: &mut Outbox) -> u8
     requires id { id < 2048 }
-    requires room { array_vec_len outbox.old + 127 ≤ 514 }
+    requires room { HasRoomFor segments_per_sub_block outbox.old }
     requires len { length bytes.now ≤ 65535 }
-    requires few { block_size ≤ 127 }
+    requires few { block_size ≤ segments_per_sub_block }
     requires position { position ≤ segment_count bytes.now }
-    ensures few { array_vec_len outbox.new ≤ array_vec_len outbox.old + 127 }
+    ensures few { array_vec_len outbox.new ≤ array_vec_len outbox.old + segments_per_sub_block }
     ensures messages { outbox.new.items ≡ outbox.old.items ++ frames_on id (sub_block_sent
         bytes.now position block_size) }
     ensures count { result ≡ sub_block_length bytes.now position block_size }
     ensures frames { length (sub_block_sent bytes.now position block_size) ≡ result }
-    ensures most { result ≤ 127 }
+    ensures most { result ≤ segments_per_sub_block }
     ensures within { position + result ≤ segment_count bytes.now }
 {
     let left = segment_count(bytes) - position;
@@ -74,11 +78,11 @@ fn send_segments(id: u16, bytes: &[u8], position: usize, block_size: u8, outbox:
 impl<'a> Client<'a> {
     // Sends the sub-block after so many acknowledged segments.
     fn send_sub_block(&mut self, position: usize, block_size: u8, outbox: &mut Outbox)
-        requires room { array_vec_len outbox.old + 127 ≤ 514 }
-        requires size { block_size ≤ 127 }
+        requires room { HasRoomFor segments_per_sub_block outbox.old }
+        requires size { block_size ≤ segments_per_sub_block }
         requires position { position ≤ segment_count (bytes_of self.old.call.job) }
         requires held { self.old.held ≡ [] }
-        ensures few { array_vec_len outbox.new ≤ array_vec_len outbox.old + 127 }
+        ensures few { array_vec_len outbox.new ≤ array_vec_len outbox.old + segments_per_sub_block }
         ensures messages { outbox.new.items ≡ outbox.old.items ++ frames_on self.old.request
             (sub_block_sent (bytes_of self.old.call.job) position block_size) }
         ensures client { self.new ≡ after_sub_block self.old position block_size }
@@ -91,10 +95,10 @@ impl<'a> Client<'a> {
         };
     }
 
-    // The confirmation of a block download's begin: initiate SDO block download, scs = 5, ss = 0.
+    // The confirmation of initiate SDO block download, scs = 5, ss = 0.
     pub(crate) fn confirm_block_download(&mut self, key: Key, block_size: u8, outbox: &mut Outbox)
-        requires room { array_vec_len outbox.old + 127 ≤ 514 }
-        ensures few { array_vec_len outbox.new ≤ array_vec_len outbox.old + 127 }
+        requires room { HasRoomFor segments_per_sub_block outbox.old }
+        ensures few { array_vec_len outbox.new ≤ array_vec_len outbox.old + segments_per_sub_block }
         ensures messages { outbox.new.items ≡ outbox.old.items ++ frames_on self.old.request
             (messages_to self.old (Some (BlockDownloadInitiated key block_size))) }
         ensures client { self.new ≡ after_response self.old (Some (BlockDownloadInitiated key
@@ -112,7 +116,7 @@ impl<'a> Client<'a> {
             self.give_up(AbortCode::UNKNOWN_COMMAND, outbox);
             return;
         }
-        if block_size < 1 || 127 < block_size {
+        if block_size < 1 || SEGMENTS_PER_SUB_BLOCK < block_size {
             self.give_up(AbortCode::INVALID_BLOCK_SIZE, outbox);
             return;
         }
@@ -121,8 +125,8 @@ impl<'a> Client<'a> {
 
     // An acknowledgement of a sub-block: SDO block download, scs = 5, ss = 2.
     pub(crate) fn take_acknowledge(&mut self, sequence: u8, block_size: u8, outbox: &mut Outbox)
-        requires room { array_vec_len outbox.old + 127 ≤ 514 }
-        ensures few { array_vec_len outbox.new ≤ array_vec_len outbox.old + 127 }
+        requires room { HasRoomFor segments_per_sub_block outbox.old }
+        ensures few { array_vec_len outbox.new ≤ array_vec_len outbox.old + segments_per_sub_block }
         ensures messages { outbox.new.items ≡ outbox.old.items ++ frames_on self.old.request
             (messages_to self.old (Some (BlockDownloadAcknowledge sequence block_size))) }
         ensures client { self.new ≡ after_response self.old (Some (BlockDownloadAcknowledge
@@ -139,12 +143,12 @@ impl<'a> Client<'a> {
         let position = usize::from(acknowledged) + usize::from(sequence);
         let count = segment_count(self.bytes);
         if position == count {
-            let unused = (7 * count - self.bytes.len()) as u8;
+            let unused = (BYTES_PER_SEGMENT * count - self.bytes.len()) as u8;
             self.stage = Stage::BlockDownloadEnded;
             self.send(SdoRequest::BlockDownloadEnd { unused }, outbox);
             return;
         }
-        if block_size < 1 || 127 < block_size {
+        if block_size < 1 || SEGMENTS_PER_SUB_BLOCK < block_size {
             self.give_up(AbortCode::INVALID_BLOCK_SIZE, outbox);
             return;
         }
@@ -153,8 +157,8 @@ impl<'a> Client<'a> {
 
     // The confirmation of a block download's end: end SDO block download, scs = 5, ss = 1.
     pub(crate) fn finish_block_download(&mut self, outbox: &mut Outbox)
-        requires room { array_vec_len outbox.old + 127 ≤ 514 }
-        ensures few { array_vec_len outbox.new ≤ array_vec_len outbox.old + 127 }
+        requires room { HasRoomFor segments_per_sub_block outbox.old }
+        ensures few { array_vec_len outbox.new ≤ array_vec_len outbox.old + segments_per_sub_block }
         ensures messages { outbox.new.items ≡ outbox.old.items ++ frames_on self.old.request
             (messages_to self.old (Some BlockDownloadDone)) }
         ensures client { self.new ≡ after_response self.old (Some BlockDownloadDone) }

@@ -3,6 +3,8 @@
 ghost use Rattle.std.specs.Prelude.{◌≡◌, ◌+◌, ◌*◌, ◌<◌, ◌≤◌, ◌++◌, [], ◌∷◌, Some, length};
 ghost use Rattle.std.specs.Option.{option_map_or};
 ghost use Rattle.arrayvec.specs.ArrayVec.{array_vec_len};
+ghost use Rattle.co_frame.specs.SegmentSizes.{segments_per_sub_block, bytes_per_segment};
+ghost use Rattle.co_frame.specs.Outboxes.{HasRoomFor};
 ghost use Rattle.co_frame.specs.declared.sdo_response.SdoResponse.TheVariants.{BlockUploadInitiated, BlockUploadEnd};
 ghost use Rattle.co_sdo_client.specs.declared.stage.Stage.TheVariants.{SubBlock};
 ghost use Rattle.co_sdo_client.specs.Calls.{frames_on};
@@ -17,19 +19,22 @@ use crate::stage::Stage;
 use crate::state::ClientState;
 use crate::transfer::Transfer;
 use crate::upload::{is_above_size, is_below_size};
-use co_frame::{AbortCode, BlockSegment, Frame, Outbox, SdoRequest, SdoResponse, abort_byte};
+use co_frame::{
+    AbortCode, BYTES_PER_SEGMENT, BlockSegment, Frame, Outbox, SEGMENTS_PER_SUB_BLOCK, SdoRequest,
+    SdoResponse, abort_byte,
+};
 use co_value::Key;
 
 // Appends a segment, if it is the next of its sub-block, and gives how many are then taken in it.
 fn append_next(buffer: &mut Buffer, taken: u8, segment: BlockSegment) -> u8
-    requires room { length buffer.old.items + 7 ≤ buffer.old.room }
-    requires few { taken < 127 }
+    requires room { length buffer.old.items + bytes_per_segment ≤ buffer.old.room }
+    requires few { taken < segments_per_sub_block }
     ensures buffer { buffer.new ≡ record buffer.old {
       items = buffer.old.items ++ bytes_taken (segment_taken taken (Some segment));
     } }
     ensures taken { result ≡ option_map_or (λ next. taken + 1) (segment_taken taken (Some
         segment)) taken }
-    ensures len { length buffer.new.items + 7 * taken ≡ length buffer.old.items + 7 * result }
+    ensures len { length buffer.new.items + bytes_per_segment * taken ≡ length buffer.old.items + bytes_per_segment * result }
 {
     if segment.sequence != taken + 1 {
         return taken;
@@ -39,10 +44,10 @@ fn append_next(buffer: &mut Buffer, taken: u8, segment: BlockSegment) -> u8
 }
 
 impl<'a> Client<'a> {
-    // The confirmation of a block upload's begin: initiate SDO block upload, scs = 6, ss = 0.
+    // The confirmation of initiate SDO block upload, scs = 6, ss = 0.
     pub(crate) fn confirm_block_upload(&mut self, key: Key, size: Option<u32>, outbox: &mut Outbox)
-        requires room { array_vec_len outbox.old < 514 }
-        ensures few { array_vec_len outbox.new ≤ array_vec_len outbox.old + 127 }
+        requires room { HasRoomFor 1 outbox.old }
+        ensures few { array_vec_len outbox.new ≤ array_vec_len outbox.old + segments_per_sub_block }
         ensures messages { outbox.new.items ≡ outbox.old.items ++ frames_on self.old.request
             (messages_to self.old (Some (BlockUploadInitiated key size))) }
         ensures client { self.new ≡ after_response self.old (Some (BlockUploadInitiated key size)) }
@@ -78,10 +83,10 @@ impl<'a> Client<'a> {
         frame: &Frame,
         outbox: &mut Outbox,
     )
-        requires room { array_vec_len outbox.old < 514 }
+        requires room { HasRoomFor 1 outbox.old }
         requires eight { length frame.now.bytes ≡ 8 }
         requires stage { self.old.stage ≡ SubBlock indicated taken }
-        ensures few { array_vec_len outbox.new ≤ array_vec_len outbox.old + 127 }
+        ensures few { array_vec_len outbox.new ≤ array_vec_len outbox.old + segments_per_sub_block }
         ensures messages { outbox.new.items ≡ outbox.old.items ++ frames_on self.old.request
             (messages_by self.old.call (sub_block_verdict self.old.call taken self.old.held
             frame.now.bytes)) }
@@ -101,9 +106,9 @@ impl<'a> Client<'a> {
         };
         let is_next = segment.sequence == taken + 1;
         let is_last = segment.last && is_next;
-        let ends = segment.last || segment.sequence == 127;
+        let ends = segment.last || segment.sequence == SEGMENTS_PER_SUB_BLOCK;
         let total = if is_next {
-            self.buffer.len() + 7
+            self.buffer.len() + BYTES_PER_SEGMENT
         } else {
             self.buffer.len()
         };
@@ -129,15 +134,15 @@ impl<'a> Client<'a> {
         };
         let acknowledge = SdoRequest::BlockUploadAcknowledge {
             sequence: count,
-            block_size: 127,
+            block_size: SEGMENTS_PER_SUB_BLOCK,
         };
         self.send(acknowledge, outbox);
     }
 
     // The end of a block upload: end SDO block upload, scs = 6, ss = 1.
     pub(crate) fn end_block_upload(&mut self, unused: u8, outbox: &mut Outbox)
-        requires room { array_vec_len outbox.old < 514 }
-        ensures few { array_vec_len outbox.new ≤ array_vec_len outbox.old + 127 }
+        requires room { HasRoomFor 1 outbox.old }
+        ensures few { array_vec_len outbox.new ≤ array_vec_len outbox.old + segments_per_sub_block }
         ensures messages { outbox.new.items ≡ outbox.old.items ++ frames_on self.old.request
             (messages_to self.old (Some (BlockUploadEnd unused))) }
         ensures client { self.new ≡ after_response self.old (Some (BlockUploadEnd unused)) }

@@ -2,6 +2,8 @@
 
 ghost use Rattle.std.specs.Prelude.{◌≡◌, ℕ, ◌+◌, ◌-◌, ◌<◌, ◌≤◌, ◌++◌, [], ◌∷◌, true, false, length, List};
 ghost use Rattle.arrayvec.specs.ArrayVec.{array_vec_len};
+ghost use Rattle.co_frame.specs.SegmentSizes.{segments_per_sub_block};
+ghost use Rattle.co_frame.specs.Outboxes.{HasRoomFor};
 ghost use Rattle.co_frame.specs.SdoRequests.{IsSdoRequest};
 ghost use Rattle.co_sdo_client.specs.Calls.{Call, Event, Ticked, Request, frames_on};
 ghost use Rattle.co_sdo_client.specs.Segments.{initiate_messages, size_sent};
@@ -14,10 +16,10 @@ use crate::direction::Direction;
 use crate::state::ClientState;
 use crate::transfer::Transfer;
 use arrayvec::ArrayVec;
-use co_frame::{AbortCode, ExpeditedData, Frame, Outbox, SdoRequest};
+use co_frame::{AbortCode, ExpeditedData, Frame, Outbox, SEGMENTS_PER_SUB_BLOCK, SdoRequest};
 
 impl<'a> Client<'a> {
-    // The size that a begin indicates.
+    // The size that initiate indicates.
     fn size_sent(&self) -> Option<u32>
         ensures { result ≡ size_sent self.now.call.job }
     {
@@ -27,7 +29,7 @@ impl<'a> Client<'a> {
         }
     }
 
-    // What is sent at the begin.
+    // The initiate request.
     fn initiate_request(&self) -> SdoRequest
         ensures request { Request result ∷ [] ≡ initiate_messages self.now.call }
         ensures spellable { IsSdoRequest result }
@@ -49,7 +51,7 @@ impl<'a> Client<'a> {
             Transfer::SegmentedUpload => SdoRequest::Upload { key },
             Transfer::BlockUpload => SdoRequest::BlockUploadInitiate {
                 key,
-                block_size: 127,
+                block_size: SEGMENTS_PER_SUB_BLOCK,
                 threshold: 0,
             },
         }
@@ -67,8 +69,8 @@ impl<'a> Client<'a> {
 
     // A tick while the client waits.
     fn count_tick(&mut self, outbox: &mut Outbox)
-        requires room { array_vec_len outbox.old < 514 }
-        ensures few { array_vec_len outbox.new ≤ array_vec_len outbox.old + 127 }
+        requires room { HasRoomFor 1 outbox.old }
+        ensures few { array_vec_len outbox.new ≤ array_vec_len outbox.old + segments_per_sub_block }
         ensures messages { outbox.new.items ≡ outbox.old.items ++ frames_on self.old.request
             (messages_to_tick self.old) }
         ensures client { self.new ≡ after_tick self.old }
@@ -81,8 +83,8 @@ impl<'a> Client<'a> {
 
     /// Begins the transfer, with one frame. A second call does nothing.
     pub fn begin(&mut self, outbox: &mut Outbox)
-        requires room { array_vec_len outbox.old < 514 }
-        ensures few { array_vec_len outbox.new ≤ array_vec_len outbox.old + 127 }
+        requires room { HasRoomFor 1 outbox.old }
+        ensures few { array_vec_len outbox.new ≤ array_vec_len outbox.old + segments_per_sub_block }
         ensures messages { (call : Call) → IsReady call self.old → outbox.new.items ≡
             outbox.old.items ++ frames_on self.old.request (initiate_messages call) }
         ensures begun { (call : Call) → IsReady call self.old → ClientStands call [] self.new }
@@ -103,8 +105,8 @@ impl<'a> Client<'a> {
     /// another identifier than the client's answers, it is passed over. Else what is asked next is put into the outbox, at
     /// most 127 frames; for an answer that isn't the awaited one that is an abort.
     pub fn take(&mut self, frame: &Frame, outbox: &mut Outbox)
-        requires room { array_vec_len outbox.old + 127 ≤ 514 }
-        ensures few { array_vec_len outbox.new ≤ array_vec_len outbox.old + 127 }
+        requires room { HasRoomFor segments_per_sub_block outbox.old }
+        ensures few { array_vec_len outbox.new ≤ array_vec_len outbox.old + segments_per_sub_block }
         ensures messages { (call : Call) (events : List Event) → ClientStands call events self.old
             → outbox.new.items ≡ outbox.old.items ++ frames_on self.old.request (asked_with
             self.old.answer call events frame.now) }
@@ -126,8 +128,8 @@ impl<'a> Client<'a> {
     /// A tick of 1 ms. Where the time for an answer is over, the transfer is given up with an abort (05040000h, SDO protocol
     /// timed out). Before the begin, and when the transfer is done or has failed, it does nothing.
     pub fn tick(&mut self, outbox: &mut Outbox)
-        requires room { array_vec_len outbox.old + 127 ≤ 514 }
-        ensures few { array_vec_len outbox.new ≤ array_vec_len outbox.old + 127 }
+        requires room { HasRoomFor segments_per_sub_block outbox.old }
+        ensures few { array_vec_len outbox.new ≤ array_vec_len outbox.old + segments_per_sub_block }
         ensures messages { (call : Call) (events : List Event) → ClientStands call events self.old
             → outbox.new.items ≡ outbox.old.items ++ frames_on self.old.request (asked_by call
             events Ticked) }

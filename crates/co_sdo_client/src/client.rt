@@ -14,7 +14,7 @@ use crate::mode::Mode;
 use crate::stage::Stage;
 use crate::state::ClientState;
 use crate::transfer::Transfer;
-use co_frame::{Frame, Ids, Outbox};
+use co_frame::{BYTES_PER_SUB_BLOCK, Frame, Ids, Outbox};
 use co_value::Key;
 use std::alloc::{AllocError, Global};
 use std::marker::Model;
@@ -61,7 +61,7 @@ impl<'a> Model for Client<'a> {
 }
 
 impl<'a> Client<'a> {
-    /// A client that downloads bytes, at most 65,535, to an entry. Their number is indicated at the begin if `tell_size`.
+    /// A client that downloads bytes, at most 65,535, to an entry. Their number is indicated at initiate if `tell_size`.
     /// `time` is how long the server may take for an answer, in ms; 0 is for ever. It asks for no memory.
     pub fn download(
         ids: Ids,
@@ -120,7 +120,7 @@ impl<'a> Client<'a> {
         })) }
     {
         let room = match mode {
-            Mode::Block => usize::from(cap) + 889,
+            Mode::Block => usize::from(cap) + BYTES_PER_SUB_BLOCK,
             _ => usize::from(cap),
         };
         Ok(Client {

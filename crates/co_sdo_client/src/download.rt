@@ -2,6 +2,8 @@
 
 ghost use Rattle.std.specs.Prelude.{◌≡◌, ◌+◌, ◌*◌, ◌<◌, ◌≤◌, ◌++◌, [], ◌∷◌, Some, length};
 ghost use Rattle.arrayvec.specs.ArrayVec.{array_vec_len};
+ghost use Rattle.co_frame.specs.SegmentSizes.{segments_per_sub_block, bytes_per_segment};
+ghost use Rattle.co_frame.specs.Outboxes.{HasRoomFor};
 ghost use Rattle.co_frame.specs.declared.sdo_response.SdoResponse.TheVariants.{DownloadDone, DownloadSegmentDone};
 ghost use Rattle.co_sdo_client.specs.Calls.{frames_on};
 ghost use Rattle.co_sdo_client.specs.Segments.{bytes_of, segment_after};
@@ -13,15 +15,15 @@ use crate::sending::{part_after, segment_of};
 use crate::stage::Stage;
 use crate::state::ClientState;
 use crate::transfer::Transfer;
-use co_frame::{AbortCode, Outbox, SdoRequest};
+use co_frame::{AbortCode, BYTES_PER_SEGMENT, Outbox, SdoRequest};
 use co_value::Key;
 
 impl<'a> Client<'a> {
     // Sends the segment after so many: download SDO segment, ccs = 0.
     fn send_segment(&mut self, count: u16, outbox: &mut Outbox)
-        requires room { array_vec_len outbox.old < 514 }
-        requires within { 7 * count ≤ length (bytes_of self.old.call.job) }
-        ensures few { array_vec_len outbox.new ≤ array_vec_len outbox.old + 127 }
+        requires room { HasRoomFor 1 outbox.old }
+        requires within { bytes_per_segment * count ≤ length (bytes_of self.old.call.job) }
+        ensures few { array_vec_len outbox.new ≤ array_vec_len outbox.old + segments_per_sub_block }
         ensures messages { outbox.new.items ≡ outbox.old.items ++ frames_on self.old.request
             (segment_after count (bytes_of self.old.call.job) ∷ []) }
         ensures client { self.new ≡ record self.old { sent = counted (self.old.sent + 1) } }
@@ -30,15 +32,15 @@ impl<'a> Client<'a> {
         let segment = SdoRequest::DownloadSegment {
             toggle: count % 2 == 1,
             data: segment_of(part_after(self.bytes, position)),
-            last: self.bytes.len() <= 7 * position + 7,
+            last: self.bytes.len() <= BYTES_PER_SEGMENT * position + BYTES_PER_SEGMENT,
         };
         self.send(segment, outbox);
     }
 
-    // The confirmation of a download's begin: initiate SDO download, scs = 3.
+    // The confirmation of initiate SDO download, scs = 3.
     pub(crate) fn confirm_download(&mut self, key: Key, outbox: &mut Outbox)
-        requires room { array_vec_len outbox.old < 514 }
-        ensures few { array_vec_len outbox.new ≤ array_vec_len outbox.old + 127 }
+        requires room { HasRoomFor 1 outbox.old }
+        ensures few { array_vec_len outbox.new ≤ array_vec_len outbox.old + segments_per_sub_block }
         ensures messages { outbox.new.items ≡ outbox.old.items ++ frames_on self.old.request
             (messages_to self.old (Some (DownloadDone key))) }
         ensures client { self.new ≡ after_response self.old (Some (DownloadDone key)) }
@@ -64,8 +66,8 @@ impl<'a> Client<'a> {
 
     // The confirmation of a segment: download SDO segment, scs = 1.
     pub(crate) fn confirm_segment(&mut self, toggle: bool, outbox: &mut Outbox)
-        requires room { array_vec_len outbox.old < 514 }
-        ensures few { array_vec_len outbox.new ≤ array_vec_len outbox.old + 127 }
+        requires room { HasRoomFor 1 outbox.old }
+        ensures few { array_vec_len outbox.new ≤ array_vec_len outbox.old + segments_per_sub_block }
         ensures messages { outbox.new.items ≡ outbox.old.items ++ frames_on self.old.request
             (messages_to self.old (Some (DownloadSegmentDone toggle))) }
         ensures client { self.new ≡ after_response self.old (Some (DownloadSegmentDone toggle)) }
@@ -78,7 +80,7 @@ impl<'a> Client<'a> {
             self.give_up(AbortCode::TOGGLE_NOT_ALTERNATED, outbox);
             return;
         }
-        if self.bytes.len() <= 7 * usize::from(confirmed) + 7 {
+        if self.bytes.len() <= BYTES_PER_SEGMENT * usize::from(confirmed) + BYTES_PER_SEGMENT {
             self.state = ClientState::Done;
             return;
         }

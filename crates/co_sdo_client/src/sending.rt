@@ -3,6 +3,8 @@
 ghost use Rattle.std.specs.Prelude.{◌≡◌, ◌+◌, ◌*◌, ◌<◌, ◌≤◌, ◌++◌, [], ◌∷◌, length};
 ghost use Rattle.arrayvec.specs.ArrayVec.{array_vec_len};
 ghost use Rattle.co_value.specs.Keys.{same_key};
+ghost use Rattle.co_frame.specs.SegmentSizes.{segments_per_sub_block, bytes_per_segment};
+ghost use Rattle.co_frame.specs.Outboxes.{HasRoomFor};
 ghost use Rattle.co_frame.specs.SdoRequests.{IsSdoRequest};
 ghost use Rattle.co_sdo_client.specs.Calls.{Request, frames_on};
 ghost use Rattle.co_sdo_client.specs.Segments.{bytes_of, part_after};
@@ -14,22 +16,22 @@ ghost use Rattle.co_sdo_client.specs.declared.state.ClientState.TheVariants.{Don
 use crate::client::Client;
 use crate::state::ClientState;
 use arrayvec::ArrayVec;
-use co_frame::{AbortCode, Outbox, SdoRequest};
+use co_frame::{AbortCode, BYTES_PER_SEGMENT, Outbox, SdoRequest};
 use co_value::Key;
 
 // The seven bytes of a value after so many segments, fewer at its end.
 pub(crate) fn part_after(value: &[u8], count: usize) -> &[u8]
-    requires { 7 * count ≤ length value.now }
+    requires { bytes_per_segment * count ≤ length value.now }
     ensures part { result.now ≡ part_after count value.now }
-    ensures few { length result.now ≤ 7 }
+    ensures few { length result.now ≤ bytes_per_segment }
 {
-    let rest = &value[7 * count..];
-    if rest.len() < 7 { rest } else { &rest[..7] }
+    let rest = &value[BYTES_PER_SEGMENT * count..];
+    &rest[..rest.len().min(BYTES_PER_SEGMENT)]
 }
 
 // The bytes of a segment.
 pub(crate) fn segment_of(part: &[u8]) -> ArrayVec<u8, 7>
-    requires { length part.now ≤ 7 }
+    requires { length part.now ≤ bytes_per_segment }
     ensures { result.items ≡ part.now }
 {
     let mut data = ArrayVec::new();
@@ -43,9 +45,9 @@ pub(crate) fn segment_of(part: &[u8]) -> ArrayVec<u8, 7>
 impl<'a> Client<'a> {
     // Sends a request.
     pub(crate) fn send(&mut self, request: SdoRequest, outbox: &mut Outbox)
-        requires room { array_vec_len outbox.old < 514 }
+        requires room { HasRoomFor 1 outbox.old }
         requires spellable { IsSdoRequest request }
-        ensures few { array_vec_len outbox.new ≤ array_vec_len outbox.old + 127 }
+        ensures few { array_vec_len outbox.new ≤ array_vec_len outbox.old + segments_per_sub_block }
         ensures messages { outbox.new.items ≡ outbox.old.items ++ frames_on self.old.request
             (Request request ∷ []) }
         ensures client { self.new ≡ record self.old { sent = counted (self.old.sent + 1) } }
@@ -56,8 +58,8 @@ impl<'a> Client<'a> {
 
     // Gives the transfer up, with an abort.
     pub(crate) fn give_up(&mut self, code: AbortCode, outbox: &mut Outbox)
-        requires room { array_vec_len outbox.old < 514 }
-        ensures few { array_vec_len outbox.new ≤ array_vec_len outbox.old + 127 }
+        requires room { HasRoomFor 1 outbox.old }
+        ensures few { array_vec_len outbox.new ≤ array_vec_len outbox.old + segments_per_sub_block }
         ensures messages { outbox.new.items ≡ outbox.old.items ++ frames_on self.old.request
             (messages_by self.old.call (GivesUp code.0)) }
         ensures client { self.new ≡ record self.old {

@@ -2,6 +2,8 @@
 
 ghost use Rattle.std.specs.Prelude.{◌≡◌, ◌+◌, ◌<◌, ◌≤◌, ◌++◌, [], ◌∷◌, Some, length};
 ghost use Rattle.arrayvec.specs.ArrayVec.{array_vec_len};
+ghost use Rattle.co_frame.specs.SegmentSizes.{segments_per_sub_block};
+ghost use Rattle.co_frame.specs.Outboxes.{HasRoomFor};
 ghost use Rattle.co_frame.specs.declared.sdo_response.SdoResponse.TheVariants.{UploadExpedited, UploadInitiated, UploadSegment};
 ghost use Rattle.co_sdo_client.specs.Calls.{frames_on};
 ghost use Rattle.co_sdo_client.specs.Segments.{cap_of};
@@ -60,8 +62,8 @@ impl<'a> Client<'a> {
 
     // A whole upload: initiate SDO upload, scs = 2, e = 1.
     pub(crate) fn take_expedited(&mut self, key: Key, value: &ExpeditedData, outbox: &mut Outbox)
-        requires room { array_vec_len outbox.old < 514 }
-        ensures few { array_vec_len outbox.new ≤ array_vec_len outbox.old + 127 }
+        requires room { HasRoomFor 1 outbox.old }
+        ensures few { array_vec_len outbox.new ≤ array_vec_len outbox.old + segments_per_sub_block }
         ensures messages { outbox.new.items ≡ outbox.old.items ++ frames_on self.old.request
             (messages_to self.old (Some (UploadExpedited key value.now))) }
         ensures client { self.new ≡ after_response self.old (Some (UploadExpedited key value.now)) }
@@ -87,10 +89,10 @@ impl<'a> Client<'a> {
         self.state = ClientState::Done;
     }
 
-    // The confirmation of an upload's begin: initiate SDO upload, scs = 2, e = 0.
+    // The confirmation of initiate SDO upload, scs = 2, e = 0.
     pub(crate) fn confirm_upload(&mut self, key: Key, size: Option<u32>, outbox: &mut Outbox)
-        requires room { array_vec_len outbox.old < 514 }
-        ensures few { array_vec_len outbox.new ≤ array_vec_len outbox.old + 127 }
+        requires room { HasRoomFor 1 outbox.old }
+        ensures few { array_vec_len outbox.new ≤ array_vec_len outbox.old + segments_per_sub_block }
         ensures messages { outbox.new.items ≡ outbox.old.items ++ frames_on self.old.request
             (messages_to self.old (Some (UploadInitiated key size))) }
         ensures client { self.new ≡ after_response self.old (Some (UploadInitiated key size)) }
@@ -127,8 +129,8 @@ impl<'a> Client<'a> {
         last: bool,
         outbox: &mut Outbox,
     )
-        requires room { array_vec_len outbox.old < 514 }
-        ensures few { array_vec_len outbox.new ≤ array_vec_len outbox.old + 127 }
+        requires room { HasRoomFor 1 outbox.old }
+        ensures few { array_vec_len outbox.new ≤ array_vec_len outbox.old + segments_per_sub_block }
         ensures messages { outbox.new.items ≡ outbox.old.items ++ frames_on self.old.request
             (messages_to self.old (Some (UploadSegment toggle segment.now last))) }
         ensures client { self.new ≡ after_response self.old (Some (UploadSegment toggle segment.now

@@ -1,8 +1,9 @@
 //! A client and the frames that it hears, in text.
 
 use co_frame::{Frame, Ids, Outbox};
-use co_sdo_client::{Client, ClientState};
+use co_sdo_client::Client;
 use std::process::Abort;
+use std::str::SplitWhitespace;
 use std::test::Fail;
 
 /// The identifiers of the server with node-ID 5.
@@ -33,52 +34,42 @@ pub(crate) fn answered(client: &mut Client, frame: &Frame) -> Outbox {
     sent
 }
 
-/// What it sends on a tick.
-pub(crate) fn ticked(client: &mut Client) -> Outbox {
+/// What it sends in so many ms.
+pub(crate) fn waited(client: &mut Client, ticks: u16) -> Outbox {
     let mut sent = Outbox::new();
-    client.tick(&mut sent);
+    for _ in 0..ticks {
+        sent.clear();
+        client.tick(&mut sent);
+    }
     sent
 }
 
-/// Begins, hands the client the answers (585h) in this text, and compares what it sends with the requests (605h) in it, in
-/// their order. `ticks` ms come after the last of them. `end` is the client's state then.
+/// Begins, hands the client the answers (585h) among these words, and compares what it sends with the requests (605h) among
+/// them, in their order. `ticks` are three ms, of which the last alone makes it send. Gives the number of the requests.
 pub(crate) fn shows(
     rt: &impl Abort,
     client: &mut Client,
-    dialogue: &str,
-    ticks: u16,
-    end: ClientState,
-) -> Result<(), Fail> {
+    dialogue: SplitWhitespace<'_>,
+) -> Result<u64, Fail> {
     let mut sent = begun(client);
     let mut seen = 0usize;
-    for word in dialogue.split_whitespace() {
-        if word == "ticks" {
-            assert_eq!(rt; sent.len(), seen, "before the ticks in {dialogue}");
-            sent = wait(rt, client, ticks);
-            seen = 0;
+    let mut requests = 0u64;
+    for word in dialogue {
+        if word.starts_with("605#") {
+            assert_eq!(rt; sent.get(seen), Some(&frame_of(word)?), "{word}");
+            seen = seen.saturating_add(1);
+            requests = requests.saturating_add(1);
             continue;
         }
-        let frame = frame_of(word)?;
-        if frame.id() == 0x585 {
-            assert_eq!(rt; sent.len(), seen, "before {word} in {dialogue}");
-            sent = answered(client, &frame);
-            seen = 0;
+        assert_eq!(rt; sent.len(), seen, "before {word}");
+        sent = if word == "ticks" {
+            assert!(rt; waited(client, 2).is_empty());
+            waited(client, 1)
         } else {
-            assert_eq!(rt; sent.get(seen), Some(&frame), "{word} in {dialogue}");
-            seen = seen.saturating_add(1);
-        }
+            answered(client, &frame_of(word)?)
+        };
+        seen = 0;
     }
-    assert_eq!(rt; sent.len(), seen, "at the end of {dialogue}");
-    assert_eq!(rt; client.state(), end, "after {dialogue}");
-    Ok(())
-}
-
-// Nothing is sent until the last of these ticks.
-fn wait(rt: &impl Abort, client: &mut Client, ticks: u16) -> Outbox {
-    let mut sent = Outbox::new();
-    for tick in 0..ticks {
-        assert!(rt; sent.is_empty(), "after {tick} ticks");
-        sent = ticked(client);
-    }
-    sent
+    assert_eq!(rt; sent.len(), seen);
+    Ok(requests)
 }

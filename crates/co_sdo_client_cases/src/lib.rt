@@ -2,14 +2,10 @@
 #![tactic(auto)]
 
 #[cfg(test)]
+mod alone;
+#[cfg(test)]
 mod dialogue;
-#[cfg(test)]
-mod downloads;
-#[cfg(test)]
-mod faults;
 #[cfg(test)]
 mod server;
 #[cfg(test)]
 mod transfers;
-#[cfg(test)]
-mod uploads;

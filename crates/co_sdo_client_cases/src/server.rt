@@ -74,7 +74,8 @@ impl<S: ObjectStore + Drop> Served<S> {
             request: 0x605,
             answer: 0x585,
         };
-        let channel = Channel::new(alloc, ids, 65535, 1000)?;
+        // the greatest capacity, and the longest time
+        let channel = Channel::new(alloc, ids, 65535, 65535)?;
         Ok(Served { channel, store })
     }
 
@@ -92,8 +93,11 @@ impl<S: ObjectStore + Drop> Served<S> {
         Ok(())
     }
 
-    /// The bytes of the entry.
-    pub(crate) fn bytes(&self) -> Option<&[u8]> {
-        self.store.bytes(KEY)
+    /// Whether the entry has these bytes.
+    pub(crate) fn has(&self, bytes: &[u8]) -> bool {
+        match self.store.bytes(KEY) {
+            Some(found) => found == bytes,
+            None => false,
+        }
     }
 }

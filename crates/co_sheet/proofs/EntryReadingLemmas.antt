@@ -6,12 +6,12 @@ use Rattle.std.specs.Result.{result_ok, result_err, IfOk}
 use Rattle.co_value.specs.declared.data_type.DataType.{DataType}
 use Rattle.co_value.specs.declared.data_type.DataType.TheVariants.{VisibleString, OctetString, Domain}
 use Rattle.co_value.specs.Types.{code_of, least_of, greatest_of}
-use Rattle.co_sheet.specs.declared.entry.Preset.{Preset}
+use Rattle.co_sheet_rows.specs.declared.entry.Preset.{Preset}
 use Rattle.co_sheet.specs.declared.checks.entries.Limit.{Limit}
 use Rattle.co_sheet.specs.declared.checks.entries.Values.{Values}
-use Rattle.co_sheet.specs.declared.fault.FaultKind.{FaultKind}
-use Rattle.co_sheet.specs.declared.fault.FaultKind.TheVariants.{MissingKey, LeftOutType, BadLimits, BadDefault}
-use Rattle.co_sheet.specs.declared.fault.SheetFault.{SheetFault}
+use Rattle.co_sheet_rows.specs.declared.fault.FaultKind.{FaultKind}
+use Rattle.co_sheet_rows.specs.declared.fault.FaultKind.TheVariants.{MissingKey, LeftOutType, BadLimits, BadDefault}
+use Rattle.co_sheet_rows.specs.declared.fault.SheetFault.{SheetFault}
 use Rattle.co_sheet.specs.declared.checks.findings.Finding.{Finding}
 use Rattle.co_sheet_text.specs.Sections.{Property, property_at}
 use Rattle.co_sheet_text.specs.Properties.{property_number}

@@ -1,5 +1,4 @@
 mod Examples
-mod FaultExamples
 mod Edges
 mod TypeCodeExamples
 mod LargeSheet

@@ -10,7 +10,7 @@ use Rattle.co_profile.specs.FixedTypes.{fixed_type_of}
 use Rattle.co_value.specs.declared.data_type.DataType.{DataType}
 use Rattle.co_value.specs.declared.data_type.DataType.TheVariants.{Integer8, Unsigned8, Unsigned32, VisibleString, OctetString, Domain}
 use Rattle.co_profile.specs.declared.access.Access.TheVariants.{Rw}
-use Rattle.co_sheet.specs.declared.object.ObjectType.TheVariants.{Var}
+use Rattle.co_sheet_rows.specs.declared.object.ObjectType.TheVariants.{Var}
 use Rattle.co_sheet.specs.Limits.{Default, absent, number, node_id, text, pairs, is_pairs}
 use Rattle.co_sheet.specs.Content.{Row, ObjectRow, SheetContent}
 use Rattle.co_sheet.specs.SheetLaws.{low_of, high_of, IsWithinRow, IsSheetRow, IsRowBefore, IsObjectBefore, IsSheetContent}

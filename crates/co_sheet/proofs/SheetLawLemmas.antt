@@ -11,8 +11,8 @@ use Rattle.co_value.specs.declared.data_type.DataType.{DataType}
 use Rattle.co_value.specs.declared.data_type.DataType.TheVariants.{Boolean, Integer8, Integer16, Integer24, Integer32, Integer40, Integer48, Integer56, Integer64, Unsigned8, Unsigned16, Unsigned24, Unsigned32, Unsigned40, Unsigned48, Unsigned56, Unsigned64, VisibleString, OctetString, Domain}
 use Rattle.co_value.specs.Types.{code_of, least_of, greatest_of, InRange}
 use Rattle.co_profile.specs.declared.access.Access.{Access}
-use Rattle.co_sheet.specs.declared.fault.FaultKind.TheVariants.{BadLimits, BadDefault, BadType, MissingMandatory}
-use Rattle.co_sheet.specs.declared.fault.SheetFault.{SheetFault}
+use Rattle.co_sheet_rows.specs.declared.fault.FaultKind.TheVariants.{BadLimits, BadDefault, BadType, MissingMandatory}
+use Rattle.co_sheet_rows.specs.declared.fault.SheetFault.{SheetFault}
 use Rattle.co_sheet_text.specs.declared.numeral.NumeralFault.{NumeralFault}
 use Rattle.co_sheet_text.specs.Text.{trim, same_name}
 use Rattle.co_sheet_text.specs.Sections.{Property, TextSection, property_at}

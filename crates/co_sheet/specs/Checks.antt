@@ -8,9 +8,9 @@ use Rattle.co_value.specs.declared.data_type.DataType.TheVariants.{Domain}
 use Rattle.co_value.specs.Types.{code_of, least_of, greatest_of}
 use Rattle.co_sheet_text.specs.declared.section_kind.SectionKind.{SectionKind}
 use Rattle.co_sheet_text.specs.declared.section_kind.SectionKind.TheVariants.{MandatoryObjects, DummyUsage, DeviceInfo, Object}
-use Rattle.co_sheet.specs.declared.fault.FaultKind.{FaultKind}
-use Rattle.co_sheet.specs.declared.fault.FaultKind.TheVariants.{MissingSection, BadNumber, AmbiguousNumber, BadList, ListedTwice, MissingKey, BadType, LeftOutType, BadAccess, BadLimits, BadDefault, MissingSub0, CompactForm, MissingMandatory}
-use Rattle.co_sheet.specs.declared.fault.SheetFault.{SheetFault}
+use Rattle.co_sheet_rows.specs.declared.fault.FaultKind.{FaultKind}
+use Rattle.co_sheet_rows.specs.declared.fault.FaultKind.TheVariants.{MissingSection, BadNumber, AmbiguousNumber, BadList, ListedTwice, MissingKey, BadType, LeftOutType, BadAccess, BadLimits, BadDefault, MissingSub0, CompactForm, MissingMandatory}
+use Rattle.co_sheet_rows.specs.declared.fault.SheetFault.{SheetFault}
 use Rattle.co_sheet_text.specs.declared.numeral.NumeralFault.{NumeralFault}
 use Rattle.co_sheet_text.specs.declared.numeral.NumeralFault.TheVariants.{Malformed, Ambiguous}
 use Rattle.co_sheet_text.specs.Names.{same_kind, is_list}

@@ -7,8 +7,8 @@ use Rattle.co_value.specs.declared.data_type.DataType.TheVariants.{Boolean, Inte
 use Rattle.co_value.specs.Types.{code_of}
 use Rattle.co_sheet_text.specs.declared.section_kind.SectionKind.{SectionKind}
 use Rattle.co_sheet_text.specs.declared.section_kind.SectionKind.TheVariants.{Object, SubIndex}
-use Rattle.co_sheet.specs.declared.object.ObjectType.{ObjectType}
-use Rattle.co_sheet.specs.declared.object.ObjectType.TheVariants.{Domain, Var, Array, Record}
+use Rattle.co_sheet_rows.specs.declared.object.ObjectType.{ObjectType}
+use Rattle.co_sheet_rows.specs.declared.object.ObjectType.TheVariants.{Domain, Var, Array, Record}
 use Rattle.co_profile.specs.declared.access.Access.{Access}
 use Rattle.co_profile.specs.declared.access.Access.TheVariants.{Ro, Wo, Rw, Rwr, Rww, Constant}
 use Rattle.co_sheet_text.specs.Text.{same_name}

@@ -9,13 +9,11 @@ pub use Rattle.co_profile.specs.FixedTypes
 pub mod Entries
 pub mod Limits
 pub mod Notes
-pub mod FaultTexts
 pub mod Checks
 pub mod Accepted
 pub mod AcceptedTexts
 pub mod Content
 pub mod Views
-pub mod OutOfMemory
 pub mod SectionViews
 pub mod SheetViews
 pub mod SheetLaws

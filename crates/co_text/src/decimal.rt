@@ -3,6 +3,7 @@
 ghost use Rattle.std.specs.Prelude.{◌≡◌, ◌++◌, OnOk, string_bytes, decimal};
 ghost use Rattle.co_text.specs.Texts.{is_digit, decimal_in};
 
+use arrayvec::ArrayString;
 use itoa::Buffer;
 use std::alloc::AllocError;
 
@@ -31,6 +32,16 @@ pub fn decimal_in(word: &[u8], least: u32, most: u32) -> Option<u32>
         return None;
     }
     Some(number as u32)
+}
+
+/// A number in decimal digits.
+pub fn decimal_digits(number: u64) -> ArrayString<20>
+    ensures { result.bytes ≡ decimal number }
+{
+    let mut buffer = Buffer::new();
+    let mut digits = ArrayString::new();
+    digits.push_str(buffer.format(number));
+    digits
 }
 
 /// Appends a number in decimal digits. On an `Err` memory ran out.

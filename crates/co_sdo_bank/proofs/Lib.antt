@@ -1,0 +1,7 @@
+mod Searches
+mod Numbers
+mod Changes
+mod Places
+mod Outcomes
+mod Permitted
+mod Examples
