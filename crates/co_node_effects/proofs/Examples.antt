@@ -1,7 +1,7 @@
 -- Errors and lengths, computed from the definitions: both sides of each edge.
-use Rattle.std.proofs.Common.{◌≡◌, ℕ, true, false, Some, None, List, [], ◌∷◌, map, refl}
+use Rattle.std.proofs.Common.{◌≡◌, ℕ, Some, None, [], ◌∷◌, map, refl}
 use Rattle.co_dict.specs.Objects.{subs_present}
-use Rattle.co_dict.proofs.ExampleDevice.{at, rows, nothing, with_u8, with_u32}
+use Rattle.co_dict.proofs.ExampleDevice.{at, rows, nothing, with_u8}
 use Rattle.co_dict.specs.Rows.{Contents, number_at}
 use Rattle.co_pdo.specs.declared.data.PdoFault.TheVariants.{Short, OutOfLimits, Long}
 use Rattle.co_node_effects.specs.Errors.{register_with, register_without, with_register, raised, emergency_of, cleared, clearing_of, heartbeat_lost, value_outside_limits, pdo_too_short, pdo_too_long, unexpected_sync_length}

@@ -1,13 +1,10 @@
 -- The frames of a reset of all nodes.
-use Rattle.std.proofs.Common.{◌≡◌, Bool, true, false, Option, Some, None, List, [], ◌∷◌, refl}
-use Rattle.co_frame.specs.declared.emergency.Emergency.{Emergency}
-use Rattle.co_frame.specs.declared.heartbeat.Heartbeat.{Heartbeat}
+use Rattle.std.proofs.Common.{◌≡◌, Bool, true, false, Some, None, [], ◌∷◌, refl}
 use Rattle.co_frame.specs.declared.heartbeat.Heartbeat.TheVariants.{BootUp}
 use Rattle.co_dict.specs.declared.area.Area.{Area}
 use Rattle.co_dict.specs.declared.area.Area.TheVariants.{Communication, All}
 use Rattle.co_node_parts.specs.declared.emergencies.EmergencyEvent.TheVariants.{Empty}
 use Rattle.co_node_parts.specs.EmergencyQueues.{EmergencyLog, Noted, emergency_due}
-use Rattle.co_sdo_bank.specs.Events.{ChannelEvent}
 use Rattle.co_node_inputs.specs.Inputs.{Inputs}
 use Rattle.co_node_history.specs.Moments.{Constants, Moment}
 use Rattle.co_node_history.specs.Logs.{emergency_log}

@@ -1,7 +1,6 @@
 -- Who takes a frame, and what writes are to the parts, computed from the definitions: both sides of each edge.
-use Rattle.std.proofs.Common.{◌≡◌, ℕ, true, false, Some, None, List, [], ◌∷◌, map, refl}
-use Rattle.std.specs.Prelude.{Bool, Option}
-use Rattle.co_value.specs.declared.key.Key.{Key}
+use Rattle.std.proofs.Common.{◌≡◌, ℕ, true, false, Some, None, [], ◌∷◌, map, refl}
+use Rattle.std.specs.Prelude.{Bool}
 use Rattle.co_dict.proofs.ExampleDevice.{at, nothing, with_u8, with_u32}
 use Rattle.co_dict.specs.Rows.{Contents}
 use Rattle.co_frame.specs.declared.nmt.NmtService.TheVariants.{Start, Stop, EnterPreOperational, ResetNode, ResetCommunication}
@@ -12,7 +11,6 @@ use Rattle.co_pdo.specs.declared.tpdo.Part.TheVariants.{Whole, Timer}
 use Rattle.co_node_inputs.specs.Addresses.{is_error_control, is_sync_id, rpdo_with, address_of}
 use Rattle.co_node_inputs.specs.declared.address.Address.TheVariants.{Nmt, Sync, Channel, Rpdo, ErrorControl, Nobody}
 use Rattle.co_node_inputs.specs.declared.marks.Marks.{Marks}
-use Rattle.co_node_inputs.specs.declared.turn.Turn.{Turn}
 use Rattle.co_node_inputs.specs.declared.turn.Turn.TheVariants as turn
 use Rattle.co_node_inputs.specs.Words.{quiet, resets, is_consumer_key, may_send, life_of}
 use Rattle.co_node_inputs.specs.Slots.{is_synchronous, empties_slot, emptied_by}
