@@ -7,8 +7,8 @@ use Rattle.co_value.specs.declared.data_type.DataType.TheVariants.{Unsigned8, Un
 use Rattle.co_value.specs.Keys.{same_key}
 use Rattle.co_value.specs.Types.{width_of, least_of, greatest_of}
 use Rattle.co_value.specs.Numbers.{low_bytes}
-use Rattle.co_sheet.specs.declared.entry.Access.{Access}
-use Rattle.co_sheet.specs.declared.entry.Access.TheVariants.{Ro, Wo, Rw, Rwr, Rww, Constant}
+use Rattle.co_profile.specs.declared.access.Access.{Access}
+use Rattle.co_profile.specs.declared.access.Access.TheVariants.{Ro, Wo, Rw, Rwr, Rww, Constant}
 use Rattle.co_dict.specs.declared.row.Row.{Row}
 use Rattle.co_dict.specs.Rows.{Rows, Contents, written}
 use Rattle.co_dict.specs.Stores.{Description}

@@ -4,7 +4,7 @@ use Rattle.co_dict.specs.declared.side.Side.TheVariants.{Rpdo, Tpdo}
 use Rattle.std.specs.Prelude.{map}
 use Rattle.co_dict.specs.declared.side.Side.{Side}
 use Rattle.co_dict.specs.declared.own_rule.OwnRule.{OwnRule}
-use Rattle.co_dict.specs.declared.own_rule.OwnRule.TheVariants.{ErrorCount, SyncCobId, StoredParameters, CobId, ConsumerHeartbeat, SyncCounterOverflow, ErrorBehavior, TransmissionType, InhibitTime, SyncStartValue, MappingCount, MappingEntry}
+use Rattle.co_dict.specs.declared.own_rule.OwnRule.TheVariants.{ErrorCount, SyncCobId, StoredParameters, CobId, ConsumerHeartbeat, SyncCounterOverflow, ErrorBehaviour, TransmissionType, InhibitTime, SyncStartValue, MappingCount, MappingEntry}
 use Rattle.co_value.specs.Numbers.{low_bytes}
 use Rattle.co_dict.specs.Rows.{Contents}
 use Rattle.co_dict.specs.ConsumerHeartbeats.{is_consumer}
@@ -34,7 +34,7 @@ sub_index_0 = refl
 
 -- and at sub-index 1
 sub_index_1 : of_indexes (0x1003 ∷ 0x1005 ∷ 0x1014 ∷ 0x1015 ∷ 0x1016 ∷ 0x1017 ∷ 0x1019 ∷ 0x1028 ∷ 0x1029 ∷ 0x102A ∷ []) 1
-    ≡ None ∷ None ∷ None ∷ None ∷ Some ConsumerHeartbeat ∷ None ∷ None ∷ None ∷ Some ErrorBehavior ∷ None ∷ []
+    ≡ None ∷ None ∷ None ∷ None ∷ Some ConsumerHeartbeat ∷ None ∷ None ∷ None ∷ Some ErrorBehaviour ∷ None ∷ []
 sub_index_1 = refl
 
 stored_parameters : of_indexes (0x100F ∷ 0x1010 ∷ 0x1011 ∷ 0x1012 ∷ []) 0 ≡ None ∷ Some StoredParameters ∷ Some StoredParameters ∷ None ∷ []
@@ -46,8 +46,8 @@ last_stored_parameters = refl
 consumers : of_subs 0x1016 (0 ∷ 1 ∷ 0x7F ∷ 0x80 ∷ []) ≡ None ∷ Some ConsumerHeartbeat ∷ Some ConsumerHeartbeat ∷ None ∷ []
 consumers = refl
 
-error_behavior : of_subs 0x1029 (0 ∷ 1 ∷ 2 ∷ []) ≡ None ∷ Some ErrorBehavior ∷ None ∷ []
-error_behavior = refl
+error_behaviour : of_subs 0x1029 (0 ∷ 1 ∷ 2 ∷ []) ≡ None ∷ Some ErrorBehaviour ∷ None ∷ []
+error_behaviour = refl
 
 -- sub-indices 0 to 7 of communication parameters, at each end of their indexes
 abbrev to_7 : List ℕ
@@ -314,9 +314,26 @@ sync_start_0 : byte nothing 0x1800 6 0 ≡ None
 unfolding searches
 sync_start_0 = refl
 
-sync_start_1 : byte nothing 0x1800 6 1 ≡ Some 0x0609_0030
+sync_start_240 : byte (with_u32 0x1800 1 0x8000_0185 nothing) 0x1800 6 240 ≡ None
 unfolding searches
-sync_start_1 = refl
+sync_start_240 = refl
+
+sync_start_241 : byte (with_u32 0x1800 1 0x8000_0185 nothing) 0x1800 6 241 ≡ Some 0x0609_0030
+unfolding searches
+sync_start_241 = refl
+
+-- the state comes before the value, and 0 is refused as well
+sync_start_of_a_valid_pdo : byte (with_u32 0x1800 1 0x185 nothing) 0x1800 6 241 ≡ Some 0x0800_0022
+unfolding searches
+sync_start_of_a_valid_pdo = refl
+
+sync_start_0_of_a_valid_pdo : byte (with_u32 0x19FF 1 0x185 nothing) 0x19FF 6 0 ≡ Some 0x0800_0022
+unfolding searches
+sync_start_0_of_a_valid_pdo = refl
+
+sync_start_beside_a_valid_pdo : byte (with_u32 0x1801 1 0x185 nothing) 0x1800 6 1 ≡ None
+unfolding searches
+sync_start_beside_a_valid_pdo = refl
 
 -- ---- mapping parameters of PDOs
 

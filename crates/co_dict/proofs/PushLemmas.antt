@@ -6,7 +6,7 @@ use Rattle.std.specs.Prelude.{◌==◌, ◌&&◌, nat_le, if◌then◌else◌}
 use Rattle.std.specs.List.{range_with_len, prefix_len}
 use Rattle.co_dict.specs.Rows.{Rows, Contents, written}
 use Rattle.co_dict.specs.Objects.{has_sub, subs_present}
-use Rattle.co_dict.specs.ErrorList.{error_key, moved_bytes, moved_down}
+use Rattle.co_dict.specs.ErrorField.{error_key, moved_bytes, moved_down}
 
 -- ---- what is among the first that pass, passes
 

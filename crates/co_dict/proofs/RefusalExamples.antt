@@ -3,9 +3,9 @@ use Rattle.std.proofs.Common.{◌≡◌, ℕ, refl, Some, None, Option, List, re
 use Rattle.std.specs.Prelude.{if◌then◌else◌, ◌==◌}
 use Rattle.co_value.specs.Numbers.{low_bytes}
 use Rattle.co_value.specs.declared.data_type.DataType.TheVariants.{Unsigned32}
-use Rattle.co_sheet.specs.declared.entry.Access.TheVariants.{Rw}
+use Rattle.co_profile.specs.declared.access.Access.TheVariants.{Rw}
 use Rattle.co_dict.specs.Rows.{Rows, Contents}
-use Rattle.co_dict.specs.ErrorList.{error_room, pushed}
+use Rattle.co_dict.specs.ErrorField.{error_room, pushed}
 use Rattle.co_dict.specs.ReadRefusals.{reading_refusal}
 use Rattle.co_dict.specs.WriteRefusals.{initiate_refusal, writing_refusal, app_refusal}
 use Rattle.co_dict.proofs.ExampleDevice.{searches, at, rows, device, number_row, nothing, with_u8, with_u32}

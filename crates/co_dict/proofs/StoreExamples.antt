@@ -4,7 +4,7 @@ use Rattle.std.specs.Prelude.{pos, find, option_map}
 use Rattle.co_value.specs.declared.key.Key.{Key}
 use Rattle.co_value.specs.declared.data_type.DataType.TheVariants.{Unsigned16, VisibleString}
 use Rattle.co_value.specs.Keys.{same_key}
-use Rattle.co_sheet.specs.declared.entry.Access.TheVariants.{Rw}
+use Rattle.co_profile.specs.declared.access.Access.TheVariants.{Rw}
 use Rattle.co_dict.specs.declared.row.Row.{Row}
 use Rattle.co_dict.specs.declared.area.Area.TheVariants.{Communication, All}
 use Rattle.co_dict.specs.Rows.{Rows, Contents, fits, takes, written, is_in_area, restored}

@@ -2,13 +2,14 @@
 use Rattle.std.specs.Prelude.{ℕ, ◌/◌, ◌%◌, ◌==◌, nat_lt, nat_le, Bool, ◌&&◌, not, Option}
 use Rattle.std.specs.List.{list_any, range_with_len}
 use Rattle.co_value.specs.declared.key.Key.{Key}
+use Rattle.co_profile.specs.Indices.{consumer_heartbeat}
 use Rattle.co_dict.specs.Rows.{Contents, number_at}
 use Rattle.co_dict.specs.Refusals.{refused_if}
 use Rattle.co_frame.specs.AbortCodes.{parameter_incompatible}
 
 -- where an entry is, 1016:01 to 7F
 abbrev pub consumer_key : ℕ → Key
-consumer_key sub = record { index = 0x1016; sub = sub }
+consumer_key sub = record { index = consumer_heartbeat; sub = sub }
 
 -- the time in ms
 abbrev pub consumer_time : ℕ → ℕ

@@ -9,7 +9,7 @@ pub mod MappingWords
 pub mod MappingCounts
 pub mod CobIdRules
 pub mod ConsumerHeartbeats
-pub mod ErrorList
+pub mod ErrorField
 pub mod PdoRules
 pub mod OwnRules
 pub mod ReadRefusals
@@ -17,4 +17,4 @@ pub mod WriteRefusals
 pub use Rattle.co_value.specs.Keys
 pub use Rattle.co_value.specs.Types
 pub use Rattle.co_value.specs.Numbers
-pub use Rattle.co_sheet.specs.FixedTypes
+pub use Rattle.co_profile.specs.FixedTypes

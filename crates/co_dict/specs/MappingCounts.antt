@@ -3,7 +3,7 @@ use Rattle.std.specs.Prelude.{ℕ, Bool, nat_lt, is_none, unwrap_or, Option, Lis
 use Rattle.std.specs.List.{list_any, range_with_len}
 use Rattle.co_dict.specs.declared.side.Side.{Side}
 use Rattle.co_dict.specs.declared.side.Side.TheVariants.{Rpdo, Tpdo}
-use Rattle.co_dict.specs.CobIds.{is_from_to}
+use Rattle.co_profile.specs.Indices.{is_within, rpdo_mapping, tpdo_mapping}
 use Rattle.co_dict.specs.Rows.{Contents, number_at}
 use Rattle.co_dict.specs.Stores.{Description}
 use Rattle.co_dict.specs.Refusals.{refused_if, first_refusal}
@@ -13,8 +13,8 @@ use Rattle.co_frame.specs.AbortCodes.{invalid_value, not_mappable, mapping_too_l
 
 -- the index of a mapping parameter of a side
 abbrev pub is_mapping_index : Side → ℕ → Bool
-is_mapping_index Rpdo index = is_from_to 0x1600 0x17FF index
-is_mapping_index Tpdo index = is_from_to 0x1A00 0x1BFF index
+is_mapping_index Rpdo index = is_within rpdo_mapping index
+is_mapping_index Tpdo index = is_within tpdo_mapping index
 
 -- the first words of a mapping object, sub-indices 1 to `count`
 abbrev pub counted_words : Contents → ℕ → ℕ → List ℕ

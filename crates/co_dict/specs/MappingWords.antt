@@ -3,8 +3,8 @@
 use Rattle.std.specs.Prelude.{ℕ, ◌/◌, ◌%◌, ◌*◌, ◌==◌, nat_le, Bool, true, false, ◌&&◌, not, if◌then◌else◌, find, Option, Some, None, is_some, is_none, option_map, option_and_then, List, [], ◌∷◌}
 use Rattle.co_value.specs.declared.key.Key.{Key}
 use Rattle.co_value.specs.Types.{width_of}
-use Rattle.co_sheet.specs.declared.entry.Access.{Access}
-use Rattle.co_sheet.specs.declared.entry.Access.TheVariants.{Ro, Wo, Rw, Rwr, Rww, Constant}
+use Rattle.co_profile.specs.declared.access.Access.{Access}
+use Rattle.co_profile.specs.declared.access.Access.TheVariants.{Ro, Wo, Rw, Rwr, Rww, Constant}
 use Rattle.co_dict.specs.declared.row.Row.{Row}
 use Rattle.co_dict.specs.declared.side.Side.{Side}
 use Rattle.co_dict.specs.declared.side.Side.TheVariants.{Rpdo, Tpdo}

@@ -1,6 +1,6 @@
 -- What may be written into the parameters of PDOs besides their COB-ID: 1400h to 15FFh and 1800h to 19FFh, 1600h to
 -- 17FFh and 1A00h to 1BFFh (CiA 301, 7.5.2.35 to 7.5.2.38).
-use Rattle.std.specs.Prelude.{ℕ, ◌-◌, ◌==◌, Bool, ◌||◌, not, if◌then◌else◌, Option, None}
+use Rattle.std.specs.Prelude.{ℕ, ◌-◌, ◌==◌, Bool, ◌||◌, not, nat_lt, if◌then◌else◌, Option, None}
 use Rattle.co_dict.specs.declared.side.Side.{Side}
 use Rattle.co_dict.specs.Rows.{Contents, number_at}
 use Rattle.co_dict.specs.Stores.{Description}
@@ -26,9 +26,11 @@ transmission_type_refusal type = refused_if (is_from_to 241 253 type) invalid_va
 abbrev pub inhibit_time_refusal : Contents → ℕ → Option ℕ
 inhibit_time_refusal contents index = refused_if (is_pdo_valid contents index) not_in_this_state
 
--- sub-index 6 of a TPDO, the SYNC start value: 0 alone is supported
-abbrev pub sync_start_refusal : ℕ → Option ℕ
-sync_start_refusal value = refused_if (not (value == 0)) invalid_value
+-- sub-index 6 of a TPDO, the SYNC start value: it doesn't change while the TPDO is valid; then 0, which is none, to 240
+abbrev pub sync_start_refusal : Contents → ℕ → ℕ → Option ℕ
+sync_start_refusal contents index value = first_of
+    (refused_if (is_pdo_valid contents index) not_in_this_state)
+    (refused_if (nat_lt 240 value) invalid_value)
 
 -- sub-indices 1 to 64 of a mapping parameter: they don't change while the PDO is valid or any of them counts; a word
 -- other than 0 has to be one that the side may map

@@ -1,12 +1,12 @@
 -- Why reading an entry is refused (CiA 301, 7.2.4.3.17).
 use Rattle.std.specs.Prelude.{ℕ, Bool, true, false, Option, [], ◌∷◌}
 use Rattle.co_value.specs.declared.key.Key.{Key}
-use Rattle.co_sheet.specs.declared.entry.Access.{Access}
-use Rattle.co_sheet.specs.declared.entry.Access.TheVariants.{Wo}
+use Rattle.co_profile.specs.declared.access.Access.{Access}
+use Rattle.co_profile.specs.declared.access.Access.TheVariants.{Wo}
 use Rattle.co_dict.specs.Rows.{Rows, Contents}
 use Rattle.co_dict.specs.Refusals.{refused_if}
 use Rattle.co_dict.specs.Objects.{entry_refusal}
-use Rattle.co_dict.specs.ErrorList.{is_past_errors}
+use Rattle.co_dict.specs.ErrorField.{is_past_errors}
 use Rattle.co_frame.specs.AbortCodes.{write_only, no_value}
 
 -- an entry can't be read

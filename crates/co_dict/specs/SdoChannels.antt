@@ -2,16 +2,17 @@
 use Rattle.std.specs.Prelude.{ℕ, ◌+◌, ◌==◌, nat_le, Bool, ◌&&◌, ◌||◌, if◌then◌else◌}
 use Rattle.std.specs.List.{list_any, range_with_len}
 use Rattle.co_value.specs.declared.key.Key.{Key}
+use Rattle.co_profile.specs.Indices.{sdo_server, nth}
 use Rattle.co_dict.specs.Rows.{Contents, number_at}
 use Rattle.co_dict.specs.CobIds.{identifier_of, is_valid}
 
 -- where the COB-ID word of a channel's requests is, client to server
 abbrev pub request_key : ℕ → Key
-request_key channel = record { index = 0x1200 + channel; sub = 1 }
+request_key channel = record { index = nth sdo_server channel; sub = 1 }
 
 -- where the COB-ID word of a channel's answers is, server to client
 abbrev pub answer_key : ℕ → Key
-answer_key channel = record { index = 0x1200 + channel; sub = 2 }
+answer_key channel = record { index = nth sdo_server channel; sub = 2 }
 
 -- channel 0 always exists; a channel 1 to 127 exists where both of its words are valid
 abbrev pub is_channel : Contents → ℕ → Bool

@@ -3,13 +3,13 @@ use Rattle.std.specs.Prelude.{ℕ, nat_lt, Bool, true, false, ◌||◌, is_some,
 use Rattle.co_value.specs.declared.key.Key.{Key}
 use Rattle.co_value.specs.Types.{width_of}
 use Rattle.co_value.specs.Numbers.{number_of}
-use Rattle.co_sheet.specs.declared.entry.Access.{Access}
-use Rattle.co_sheet.specs.declared.entry.Access.TheVariants.{Ro, Constant}
+use Rattle.co_profile.specs.declared.access.Access.{Access}
+use Rattle.co_profile.specs.declared.access.Access.TheVariants.{Ro, Constant}
 use Rattle.co_dict.specs.declared.row.Row.{Row}
 use Rattle.co_dict.specs.Rows.{Rows, Contents}
 use Rattle.co_dict.specs.Stores.{Description}
 use Rattle.co_dict.specs.Refusals.{refused_if, first_refusal}
-use Rattle.co_dict.specs.CobIds.{is_from_to}
+use Rattle.co_profile.specs.Indices.{is_within, sdo_server}
 use Rattle.co_dict.specs.OwnRules.{own_refusal}
 use Rattle.co_dict.specs.Objects.{entry_refusal}
 use Rattle.co_frame.specs.AbortCodes.{read_only, too_long, too_short, above_high_limit, below_low_limit}
@@ -27,7 +27,7 @@ is_constant access = false
 
 -- 1200h to 127Fh, the SDO server parameters, which don't change while the device runs
 abbrev pub is_sdo_parameter : ℕ → Bool
-is_sdo_parameter index = is_from_to 0x1200 0x127F index
+is_sdo_parameter index = is_within sdo_server index
 
 -- why so many bytes don't fit an entry: more than its capacity, or less than the width of its type
 abbrev pub size_refusal : Row → ℕ → Option ℕ

@@ -3,6 +3,7 @@
 ghost use Rattle.std.specs.Prelude.{◌≡◌};
 ghost use Rattle.co_dict.specs.Rows.{is_in_area};
 
+use co_profile::IndexRange;
 use co_value::Key;
 
 /// The entries that a reset restores to their initial bytes (CiA 301, 7.3.2.2.1).
@@ -20,7 +21,7 @@ impl Area {
         ensures { result ≡ is_in_area self key }
     {
         match self {
-            Area::Communication => 0x1000 <= key.index && key.index <= 0x1FFF,
+            Area::Communication => IndexRange::COMMUNICATION_PROFILE.contains(key.index),
             Area::All => true,
         }
     }

@@ -2,7 +2,7 @@
 
 ghost use Rattle.std.specs.Prelude.{◌≡◌, Some};
 ghost use Rattle.co_value.specs.declared.data_type.DataType.TheVariants.{Unsigned32};
-ghost use Rattle.co_sheet.specs.FixedTypes.{fixed_type_of};
+ghost use Rattle.co_profile.specs.FixedTypes.{fixed_type_of};
 ghost use Rattle.co_dict.specs.Refusals.{refusal_in};
 ghost use Rattle.co_dict.specs.CobIdRules.{sync_cob_id_refusal, changes_while_valid, cob_id_refusal};
 

@@ -8,6 +8,7 @@ ghost use Rattle.co_dict.specs.ConsumerHeartbeats.{consumer_key, consumer_time, 
 use crate::numbers::number_u32;
 use crate::store::ObjectStore;
 use co_frame::AbortCode;
+use co_profile::CONSUMER_HEARTBEAT;
 use co_value::Key;
 
 /// An entry of 1016h: a node-ID in bits 23 to 16, the time in ms in bits 15 to 0 (CiA 301, 7.5.2.19).
@@ -49,7 +50,13 @@ pub fn heartbeat_consumer<S: ObjectStore>(store: &S, sub: u8) -> HeartbeatConsum
     requires last { sub ≤ 127 }
     ensures { result.0 ≡ number_at (S.contents store.now) (consumer_key sub) }
 {
-    HeartbeatConsumer(number_u32(store, Key { index: 0x1016, sub }))
+    HeartbeatConsumer(number_u32(
+        store,
+        Key {
+            index: CONSUMER_HEARTBEAT,
+            sub,
+        },
+    ))
 }
 
 // whether another sub-index is used with the node-ID

@@ -9,7 +9,7 @@ use crate::row::Row;
 use crate::side::Side;
 use crate::store::ObjectStore;
 use co_frame::AbortCode;
-use co_sheet::Access;
+use co_profile::Access;
 use co_value::Key;
 
 /// A mapping word of a PDO: the index in bits 31 to 16, the sub-index in bits 15 to 8, the length in bits in bits 7 to 0

@@ -1,11 +1,24 @@
 //! Which entries have a rule of their own.
 
-ghost use Rattle.std.specs.Prelude.{◌≡◌, ℕ, true, IfSome};
-ghost use Rattle.co_sheet.specs.FixedTypes.{fixed_type_of};
+ghost use Rattle.std.specs.Prelude.{◌≡◌, ◌||◌, ℕ, true, IfSome};
+ghost use Rattle.co_profile.specs.Indices.{is_within, rpdo_communication, tpdo_communication};
+ghost use Rattle.co_profile.specs.FixedTypes.{fixed_type_of};
 ghost use Rattle.co_dict.specs.OwnRules.{own_rule_of, rule_type, is_rule_index};
 
 use crate::side::Side;
+use co_profile::{
+    CONSUMER_HEARTBEAT, EMERGENCY_COB_ID, ERROR_BEHAVIOUR, ERROR_FIELD, INHIBIT_TIME, IndexRange,
+    PDO_COB_ID, RESTORE_PARAMETERS, STORE_PARAMETERS, SYNC_COB_ID, SYNC_COUNTER_OVERFLOW,
+    SYNC_START_VALUE, TRANSMISSION_TYPE,
+};
 use co_value::Key;
+
+// whether an index is that of a PDO communication parameter
+fn is_communication(index: u16) -> bool
+    ensures { result ≡ (is_within rpdo_communication index || is_within tpdo_communication index) }
+{
+    IndexRange::RPDO_COMMUNICATION.contains(index) || IndexRange::TPDO_COMMUNICATION.contains(index)
+}
 
 /// What a write of an entry has to keep besides its rights, length and limits.
 #[derive(Clone, Copy, Debug, PartialEq, Eq, Hash)]
@@ -23,7 +36,7 @@ pub(crate) enum OwnRule {
     /// 1019:00, the synchronous counter overflow value.
     SyncCounterOverflow,
     /// 1029:01.
-    ErrorBehavior,
+    ErrorBehaviour,
     /// Sub-index 2 of a PDO's communication parameter.
     TransmissionType,
     /// Sub-index 3 of a TPDO's communication parameter.
@@ -44,20 +57,33 @@ impl OwnRule {
         ensures fixed { IfSome result (λ rule. fixed_type_of key ≡ rule_type rule) }
     {
         let rule = match (key.index, key.sub) {
-            (0x1003, 0) => OwnRule::ErrorCount,
-            (0x1005, 0) => OwnRule::SyncCobId,
-            (0x1010..=0x1011, _) => OwnRule::StoredParameters,
-            (0x1014, 0) | (0x1400..=0x15FF, 1) | (0x1800..=0x19FF, 1) => OwnRule::CobId,
-            (0x1016, 0x01..=0x7F) => OwnRule::ConsumerHeartbeat,
-            (0x1019, 0) => OwnRule::SyncCounterOverflow,
-            (0x1029, 1) => OwnRule::ErrorBehavior,
-            (0x1400..=0x15FF, 2) | (0x1800..=0x19FF, 2) => OwnRule::TransmissionType,
-            (0x1800..=0x19FF, 3) => OwnRule::InhibitTime,
-            (0x1800..=0x19FF, 6) => OwnRule::SyncStartValue,
-            (0x1600..=0x17FF, 0) => OwnRule::MappingCount(Side::Rpdo),
-            (0x1600..=0x17FF, 1..=64) => OwnRule::MappingEntry(Side::Rpdo),
-            (0x1A00..=0x1BFF, 0) => OwnRule::MappingCount(Side::Tpdo),
-            (0x1A00..=0x1BFF, 1..=64) => OwnRule::MappingEntry(Side::Tpdo),
+            (ERROR_FIELD, 0) => OwnRule::ErrorCount,
+            (SYNC_COB_ID, 0) => OwnRule::SyncCobId,
+            (STORE_PARAMETERS | RESTORE_PARAMETERS, _) => OwnRule::StoredParameters,
+            (EMERGENCY_COB_ID, 0) => OwnRule::CobId,
+            (CONSUMER_HEARTBEAT, 0x01..=0x7F) => OwnRule::ConsumerHeartbeat,
+            (SYNC_COUNTER_OVERFLOW, 0) => OwnRule::SyncCounterOverflow,
+            (ERROR_BEHAVIOUR, 1) => OwnRule::ErrorBehaviour,
+            (index, PDO_COB_ID) if is_communication(index) => OwnRule::CobId,
+            (index, TRANSMISSION_TYPE) if is_communication(index) => OwnRule::TransmissionType,
+            (index, INHIBIT_TIME) if IndexRange::TPDO_COMMUNICATION.contains(index) => {
+                OwnRule::InhibitTime
+            }
+            (index, SYNC_START_VALUE) if IndexRange::TPDO_COMMUNICATION.contains(index) => {
+                OwnRule::SyncStartValue
+            }
+            (index, 0) if IndexRange::RPDO_MAPPING.contains(index) => {
+                OwnRule::MappingCount(Side::Rpdo)
+            }
+            (index, 1..=64) if IndexRange::RPDO_MAPPING.contains(index) => {
+                OwnRule::MappingEntry(Side::Rpdo)
+            }
+            (index, 0) if IndexRange::TPDO_MAPPING.contains(index) => {
+                OwnRule::MappingCount(Side::Tpdo)
+            }
+            (index, 1..=64) if IndexRange::TPDO_MAPPING.contains(index) => {
+                OwnRule::MappingEntry(Side::Tpdo)
+            }
             _ => return None,
         };
         Some(rule)

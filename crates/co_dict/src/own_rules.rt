@@ -3,8 +3,8 @@
 ghost use Rattle.std.specs.Prelude.{◌≡◌, true, length};
 ghost use Rattle.co_dict.specs.Rows.{takes};
 ghost use Rattle.co_dict.specs.Refusals.{refusal_in};
-ghost use Rattle.co_dict.specs.ErrorList.{error_count_refusal};
-ghost use Rattle.co_dict.specs.OwnRules.{counter_overflow_refusal, error_behavior_refusal, own_refusal};
+ghost use Rattle.co_dict.specs.ErrorField.{error_count_refusal};
+ghost use Rattle.co_dict.specs.OwnRules.{counter_overflow_refusal, error_behaviour_refusal, own_refusal};
 
 use crate::cob_id::CobId;
 use crate::cob_id_rules::{check_cob_id, check_sync_cob_id};
@@ -43,8 +43,8 @@ fn check_counter_overflow(value: u8) -> Result<(), AbortCode>
 }
 
 // 1029:01, what a communication error does to the state: 0 to 2
-fn check_error_behavior(value: u8) -> Result<(), AbortCode>
-    ensures { refusal_in result ≡ error_behavior_refusal value }
+fn check_error_behaviour(value: u8) -> Result<(), AbortCode>
+    ensures { refusal_in result ≡ error_behaviour_refusal value }
 {
     if value > 2 {
         Err(AbortCode::INVALID_VALUE)
@@ -77,10 +77,12 @@ pub(crate) fn check_own_rule<S: ObjectStore>(
             HeartbeatConsumer(word_for(store, key, bytes)),
         ),
         OwnRule::SyncCounterOverflow => check_counter_overflow(byte_for(store, key, bytes)),
-        OwnRule::ErrorBehavior => check_error_behavior(byte_for(store, key, bytes)),
+        OwnRule::ErrorBehaviour => check_error_behaviour(byte_for(store, key, bytes)),
         OwnRule::TransmissionType => check_transmission_type(byte_for(store, key, bytes)),
         OwnRule::InhibitTime => check_inhibit_time(store, key.index),
-        OwnRule::SyncStartValue => check_sync_start(byte_for(store, key, bytes)),
+        OwnRule::SyncStartValue => {
+            check_sync_start(store, key.index, byte_for(store, key, bytes))
+        }
         OwnRule::MappingCount(side) => check_mapping_count(
             store,
             side,

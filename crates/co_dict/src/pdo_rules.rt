@@ -2,7 +2,7 @@
 
 ghost use Rattle.std.specs.Prelude.{◌≡◌, ◌≤◌, Some, true};
 ghost use Rattle.co_value.specs.declared.data_type.DataType.TheVariants.{Unsigned8, Unsigned32};
-ghost use Rattle.co_sheet.specs.FixedTypes.{fixed_type_of};
+ghost use Rattle.co_profile.specs.FixedTypes.{fixed_type_of};
 ghost use Rattle.co_dict.specs.Rows.{number_at};
 ghost use Rattle.co_dict.specs.Refusals.{refusal_in};
 ghost use Rattle.co_dict.specs.MappingCounts.{is_mapping_index, count_refusal};
@@ -48,14 +48,22 @@ pub(crate) fn check_inhibit_time<S: ObjectStore>(store: &S, index: u16) -> Resul
     }
 }
 
-// sub-index 6 of a TPDO, the SYNC start value: 0 alone
-pub(crate) fn check_sync_start(value: u8) -> Result<(), AbortCode>
-    ensures { refusal_in result ≡ sync_start_refusal value }
+// sub-index 6 of a TPDO, the SYNC start value, doesn't change while the TPDO is valid, and is at most 240
+pub(crate) fn check_sync_start<S: ObjectStore>(
+    store: &S,
+    index: u16,
+    value: u8,
+) -> Result<(), AbortCode>
+    requires { fixed_type_of (record { index = index; sub = 1 }) ≡ Some Unsigned32 }
+    ensures { refusal_in result ≡ sync_start_refusal (S.contents store.now) index value }
 {
-    if value == 0 {
-        Ok(())
-    } else {
+    if is_pdo_valid(store, index) {
+        return Err(AbortCode::NOT_IN_THIS_STATE);
+    }
+    if value > 240 {
         Err(AbortCode::INVALID_VALUE)
+    } else {
+        Ok(())
     }
 }
 

@@ -2,21 +2,21 @@
 
 ghost use Rattle.std.specs.Prelude.{◌≡◌, true, is_some, OnOk};
 ghost use Rattle.co_dict.specs.Refusals.{refusal_in};
-ghost use Rattle.co_dict.specs.ErrorList.{is_past_errors};
+ghost use Rattle.co_dict.specs.ErrorField.{is_past_errors};
 ghost use Rattle.co_dict.specs.ReadRefusals.{reading_refusal};
 
-use crate::error_list::error_count;
+use crate::error_field::error_count;
 use crate::objects::entry_row;
 use crate::store::{ObjectStore, store_laws};
 use co_frame::AbortCode;
-use co_sheet::Access;
+use co_profile::{Access, ERROR_FIELD};
 use co_value::Key;
 
 // whether a sub-index of 1003h is above the number of errors
 fn is_past_errors<S: ObjectStore>(store: &S, key: Key) -> bool
     ensures { result ≡ is_past_errors (S.contents store.now) key }
 {
-    key.index == 0x1003 && error_count(store) < key.sub
+    key.index == ERROR_FIELD && error_count(store) < key.sub
 }
 
 /// Whether an entry may be read (CiA 301, 7.2.4.3.17). The first of these refuses it: there is no object of the index

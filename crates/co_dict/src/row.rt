@@ -1,6 +1,6 @@
 //! What is known of an entry besides its bytes.
 
-use co_sheet::Access;
+use co_profile::Access;
 use co_value::DataType;
 
 /// An entry of the object dictionary, without its key and its bytes (CiA 301, 7.4).

@@ -6,6 +6,7 @@ ghost use Rattle.co_dict.specs.SdoChannels.{is_channel, request_id, answer_id, i
 use crate::cob_id::CobId;
 use crate::numbers::number_u32;
 use crate::store::{ObjectStore, store_laws};
+use co_profile::IndexRange;
 use co_value::Key;
 
 /// The identifiers of an SDO channel (CiA 301, 7.5.2.33).
@@ -36,7 +37,7 @@ pub fn sdo_channel<S: ObjectStore>(store: &S, number: u8) -> Option<SdoChannel>
             answer: 0x580 + node,
         });
     }
-    let index = 0x1200 + u16::from(number);
+    let index = IndexRange::SDO_SERVER.nth(u16::from(number));
     let request = CobId(number_u32(store, Key { index, sub: 1 }));
     let answer = CobId(number_u32(store, Key { index, sub: 2 }));
     if request.is_valid() && answer.is_valid() {

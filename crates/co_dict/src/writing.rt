@@ -12,7 +12,7 @@ use crate::own_rules::check_own_rule;
 use crate::row::Row;
 use crate::store::ObjectStore;
 use co_frame::AbortCode;
-use co_sheet::Access;
+use co_profile::{Access, IndexRange};
 use co_value::Key;
 
 fn is_read_only(access: Access) -> bool
@@ -30,7 +30,7 @@ fn is_constant(access: Access) -> bool
 fn is_sdo_parameter(index: u16) -> bool
     ensures { result ≡ is_sdo_parameter index }
 {
-    0x1200 <= index && index <= 0x127F
+    IndexRange::SDO_SERVER.contains(index)
 }
 
 // an entry is written by SDO: its access allows it, and it is no SDO server parameter

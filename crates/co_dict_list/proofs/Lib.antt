@@ -5,7 +5,9 @@ mod EntryBytes
 mod Faults
 mod GreatestCapacity
 mod InitialLemmas
+mod Roomless
 mod ListExamples
+mod PairLaws
 mod Pairs
 mod Places
 mod Plans

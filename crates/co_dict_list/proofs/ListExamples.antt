@@ -3,7 +3,7 @@ use Rattle.std.proofs.Common.{◌≡◌, ℕ, Bool, true, false, List, [], ◌�
 use Rattle.std.specs.Prelude.{pos, map}
 use Rattle.co_value.specs.declared.key.Key.{Key}
 use Rattle.co_value.specs.declared.data_type.DataType.TheVariants.{Unsigned16, VisibleString}
-use Rattle.co_sheet.specs.declared.entry.Access.TheVariants.{Rw}
+use Rattle.co_profile.specs.declared.access.Access.TheVariants.{Rw}
 use Rattle.co_dict.specs.declared.row.Row.{Row}
 use Rattle.co_dict.specs.declared.area.Area.TheVariants.{Communication}
 use Rattle.co_dict_list.specs.ListedEntries.{ListedEntry, initial_entry, rows_in, contents_in, initial_in, keys_in, are_increasing, reset_entry, description_in}

@@ -5,7 +5,7 @@ use Rattle.std.specs.Prelude.{◌&&◌, find, option_map, AllPairs}
 use Rattle.std.specs.List.{list_all}
 use Rattle.co_value.specs.declared.key.Key.{Key}
 use Rattle.co_value.specs.Keys.{same_key, is_key_before}
-use Rattle.co_sheet.specs.declared.entry.EntryRow.{EntryRow}
+use Rattle.co_sheet_rows.specs.declared.entry.EntryRow.{EntryRow}
 use Rattle.co_sheet.specs.SheetViews.{row_view}
 use Rattle.co_sheet.specs.SheetLaws.{IsSheetRow}
 use Rattle.co_sheet.specs.Content.{Row as SheetRow}

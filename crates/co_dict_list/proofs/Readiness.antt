@@ -8,7 +8,7 @@ use Rattle.co_value.specs.declared.data_type.DataType.{DataType}
 use Rattle.co_value.specs.declared.data_type.DataType.TheVariants.{Unsigned32}
 use Rattle.co_value.specs.Keys.{same_key}
 use Rattle.co_value.specs.Types.{InRange}
-use Rattle.co_sheet.specs.FixedTypes.{fixed_type_of}
+use Rattle.co_profile.specs.FixedTypes.{fixed_type_of}
 use Rattle.co_sheet.specs.Limits.{Default, absent, number, node_id, text, pairs, is_numeric, is_in_type, at_most}
 use Rattle.co_sheet.specs.Content.{Row as SheetRow}
 use Rattle.co_sheet.specs.SheetLaws.{IsSheetRow}

@@ -5,6 +5,7 @@ use Rattle.std.specs.Option.{option_or}
 use Rattle.std.specs.List.{list_any, range_with_len}
 use Rattle.co_value.specs.declared.key.Key.{Key}
 use Rattle.co_value.specs.Keys.{is_key_before}
+use Rattle.co_profile.specs.Indices.{is_within, sdo_server, rpdo_communication, tpdo_communication, sync_cob_id, emergency_cob_id}
 use Rattle.co_sheet.specs.Limits.{Default, node_id, at_most, is_in_type}
 use Rattle.co_sheet.specs.Content.{Row as SheetRow}
 use Rattle.co_dict.specs.declared.side.Side.{Side}
@@ -46,7 +47,7 @@ value_out_of_range node rows = option_map (λ row. row.key) (find (λ row. is_su
 
 -- the index of the communication parameter of a PDO
 abbrev pub is_communication : ℕ → Bool
-is_communication index = is_from_to 0x1400 0x15FF index || is_from_to 0x1800 0x19FF index
+is_communication index = is_within rpdo_communication index || is_within tpdo_communication index
 
 -- the index of the mapping parameter of a PDO
 abbrev pub is_mapping : ℕ → Bool
@@ -54,15 +55,15 @@ is_mapping index = is_mapping_index Rpdo index || is_mapping_index Tpdo index
 
 -- the key of the SYNC word
 abbrev pub is_sync_key : Key → Bool
-is_sync_key key = (key.index == 0x1005) && (key.sub == 0)
+is_sync_key key = (key.index == sync_cob_id) && (key.sub == 0)
 
 -- the key of the emergency's word, or of a PDO's
 abbrev pub is_word_key : Key → Bool
-is_word_key key = ((key.index == 0x1014) && (key.sub == 0)) || (is_communication key.index && (key.sub == 1))
+is_word_key key = ((key.index == emergency_cob_id) && (key.sub == 0)) || (is_communication key.index && (key.sub == 1))
 
 -- the key of a word of an SDO channel
 abbrev pub is_channel_key : Key → Bool
-is_channel_key key = is_from_to 0x1200 0x127F key.index && is_from_to 1 2 key.sub
+is_channel_key key = is_within sdo_server key.index && is_from_to 1 2 key.sub
 
 -- a channel exists, and one of its words has an identifier at a smaller key than this; channel 0 has the smallest keys
 abbrev pub is_used_by_channel : ℕ → Contents → Key → ℕ → ℕ → Bool
@@ -94,16 +95,16 @@ is_bad_cob_id node contents key =
     let word = number_at contents key in
     if is_sync_key key then is_bad_sync_word node contents word
     else if is_word_key key then is_bad_word node contents word
-    else is_channel_key key && is_channel contents (key.index - 0x1200) && is_bad_channel_word node contents key word
+    else is_channel_key key && is_channel contents (key.index - sdo_server.0) && is_bad_channel_word node contents key word
 
 -- ---- 4, PdoPair
 
--- a PDO's communication without its mapping, or without sub-index 1 or 2
+-- a PDO's communication parameter without its mapping parameter, or without sub-index 1 or 2
 abbrev pub is_lone_communication : Rows → ℕ → Bool
 is_lone_communication rows index =
     is_communication index && not (has_object rows (index + 0x200) && has_sub rows index 1 && has_sub rows index 2)
 
--- a PDO's mapping without its communication, or without sub-index 0
+-- a PDO's mapping parameter without its communication parameter, or without sub-index 0
 abbrev pub is_lone_mapping : Rows → ℕ → Bool
 is_lone_mapping rows index = is_mapping index && not (has_object rows (index - 0x200) && has_sub rows index 0)
 
@@ -159,6 +160,14 @@ bad_mapping d contents = smallest_key (is_bad_mapping d contents) d.keys
 -- too many entries, or too much room
 abbrev pub room_fault : Limits → List SheetRow → Option BuildFault
 room_fault limits rows = fault_if (is_too_many (length rows) (sum_by (capacity_of limits) rows)) TooMany
+
+-- the first fault of the parameters of a dictionary, by what never changes of it and by its first contents
+abbrev pub parameter_fault : Description → Contents → Option BuildFault
+parameter_fault d contents = first_there (
+    option_map BadCobId (bad_cob_id d contents)
+    ∷ option_map PdoPair (unpaired d)
+    ∷ option_map BadMapping (bad_mapping d contents)
+    ∷ [])
 
 -- the first fault of what never changes of a dictionary and of its first contents
 abbrev pub dictionary_fault : Limits → List SheetRow → Description → Contents → Option BuildFault

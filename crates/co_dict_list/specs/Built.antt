@@ -4,7 +4,7 @@ use Rattle.co_sheet.specs.Content.{Row as SheetRow, SheetContent, is_dummy}
 use Rattle.co_dict.specs.Rows.{Contents}
 use Rattle.co_dict.specs.Stores.{Description}
 use Rattle.co_dict_list.specs.ListedEntries.{ListedEntry, initial_entry, contents_in, description_in}
-use Rattle.co_sheet.specs.declared.entry.EntryRow.{EntryRow}
+use Rattle.co_sheet_rows.specs.declared.entry.EntryRow.{EntryRow}
 use Rattle.co_sheet.specs.SheetViews.{row_view}
 use Rattle.co_dict_list.specs.declared.limits.Limits.{Limits as CodeLimits}
 use Rattle.co_dict_list.specs.Capacities.{Limits, limits_view}

@@ -6,8 +6,8 @@ use Rattle.co_value.specs.Keys.{same_key}
 use Rattle.co_value.specs.declared.data_type.DataType.{DataType}
 use Rattle.co_value.specs.declared.data_type.DataType.TheVariants.{VisibleString, OctetString, Domain}
 use Rattle.co_value.specs.Types.{width_of}
-use Rattle.co_sheet.specs.declared.entry.Access.{Access}
-use Rattle.co_sheet.specs.declared.entry.Access.TheVariants.{Ro, Constant}
+use Rattle.co_profile.specs.declared.access.Access.{Access}
+use Rattle.co_profile.specs.declared.access.Access.TheVariants.{Ro, Constant}
 use Rattle.co_sheet.specs.Limits.{Default, text, pairs}
 use Rattle.co_sheet.specs.Content.{Row as SheetRow}
 use Rattle.co_dict_list.specs.declared.limits.Limits.{Limits as CodeLimits}

@@ -6,7 +6,7 @@ use Rattle.co_value.specs.declared.data_type.DataType.{DataType}
 use Rattle.co_value.specs.Keys.{same_key, is_key_before}
 use Rattle.co_value.specs.Types.{width_of}
 use Rattle.co_value.specs.Numbers.{AreBytes}
-use Rattle.co_sheet.specs.FixedTypes.{fixed_type_of}
+use Rattle.co_profile.specs.FixedTypes.{fixed_type_of}
 use Rattle.co_sheet.specs.Content.{is_dummy}
 use Rattle.co_dict.specs.declared.row.Row.{Row}
 use Rattle.co_dict.specs.declared.area.Area.{Area}
@@ -39,6 +39,7 @@ HasFixedType key row = (t : DataType) → fixed_type_of key ≡ Some t → row.d
 -- what holds of an entry of each dictionary
 pub record IsEntry (entry : ListedEntry) : Type 0 where
   pub key : IsKey entry.key
+  pub from_1000 : 0x1000 ≤ entry.key.index
   pub capacity : entry.row.capacity ≤ 65535
   pub width : HasWidth entry.row
   pub fixed : HasFixedType entry.key entry.row

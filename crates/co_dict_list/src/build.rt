@@ -1,14 +1,16 @@
 //! From a data sheet, a node-ID and limits to a dictionary, or to the first fault.
 
-ghost use Rattle.std.specs.Prelude.{◌≡◌, option_map, ◌≤◌, map, All, AllPairs, true, Err, IfOk, IfErr, None, false};
+ghost use Rattle.std.specs.Prelude.{◌≡◌, ℕ, option_map, ◌≤◌, map, All, AllPairs, true, Err, IfOk, IfErr, None, false};
 ghost use Rattle.co_sheet.specs.SheetViews.{row_view};
 ghost use Rattle.co_value.specs.declared.key.Key.{Key};
 ghost use Rattle.co_value.specs.Keys.{is_key_before};
 ghost use Rattle.co_sheet.specs.SheetLaws.{IsSheetRow};
 ghost use Rattle.co_dict_list.specs.SheetRows.{IsReady};
 ghost use Rattle.co_dict_list.specs.Capacities.{limits_view};
-ghost use Rattle.co_dict_list.specs.Built.{dummies_of, plan_of, plan_in, built_description, built_contents};
-ghost use Rattle.co_dict_list.specs.BuildFaults.{is_node, bad_cob_id, unpaired, bad_mapping, room_fault, dictionary_fault, build_fault, IsBuildFault};
+ghost use Rattle.co_dict_list.specs.Built.{Plan, dummies_of, plan_of, plan_in, built_description, built_contents};
+ghost use Rattle.co_dict.specs.Objects.{has_object, has_sub};
+ghost use Rattle.co_profile.specs.Indices.{pdo_cob_id};
+ghost use Rattle.co_dict_list.specs.BuildFaults.{is_node, is_communication, bad_cob_id, unpaired, bad_mapping, parameter_fault, build_fault, IsBuildFault};
 
 mod cob_ids;
 mod entries;
@@ -53,32 +55,14 @@ fn mapping_fault<S: ObjectStore>(store: &S, rows: &[EntryRow<'_>]) -> Option<Bui
     bad_mapping(store, rows).map(BuildFault::BadMapping)
 }
 
-fn room_fault(limits: &Limits<'_>, rows: &[EntryRow<'_>]) -> Option<BuildFault>
-    requires { All (λ row. IsSheetRow (row_view row)) rows.now }
-    ensures { result ≡ room_fault (limits_view limits.now) (map row_view rows.now) }
-{
-    if is_too_many(limits, rows) {
-        Some(BuildFault::TooMany)
-    } else {
-        None
-    }
-}
-
-// the first fault of a dictionary that was made from the rows of a sheet
-fn dictionary_fault<S: ObjectStore>(
-    store: &S,
-    limits: &Limits<'_>,
-    rows: &[EntryRow<'_>],
-) -> Option<BuildFault>
-    requires sheet { All (λ row. IsSheetRow (row_view row)) rows.now }
-    requires keys { (S.description store.now).keys ≡ map (λ row. row.key) rows.now }
-    ensures { result ≡ dictionary_fault (limits_view limits.now) (map row_view rows.now)
-        (S.description store.now) (S.contents store.now) }
+// the first fault of the parameters of a dictionary that was made from the rows of a sheet
+fn parameter_fault<S: ObjectStore>(store: &S, rows: &[EntryRow<'_>]) -> Option<BuildFault>
+    requires { (S.description store.now).keys ≡ map (λ row. row.key) rows.now }
+    ensures { result ≡ parameter_fault (S.description store.now) (S.contents store.now) }
 {
     word_fault(store, rows)
         .or(pair_fault(store, rows))
         .or(mapping_fault(store, rows))
-        .or(room_fault(limits, rows))
 }
 
 // the dictionary of rows of a sheet
@@ -102,7 +86,33 @@ fn store_of(
     Ok(ListStore::new(node_id, dummies, entries))
 }
 
-// The dictionary of rows of a sheet, or its first fault. Nothing asks for memory before a node-ID or a sum was at fault.
+// The first fault of the parameters, whatever the limits are: found in a dictionary whose strings and domains have no
+// room besides that of their defaults, since none of these faults looks at the room.
+fn parameter_fault_of(
+    alloc: Global,
+    node_id: u8,
+    rows: &[EntryRow<'_>],
+    dummies: [bool; 6],
+) -> Result<Option<BuildFault>, AllocError>
+    requires first_node { 1 ≤ node_id }
+    requires last_node { node_id ≤ 127 }
+    requires ready { All (λ row. IsReady node_id (row_view row)) rows.now }
+    requires increase { AllPairs (λ e f. is_key_before e.key f.key ≡ true) rows.now }
+    ensures { IfOk result (λ fault. (limits : Limits)
+        → fault ≡ parameter_fault (built_description (plan_in node_id limits rows.now dummies))
+        (built_contents (plan_in node_id limits rows.now dummies))) }
+{
+    let no_room = Limits {
+        strings: 0,
+        domains: 0,
+        own: &[],
+    };
+    let store = store_of(alloc, node_id, &no_room, rows, dummies)?;
+    Ok(parameter_fault(&store, rows))
+}
+
+// The dictionary of rows of a sheet, or its first fault. Nothing asks for memory before a node-ID or a sum was at fault,
+// nor for the room of strings and domains before it is known that there is not too much of it.
 fn build_rows(
     alloc: Global,
     node_id: u8,
@@ -127,8 +137,14 @@ fn build_rows(
     if let Some(key) = value_out_of_range(node_id, rows) {
         return Err(BuildFault::ValueRange(key));
     }
+    if is_too_many(limits, rows) {
+        return match parameter_fault_of(alloc, node_id, rows, dummies) {
+            Ok(fault) => Err(fault.unwrap_or(BuildFault::TooMany)),
+            Err(_) => Err(BuildFault::Memory),
+        };
+    }
     match store_of(alloc, node_id, limits, rows, dummies) {
-        Ok(store) => match dictionary_fault(&store, limits, rows) {
+        Ok(store) => match parameter_fault(&store, rows) {
             Some(fault) => Err(fault),
             None => Ok(store),
         },
@@ -180,4 +196,12 @@ impl ListStore {
             usable_dummies(sheet),
         )
     }
+
+    /// In a dictionary that was built each PDO communication parameter has its COB-ID, sub-index 1. This is a law: a call
+    /// of it changes nothing.
+    pub fn communication_law()
+        ensures { (plan : Plan) → build_fault plan ≡ None → (index : ℕ) → is_communication index ≡ true
+            → has_object (built_description plan).rows index ≡ true
+            → has_sub (built_description plan).rows index pdo_cob_id ≡ true }
+    {}
 }

@@ -15,6 +15,7 @@ ghost use Rattle.co_dict_list.specs.InitialBytes.{nearest_to_zero, number_with, 
 ghost use Rattle.co_dict_list.specs.SheetRows.{IsReady};
 
 use crate::capacity::limit_or;
+use co_profile::IndexRange;
 use co_sheet::{EntryRow, Preset};
 use co_value::{DataType, Key, to_bytes};
 use std::alloc::{AllocError, Global};
@@ -75,11 +76,11 @@ fn initial_number(node_id: u8, row: &EntryRow<'_>) -> i128
     ensures { result ≡ initial_number node_id (row_view row.now) }
 {
     const REQUEST: Key = Key {
-        index: 0x1200,
+        index: IndexRange::SDO_SERVER.0,
         sub: 1,
     };
     const ANSWER: Key = Key {
-        index: 0x1200,
+        index: IndexRange::SDO_SERVER.0,
         sub: 2,
     };
     if row.key == REQUEST {

@@ -44,7 +44,7 @@ module _ (may : Bool) (log : EmergencyLog) (left : ℕ) (h : left ≡ inhibit_le
   none_where_not m = rw m refl
 
 -- the last of several is queued last
-with_queued-snoc : (es : List Emergency) (e : Emergency) (log : EmergencyLog) → with_queued (es ++ e ∷ []) log ≡ Noted (Queue e) ∷ with_queued es log
+pub with_queued-snoc : (es : List Emergency) (e : Emergency) (log : EmergencyLog) → with_queued (es ++ e ∷ []) log ≡ Noted (Queue e) ∷ with_queued es log
 with_queued-snoc [] e log = refl
 with_queued-snoc (f ∷ es) e log = with_queued-snoc es e (Noted (Queue f) ∷ log)
 

@@ -1,6 +1,6 @@
 //! The emergencies that wait to be sent.
 
-ghost use Rattle.std.specs.Prelude.{◌≡◌, [], ◌∷◌, IfOk};
+ghost use Rattle.std.specs.Prelude.{◌≡◌, ◌++◌, List, [], ◌∷◌, false, None, IfOk};
 ghost use Rattle.co_node_parts.specs.EmergencyQueues.{EmergencyLog, Noted, EmergenciesStand, emergency_due, with_sending, with_queued};
 
 use circular_buffer::HeapCircularBuffer;
@@ -42,6 +42,13 @@ impl Model for Emergencies {
 
     ghost invariant = { λ e. e.queue.capacity ≡ 8 };
 }
+
+/// Of several emergencies the last one is queued last. A law, which does nothing when it is called.
+pub fn queued_last()
+    ensures { (several : List Emergency) (last : Emergency) (log : EmergencyLog) →
+        with_queued (several ++ last ∷ []) log ≡
+        Noted (EmergencyEvent.Queue last) ∷ with_queued several log }
+{}
 
 impl Emergencies {
     /// No emergency waits. `AllocError` where there is no memory.
@@ -88,6 +95,7 @@ impl Emergencies {
             result ≡ emergency_due may log }
         ensures stands { (log : EmergencyLog) → EmergenciesStand self.old log →
             EmergenciesStand self.new (with_sending result inhibit log) }
+        ensures only { may ≡ false → result ≡ None }
     {
         if !may || self.left > 0 {
             return None;

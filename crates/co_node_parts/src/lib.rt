@@ -9,7 +9,7 @@ mod heartbeat_producer;
 mod nmt_state;
 mod rpdo_slots;
 
-pub use emergencies::{Emergencies, EmergencyEvent};
+pub use emergencies::{Emergencies, EmergencyEvent, queued_last};
 pub use heartbeat_consumers::{ConsumersEvent, HeartbeatConsumers, LostHeartbeats};
 pub use heartbeat_producer::{HeartbeatProducer, ProducerEvent};
 pub use nmt_state::{LossReaction, NmtState, NodeState, StateEvent, Transition};

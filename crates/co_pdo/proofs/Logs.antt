@@ -1,17 +1,18 @@
 -- One more call in a log.
-use Rattle.std.proofs.Common.{◌≡◌, ℕ, ◌+◌, ◌-◌, ◌<◌, Bool, true, false, cond, eqb, leb, List, [], ◌∷◌, refl, sym, ap, ◌∙◌, subst, arith}
+use Rattle.std.proofs.Common.{◌≡◌, ℕ, suc, ◌+◌, ◌-◌, ◌<◌, Bool, true, false, cond, eqb, leb, List, [], ◌∷◌, length, refl, sym, ap, ◌∙◌, subst, arith}
 use Rattle.std.specs.Prelude.{◌%◌, ◌&&◌, ◌||◌, Option, Some, None, map}
 use Rattle.std.specs.List.{list_all}
 use Rattle.std.proofs.lemmas.Bool.Decides.{nat_tests}
+use Rattle.std.proofs.Math.Bool.{and-true, and-false, or-true, or-false}
 use Rattle.co_pdo.specs.declared.settings.Settings.{Settings}
 use Rattle.co_pdo.specs.declared.tpdo.Occasion.{Occasion}
 use Rattle.co_pdo.specs.declared.tpdo.Occasion.TheVariants.{Sync, Event, Tick}
 use Rattle.co_pdo.specs.declared.tpdo.Part.TheVariants.{Whole, Timer}
 use Rattle.co_pdo.specs.declared.tpdo.Tpdo.{Tpdo}
 use Rattle.co_pdo.specs.Log.{Log, Started, Happened, started_with}
-use Rattle.co_pdo.specs.Due.{syncs, event_since_sync, timer_ticks, event_waits, sendings, in_ms, is_due_at_sync, is_event_driven, is_due_by_event, is_due}
+use Rattle.co_pdo.specs.Due.{begins_count, syncs, has_begun, since_beginning, counted_syncs, event_since_sync, timer_ticks, event_waits, sendings, in_ms, is_due_by_count, is_due_at_sync, is_event_driven, is_due_by_event, is_due}
 use Rattle.co_pdo.specs.Countdowns.{left_of, type_of, inhibit_of, IsAfter, IsAsAt, IsCurrent}
-use Rattle.co_pdo.specs.Steps.{counted, wants, marked}
+use Rattle.co_pdo.specs.Steps.{counts, counted, counted_with, wants_with, marked}
 use Rattle.co_pdo.proofs.Counts.{last_sync, next_sync, left-tick, last_tick}
 
 all_from_zero : (xs : List ℕ) → list_all (λ m. leb 0 m) xs ≡ true
@@ -44,29 +45,65 @@ none_left : (n : ℕ) (log : Log) → eqb (left_of n (sendings log)) 0 ≡ list_
 none_left n [] = refl
 none_left n (Started Whole s ∷ log) = refl
 none_left n (Started Timer s ∷ log) = none_left n log
-none_left n (Happened Sync s true ∷ log) = sent_now n (sendings log) _ refl
-none_left n (Happened Sync s false ∷ log) = none_left n log
+none_left n (Happened (Sync overflow counter) s true ∷ log) = sent_now n (sendings log) _ refl
+none_left n (Happened (Sync overflow counter) s false ∷ log) = none_left n log
 none_left n (Happened Event s true ∷ log) = sent_now n (sendings log) _ refl
 none_left n (Happened Event s false ∷ log) = none_left n log
 none_left n (Happened Tick s true ∷ log) = sent_now n (map (λ m. m + 1) (sendings log)) _ refl
 none_left n (Happened Tick s false ∷ log) = sym (left-later n (sendings log)) ∙ none_left (n - 1) log ∙ sym (all_later n (sendings log))
 
+-- ---- the count of SYNCs
+
+-- before it begins nothing is counted
+none_counted : (begins : List Bool) → has_begun begins ≡ false → counted_syncs begins ≡ 0
+none_counted [] h = refl
+none_counted (b ∷ older) h = ap (λ c. length (cond c (b ∷ since_beginning older) [])) h
+
+-- one more SYNC, that counts or not
+one_more : (b c : Bool) (older : List Bool) → has_begun (b ∷ older) ≡ c → counted_syncs (b ∷ older) ≡ cond c (counted_syncs older + 1) 0
+one_more b true older h = ap (λ c. length (cond c (b ∷ since_beginning older) [])) h ∙ add-one-length (counted_syncs older)
+  where
+    add-one-length : (n : ℕ) → suc n ≡ n + 1
+    add-one-length n = omega arith
+one_more b false older h = ap (λ c. length (cond c (b ∷ since_beginning older) [])) h
+
+begun_before : (b : Bool) (older : List Bool) → has_begun (b ∷ older) ≡ false → has_begun older ≡ false
+begun_before true older h = cc
+begun_before false older h = h
+
+-- the countdown after one more SYNC
+left_then : (kind left : ℕ) (b c : Bool) (older : List Bool) → has_begun (b ∷ older) ≡ c → left ≡ kind - counted_syncs older % kind
+    → cond c (cond (leb left 1) kind (left - 1)) left ≡ kind - counted_syncs (b ∷ older) % kind
+left_then kind left b true older e h = rw (h, one_more b true older e) (next_sync (counted_syncs older) kind)
+left_then kind left b false older e h =
+    h ∙ ap (λ n. kind - n % kind) (none_counted older (begun_before b older e) ∙ sym (one_more b false older e))
+
+-- a SYNC counts where the count has begun with it
+counts_is : (begun b : Bool) (older : List Bool) → begun ≡ has_begun older → begun || b ≡ has_begun (b ∷ older)
+counts_is begun true older h = or-true begun
+counts_is begun false older h = or-false begun ∙ h
+
 -- the countdowns after a call in which the TPDO is not sent
-after_counted : (t : Tpdo) (log : Log) (s : Settings) (o : Occasion) → IsAfter t log → IsCurrent s log → IsAfter (counted o t) (Happened o s false ∷ log)
-after_counted t log s Sync h f = record {
-  transmission_type = h.transmission_type;
-  inhibit = h.inhibit;
-  timer = h.timer;
-  syncs_left = rw h.syncs_left (next_sync (syncs log) t.transmission_type);
-  event_since_sync = refl;
-  event_waits = h.event_waits;
-  inhibit_left = h.inhibit_left;
-  timer_left = h.timer_left;
-}
+after_counted : (t : Tpdo) (log : Log) (s : Settings) (o : Occasion) → IsAfter t log → IsCurrent s log → IsAfter (counted_with s o t) (Happened o s false ∷ log)
+after_counted t log s (Sync overflow counter) h f =
+    let b : Bool = begins_count s.start_value overflow counter in
+    let c : t.has_begun || b ≡ has_begun (b ∷ syncs log) = counts_is t.has_begun b (syncs log) h.has_begun in
+    record {
+      transmission_type = h.transmission_type;
+      inhibit = h.inhibit;
+      timer = h.timer;
+      has_begun = c;
+      syncs_left = left_then t.transmission_type t.syncs_left b (t.has_begun || b) (syncs log) (sym c) h.syncs_left;
+      event_since_sync = refl;
+      event_waits = h.event_waits;
+      inhibit_left = h.inhibit_left;
+      timer_left = h.timer_left;
+    }
 after_counted t log s Event h f = record {
   transmission_type = h.transmission_type;
   inhibit = h.inhibit;
   timer = h.timer;
+  has_begun = h.has_begun;
   syncs_left = h.syncs_left;
   event_since_sync = refl;
   event_waits = refl;
@@ -77,6 +114,7 @@ after_counted t log s Tick h f = record {
   transmission_type = h.transmission_type;
   inhibit = h.inhibit;
   timer = h.timer;
+  has_begun = h.has_begun;
   syncs_left = h.syncs_left;
   event_since_sync = h.event_since_sync;
   event_waits =
@@ -89,9 +127,9 @@ after_counted t log s Tick h f = record {
 
 -- the same where it is sent
 after_marked : (t : Tpdo) (log : Log) (s : Settings) (o : Occasion) → IsAfter t (Happened o s false ∷ log) → IsAfter (marked t) (Happened o s true ∷ log)
-after_marked t log s Sync h = record { transmission_type = h.transmission_type; inhibit = h.inhibit; timer = h.timer; syncs_left = h.syncs_left; event_since_sync = h.event_since_sync; event_waits = refl; inhibit_left = omega arith; timer_left = omega arith }
-after_marked t log s Event h = record { transmission_type = h.transmission_type; inhibit = h.inhibit; timer = h.timer; syncs_left = h.syncs_left; event_since_sync = h.event_since_sync; event_waits = refl; inhibit_left = omega arith; timer_left = omega arith }
-after_marked t log s Tick h = record { transmission_type = h.transmission_type; inhibit = h.inhibit; timer = h.timer; syncs_left = h.syncs_left; event_since_sync = h.event_since_sync; event_waits = refl; inhibit_left = omega arith; timer_left = omega arith }
+after_marked t log s (Sync overflow counter) h = record { transmission_type = h.transmission_type; inhibit = h.inhibit; timer = h.timer; has_begun = h.has_begun; syncs_left = h.syncs_left; event_since_sync = h.event_since_sync; event_waits = refl; inhibit_left = omega arith; timer_left = omega arith }
+after_marked t log s Event h = record { transmission_type = h.transmission_type; inhibit = h.inhibit; timer = h.timer; has_begun = h.has_begun; syncs_left = h.syncs_left; event_since_sync = h.event_since_sync; event_waits = refl; inhibit_left = omega arith; timer_left = omega arith }
+after_marked t log s Tick h = record { transmission_type = h.transmission_type; inhibit = h.inhibit; timer = h.timer; has_begun = h.has_begun; syncs_left = h.syncs_left; event_since_sync = h.event_since_sync; event_waits = refl; inhibit_left = omega arith; timer_left = omega arith }
 
 -- the type and the inhibit time are those that it was started with
 record Same (t : Tpdo) (s : Settings) : Type 0 where
@@ -105,11 +143,21 @@ same_as_started t s (Some at) k i h = record { kind = k ∙ h.0; inhibit = i ∙
 same : (t : Tpdo) (log : Log) (s : Settings) → IsAfter t log → IsCurrent s log → s.is_active ≡ true → Same t s
 same t log s h f e = same_as_started t s (started_with log) h.transmission_type h.inhibit (f.started e)
 
-at_sync : (t : Tpdo) (log : Log) → IsAfter t log → (b : Bool) → eqb t.transmission_type 0 ≡ b → cond b t.event_since_sync (leb t.syncs_left 1 && leb t.transmission_type 240) ≡ cond b (event_since_sync log) (eqb ((syncs log + 1) % t.transmission_type) 0 && leb t.transmission_type 240)
-at_sync t log h true e = h.event_since_sync
-at_sync t log h false e =
+-- due by the countdown of SYNCs
+by_count : (kind left : ℕ) (b c : Bool) (older : List Bool) → 0 < kind → has_begun (b ∷ older) ≡ c → left ≡ kind - counted_syncs older % kind
+    → c && (leb left 1 && leb kind 240) ≡ c && (eqb (counted_syncs (b ∷ older) % kind) 0 && leb kind 240)
+by_count kind left b true older above e h =
+    ap (λ x. x && leb kind 240) (ap (λ n. leb n 1) h ∙ last_sync (counted_syncs older) kind above ∙ ap (λ n. eqb (n % kind) 0) (sym (one_more b true older e)))
+by_count kind left b false older above e h = refl
+
+at_sync : (t : Tpdo) (log : Log) (b : Bool) → IsAfter t log → (zero : Bool) → eqb t.transmission_type 0 ≡ zero
+    → cond zero t.event_since_sync ((t.has_begun || b) && (leb t.syncs_left 1 && leb t.transmission_type 240)) ≡ cond zero (event_since_sync log) (is_due_by_count t.transmission_type (b ∷ syncs log))
+at_sync t log b h true e = h.event_since_sync
+at_sync t log b h false e =
     let above : 0 < t.transmission_type = grind (arith, nat_tests) in
-    ap (λ n. leb n 1 && leb t.transmission_type 240) h.syncs_left ∙ ap (λ b. b && leb t.transmission_type 240) (last_sync (syncs log) t.transmission_type above)
+    let c : t.has_begun || b ≡ has_begun (b ∷ syncs log) = counts_is t.has_begun b (syncs log) h.has_begun in
+    by_count t.transmission_type t.syncs_left b (t.has_begun || b) (syncs log) above (sym c) h.syncs_left
+    ∙ ap (λ x. x && (eqb (counted_syncs (b ∷ syncs log) % t.transmission_type) 0 && leb t.transmission_type 240)) c
 
 -- due by the counts after a call, types 254 and 255
 by_event : (t : Tpdo) (log : Log) (s : Settings) → Same t s → IsAfter t log → is_event_driven t.transmission_type && (t.event_waits && eqb t.inhibit_left 0) ≡ is_due_by_event s log
@@ -119,51 +167,43 @@ by_event t log s e h =
     ∙ ap (λ b. is_event_driven s.transmission_type && (event_waits log && b)) (ap (λ n. eqb n 0) h.inhibit_left ∙ none_left t.inhibit log ∙ ap (λ n. list_all (λ m. leb n m) (sendings log)) e.inhibit)
 
 -- a TPDO wants to go when it is due
-wants_is : (t : Tpdo) (log : Log) (s : Settings) (o : Occasion) → IsAfter t log → IsCurrent s log → Same t s → s.is_active && wants o t ≡ is_due s log o
-wants_is t log s Sync h f e =
-    ap (λ b. s.is_active && b) (at_sync t log h (eqb t.transmission_type 0) refl ∙ ap (λ k. is_due_at_sync k log) e.kind)
+wants_is : (t : Tpdo) (log : Log) (s : Settings) (o : Occasion) → IsAfter t log → IsCurrent s log → Same t s → s.is_active && wants_with s o t ≡ is_due s log o
+wants_is t log s (Sync overflow counter) h f e =
+    ap (λ b. s.is_active && b) (at_sync t log (begins_count s.start_value overflow counter) h (eqb t.transmission_type 0) refl ∙ ap (λ k. is_due_at_sync k log (Happened (Sync overflow counter) s false)) e.kind)
 wants_is t log s Event h f e =
-    ap (λ b. s.is_active && b) (by_event (counted Event t) _ s (record { kind = e.kind; inhibit = e.inhibit }) (after_counted t log s Event h f))
+    ap (λ b. s.is_active && b) (by_event (counted_with s Event t) _ s (record { kind = e.kind; inhibit = e.inhibit }) (after_counted t log s Event h f))
 wants_is t log s Tick h f e =
-    ap (λ b. s.is_active && b) (by_event (counted Tick t) _ s (record { kind = e.kind; inhibit = e.inhibit }) (after_counted t log s Tick h f))
+    ap (λ b. s.is_active && b) (by_event (counted_with s Tick t) _ s (record { kind = e.kind; inhibit = e.inhibit }) (after_counted t log s Tick h f))
 
-due_by : (t : Tpdo) (log : Log) (s : Settings) (o : Occasion) → IsAfter t log → IsCurrent s log → (b : Bool) → s.is_active ≡ b → s.is_active && wants o t ≡ is_due s log o
+due_by : (t : Tpdo) (log : Log) (s : Settings) (o : Occasion) → IsAfter t log → IsCurrent s log → (b : Bool) → s.is_active ≡ b → s.is_active && wants_with s o t ≡ is_due s log o
 due_by t log s o h f true e = wants_is t log s o h f (same t log s h f e)
-due_by t log s Sync h f false e = ap (λ b. b && wants Sync t) e ∙ ap (λ b. b && is_due_at_sync s.transmission_type log) (sym e)
-due_by t log s Event h f false e = ap (λ b. b && wants Event t) e ∙ ap (λ b. b && is_due_by_event s (Happened Event s false ∷ log)) (sym e)
-due_by t log s Tick h f false e = ap (λ b. b && wants Tick t) e ∙ ap (λ b. b && is_due_by_event s (Happened Tick s false ∷ log)) (sym e)
+due_by t log s (Sync overflow counter) h f false e = ap (λ b. b && wants_with s (Sync overflow counter) t) e ∙ ap (λ b. b && is_due_at_sync s.transmission_type log (Happened (Sync overflow counter) s false)) (sym e)
+due_by t log s Event h f false e = ap (λ b. b && wants_with s Event t) e ∙ ap (λ b. b && is_due_by_event s (Happened Event s false ∷ log)) (sym e)
+due_by t log s Tick h f false e = ap (λ b. b && wants_with s Tick t) e ∙ ap (λ b. b && is_due_by_event s (Happened Tick s false ∷ log)) (sym e)
 
-pub due_is : (t : Tpdo) (log : Log) (s : Settings) (o : Occasion) → IsAfter t log → IsCurrent s log → s.is_active && wants o t ≡ is_due s log o
+pub due_is : (t : Tpdo) (log : Log) (s : Settings) (o : Occasion) → IsAfter t log → IsCurrent s log → s.is_active && wants_with s o t ≡ is_due s log o
 due_is t log s o h f = due_by t log s o h f s.is_active refl
 
-number_counted : (o : Occasion) (t : Tpdo) → (counted o t).number ≡ t.number
-number_counted Sync t = refl
-number_counted Event t = refl
-number_counted Tick t = refl
+number_counted : (o : Occasion) (c : Bool) (t : Tpdo) → (counted o c t).number ≡ t.number
+number_counted (Sync overflow counter) c t = refl
+number_counted Event c t = refl
+number_counted Tick c t = refl
 
 -- whether it is active, where it was counted before
-pub active_counted : (f : ℕ → Bool) (o : Occasion) (t new : Tpdo) → new ≡ counted o t → f new.number ≡ f t.number
-active_counted f o t new e = ap f (ap (λ u. u.number) e ∙ number_counted o t)
+pub active_counted : (f : ℕ → Bool) (o : Occasion) (c : Bool) (t new : Tpdo) → new ≡ counted o c t → f new.number ≡ f t.number
+active_counted f o c t new e = ap f (ap (λ u. u.number) e ∙ number_counted o c t)
 
 -- the countdowns after a call, by what was done to them
-pub after_unsent : (t new : Tpdo) (log : Log) (s : Settings) (o : Occasion) → new ≡ counted o t → IsAfter t log → IsCurrent s log → IsAfter new (Happened o s false ∷ log)
+pub after_unsent : (t new : Tpdo) (log : Log) (s : Settings) (o : Occasion) → new ≡ counted_with s o t → IsAfter t log → IsCurrent s log → IsAfter new (Happened o s false ∷ log)
 after_unsent t new log s o e h f = rw e (after_counted t log s o h f)
 
-pub after_sent : (t mid new : Tpdo) (log : Log) (s : Settings) (o : Occasion) → mid ≡ counted o t → new ≡ marked mid → IsAfter t log → IsCurrent s log → IsAfter new (Happened o s true ∷ log)
+pub after_sent : (t mid new : Tpdo) (log : Log) (s : Settings) (o : Occasion) → mid ≡ counted_with s o t → new ≡ marked mid → IsAfter t log → IsCurrent s log → IsAfter new (Happened o s true ∷ log)
 after_sent t mid new log s o e k h f = rw k (after_marked mid log s o (after_unsent t mid log s o e h f))
 
-and_true : (a : Bool) → a && true ≡ a
-and_true true = refl
-and_true false = refl
-
-and_false : (a : Bool) → a && false ≡ false
-and_false true = refl
-and_false false = refl
-
 -- it was wanted, and the dictionary says whether the TPDO is active
-pub due_wanted : (t : Tpdo) (log : Log) (s : Settings) (o : Occasion) (w : Bool) → IsAfter t log → IsCurrent s log → w ≡ wants o t → w ≡ true → s.is_active ≡ is_due s log o
-due_wanted t log s o w h f e k = sym (and_true s.is_active) ∙ ap (λ b. s.is_active && b) (sym k ∙ e) ∙ due_is t log s o h f
+pub due_wanted : (t : Tpdo) (log : Log) (s : Settings) (o : Occasion) (w : Bool) → IsAfter t log → IsCurrent s log → w ≡ wants_with s o t → w ≡ true → s.is_active ≡ is_due s log o
+due_wanted t log s o w h f e k = sym (and-true s.is_active) ∙ ap (λ b. s.is_active && b) (sym k ∙ e) ∙ due_is t log s o h f
 
 -- it was not wanted
-pub due_unwanted : (t : Tpdo) (log : Log) (s : Settings) (o : Occasion) (w : Bool) → IsAfter t log → IsCurrent s log → w ≡ wants o t → w ≡ false → false ≡ is_due s log o
-due_unwanted t log s o w h f e k = sym (and_false s.is_active) ∙ ap (λ b. s.is_active && b) (sym k ∙ e) ∙ due_is t log s o h f
+pub due_unwanted : (t : Tpdo) (log : Log) (s : Settings) (o : Occasion) (w : Bool) → IsAfter t log → IsCurrent s log → w ≡ wants_with s o t → w ≡ false → false ≡ is_due s log o
+due_unwanted t log s o w h f e k = sym (and-false s.is_active) ∙ ap (λ b. s.is_active && b) (sym k ∙ e) ∙ due_is t log s o h f

@@ -3,7 +3,7 @@ use Rattle.std.specs.Prelude.{◌≡◌, ℕ, ◌-◌, ◌%◌, true, List, [], 
 use Rattle.co_pdo.specs.declared.settings.Settings.{Settings}
 use Rattle.co_pdo.specs.declared.tpdo.Tpdo.{Tpdo}
 use Rattle.co_pdo.specs.Log.{Log, started_with, timer_of}
-use Rattle.co_pdo.specs.Due.{syncs, event_since_sync, timer_ticks, event_waits, sendings, in_ms}
+use Rattle.co_pdo.specs.Due.{syncs, has_begun, counted_syncs, event_since_sync, timer_ticks, event_waits, sendings, in_ms}
 
 -- what is left of a time that began at the last sending; nothing where there was none
 abbrev pub left_of : ℕ → List ℕ → ℕ
@@ -25,7 +25,8 @@ pub record IsAfter (t : Tpdo) (log : Log) : Type 0 where
   pub transmission_type : t.transmission_type ≡ type_of (started_with log)
   pub inhibit : t.inhibit ≡ inhibit_of (started_with log)
   pub timer : t.timer ≡ timer_of log
-  pub syncs_left : t.syncs_left ≡ t.transmission_type - syncs log % t.transmission_type
+  pub has_begun : t.has_begun ≡ has_begun (syncs log)
+  pub syncs_left : t.syncs_left ≡ t.transmission_type - counted_syncs (syncs log) % t.transmission_type
   pub event_since_sync : t.event_since_sync ≡ event_since_sync log
   pub event_waits : t.event_waits ≡ event_waits log
   pub inhibit_left : t.inhibit_left ≡ left_of t.inhibit (sendings log)

@@ -1,3 +1,4 @@
+pub mod Pdos
 pub mod Tpdos
 pub mod Log
 pub mod Due

@@ -5,6 +5,7 @@ use Rattle.std.specs.List.{filter_map, list_all}
 use Rattle.co_value.specs.Types.{width_of}
 use Rattle.co_dict.specs.declared.side.Side.{Side}
 use Rattle.co_dict.specs.declared.side.Side.TheVariants.{Rpdo, Tpdo}
+use Rattle.co_profile.specs.Indices.{nth, rpdo_communication, rpdo_mapping, tpdo_communication, tpdo_mapping}
 use Rattle.co_dict.specs.Rows.{Rows, Contents, number_at}
 use Rattle.co_dict.specs.Stores.{Description}
 use Rattle.co_dict.specs.MappingWords.{mapped_key, usable_dummy, word_width}
@@ -14,13 +15,13 @@ use Rattle.co_pdo.specs.declared.mapping.Mapped.TheVariants.{Entry, Dummy}
 
 -- the index of the communication parameter of PDO k
 abbrev pub communication_of : Side → ℕ → ℕ
-communication_of Rpdo k = 0x1400 + k
-communication_of Tpdo k = 0x1800 + k
+communication_of Rpdo k = nth rpdo_communication k
+communication_of Tpdo k = nth tpdo_communication k
 
 -- the index of the mapping parameter of PDO k
 abbrev pub mapping_index : Side → ℕ → ℕ
-mapping_index Rpdo k = 0x1600 + k
-mapping_index Tpdo k = 0x1A00 + k
+mapping_index Rpdo k = nth rpdo_mapping k
+mapping_index Tpdo k = nth tpdo_mapping k
 
 -- the dictionary has PDO k: there is its COB-ID word
 abbrev pub has_pdo : Side → Rows → ℕ → Bool

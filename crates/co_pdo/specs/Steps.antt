@@ -1,21 +1,35 @@
 -- What one SYNC, event or tick does to the countdowns, without the log.
 use Rattle.std.specs.Prelude.{◌-◌, ◌==◌, ◌&&◌, ◌||◌, Bool, true, false, nat_le, if◌then◌else◌}
+use Rattle.co_pdo.specs.declared.settings.Settings.{Settings}
 use Rattle.co_pdo.specs.declared.tpdo.Occasion.{Occasion}
 use Rattle.co_pdo.specs.declared.tpdo.Occasion.TheVariants.{Sync, Event, Tick}
 use Rattle.co_pdo.specs.declared.tpdo.Tpdo.{Tpdo}
-use Rattle.co_pdo.specs.Due.{is_event_driven}
+use Rattle.co_pdo.specs.Due.{begins_count, is_event_driven}
 
--- the countdowns after it, where the TPDO is not sent
-abbrev pub counted : Occasion → Tpdo → Tpdo
-counted Sync t = record t { syncs_left = if nat_le t.syncs_left 1 then t.transmission_type else t.syncs_left - 1; event_since_sync = false }
-counted Event t = record t { event_since_sync = true; event_waits = true }
-counted Tick t = record t { event_waits = t.event_waits || t.timer_left == 1; inhibit_left = t.inhibit_left - 1; timer_left = t.timer_left - 1 }
+-- it is a SYNC that counts: the count has begun, or begins with it
+abbrev pub counts : Settings → Occasion → Tpdo → Bool
+counts s (Sync overflow counter) t = t.has_begun || begins_count s.start_value overflow counter
+counts s Event t = false
+counts s Tick t = false
 
--- the countdowns make the TPDO due
-abbrev pub wants : Occasion → Tpdo → Bool
-wants Sync t = if t.transmission_type == 0 then t.event_since_sync else (nat_le t.syncs_left 1 && nat_le t.transmission_type 240)
-wants Event t = is_event_driven t.transmission_type && (true && t.inhibit_left == 0)
-wants Tick t = is_event_driven t.transmission_type && ((t.event_waits || t.timer_left == 1) && t.inhibit_left - 1 == 0)
+-- the countdowns after it, where the TPDO is not sent; by whether it counts
+abbrev pub counted : Occasion → Bool → Tpdo → Tpdo
+counted (Sync overflow counter) c t = record t { has_begun = c; syncs_left = if c then (if nat_le t.syncs_left 1 then t.transmission_type else t.syncs_left - 1) else t.syncs_left; event_since_sync = false }
+counted Event c t = record t { event_since_sync = true; event_waits = true }
+counted Tick c t = record t { event_waits = t.event_waits || t.timer_left == 1; inhibit_left = t.inhibit_left - 1; timer_left = t.timer_left - 1 }
+
+-- the countdowns make the TPDO due; by whether it counts
+abbrev pub wants : Occasion → Bool → Tpdo → Bool
+wants (Sync overflow counter) c t = if t.transmission_type == 0 then t.event_since_sync else (c && (nat_le t.syncs_left 1 && nat_le t.transmission_type 240))
+wants Event c t = is_event_driven t.transmission_type && (true && t.inhibit_left == 0)
+wants Tick c t = is_event_driven t.transmission_type && ((t.event_waits || t.timer_left == 1) && t.inhibit_left - 1 == 0)
+
+-- the same, by what the dictionary says of the TPDO
+abbrev pub counted_with : Settings → Occasion → Tpdo → Tpdo
+counted_with s o t = counted o (counts s o t) t
+
+abbrev pub wants_with : Settings → Occasion → Tpdo → Bool
+wants_with s o t = wants o (counts s o t) t
 
 -- the countdowns where the TPDO is sent
 abbrev pub marked : Tpdo → Tpdo

@@ -1,37 +1,38 @@
 -- What an object dictionary says of one TPDO: 1800h + k and 1A00h + k (CiA 301, 7.5.2.37 and 7.5.2.38).
-use Rattle.std.specs.Prelude.{ℕ, ◌+◌, ◌==◌, ◌&&◌, ◌||◌, Bool, not, nat_le, is_some, List}
+use Rattle.std.specs.Prelude.{ℕ, ◌+◌, Bool, is_some, List}
 use Rattle.std.specs.List.{filter, range_with_len}
 use Rattle.co_value.specs.declared.key.Key.{Key}
+use Rattle.co_profile.specs.Indices.{nth, sync_counter_overflow, tpdo_communication, tpdo_mapping}
 use Rattle.co_dict.specs.Rows.{Rows, Contents, number_at}
-use Rattle.co_dict.specs.CobIds.{is_valid}
+use Rattle.co_dict.specs.declared.side.Side.TheVariants.{Tpdo}
+use Rattle.co_pdo.specs.Pdos.{is_pdo_active}
 use Rattle.co_pdo.specs.declared.settings.Settings.{Settings}
 
 -- a sub-index of the communication parameter of TPDO k
 abbrev pub tpdo_key : ℕ → ℕ → Key
-tpdo_key k sub = record { index = 0x1800 + k; sub = sub }
+tpdo_key k sub = record { index = nth tpdo_communication k; sub = sub }
 
 -- how many objects are mapped into TPDO k
 abbrev pub tpdo_count_key : ℕ → Key
-tpdo_count_key k = record { index = 0x1A00 + k; sub = 0 }
+tpdo_count_key k = record { index = nth tpdo_mapping k; sub = 0 }
 
--- the transmission types that are supported: 0 to 240, 254 and 255
-abbrev pub is_supported_type : ℕ → Bool
-is_supported_type kind = nat_le kind 240 || (kind == 254 || kind == 255)
+-- the synchronous counter overflow value (7.5.2.22)
+abbrev pub counter_overflow_key : Key
+counter_overflow_key = record { index = sync_counter_overflow; sub = 0 }
 
--- TPDO k is active: its COB-ID word is valid, something is mapped, and its transmission type is supported
+-- TPDO k is active
 abbrev pub is_active : Contents → ℕ → Bool
-is_active contents k =
-    is_valid (number_at contents (tpdo_key k 1))
-    && not (number_at contents (tpdo_count_key k) == 0)
-    && is_supported_type (number_at contents (tpdo_key k 2))
+is_active contents k = is_pdo_active Tpdo contents k
 
--- the transmission type, the inhibit time in 100 µs and the event timer in ms of TPDO k; 0 where there is no such entry
+-- the transmission type, the inhibit time in 100 µs, the event timer in ms and the SYNC start value of TPDO k; 0 where
+-- there is no such entry
 abbrev pub settings_of : Contents → ℕ → Settings
 settings_of contents k = record {
   is_active = is_active contents k;
   transmission_type = number_at contents (tpdo_key k 2);
   inhibit_time = number_at contents (tpdo_key k 3);
   event_timer = number_at contents (tpdo_key k 5);
+  start_value = number_at contents (tpdo_key k 6);
 }
 
 -- the dictionary has TPDO k: there is its COB-ID word

@@ -2,8 +2,9 @@
 
 ghost use Rattle.std.specs.Prelude.{◌≡◌, ◌≤◌, ◌<◌, true, None, IfSome};
 ghost use Rattle.co_dict.specs.MappingCounts.{is_mapping_index, count_refusal};
-ghost use Rattle.co_pdo.specs.Mappings.{communication_of, mapping_index, has_pdo, mapped_by, mapped_words, mapping_of, width_in, total_of, all_there};
+ghost use Rattle.co_pdo.specs.Mappings.{mapped_by, mapped_words, mapping_of, width_in, total_of, all_there};
 
+use crate::pdos::{has_pdo, mapping_index};
 use arrayvec::ArrayVec;
 use co_dict::{
     MappingWord, ObjectStore, Side, check_count, mapping_word, number_u8, usable_dummy, word_width,
@@ -71,30 +72,6 @@ impl Model for Mapping {
     ghost view = { λ m. m.entries.items };
 
     ghost invariant = { λ m. total_of m.entries.items ≤ 8 };
-}
-
-/// The index of the mapping parameter of PDO k.
-fn mapping_index(side: Side, k: u16) -> u16
-    requires { k < 512 }
-    ensures value { result ≡ mapping_index side k }
-    ensures side { is_mapping_index side result ≡ true }
-{
-    match side {
-        Side::Rpdo => 0x1600 + k,
-        Side::Tpdo => 0x1A00 + k,
-    }
-}
-
-/// Whether the dictionary has PDO k.
-fn has_pdo<S: ObjectStore>(store: &S, side: Side, k: u16) -> bool
-    requires { k < 512 }
-    ensures { result ≡ has_pdo side (S.description store.now).rows k }
-{
-    let index = match side {
-        Side::Rpdo => 0x1400 + k,
-        Side::Tpdo => 0x1800 + k,
-    };
-    store.row(Key { index, sub: 1 }).is_some()
 }
 
 /// What the first words of a mapping parameter map, where it may count so many.

@@ -1,14 +1,14 @@
 //! Which TPDOs are due.
 
-ghost use Rattle.std.specs.Prelude.{◌≡◌, ℕ, ◌<◌, ◌==◌, false, [], IfOk};
+ghost use Rattle.std.specs.Prelude.{◌≡◌, ℕ, ◌<◌, ◌≤◌, ◌==◌, false, [], length, IfOk};
 ghost use Rattle.co_pdo.specs.declared.settings.Settings.{Settings};
 ghost use Rattle.co_pdo.specs.Tpdos.{settings_of};
 ghost use Rattle.co_pdo.specs.Countdowns.{IsCurrent, IsAsStarted};
-ghost use Rattle.co_pdo.specs.Schedules.{History, log_of, with_start, with_sync, with_event, with_tick, is_tpdo_due, all_due, IsScheduleAfter, IsCurrentOn, AllCurrent};
+ghost use Rattle.co_pdo.specs.Schedules.{History, log_of, sync_with, with_start, with_all_started, with_sync, with_event, with_events, with_tick, is_tpdo_due, all_due, all_due_among, IsScheduleAfter, IsCurrentOn, AllCurrent};
 
-use crate::settings::read_settings;
+use crate::settings::{counter_overflow, read_settings};
 use crate::tpdo::{Occasion, Part, Tpdo};
-use crate::tpdos::{Due, all_happen, place_of, tpdos_in};
+use crate::tpdos::{Due, all_happen, all_happen_among, all_start, place_of, tpdos_in};
 use co_dict::ObjectStore;
 use std::alloc::{AllocError, Global};
 use std::marker::Model;
@@ -18,7 +18,8 @@ use std::marker::Model;
 ///
 /// Each call has the contents of the dictionary then. What the dictionary says of a TPDO has to be current when a SYNC,
 /// an event or a tick comes: after a write of its COB-ID, transmission type, inhibit time or mapping it was started whole
-/// if it is active, and after a write of its event timer it was started, whole or its timer alone.
+/// if it is active, and after a write of its event timer it was started, whole or its timer alone. Its SYNC start value
+/// and 1019h are read at each SYNC before its count begins.
 #[derive(Drop)]
 pub struct Schedule {
     tpdos: Vec<Tpdo>,
@@ -63,6 +64,7 @@ impl Schedule {
         ensures others { (history : History) (j : ℕ) (s : Settings) → (k == j) ≡ false →
             IsCurrent s (log_of j history) →
             IsCurrent s (log_of j (with_start k part (S.contents store.now) history)) }
+        ensures size { length self.new ≡ length self.old }
     {
         if let Some(i) = place_of(&self.tpdos, k) {
             let settings = read_settings(store, k);
@@ -70,22 +72,42 @@ impl Schedule {
         }
     }
 
-    /// A SYNC came: the numbers of the TPDOs that are due, increasing. They count as sent.
-    pub fn on_sync<S: ObjectStore>(&mut self, store: &S) -> Due
+    /// Starts each TPDO whole, as NMT state operational is entered.
+    pub fn start_all<S: ObjectStore>(&mut self, store: &S)
+        ensures after { (history : History) →
+            IsScheduleAfter (S.description store.now) self.old history →
+            IsScheduleAfter (S.description store.now) self.new
+            (with_all_started (S.contents store.now) history) }
+        ensures current { (history : History) →
+            AllCurrent (S.contents store.now) (with_all_started (S.contents store.now) history) }
+        ensures size { length self.new ≡ length self.old }
+    {
+        all_start(&mut self.tpdos, store);
+    }
+
+    /// A SYNC came, with the counter in its one byte or with none: the numbers of the TPDOs that are due, increasing. They
+    /// count as sent. A TPDO of type 1 to 240 with a SYNC start value of 1 to 240 counts from the SYNC on whose counter that
+    /// is, unless 1019h is 0 or absent; each other one from the first SYNC after its start (CiA 301, 7.5.2.37).
+    pub fn on_sync<S: ObjectStore>(&mut self, store: &S, counter: Option<u8>) -> Due
         ensures due { (history : History) →
             IsScheduleAfter (S.description store.now) self.old history →
             AllCurrent (S.contents store.now) history →
-            result.items ≡ all_due (S.contents store.now) history Occasion.Sync }
+            result.items ≡
+            all_due (S.contents store.now) history (sync_with counter (S.contents store.now)) }
         ensures after { (history : History) →
             IsScheduleAfter (S.description store.now) self.old history →
             AllCurrent (S.contents store.now) history →
             IsScheduleAfter (S.description store.now) self.new
-            (with_sync (S.contents store.now) result.items history) }
+            (with_sync counter (S.contents store.now) result.items history) }
         ensures current { (history : History) (j : ℕ) (s : Settings) →
             IsCurrent s (log_of j history) →
-            IsCurrent s (log_of j (with_sync (S.contents store.now) result.items history)) }
+            IsCurrent s
+            (log_of j (with_sync counter (S.contents store.now) result.items history)) }
+        ensures few { length result.items ≤ length self.old }
+        ensures size { length self.new ≡ length self.old }
     {
-        all_happen(&mut self.tpdos, Occasion::Sync, store)
+        let sync = Occasion::Sync(counter_overflow(store), counter);
+        all_happen(&mut self.tpdos, sync, store)
     }
 
     /// An event came for TPDO k, 0 to 511: whether the TPDO is due, and then counts as sent. False where there is none.
@@ -103,11 +125,33 @@ impl Schedule {
         ensures current { (history : History) (j : ℕ) (s : Settings) →
             IsCurrent s (log_of j history) →
             IsCurrent s (log_of j (with_event k (S.contents store.now) result history)) }
+        ensures size { length self.new ≡ length self.old }
     {
         match place_of(&self.tpdos, k) {
             Some(i) => self.tpdos[i].happens(Occasion::Event, store),
             None => false,
         }
+    }
+
+    /// An event came for each TPDO whose number is among these: the numbers of those that are due, increasing. They count
+    /// as sent.
+    pub fn on_events<S: ObjectStore>(&mut self, store: &S, numbers: &[u16]) -> Due
+        ensures due { (history : History) →
+            IsScheduleAfter (S.description store.now) self.old history →
+            AllCurrent (S.contents store.now) history →
+            result.items ≡ all_due_among numbers.now (S.contents store.now) history }
+        ensures after { (history : History) →
+            IsScheduleAfter (S.description store.now) self.old history →
+            AllCurrent (S.contents store.now) history →
+            IsScheduleAfter (S.description store.now) self.new
+            (with_events numbers.now (S.contents store.now) result.items history) }
+        ensures current { (history : History) (j : ℕ) (s : Settings) →
+            IsCurrent s (log_of j history) → IsCurrent s
+            (log_of j (with_events numbers.now (S.contents store.now) result.items history)) }
+        ensures few { length result.items ≤ length self.old }
+        ensures size { length self.new ≡ length self.old }
+    {
+        all_happen_among(&mut self.tpdos, numbers, store)
     }
 
     /// A tick of 1 ms: the numbers of the TPDOs that are due, increasing. They count as sent.
@@ -124,6 +168,8 @@ impl Schedule {
         ensures current { (history : History) (j : ℕ) (s : Settings) →
             IsCurrent s (log_of j history) →
             IsCurrent s (log_of j (with_tick (S.contents store.now) result.items history)) }
+        ensures few { length result.items ≤ length self.old }
+        ensures size { length self.new ≡ length self.old }
     {
         all_happen(&mut self.tpdos, Occasion::Tick, store)
     }

@@ -1,9 +1,13 @@
 //! What the dictionary says of one TPDO.
 
 ghost use Rattle.std.specs.Prelude.{◌≡◌, ◌<◌};
-ghost use Rattle.co_pdo.specs.Tpdos.{tpdo_key, tpdo_count_key, is_active, is_supported_type, settings_of, has_tpdo};
+ghost use Rattle.co_dict.specs.Rows.{number_at};
+ghost use Rattle.co_pdo.specs.Tpdos.{tpdo_key, counter_overflow_key, settings_of};
+ghost use Rattle.co_pdo.specs.Due.{waits_for_none, begins_count};
 
-use co_dict::{CobId, ObjectStore, number_u8, number_u16, number_u32};
+use crate::pdos::is_active;
+use co_dict::{ObjectStore, Side, number_u8, number_u16};
+use co_profile::{IndexRange, SYNC_COUNTER_OVERFLOW};
 use co_value::Key;
 
 /// What the dictionary says of one TPDO (CiA 301, 7.5.2.37).
@@ -17,13 +21,8 @@ pub struct Settings {
     pub inhibit_time: u16,
     /// In ms; 0 is none.
     pub event_timer: u16,
-}
-
-/// Whether a transmission type is supported: 0 to 240, 254 and 255.
-fn is_supported(transmission_type: u8) -> bool
-    ensures { result ≡ is_supported_type transmission_type }
-{
-    transmission_type <= 240 || transmission_type == 254 || transmission_type == 255
+    /// The SYNC start value: the counter of the SYNC that its count begins with; 0 is none.
+    pub start_value: u8,
 }
 
 /// The key of a sub-index of the communication parameter of TPDO k.
@@ -32,39 +31,9 @@ fn tpdo_key(k: u16, sub: u8) -> Key
     ensures { result ≡ tpdo_key k sub }
 {
     Key {
-        index: 0x1800 + k,
+        index: IndexRange::TPDO_COMMUNICATION.nth(k),
         sub,
     }
-}
-
-/// The key of the number of objects that are mapped into TPDO k.
-fn tpdo_count_key(k: u16) -> Key
-    requires { k < 512 }
-    ensures { result ≡ tpdo_count_key k }
-{
-    Key {
-        index: 0x1A00 + k,
-        sub: 0,
-    }
-}
-
-/// Whether the dictionary has TPDO k.
-pub(crate) fn exists<S: ObjectStore>(store: &S, k: u16) -> bool
-    requires { k < 512 }
-    ensures { result ≡ has_tpdo (S.description store.now).rows k }
-{
-    store.row(tpdo_key(k, 1)).is_some()
-}
-
-/// Whether TPDO k is active.
-pub(crate) fn is_active_now<S: ObjectStore>(store: &S, k: u16) -> bool
-    requires { k < 512 }
-    ensures { result ≡ is_active (S.contents store.now) k }
-{
-    let word = CobId(number_u32(store, tpdo_key(k, 1)));
-    let count = number_u8(store, tpdo_count_key(k));
-    let transmission_type = number_u8(store, tpdo_key(k, 2));
-    word.is_valid() && count != 0 && is_supported(transmission_type)
 }
 
 /// What the dictionary says of TPDO k.
@@ -73,9 +42,49 @@ pub(crate) fn read_settings<S: ObjectStore>(store: &S, k: u16) -> Settings
     ensures { result ≡ settings_of (S.contents store.now) k }
 {
     Settings {
-        is_active: is_active_now(store, k),
+        is_active: is_active(store, Side::Tpdo, k),
         transmission_type: number_u8(store, tpdo_key(k, 2)),
         inhibit_time: number_u16(store, tpdo_key(k, 3)),
         event_timer: number_u16(store, tpdo_key(k, 5)),
+        start_value: number_u8(store, tpdo_key(k, 6)),
     }
+}
+
+/// The synchronous counter overflow value, 0 where no counter is used (CiA 301, 7.5.2.22).
+pub(crate) fn counter_overflow<S: ObjectStore>(store: &S) -> u8
+    ensures { result ≡ number_at (S.contents store.now) counter_overflow_key }
+{
+    number_u8(
+        store,
+        Key {
+            index: SYNC_COUNTER_OVERFLOW,
+            sub: 0,
+        },
+    )
+}
+
+/// Whether a TPDO with this SYNC start value waits for no counter.
+fn waits_for_none(start_value: u8) -> bool
+    ensures { result ≡ waits_for_none start_value }
+{
+    start_value == 0 || start_value > 240
+}
+
+/// Whether a SYNC begins the count of TPDO k, where none before it did, by the counter overflow value and its counter.
+pub(crate) fn begins_count<S: ObjectStore>(
+    store: &S,
+    k: u16,
+    overflow: u8,
+    counter: Option<u8>,
+) -> bool
+    requires { k < 512 }
+    ensures { result ≡
+        begins_count (settings_of (S.contents store.now) k).start_value overflow counter }
+{
+    let start_value = number_u8(store, tpdo_key(k, 6));
+    let is_first = match counter {
+        Some(n) => n == start_value,
+        None => false,
+    };
+    waits_for_none(start_value) || overflow == 0 || is_first
 }

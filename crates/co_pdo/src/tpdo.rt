@@ -1,21 +1,23 @@
 //! One TPDO: what is counted for it.
 
-ghost use Rattle.std.specs.Prelude.{◌≡◌, ◌<◌, [], ◌∷◌};
+ghost use Rattle.std.specs.Prelude.{◌≡◌, ◌<◌, ◌&&◌, [], ◌∷◌};
 ghost use Rattle.co_pdo.specs.declared.settings.Settings.{Settings};
 ghost use Rattle.co_pdo.specs.Tpdos.{settings_of};
 ghost use Rattle.co_pdo.specs.Log.{Log, Started, Happened};
 ghost use Rattle.co_pdo.specs.Due.{is_due, is_event_driven};
 ghost use Rattle.co_pdo.specs.Countdowns.{IsAfter, IsCurrent};
-ghost use Rattle.co_pdo.specs.Steps.{counted, wants, marked};
+ghost use Rattle.co_pdo.specs.Schedules.{is_among, with_event_if};
+ghost use Rattle.co_pdo.specs.Steps.{counts, counted, wants, marked};
 
-use crate::settings::{Settings, is_active_now};
-use co_dict::ObjectStore;
+use crate::pdos::is_active;
+use crate::settings::{Settings, begins_count};
+use co_dict::{ObjectStore, Side};
 
 /// What may happen to a TPDO.
 #[derive(Clone, Copy, Debug)]
 pub enum Occasion {
-    /// A SYNC came.
-    Sync,
+    /// A SYNC came: the counter overflow value then, 0 for none, and the counter of the SYNC, if it has one.
+    Sync(u8, Option<u8>),
     /// Something mapped into it changed, or the application asks for it.
     Event,
     /// 1 ms went by.
@@ -42,7 +44,9 @@ pub struct Tpdo {
     pub inhibit: u16,
     /// The event timer in ms, as at the last start, whole or of the timer.
     pub timer: u16,
-    /// How many SYNCs are left to the one that sends it, at types 1 to 240.
+    /// A SYNC began its count.
+    pub has_begun: bool,
+    /// How many SYNCs that count are left to the one that sends it, at types 1 to 240.
     pub syncs_left: u8,
     /// An event came since the last SYNC.
     pub event_since_sync: bool,
@@ -65,6 +69,7 @@ impl Tpdo {
             transmission_type: 0,
             inhibit: 0,
             timer: 0,
+            has_begun: false,
             syncs_left: 0,
             event_since_sync: false,
             event_waits: false,
@@ -86,6 +91,7 @@ impl Tpdo {
                     transmission_type: settings.transmission_type,
                     inhibit: settings.inhibit_time.div_ceil(10),
                     timer: settings.event_timer,
+                    has_begun: false,
                     syncs_left: settings.transmission_type,
                     event_since_sync: false,
                     event_waits: false,
@@ -107,25 +113,42 @@ impl Tpdo {
         self.transmission_type == 254 || self.transmission_type == 255
     }
 
-    /// Counts a SYNC, an event or a tick, and answers whether the countdowns make it due.
-    fn count(&mut self, occasion: Occasion) -> bool
-        ensures state { self.new ≡ counted occasion self.old }
-        ensures due { result ≡ wants occasion self.old }
+    /// Whether it is a SYNC that counts: the count has begun, or begins with it.
+    fn counts<S: ObjectStore>(&self, occasion: Occasion, store: &S) -> bool
+        requires { self.now.number < 512 }
+        ensures { result ≡
+            counts (settings_of (S.contents store.now) self.now.number) occasion self.now }
     {
         match occasion {
-            Occasion::Sync => {
+            Occasion::Sync(overflow, counter) => {
+                self.has_begun || begins_count(store, self.number, overflow, counter)
+            }
+            Occasion::Event | Occasion::Tick => false,
+        }
+    }
+
+    /// Counts a SYNC, if it is one that counts, an event or a tick, and answers whether the countdowns make it due.
+    fn count(&mut self, occasion: Occasion, counts: bool) -> bool
+        ensures state { self.new ≡ counted occasion counts self.old }
+        ensures due { result ≡ wants occasion counts self.old }
+    {
+        match occasion {
+            Occasion::Sync(_, _) => {
                 let is_last = self.syncs_left <= 1;
                 let event = self.event_since_sync;
-                self.syncs_left = if is_last {
-                    self.transmission_type
-                } else {
-                    self.syncs_left - 1
-                };
+                self.has_begun = counts;
+                if counts {
+                    self.syncs_left = if is_last {
+                        self.transmission_type
+                    } else {
+                        self.syncs_left - 1
+                    };
+                }
                 self.event_since_sync = false;
                 if self.transmission_type == 0 {
                     event
                 } else {
-                    is_last && self.transmission_type <= 240
+                    counts && is_last && self.transmission_type <= 240
                 }
             }
             Occasion::Event => {
@@ -161,10 +184,29 @@ impl Tpdo {
             IsAfter self.old log → IsCurrent s log →
             IsAfter self.new (Happened occasion s result ∷ log) }
     {
-        let due = self.count(occasion) && is_active_now(store, self.number);
+        let counts = self.counts(occasion, store);
+        let due = self.count(occasion, counts) && is_active(store, Side::Tpdo, self.number);
         if due {
             self.mark_sent();
         }
         due
+    }
+
+    /// An event, if the TPDO's number is among these; answers whether the TPDO is sent.
+    pub(crate) fn happens_among<S: ObjectStore>(&mut self, numbers: &[u16], store: &S) -> bool
+        requires { self.old.number < 512 }
+        ensures number { self.new.number ≡ self.old.number }
+        ensures due { (log : Log) → let s = settings_of (S.contents store.now) self.old.number in
+            IsAfter self.old log → IsCurrent s log →
+            result ≡ is_among self.old.number numbers.now && is_due s log Occasion.Event }
+        ensures after { (log : Log) → let s = settings_of (S.contents store.now) self.old.number in
+            IsAfter self.old log → IsCurrent s log →
+            IsAfter self.new (with_event_if (is_among self.old.number numbers.now) s log) }
+    {
+        if numbers.contains(&self.number) {
+            self.happens(Occasion::Event, store)
+        } else {
+            false
+        }
     }
 }

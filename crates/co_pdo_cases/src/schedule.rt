@@ -1,55 +1,108 @@
-//! Which TPDOs are due.
+//! Which TPDOs are due, as scripts say it.
+//!
+//! `180002=3` writes a number by SDO, and one that is refused has its abort code after it, as `180003=19:08000022`. `n.` is
+//! a new schedule. Each other word is a call, `s` and `u` a start of TPDO 0 and 1, `r` one of the timer of TPDO 1, `e` and
+//! `f` an event for TPDO 0 and 1, `t` a tick, a digit a SYNC with that counter and `-` one with none, and then the TPDO
+//! that is due, `.` for none.
 
-use crate::device::device;
+use crate::device::{device, write};
+use co_dict_list::ListStore;
 use co_pdo::{Part, Schedule};
+use std::alloc::Global;
 use std::test::Fail;
 
-#[test]
-fn events_and_ticks(rt: HostRuntime) -> Result<(), Fail> {
-    // the inhibit time of TPDO 0 is 3 ticks
-    let defaults = [("[1800sub3]", "25"), ("[1801sub5]", "10")];
-    let store = device(rt.alloc(), &defaults)?;
-    let mut schedule = Schedule::new(rt.alloc(), &store)?;
-    schedule.start(&store, 0, Part::Whole);
-    schedule.start(&store, 1, Part::Whole);
-    assert!(rt; schedule.on_event(&store, 0));
-    assert!(rt; !schedule.on_event(&store, 0));
-    assert!(rt; !schedule.on_event(&store, 2));
-    for tick in 1..=16u16 {
-        let due = schedule.on_tick(&store);
-        let expected: &[u16] = match tick {
-            3 => &[0],
-            // the timer of TPDO 1 began again after tick 4
-            14 => &[1],
-            _ => &[],
+const SCRIPTS: [&str; 6] = [
+    // the inhibit time of TPDO 0 is 3 ticks, and the timer of TPDO 1 begins again after the fourth
+    "180001=80000185 180003=19 180001=185 180105=A s. u. e0 e. f1 t. t. t0 t. r.
+     t. t. t. t. t. t. t. t. t. t1 t. t.",
+    // the longest times
+    "180001=80000185 180003=FFFF 180001=185 180005=FFFF n. s. e0 e. t. e. t.",
+    // type 3, and then type 0
+    "180002=3 s. -. -. -0 -. 180002=0 s. -. e. -0 -.",
+    // from the counter 2 on, type 2
+    "101900=4 180001=80000185 180006=2 180001=185 180002=2 s. 1. 2. 30 4. 10",
+    // a SYNC without a counter before them
+    "101900=4 180001=80000185 180006=2 180001=185 180002=2 s. -. 1. 2. 30 4. 10",
+    // what may be written into the SYNC start value
+    "180006=3:08000022 180001=80000185 180006=F1:06090030 180006=3",
+];
+
+/// The number that hexadecimal digits spell.
+fn number(digits: &str) -> Result<u32, Fail> {
+    Ok(u32::from_str_radix(digits, 16)?)
+}
+
+/// Whether a write goes as the script says.
+fn writes_as_said(store: &mut ListStore, place: &str, rest: &str) -> Result<bool, Fail> {
+    let (value, refusal) = rest.split_once(":").unwrap_or((rest, "0"));
+    let answer = write(store, number(place)?, number(value)?);
+    Ok(answer == number(refusal)?)
+}
+
+/// The TPDO that is due at a call, as a script says it.
+fn due_at(schedule: &mut Schedule, store: &ListStore, call: u8) -> u8 {
+    let due = match call {
+        b'e' => return if schedule.on_event(store, 0) {
+            b'0'
+        } else {
+            b'.'
+        },
+        b'f' => return if schedule.on_event(store, 1) {
+            b'1'
+        } else {
+            b'.'
+        },
+        b't' => schedule.on_tick(store),
+        b'-' => schedule.on_sync(store, None),
+        _ => schedule.on_sync(store, Some(call.saturating_sub(b'0'))),
+    };
+    match due.as_slice() {
+        [] => b'.',
+        [0] => b'0',
+        [1] => b'1',
+        _ => b'*',
+    }
+}
+
+/// Starts what a letter says; false for other letters.
+fn starts(schedule: &mut Schedule, store: &ListStore, call: u8) -> bool {
+    let (k, part) = match call {
+        b's' => (0, Part::Whole),
+        b'u' => (1, Part::Whole),
+        b'r' => (1, Part::Timer),
+        _ => return false,
+    };
+    schedule.start(store, k, part);
+    true
+}
+
+/// The first word of a script that goes otherwise.
+fn first_otherwise(alloc: Global, script: &str) -> Result<Option<&str>, Fail> {
+    let mut store = device(alloc)?;
+    let mut schedule = Schedule::new(alloc, &store)?;
+    for word in script.split_ascii_whitespace() {
+        let is_as_said = match (word.split_once("="), word.as_bytes()) {
+            (Some((place, rest)), _) => writes_as_said(&mut store, place, rest)?,
+            (None, [b'n', _]) => {
+                schedule = Schedule::new(alloc, &store)?;
+                true
+            }
+            (None, [call, due]) => {
+                starts(&mut schedule, &store, *call) || due_at(&mut schedule, &store, *call) == *due
+            }
+            (None, _) => false,
         };
-        assert_eq!(rt; due.as_slice(), expected, "tick {tick}");
-        if tick == 4 {
-            schedule.start(&store, 1, Part::Timer);
+        if !is_as_said {
+            return Ok(Some(word));
         }
     }
-    Ok(())
+    Ok(None)
 }
 
 #[test]
-fn syncs(rt: HostRuntime) -> Result<(), Fail> {
-    let none: &[u16] = &[];
-    let store = device(rt.alloc(), &[("[1800sub2]", "3")])?;
-    let mut schedule = Schedule::new(rt.alloc(), &store)?;
-    schedule.start(&store, 0, Part::Whole);
-    for (sync, expected) in [(1, none), (2, none), (3, &[0]), (4, none)] {
-        assert_eq!(rt;
-            schedule.on_sync(&store).as_slice(),
-            expected,
-            "SYNC {sync}"
-        );
+fn scripts(rt: HostRuntime) -> Result<(), Fail> {
+    for script in SCRIPTS {
+        assert_eq!(rt; first_otherwise(rt.alloc(), script)?, None, "{script}");
     }
-    let store = device(rt.alloc(), &[("[1800sub2]", "0")])?;
-    let mut schedule = Schedule::new(rt.alloc(), &store)?;
-    schedule.start(&store, 0, Part::Whole);
-    assert_eq!(rt; schedule.on_sync(&store).as_slice(), none);
-    assert!(rt; !schedule.on_event(&store, 0));
-    assert_eq!(rt; schedule.on_sync(&store).as_slice(), [0].as_slice());
-    assert_eq!(rt; schedule.on_sync(&store).as_slice(), none);
     Ok(())
 }

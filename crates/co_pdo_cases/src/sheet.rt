@@ -1,4 +1,4 @@
-//! A data sheet with an RPDO and two TPDOs.
+//! A data sheet with an RPDO, two TPDOs and a SYNC counter.
 
 pub(crate) const SHEET: &str = "\
 [MandatoryObjects]
@@ -22,7 +22,8 @@ DefaultValue=1
 DataType=7
 AccessType=ro
 [OptionalObjects]
-SupportedObjects=6
+SupportedObjects=7
+7=0x1019
 1=0x1400
 2=0x1600
 3=0x1800
@@ -33,6 +34,9 @@ SupportedObjects=6
 SupportedObjects=2
 1=0x2002
 2=0x2003
+[1019]
+DataType=5
+AccessType=rw
 [1400]
 ObjectType=9
 [1400sub0]
@@ -52,7 +56,7 @@ ObjectType=9
 [1600sub0]
 DataType=5
 AccessType=rw
-DefaultValue=1
+DefaultValue=2
 [1600sub1]
 DataType=7
 AccessType=rw
@@ -60,7 +64,7 @@ DefaultValue=0x20020020
 [1600sub2]
 DataType=7
 AccessType=rw
-DefaultValue=0
+DefaultValue=0x20030010
 [1800]
 ObjectType=9
 [1800sub0]
@@ -83,6 +87,9 @@ DefaultValue=0
 DataType=6
 AccessType=rw
 DefaultValue=0
+[1800sub6]
+DataType=5
+AccessType=rw
 [1801]
 ObjectType=9
 [1801sub0]
@@ -97,6 +104,10 @@ DefaultValue=$NODEID+0x280
 DataType=5
 AccessType=rw
 DefaultValue=255
+[1801sub6]
+DataType=5
+AccessType=rw
+DefaultValue=241
 [1801sub3]
 DataType=6
 AccessType=rw

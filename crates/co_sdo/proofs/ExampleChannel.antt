@@ -5,8 +5,8 @@ use Rattle.co_value.specs.declared.key.Key.{Key}
 use Rattle.co_value.specs.Keys.{same_key}
 use Rattle.co_value.specs.declared.data_type.DataType.{DataType}
 use Rattle.co_value.specs.declared.data_type.DataType.TheVariants.{Unsigned8, Unsigned16, Unsigned32, VisibleString, Domain}
-use Rattle.co_sheet.specs.declared.entry.Access.{Access}
-use Rattle.co_sheet.specs.declared.entry.Access.TheVariants.{Ro, Wo, Rw}
+use Rattle.co_profile.specs.declared.access.Access.{Access}
+use Rattle.co_profile.specs.declared.access.Access.TheVariants.{Ro, Wo, Rw}
 use Rattle.co_dict.specs.declared.row.Row.{Row}
 use Rattle.co_dict.specs.Rows.{Contents}
 use Rattle.co_dict.specs.Stores.{Description}

@@ -5,13 +5,13 @@ use Rattle.std.specs.Prelude.{flat_map, filter_map, option_map, option_and_then,
 use Rattle.std.specs.List.{cons_option}
 use Rattle.std.specs.Option.{option_map_or, option_or}
 use Rattle.co_value.specs.declared.data_type.DataType.{DataType}
-use Rattle.co_sheet.specs.declared.entry.Access.{Access}
-use Rattle.co_sheet.specs.declared.object.ObjectType.{ObjectType}
-use Rattle.co_sheet.specs.declared.object.ObjectType.TheVariants.{Domain, Var, Array, Record}
+use Rattle.co_profile.specs.declared.access.Access.{Access}
+use Rattle.co_sheet_rows.specs.declared.object.ObjectType.{ObjectType}
+use Rattle.co_sheet_rows.specs.declared.object.ObjectType.TheVariants.{Domain, Var, Array, Record}
 use Rattle.co_sheet_text.specs.declared.section_kind.SectionKind.TheVariants.{Object}
-use Rattle.co_sheet.specs.declared.fault.FaultKind.{FaultKind}
-use Rattle.co_sheet.specs.declared.fault.FaultKind.TheVariants.{MissingSection, BadType}
-use Rattle.co_sheet.specs.declared.fault.SheetFault.{SheetFault}
+use Rattle.co_sheet_rows.specs.declared.fault.FaultKind.{FaultKind}
+use Rattle.co_sheet_rows.specs.declared.fault.FaultKind.TheVariants.{MissingSection, BadType}
+use Rattle.co_sheet_rows.specs.declared.fault.SheetFault.{SheetFault}
 use Rattle.co_sheet_text.specs.Sections.{Property, TextSection, property_at, section_at}
 use Rattle.co_sheet_text.specs.Properties.{property_number}
 use Rattle.co_sheet.specs.ObjectLists.{is_one_of, Listing, listings}

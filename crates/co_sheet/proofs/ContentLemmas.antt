@@ -1,6 +1,6 @@
 -- What a sheet holds, part by part.
 use Rattle.std.proofs.Common.{◌≡◌, List, Bool}
-use Rattle.co_sheet.specs.declared.note.Note.{Note}
+use Rattle.co_sheet_rows.specs.declared.note.Note.{Note}
 use Rattle.co_sheet_text.specs.Sections.{TextSection}
 use Rattle.co_sheet.specs.Content.{Row, ObjectRow, SectionName, SheetContent, content_of}
 

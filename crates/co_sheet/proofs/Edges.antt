@@ -1,13 +1,13 @@
 -- Cases at the edges of the definitions, computed from them.
 use Rattle.std.proofs.Common.{◌≡◌, ◌++◌, List, ℕ, [], ◌∷◌, refl, codes, Some, None, Ok, Err}
 use Rattle.std.specs.Prelude.{map, flat_map, take, drop, replicate, pos, neg_ℤ, true, false, slice_get}
-use Rattle.co_sheet.specs.declared.fault.FaultKind.TheVariants.{TooLarge, BadLine, KeyOutsideSection, DuplicateSection, DuplicateKey, MissingSection, BadNumber, AmbiguousNumber, BadList, ListedTwice, MissingKey, BadType, LeftOutType, BadAccess, BadLimits, BadDefault, MissingSub0, CompactForm, MissingMandatory}
-use Rattle.co_sheet.specs.declared.note.NoteKind.TheVariants.{SubNumber, Unlisted}
-use Rattle.co_sheet.specs.declared.entry.Access.TheVariants.{Wo, Rw, Rwr, Rww, Constant}
+use Rattle.co_sheet_rows.specs.declared.fault.FaultKind.TheVariants.{TooLarge, BadLine, KeyOutsideSection, DuplicateSection, DuplicateKey, MissingSection, BadNumber, AmbiguousNumber, BadList, ListedTwice, MissingKey, BadType, LeftOutType, BadAccess, BadLimits, BadDefault, MissingSub0, CompactForm, MissingMandatory}
+use Rattle.co_sheet_rows.specs.declared.note.NoteKind.TheVariants.{SubNumber, Unlisted}
+use Rattle.co_profile.specs.declared.access.Access.TheVariants.{Wo, Rw, Rwr, Rww, Constant}
 use Rattle.co_sheet_text.specs.declared.numeral.Numeral.TheVariants.{Decimal, Hexadecimal}
 use Rattle.co_sheet_text.specs.declared.numeral.NumeralFault.TheVariants.{Malformed, Ambiguous}
 use Rattle.co_value.specs.declared.data_type.DataType.TheVariants.{Integer8, Integer16, Integer64, Unsigned16, Unsigned32, Unsigned64, VisibleString, OctetString, Domain as DomainType}
-use Rattle.co_sheet.specs.declared.object.ObjectType.TheVariants.{Var, Record}
+use Rattle.co_sheet_rows.specs.declared.object.ObjectType.TheVariants.{Var, Record}
 use Rattle.co_sheet_text.specs.Text.{lines_of}
 use Rattle.co_sheet.specs.Faults.{fault_at}
 use Rattle.co_sheet_text.specs.Numerals.{signed_numeral, unsigned_numeral}

@@ -6,17 +6,17 @@ use Rattle.std.specs.Result.{result_ok, result_err, IfOk}
 use Rattle.co_value.specs.declared.data_type.DataType.{DataType}
 use Rattle.co_value.specs.declared.data_type.DataType.TheVariants.{VisibleString, OctetString, Domain}
 use Rattle.co_value.specs.Types.{code_of, least_of, greatest_of}
-use Rattle.co_sheet.specs.declared.entry.Preset.{Preset}
+use Rattle.co_sheet_rows.specs.declared.entry.Preset.{Preset}
 use Rattle.co_sheet.specs.declared.checks.entries.Limit.{Limit}
 use Rattle.co_sheet.specs.declared.checks.entries.Values.{Values}
-use Rattle.co_sheet.specs.declared.fault.FaultKind.{FaultKind}
-use Rattle.co_sheet.specs.declared.fault.FaultKind.TheVariants.{MissingKey, LeftOutType, BadLimits, BadDefault}
-use Rattle.co_sheet.specs.declared.fault.SheetFault.{SheetFault}
+use Rattle.co_sheet_rows.specs.declared.fault.FaultKind.{FaultKind}
+use Rattle.co_sheet_rows.specs.declared.fault.FaultKind.TheVariants.{MissingKey, LeftOutType, BadLimits, BadDefault}
+use Rattle.co_sheet_rows.specs.declared.fault.SheetFault.{SheetFault}
 use Rattle.co_sheet.specs.declared.checks.findings.Finding.{Finding}
 use Rattle.co_sheet_text.specs.Sections.{Property, property_at}
 use Rattle.co_sheet_text.specs.Properties.{property_number}
 use Rattle.co_sheet.specs.ObjectLists.{is_one_of}
-use Rattle.co_sheet.specs.FixedTypes.{fixed_type_of}
+use Rattle.co_profile.specs.FixedTypes.{fixed_type_of}
 use Rattle.co_sheet.specs.Entries.{Entry, is_domain, data_type_with, type_code, data_type_of}
 use Rattle.co_sheet.specs.Limits.{Default, absent, number, node_id, text, pairs, number_at_type, numeric_default, is_numeric, limit_at, low_limit, high_limit, at_most, default_with, default_of}
 use Rattle.co_sheet.specs.Checks.{fault_if, at_key, missing_key, unread, unread_limits, limit_outside, bad_limits, is_bad_default, bad_default, in_numeric, left_out_codes, type_line, is_bad_type, bad_type, left_out_type, bad_access, unread_entry_numbers}

@@ -2,15 +2,15 @@
 use Rattle.std.proofs.Common.{◌≡◌, ℕ, List, [], ◌∷◌, ◌++◌, refl, codes, Some, None, Option, ◌<◌, length, true, ltb, arith}
 use Rattle.std.proofs.lemmas.Bool.Decides.{nat_tests}
 use Rattle.std.specs.Prelude.{flat_map, slice_set, remove, take, drop, pos, false, ◌-◌}
-use Rattle.co_sheet.specs.declared.fault.SheetFault.{SheetFault}
-use Rattle.co_sheet.specs.declared.fault.FaultKind.TheVariants.{TooLarge, BadLine, KeyOutsideSection, DuplicateSection, DuplicateKey, MissingSection, BadNumber, AmbiguousNumber, BadList, ListedTwice, MissingKey, BadType, LeftOutType, BadAccess, BadLimits, BadDefault, MissingSub0, CompactForm, MissingMandatory}
-use Rattle.co_sheet.specs.declared.entry.Access.TheVariants.{Ro}
+use Rattle.co_sheet_rows.specs.declared.fault.SheetFault.{SheetFault}
+use Rattle.co_sheet_rows.specs.declared.fault.FaultKind.TheVariants.{TooLarge, BadLine, KeyOutsideSection, DuplicateSection, DuplicateKey, MissingSection, BadNumber, AmbiguousNumber, BadList, ListedTwice, MissingKey, BadType, LeftOutType, BadAccess, BadLimits, BadDefault, MissingSub0, CompactForm, MissingMandatory}
+use Rattle.co_profile.specs.declared.access.Access.TheVariants.{Ro}
 use Rattle.co_value.specs.declared.data_type.DataType.TheVariants.{Unsigned8, Unsigned32}
 use Rattle.std.specs.Option.{option_or}
 use Rattle.co_sheet.specs.Faults.{fault_at}
 use Rattle.co_sheet.specs.Checks.{checks}
 use Rattle.co_value.specs.declared.data_type.DataType.{DataType}
-use Rattle.co_sheet.specs.declared.entry.Access.{Access}
+use Rattle.co_profile.specs.declared.access.Access.{Access}
 use Rattle.co_sheet.specs.Limits.{Default, absent, number}
 use Rattle.co_sheet.specs.Accepted.{first_fault, first_bad_line, first_found, sections_in}
 use Rattle.co_sheet.specs.Content.{rows_of, Row}

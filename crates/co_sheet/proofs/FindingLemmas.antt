@@ -4,7 +4,7 @@ use Rattle.std.proofs.lemmas.Bool.Decides.{nat_tests}
 use Rattle.std.proofs.lemmas.List.{drop_all}
 use Rattle.std.specs.Prelude.{flat_map, option_map}
 use Rattle.std.specs.Option.{option_or}
-use Rattle.co_sheet.specs.declared.fault.SheetFault.{SheetFault}
+use Rattle.co_sheet_rows.specs.declared.fault.SheetFault.{SheetFault}
 use Rattle.co_sheet.specs.declared.checks.findings.Finding.{Finding}
 use Rattle.co_sheet.specs.Accepted.{least_fault, first_found}
 use Rattle.co_sheet_text.specs.Sections.{TextSection}

@@ -8,7 +8,7 @@ use Rattle.std.proofs.lemmas.List.Kept.{AllPairs-cons}
 use Rattle.co_value.specs.declared.key.Key.{Key}
 use Rattle.co_sheet_text.specs.declared.section_kind.SectionKind.{SectionKind}
 use Rattle.co_sheet_text.specs.declared.section_kind.SectionKind.TheVariants.{SubIndex}
-use Rattle.co_sheet.specs.declared.fault.FaultKind.TheVariants.{ListedTwice}
+use Rattle.co_sheet_rows.specs.declared.fault.FaultKind.TheVariants.{ListedTwice}
 use Rattle.co_sheet_text.specs.Names.{is_list}
 use Rattle.co_sheet_text.specs.Sections.{Property, TextSection}
 use Rattle.co_sheet_text.specs.Properties.{property_number}

@@ -2,7 +2,7 @@
 use Rattle.std.proofs.Common.{◌≡◌, ℕ, List, [], ◌++◌, refl, codes, Some, None}
 use Rattle.std.specs.Prelude.{length, pos, true, false, slice_get}
 use Rattle.co_value.specs.declared.data_type.DataType.TheVariants.{Unsigned16, Unsigned32}
-use Rattle.co_sheet.specs.declared.entry.Access.TheVariants.{Rw}
+use Rattle.co_profile.specs.declared.access.Access.TheVariants.{Rw}
 use Rattle.co_sheet.specs.Limits.{absent, node_id}
 use Rattle.co_sheet.specs.Notes.{notes_of}
 use Rattle.co_sheet.specs.Accepted.{sections_in, first_fault}

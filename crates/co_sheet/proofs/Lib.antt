@@ -1,7 +1,6 @@
 mod Examples
-mod FaultExamples
 mod Edges
-mod FixedTypeExamples
+mod TypeCodeExamples
 mod LargeSheet
 mod TypeLemmas
 pub mod Words
@@ -20,6 +19,7 @@ mod ContentLemmas
 mod AcceptedLemmas
 mod PlaceLemmas
 mod KeyLemmas
+mod EachEntryLemmas
 mod SheetLawLemmas
 mod ViewLemmas
 mod SheetLawExamples

@@ -12,8 +12,8 @@ use Rattle.co_sheet_text.specs.declared.section_kind.SectionKind.TheVariants.{Ma
 use Rattle.co_sheet_text.specs.Names.{is_list, same_kind}
 use Rattle.co_sheet_text.specs.Sections.{Property, TextSection, section_at}
 use Rattle.co_sheet.specs.declared.checks.findings.Finding.{Finding}
-use Rattle.co_sheet.specs.declared.fault.FaultKind.TheVariants.{BadList, MissingSection}
-use Rattle.co_sheet.specs.declared.fault.SheetFault.{SheetFault}
+use Rattle.co_sheet_rows.specs.declared.fault.FaultKind.TheVariants.{BadList, MissingSection}
+use Rattle.co_sheet_rows.specs.declared.fault.SheetFault.{SheetFault}
 use Rattle.co_sheet.specs.ObjectLists.{Listing, keys_to}
 use Rattle.co_sheet.specs.Checks.{fault_if, unread_number, has_numbers, is_bad_list}
 use Rattle.co_sheet.specs.Accepted.{least_fault, first_found}

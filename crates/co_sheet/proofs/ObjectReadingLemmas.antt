@@ -7,11 +7,11 @@ use Rattle.std.specs.Option.{option_map_or, option_or}
 use Rattle.std.specs.Result.{result_ok, result_err}
 use Rattle.co_sheet_text.specs.declared.section_kind.SectionKind.TheVariants.{Object}
 use Rattle.co_sheet.specs.declared.checks.findings.Finding.{Finding}
-use Rattle.co_sheet.specs.declared.fault.FaultKind.TheVariants.{MissingSection, MissingSub0}
-use Rattle.co_sheet.specs.declared.fault.SheetFault.{SheetFault}
-use Rattle.co_sheet.specs.declared.object.Object.{Object as CodeObject}
-use Rattle.co_sheet.specs.declared.object.ObjectType.{ObjectType}
-use Rattle.co_sheet.specs.declared.object.ObjectType.TheVariants.{Domain, Var, Array, Record}
+use Rattle.co_sheet_rows.specs.declared.fault.FaultKind.TheVariants.{MissingSection, MissingSub0}
+use Rattle.co_sheet_rows.specs.declared.fault.SheetFault.{SheetFault}
+use Rattle.co_sheet_rows.specs.declared.object.Object.{Object as CodeObject}
+use Rattle.co_sheet_rows.specs.declared.object.ObjectType.{ObjectType}
+use Rattle.co_sheet_rows.specs.declared.object.ObjectType.TheVariants.{Domain, Var, Array, Record}
 use Rattle.co_sheet_text.specs.Sections.{TextSection, section_at}
 use Rattle.co_sheet.specs.ObjectLists.{is_one_of, Listing, listings}
 use Rattle.co_sheet.specs.Entries.{single_codes, compound_codes, object_code, object_type_with, ListedObject, listed_objects, Entry, sub_indices, entries_in, entries_of}

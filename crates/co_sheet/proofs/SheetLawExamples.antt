@@ -6,11 +6,11 @@ use Rattle.co_sheet_text.specs.Names.{is_hexadecimal_digit}
 use Rattle.std.specs.Prelude.{AllPairs}
 use Rattle.std.proofs.lemmas.List.Elements.{All-from_recursion}
 use Rattle.std.proofs.lemmas.List.Kept.{AllPairs-cons}
-use Rattle.co_sheet.specs.FixedTypes.{fixed_type_of}
+use Rattle.co_profile.specs.FixedTypes.{fixed_type_of}
 use Rattle.co_value.specs.declared.data_type.DataType.{DataType}
 use Rattle.co_value.specs.declared.data_type.DataType.TheVariants.{Integer8, Unsigned8, Unsigned32, VisibleString, OctetString, Domain}
-use Rattle.co_sheet.specs.declared.entry.Access.TheVariants.{Rw}
-use Rattle.co_sheet.specs.declared.object.ObjectType.TheVariants.{Var}
+use Rattle.co_profile.specs.declared.access.Access.TheVariants.{Rw}
+use Rattle.co_sheet_rows.specs.declared.object.ObjectType.TheVariants.{Var}
 use Rattle.co_sheet.specs.Limits.{Default, absent, number, node_id, text, pairs, is_pairs}
 use Rattle.co_sheet.specs.Content.{Row, ObjectRow, SheetContent}
 use Rattle.co_sheet.specs.SheetLaws.{low_of, high_of, IsWithinRow, IsSheetRow, IsRowBefore, IsObjectBefore, IsSheetContent}
@@ -50,6 +50,7 @@ no_ends = (refl, refl)
 -- limits at the ends of the type, and a default at its high limit
 limited_row : IsSheetRow (row Integer8 (Some (neg_ℤ (pos 128))) (Some (pos 127)) (number (pos 127)))
 limited_row = record {
+  from_1000 = lit≤ tt;
   low_in_type = (from_test _ _ refl, from_test _ _ refl);
   high_in_type = (from_test _ _ refl, from_test _ _ refl);
   limits_in_order = from_test _ _ refl;
@@ -80,6 +81,7 @@ limited_row = record {
 -- an OCTET_STRING of two bytes
 octets_row : IsSheetRow (row OctetString None None (pairs (codes "0aFF")))
 octets_row = record {
+  from_1000 = lit≤ tt;
   low_in_type = tt;
   high_in_type = tt;
   limits_in_order = tt;
@@ -101,8 +103,9 @@ octets_row = record {
 }
 
 -- an UNSIGNED8 without limits and default; the error register has that type
-plain_row : (index sub : ℕ) → ((fixed : DataType) → fixed_type_of (record { index = index; sub = sub }) ≡ Some fixed → Unsigned8 ≡ fixed) → IsSheetRow (row_at index sub Unsigned8)
-plain_row index sub fixed = record {
+plain_row : (index sub : ℕ) → 0x1000 ≤ index → ((fixed : DataType) → fixed_type_of (record { index = index; sub = sub }) ≡ Some fixed → Unsigned8 ≡ fixed) → IsSheetRow (row_at index sub Unsigned8)
+plain_row index sub from fixed = record {
+  from_1000 = from;
   low_in_type = tt;
   high_in_type = tt;
   limits_in_order = tt;
@@ -124,9 +127,12 @@ plain_row index sub fixed = record {
 }
 
 fixed_row : IsSheetRow (row_at 0x1001 0 Unsigned8)
-fixed_row = plain_row 0x1001 0 (λ fixed h. cc)
+fixed_row = plain_row 0x1001 0 (lit≤ tt) (λ fixed h. cc)
 
 -- ---- rows that break one
+
+dummy_entry : IsSheetRow (row_at 0x0FFF 0 Unsigned8) → ⊥
+dummy_entry laws = let h = laws.from_1000 in omega arith
 
 low_above_type : IsSheetRow (row Unsigned8 (Some (pos 256)) None absent) → ⊥
 low_above_type laws = let h = laws.low_in_type.1 in grind (arith, ints)
@@ -221,7 +227,7 @@ of_three R x y z h k l = AllPairs-cons R x (y ∷ z ∷ []) (All-from_recursion 
 kept : IsSheetContent (content mandatory (row_at 0x1001 0 Unsigned8 ∷ row_at 0x2000 0 Unsigned8 ∷ []))
 kept = record {
   each_row = All-from_recursion IsSheetRow (row_at 0x1001 0 Unsigned8 ∷ row_at 0x2000 0 Unsigned8 ∷ [])
-      (fixed_row, (plain_row 0x2000 0 (λ fixed h. absurd (cc)), tt));
+      (fixed_row, (plain_row 0x2000 0 (lit≤ tt) (λ fixed h. absurd (cc)), tt));
   keys_increase = of_two IsRowBefore (row_at 0x1001 0 Unsigned8) (row_at 0x2000 0 Unsigned8) refl;
   indices_increase = of_three IsObjectBefore (object 0x1000) (object 0x1001) (object 0x1018) (lit< tt) (lit< tt) (lit< tt);
   has_1000 = refl;

@@ -1,27 +1,25 @@
 -- What every sheet keeps follows where no line is at fault and no check finds anything.
 use Rattle.std.proofs.Common.{◌≡◌, ℕ, Bool, true, false, cond, not, ◌&&◌, ◌||◌, if◌then◌else◌, List, [], ◌∷◌, ◌++◌, Option, Some, None, Result, Ok, Err, refl, sym, ap, ◌∙◌, subst, arith, map, eqb, ltb, IfSome, IsSomeAnd, ◌≤◌, length, pos, eqb-true, ltb-true, ℤ, ◌≤ℤ◌, int_le, codes}
 use Rattle.std.proofs.lemmas.Int.{ints}
+use Rattle.std.proofs.lemmas.Bool.{and_parts}
 use Rattle.std.specs.Prelude.{is_none, flat_map, filter_map, option_map, option_and_then, unwrap_or}
-use Rattle.std.specs.List.{cons_option, find, list_any, AllByRecursion, before_first, after_first}
+use Rattle.std.specs.List.{list_any, AllByRecursion, before_first, after_first}
 use Rattle.std.specs.Option.{option_map_or, option_or}
 use Rattle.std.specs.Result.{result_ok}
 use Rattle.std.proofs.lemmas.List.Elements.{All-from_recursion}
 use Rattle.co_value.specs.declared.data_type.DataType.{DataType}
 use Rattle.co_value.specs.declared.data_type.DataType.TheVariants.{Boolean, Integer8, Integer16, Integer24, Integer32, Integer40, Integer48, Integer56, Integer64, Unsigned8, Unsigned16, Unsigned24, Unsigned32, Unsigned40, Unsigned48, Unsigned56, Unsigned64, VisibleString, OctetString, Domain}
 use Rattle.co_value.specs.Types.{code_of, least_of, greatest_of, InRange}
-use Rattle.co_sheet_text.specs.declared.section_kind.SectionKind.{SectionKind}
-use Rattle.co_sheet_text.specs.declared.section_kind.SectionKind.TheVariants.{Object, SubIndex}
-use Rattle.co_sheet_text.specs.Names.{same_kind}
-use Rattle.co_sheet.specs.declared.entry.Access.{Access}
-use Rattle.co_sheet.specs.declared.fault.FaultKind.TheVariants.{BadLimits, BadDefault, BadType, MissingMandatory}
-use Rattle.co_sheet.specs.declared.fault.SheetFault.{SheetFault}
+use Rattle.co_profile.specs.declared.access.Access.{Access}
+use Rattle.co_sheet_rows.specs.declared.fault.FaultKind.TheVariants.{BadLimits, BadDefault, BadType, MissingMandatory}
+use Rattle.co_sheet_rows.specs.declared.fault.SheetFault.{SheetFault}
 use Rattle.co_sheet_text.specs.declared.numeral.NumeralFault.{NumeralFault}
 use Rattle.co_sheet_text.specs.Text.{trim, same_name}
-use Rattle.co_sheet_text.specs.Sections.{Property, TextSection, property_at, section_at}
+use Rattle.co_sheet_text.specs.Sections.{Property, TextSection, property_at}
 use Rattle.co_sheet_text.specs.Numerals.{result_map, unsigned_number}
 use Rattle.co_sheet.specs.ObjectLists.{is_one_of, Listing, listings, is_listed}
-use Rattle.co_sheet.specs.FixedTypes.{fixed_type_of}
-use Rattle.co_sheet.specs.Entries.{single_codes, compound_codes, object_code, sub_index_in, sub_indices, entries_in, ListedObject, is_domain, listed_objects, Entry, entries_of, data_type_with, type_code, data_type_of, access_of}
+use Rattle.co_profile.specs.FixedTypes.{fixed_type_of}
+use Rattle.co_sheet.specs.Entries.{is_domain, listed_objects, Entry, entries_of, data_type_with, type_code, data_type_of, access_of}
 use Rattle.co_sheet.specs.Limits.{Default, absent, number, node_id, text, pairs, number_at_type, is_node_id, is_plus, node_id_sum, numeric_default, is_numeric, limit_at, low_limit, high_limit, at_most, is_in_type, is_in_limits, default_with, default_of}
 use Rattle.co_sheet.specs.Checks.{left_out_codes, fault_if, at_key, is_bad_type, bad_type, type_line, in_numeric, limit_outside, limits_crossed, bad_limits, is_bad_default, bad_default, checks}
 use Rattle.co_sheet.specs.Accepted.{first_found}
@@ -31,21 +29,17 @@ use Rattle.co_sheet_text.specs.SectionLaws.{AllDiffer, ValuesShort, IsParsed}
 use Rattle.co_sheet.specs.SheetLaws.{limit_or, IsWithinRow, IsSheetRow, has_object, IsSheetContent, KeepsEntries}
 use Rattle.co_sheet.proofs.TypeLemmas.{data_type_with-code_of}
 use Rattle.co_sheet.proofs.AcceptedLemmas.{FindsNothing, finds-nothing, no_fault, both-empty, two-empty, denied, objects-all, listed-all}
+use Rattle.co_sheet.proofs.EachEntryLemmas.{found_all, cons_all, entries-short, entries-from}
 use Rattle.co_sheet.proofs.KeyLemmas.{listings-differ, entries-differ, increase, numbers_ordered, keys_ordered}
 
 -- ---- numbers of a type
-
-both : (a b : Bool) → (a && b) ≡ true → (a ≡ true) × (b ≡ true)
-both true true h = (refl, refl)
-both true false h = absurd (cc)
-both false b h = absurd (cc)
 
 pub from_test : (x y : ℤ) → int_le x y ≡ true → x ≤ℤ y
 from_test x y h = grind (arith, ints)
 
 between : (low high value : ℤ) → (int_le low value && int_le value high) ≡ true → (low ≤ℤ value) × (value ≤ℤ high)
 between low high value h =
-    let parts = both (int_le low value) (int_le value high) h in
+    let parts = and_parts (int_le low value) (int_le value high) h in
     (from_test low value parts.0, from_test value high parts.1)
 
 -- what the test of a numeric type says
@@ -315,8 +309,8 @@ below_high-kept (Some high) value h = from_test value high h
 
 within : (t : DataType) (e : Entry) (access : Access) (value : ℤ) → is_numeric t ≡ true → is_in_limits t e value ≡ true → IsWithinRow (row_with e t access) value
 within t e access value numeric h =
-    let last = both (is_in_type t value && at_most (low_limit t e) (Some value)) (at_most (Some value) (high_limit t e)) h in
-    let first = both (is_in_type t value) (at_most (low_limit t e) (Some value)) last.0 in
+    let last = and_parts (is_in_type t value && at_most (low_limit t e) (Some value)) (at_most (Some value) (high_limit t e)) h in
+    let first = and_parts (is_in_type t value) (at_most (low_limit t e) (Some value)) last.0 in
     record {
       in_type = in_range t value numeric first.0;
       above_low = above_low-kept (low_limit t e) value first.1;
@@ -361,11 +355,6 @@ default-short Unsigned48 (Some k) h = numeric_short _ (numeric-form Unsigned48 k
 default-short Unsigned56 (Some k) h = numeric_short _ (numeric-form Unsigned56 k.value)
 default-short Unsigned64 (Some k) h = numeric_short _ (numeric-form Unsigned64 k.value)
 
--- what is found has what all have
-found_all : {X : Type 0} (P : X → Type 0) (p : X → Bool) (xs : List X) → AllByRecursion P xs → IfSome (find p xs) P
-found_all P p [] all = tt
-found_all P p (x ∷ xs) all = elim (p x) as (λ b. IfSome (cond b (Some x) (find p xs)) P) [ true ↦ all.0 | false ↦ found_all P p xs all.1 ]
-
 -- ---- fixed types
 
 third_false : (a b c : Bool) → ((a || b) || c) ≡ false → c ≡ false
@@ -391,8 +380,8 @@ fixed_cases e (Some code) line t fixed is at_key good =
 abbrev found_in : Entry → List SheetFault
 found_in e = bad_type e ++ (in_numeric bad_limits e ++ bad_default e)
 
-row_laws : (e : Entry) (t : DataType) (access : Access) → data_type_of e ≡ Some t → ValuesShort e.section → found_in e ≡ [] → IsSheetRow (row_with e t access)
-row_laws e t access is values none =
+row_laws : (e : Entry) (t : DataType) (access : Access) → data_type_of e ≡ Some t → 0x1000 ≤ e.key.index → ValuesShort e.section → found_in e ≡ [] → IsSheetRow (row_with e t access)
+row_laws e t access is from values none =
     let default_key = property_at (codes "DefaultValue") e.section in
     let parts = both-empty (bad_type e) (in_numeric bad_limits e ++ bad_default e) none in
     let rest = both-empty (in_numeric bad_limits e) (bad_default e) parts.1 in
@@ -403,6 +392,7 @@ row_laws e t access is values none =
     let form = default-form t default_key in
     let short = default-short t default_key (found_all (λ (k : Property). length k.value ≤ 512) (λ k. same_name k.name (codes "DefaultValue")) e.section.properties values) in
     record {
+      from_1000 = from;
       low_in_type = limits.low_in_type;
       high_in_type = limits.high_in_type;
       limits_in_order = limits.in_order;
@@ -416,72 +406,23 @@ row_laws e t access is values none =
       text_at_string = λ bytes h. subst (IsForm t) h form;
       pairs_at_octets = λ digits h. subst (IsForm t) h form;
       pairs_paired = λ digits h. denied _ (subst (λ d. is_bad_default t e d ≡ false) h good);
-      pairs_digits = λ digits h. (both _ _ (denied _ (subst (λ d. is_bad_default t e d ≡ false) h good))).1;
+      pairs_digits = λ digits h. (and_parts _ _ (denied _ (subst (λ d. is_bad_default t e d ≡ false) h good))).1;
       text_short = λ bytes h. subst IsShort h short;
       pairs_short = λ digits h. subst IsShort h short;
       domain_absent = λ h. ap (λ u. unwrap_or (option_and_then (λ (k : Property). default_with u k.value) default_key) absent) h ∙ domain-absent default_key;
       fixed_type = λ fixed h. fixed_cases e (type_code e) (type_line e) t fixed is h parts.0;
     }
 
-row_cases : (e : Entry) (t : Option DataType) (access : Option Access) → data_type_of e ≡ t → ValuesShort e.section → found_in e ≡ [] → IfSome (option_and_then (λ u. option_map (row_with e u) access) t) IsSheetRow
-row_cases e None access is values none = tt
-row_cases e (Some t) None is values none = tt
-row_cases e (Some t) (Some access) is values none = row_laws e t access is values none
+row_cases : (e : Entry) (t : Option DataType) (access : Option Access) → data_type_of e ≡ t → 0x1000 ≤ e.key.index → ValuesShort e.section → found_in e ≡ [] → IfSome (option_and_then (λ u. option_map (row_with e u) access) t) IsSheetRow
+row_cases e None access is from values none = tt
+row_cases e (Some t) None is from values none = tt
+row_cases e (Some t) (Some access) is from values none = row_laws e t access is from values none
 
-cons_all : {X : Type 0} (P : X → Type 0) (o : Option X) (xs : List X) → IfSome o P → AllByRecursion P xs → AllByRecursion P (cons_option o xs)
-cons_all P None xs h all = all
-cons_all P (Some x) xs h all = (h, all)
-
-each-row : (es : List Entry) → AllByRecursion (λ (e : Entry). ValuesShort e.section) es → flat_map found_in es ≡ [] → AllByRecursion IsSheetRow (filter_map row_of es)
-each-row [] values none = tt
-each-row (e ∷ es) values none =
+each-row : (es : List Entry) → AllByRecursion (λ (e : Entry). 0x1000 ≤ e.key.index) es → AllByRecursion (λ (e : Entry). ValuesShort e.section) es → flat_map found_in es ≡ [] → AllByRecursion IsSheetRow (filter_map row_of es)
+each-row [] from values none = tt
+each-row (e ∷ es) from values none =
     let apart = both-empty (found_in e) (flat_map found_in es) none in
-    cons_all IsSheetRow (row_of e) (filter_map row_of es) (row_cases e (data_type_of e) (access_of e) refl values.0 apart.0) (each-row es values.1 apart.1)
-
--- the sections of entries are among all
-abbrev HasValues : Entry → Type 0
-HasValues e = ValuesShort e.section
-
-object_values : (index : ℕ) (o : Option TextSection) → IfSome o ValuesShort → IfSome (option_map (λ s. record { index = index; section = s }) o) (λ (l : ListedObject). ValuesShort l.section)
-object_values index None h = tt
-object_values index (Some s) h = h
-
-objects-short : (sections : List TextSection) (ls : List Listing) → AllByRecursion ValuesShort sections
-    → AllByRecursion (λ (o : ListedObject). ValuesShort o.section) (filter_map (λ (l : Listing). option_map (λ s. record { index = l.index; section = s }) (section_at (Object l.index) sections)) ls)
-objects-short sections [] all = tt
-objects-short sections (l ∷ ls) all =
-    cons_all (λ (o : ListedObject). ValuesShort o.section) _ _
-    (object_values l.index (section_at (Object l.index) sections) (found_all ValuesShort (λ s. same_kind s.kind (Object l.index)) sections all)) (objects-short sections ls all)
-
-part_values : (index : ℕ) (s : TextSection) (kind : SectionKind) → ValuesShort s → IfSome (sub_index_in index s kind) HasValues
-part_values index s (SubIndex key) h = by_index (eqb key.index index)
-  where
-    by_index : (b : Bool) → IfSome (if b then Some (record { key = key; section = s }) else None) HasValues
-    by_index true = h
-    by_index false = tt
-part_values index s kind h = tt
-
-parts-short : (index : ℕ) (ss : List TextSection) → AllByRecursion ValuesShort ss → AllByRecursion HasValues (sub_indices ss index)
-parts-short index [] all = tt
-parts-short index (s ∷ ss) all = cons_all HasValues (sub_index_in index s s.kind) (sub_indices ss index) (part_values index s s.kind all.0) (parts-short index ss all.1)
-
-all-append : {X : Type 0} (P : X → Type 0) (xs ys : List X) → AllByRecursion P xs → AllByRecursion P ys → AllByRecursion P (xs ++ ys)
-all-append P [] ys all more = more
-all-append P (x ∷ xs) ys all more = (all.0, all-append P xs ys all.1 more)
-
-entries_cases : (single compound : Bool) (sections : List TextSection) (o : ListedObject) → AllByRecursion ValuesShort sections → ValuesShort o.section
-    → AllByRecursion HasValues (cond single (record { key = record { index = o.index; sub = 0 }; section = o.section } ∷ []) (cond compound (sub_indices sections o.index) []))
-entries_cases true compound sections o all own = (own, tt)
-entries_cases false true sections o all own = parts-short o.index sections all
-entries_cases false false sections o all own = tt
-
-entries-short : (sections : List TextSection) (os : List ListedObject) → AllByRecursion ValuesShort sections → AllByRecursion (λ (o : ListedObject). ValuesShort o.section) os
-    → AllByRecursion HasValues (flat_map (entries_in sections) os)
-entries-short sections [] all own = tt
-entries-short sections (o ∷ os) all own =
-    all-append HasValues (entries_in sections o) (flat_map (entries_in sections) os)
-    (entries_cases (is_one_of single_codes (object_code o.section)) (is_one_of compound_codes (object_code o.section)) sections o all own.0)
-    (entries-short sections os all own.1)
+    cons_all IsSheetRow (row_of e) (filter_map row_of es) (row_cases e (data_type_of e) (access_of e) refl from.0 values.0 apart.0) (each-row es from.1 values.1 apart.1)
 
 insert_all : {X : Type 0} (P : X → Type 0) (lt : X → X → Bool) (x : X) (ys : List X) → P x → AllByRecursion P ys → AllByRecursion P (insert_before lt x ys)
 insert_all P lt x [] h all = (h, tt)
@@ -547,10 +488,10 @@ content_laws sections parsed kept found =
     let keys : AllDiffer same_key (map (λ r. r.key) (filter_map row_of entries)) = subst (AllDiffer same_key) (sym kept) (entries-differ sections parsed indices) in
     let last = two-empty (in_numeric bad_limits) bad_default entries nothing.bad_limits nothing.bad_default in
     let found_none = two-empty bad_type (λ e. in_numeric bad_limits e ++ bad_default e) entries nothing.bad_type last in
-    let values_short = entries-short sections (listed_objects sections) parsed.values_short (objects-short sections (listings sections) parsed.values_short) in
+    let values_short = entries-short sections parsed.values_short in
     let mandatory = three (is_listed sections 0x1000) (is_listed sections 0x1001) (is_listed sections 0x1018) (denied _ (no_fault _ MissingMandatory 0 nothing.missing_mandatory)) in
     record {
-      each_row = All-from_recursion IsSheetRow (rows_in sections) (in_order_all IsSheetRow (λ r s. is_key_before r.key s.key) (filter_map row_of entries) (each-row entries values_short found_none));
+      each_row = All-from_recursion IsSheetRow (rows_in sections) (in_order_all IsSheetRow (λ r s. is_key_before r.key s.key) (filter_map row_of entries) (each-row entries (entries-from sections) values_short found_none));
       keys_increase = increase (λ (r : Row). r.key) is_key_before same_key keys_ordered (filter_map row_of entries) keys;
       indices_increase = λ i j d h k. ltb-true _ _ (increase (λ (o : ObjectRow). o.index) ltb eqb numbers_ordered (filter_map object_row_of (listed_objects sections)) object_indices i j d h k);
       has_1000 = has-listed sections 0x1000 nothing mandatory.0;

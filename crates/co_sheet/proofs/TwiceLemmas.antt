@@ -6,8 +6,8 @@ use Rattle.std.specs.Prelude.{flat_map}
 use Rattle.std.specs.List.{list_any, AllByRecursion}
 use Rattle.co_sheet_text.specs.SectionLaws.{RisesFrom}
 use Rattle.co_sheet.specs.declared.checks.lists.Listing.{Listing as ListingOfCode}
-use Rattle.co_sheet.specs.declared.fault.FaultKind.TheVariants.{ListedTwice}
-use Rattle.co_sheet.specs.declared.fault.SheetFault.{SheetFault}
+use Rattle.co_sheet_rows.specs.declared.fault.FaultKind.TheVariants.{ListedTwice}
+use Rattle.co_sheet_rows.specs.declared.fault.SheetFault.{SheetFault}
 use Rattle.co_sheet.specs.Faults.{fault_at}
 use Rattle.co_sheet.specs.ObjectLists.{Listing}
 use Rattle.co_sheet.specs.Checks.{fault_if, is_listed_before}

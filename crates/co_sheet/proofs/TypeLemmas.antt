@@ -1,15 +1,10 @@
 -- A data type by its code.
 use Rattle.std.proofs.Common.{◌≡◌, ℕ, ◌<◌, ◌≤◌, Bool, true, false, cond, List, [], ◌∷◌, Option, Some, None, refl, sym, ap, ◌∙◌, arith, lit<, eqb, eqb-true}
-use Rattle.std.specs.Prelude.{find, IfSome, map, option_map, nat_le, ◌&&◌}
-use Rattle.co_value.specs.declared.key.Key.{Key}
-use Rattle.co_sheet.specs.declared.data_type.FixedType.{FixedType}
+use Rattle.std.specs.Prelude.{find, IfSome}
 use Rattle.co_value.specs.declared.data_type.DataType.{DataType}
 use Rattle.co_value.specs.declared.data_type.DataType.TheVariants.{Boolean, Integer8, Integer16, Integer24, Integer32, Integer40, Integer48, Integer56, Integer64, Unsigned8, Unsigned16, Unsigned24, Unsigned32, Unsigned40, Unsigned48, Unsigned56, Unsigned64, VisibleString, OctetString, Domain}
 use Rattle.co_value.specs.Types.{code_of}
-use Rattle.std.proofs.lemmas.Bool.Decides.{nat_tests}
-use Rattle.std.specs.List.{list_all}
 use Rattle.co_sheet.specs.Entries.{data_types, data_type_with}
-use Rattle.co_sheet.specs.FixedTypes.{fixed_types, fixed_type_of}
 
 pub data_type_with-code_of : (t : DataType) → data_type_with (code_of t) ≡ Some t
 data_type_with-code_of Boolean = refl
@@ -76,48 +71,3 @@ code_of-small Domain = lit< tt
 
 pub data_type_with-large : (code : ℕ) → 65536 ≤ code → None ≡ data_type_with code
 data_type_with-large code large = none_with code (data_type_with code) refl (λ t h. let small = code_of-small t in omega (arith, small))
-
--- ---- fixed types
-
-abbrev row_of_code : FixedType → DataType × ℕ × ℕ × ℕ × ℕ
-row_of_code f = (f.0, f.1, f.2, f.3, f.4)
-
-found_alike : (b : Bool) (f : FixedType) (rest : Option FixedType) (others : Option (DataType × ℕ × ℕ × ℕ × ℕ)) → option_map (λ g. g.0) rest ≡ option_map (λ g. g.0) others
-    → option_map (λ g. g.0) (cond b (Some f) rest) ≡ option_map (λ g. g.0) (cond b (Some (row_of_code f)) others)
-found_alike true f rest others h = refl
-found_alike false f rest others h = h
-
--- a table of the code and its rows give the same type
-pub find-rows : (key : Key) (types : List FixedType) → option_map (λ f. f.0) (find (λ f. nat_le f.1 key.index && nat_le key.index f.2 && nat_le f.3 key.sub && nat_le key.sub f.4) types)
-    ≡ option_map (λ f. f.0) (find (λ f. nat_le f.1 key.index && nat_le key.index f.2 && nat_le f.3 key.sub && nat_le key.sub f.4) (map row_of_code types))
-find-rows key [] = refl
-find-rows key (f ∷ types) = found_alike (nat_le f.1 key.index && nat_le key.index f.2 && nat_le f.3 key.sub && nat_le key.sub f.4) f _ _ (find-rows key types)
-
-not_covered : (a b c d : Bool) → b ≡ false → (a && b && c && d) ≡ false
-not_covered true true c d h = absurd (cc)
-not_covered true false c d h = refl
-not_covered false b c d h = refl
-
-past : (index last : ℕ) → 0x1BFF < index → nat_le last 0x1BFF ≡ true → nat_le index last ≡ false
-past index last h k = grind (arith, nat_tests)
-
-not_found : {X : Type 0} (test : Bool) (x : X) (found : Option X) → test ≡ false → found ≡ None → cond test (Some x) found ≡ None
-not_found true x found h k = absurd (cc)
-not_found false x found h k = k
-
-both_tests : (a b : Bool) → (a && b) ≡ true → (a ≡ true) × (b ≡ true)
-both_tests true b h = (refl, h)
-both_tests false b h = absurd (cc)
-
--- no row has an index past all of theirs
-none-past : (key : Key) → 0x1BFF < key.index → (rows : List (DataType × ℕ × ℕ × ℕ × ℕ)) → list_all (λ f. nat_le f.2 0x1BFF) rows ≡ true
-    → find (λ f. nat_le f.1 key.index && nat_le key.index f.2 && nat_le f.3 key.sub && nat_le key.sub f.4) rows ≡ None
-none-past key above [] all = refl
-none-past key above (f ∷ rows) all =
-    let tests = both_tests (nat_le f.2 0x1BFF) (list_all (λ g. nat_le g.2 0x1BFF) rows) all in
-    not_found (nat_le f.1 key.index && nat_le key.index f.2 && nat_le f.3 key.sub && nat_le key.sub f.4) f _
-    (not_covered (nat_le f.1 key.index) (nat_le key.index f.2) (nat_le f.3 key.sub) (nat_le key.sub f.4) (past key.index f.2 above tests.0))
-    (none-past key above rows tests.1)
-
-pub none-fixed : (key : Key) → 0x1BFF < key.index → None ≡ fixed_type_of key
-none-fixed key above = sym (ap (option_map (λ f. f.0)) (none-past key above fixed_types refl))

@@ -2,8 +2,8 @@
 use Rattle.std.proofs.Common.{◌≡◌, codes, refl, Some, None, Ok, Err, true, false}
 use Rattle.std.specs.Prelude.{pos, neg_ℤ}
 use Rattle.co_value.specs.declared.data_type.DataType.TheVariants.{Integer8, Unsigned64}
-use Rattle.co_sheet.specs.declared.object.ObjectType.TheVariants.{Record}
-use Rattle.co_sheet.specs.declared.entry.Access.TheVariants.{Rww, Constant}
+use Rattle.co_sheet_rows.specs.declared.object.ObjectType.TheVariants.{Record}
+use Rattle.co_profile.specs.declared.access.Access.TheVariants.{Rww, Constant}
 use Rattle.co_sheet_text.specs.declared.numeral.NumeralFault.TheVariants.{Malformed, Ambiguous}
 use Rattle.co_sheet.specs.Entries.{data_type_with, object_type_with, access_with}
 use Rattle.co_sheet.specs.Limits.{numeric_default, is_pairs, number, node_id}

@@ -1,8 +1,8 @@
 -- Which texts are data sheets, and what the others have wrong with them (CiA 306).
 use Rattle.std.specs.Prelude.{◌≡◌, ◌⊎◌, ℕ, nat_lt, nat_le, if◌then◌else◌, List, [], ◌∷◌, length, fold, Option, Some, None, option_map}
 use Rattle.std.specs.Option.{option_or}
-use Rattle.co_sheet.specs.declared.fault.FaultKind.TheVariants.{TooLarge, Memory}
-use Rattle.co_sheet.specs.declared.fault.SheetFault.{SheetFault}
+use Rattle.co_sheet_rows.specs.declared.fault.FaultKind.TheVariants.{TooLarge, Memory}
+use Rattle.co_sheet_rows.specs.declared.fault.SheetFault.{SheetFault}
 use Rattle.co_sheet_text.specs.Text.{lines_of}
 use Rattle.co_sheet_text.specs.Sections.{TextSection, sections_of, first_line_fault}
 use Rattle.co_sheet.specs.Faults.{fault_at, sheet_fault}

@@ -1,7 +1,7 @@
 -- Which texts are data sheets, rule by rule: nothing is wrong with them (CiA 306).
 use Rattle.std.specs.Prelude.{◌≡◌, ℕ, ◌≤◌, List, [], ◌∷◌, length, None}
 use Rattle.co_sheet_text.specs.Sections.{TextSection}
-use Rattle.co_sheet.specs.declared.fault.SheetFault.{SheetFault}
+use Rattle.co_sheet_rows.specs.declared.fault.SheetFault.{SheetFault}
 use Rattle.co_sheet.specs.Checks.{checks}
 use Rattle.co_sheet.specs.Accepted.{first_bad_line, sections_in}
 

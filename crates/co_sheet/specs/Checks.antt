@@ -8,9 +8,9 @@ use Rattle.co_value.specs.declared.data_type.DataType.TheVariants.{Domain}
 use Rattle.co_value.specs.Types.{code_of, least_of, greatest_of}
 use Rattle.co_sheet_text.specs.declared.section_kind.SectionKind.{SectionKind}
 use Rattle.co_sheet_text.specs.declared.section_kind.SectionKind.TheVariants.{MandatoryObjects, DummyUsage, DeviceInfo, Object}
-use Rattle.co_sheet.specs.declared.fault.FaultKind.{FaultKind}
-use Rattle.co_sheet.specs.declared.fault.FaultKind.TheVariants.{MissingSection, BadNumber, AmbiguousNumber, BadList, ListedTwice, MissingKey, BadType, LeftOutType, BadAccess, BadLimits, BadDefault, MissingSub0, CompactForm, MissingMandatory}
-use Rattle.co_sheet.specs.declared.fault.SheetFault.{SheetFault}
+use Rattle.co_sheet_rows.specs.declared.fault.FaultKind.{FaultKind}
+use Rattle.co_sheet_rows.specs.declared.fault.FaultKind.TheVariants.{MissingSection, BadNumber, AmbiguousNumber, BadList, ListedTwice, MissingKey, BadType, LeftOutType, BadAccess, BadLimits, BadDefault, MissingSub0, CompactForm, MissingMandatory}
+use Rattle.co_sheet_rows.specs.declared.fault.SheetFault.{SheetFault}
 use Rattle.co_sheet_text.specs.declared.numeral.NumeralFault.{NumeralFault}
 use Rattle.co_sheet_text.specs.declared.numeral.NumeralFault.TheVariants.{Malformed, Ambiguous}
 use Rattle.co_sheet_text.specs.Names.{same_kind, is_list}
@@ -19,7 +19,7 @@ use Rattle.co_sheet.specs.Faults.{fault_at}
 use Rattle.co_sheet_text.specs.Numerals.{unsigned_number}
 use Rattle.co_sheet_text.specs.Properties.{property_number}
 use Rattle.co_sheet.specs.ObjectLists.{is_one_of, object_lists, count_of, keys_to, Listing, listings, is_listed}
-use Rattle.co_sheet.specs.FixedTypes.{fixed_type_of}
+use Rattle.co_profile.specs.FixedTypes.{fixed_type_of}
 use Rattle.co_sheet.specs.Entries.{object_code, single_codes, compound_codes, ListedObject, listed_objects, Entry, sub_indices, entries_of, is_domain, data_type_with, type_code, data_type_of, access_with, is_other_than_zero}
 use Rattle.co_sheet.specs.Limits.{Default, number, pairs, number_at_type, numeric_default, is_pairs, is_numeric, low_limit, high_limit, at_most, is_in_type, is_in_limits, default_of}
 

@@ -4,9 +4,9 @@ use Rattle.co_value.specs.declared.key.Key.{Key}
 use Rattle.co_value.specs.declared.data_type.DataType.{DataType}
 use Rattle.co_value.specs.Keys.{is_key_before}
 use Rattle.co_sheet_text.specs.declared.section_kind.SectionKind.TheVariants.{DummyUsage}
-use Rattle.co_sheet.specs.declared.object.ObjectType.{ObjectType}
-use Rattle.co_sheet.specs.declared.entry.Access.{Access}
-use Rattle.co_sheet.specs.declared.note.Note.{Note}
+use Rattle.co_sheet_rows.specs.declared.object.ObjectType.{ObjectType}
+use Rattle.co_profile.specs.declared.access.Access.{Access}
+use Rattle.co_sheet_rows.specs.declared.note.Note.{Note}
 use Rattle.co_sheet_text.specs.Sections.{TextSection, section_at}
 use Rattle.co_sheet_text.specs.Properties.{number_at}
 use Rattle.co_sheet.specs.ObjectLists.{is_one_of, listings}

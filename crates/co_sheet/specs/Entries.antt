@@ -7,10 +7,10 @@ use Rattle.co_value.specs.declared.data_type.DataType.TheVariants.{Boolean, Inte
 use Rattle.co_value.specs.Types.{code_of}
 use Rattle.co_sheet_text.specs.declared.section_kind.SectionKind.{SectionKind}
 use Rattle.co_sheet_text.specs.declared.section_kind.SectionKind.TheVariants.{Object, SubIndex}
-use Rattle.co_sheet.specs.declared.object.ObjectType.{ObjectType}
-use Rattle.co_sheet.specs.declared.object.ObjectType.TheVariants.{Domain, Var, Array, Record}
-use Rattle.co_sheet.specs.declared.entry.Access.{Access}
-use Rattle.co_sheet.specs.declared.entry.Access.TheVariants.{Ro, Wo, Rw, Rwr, Rww, Constant}
+use Rattle.co_sheet_rows.specs.declared.object.ObjectType.{ObjectType}
+use Rattle.co_sheet_rows.specs.declared.object.ObjectType.TheVariants.{Domain, Var, Array, Record}
+use Rattle.co_profile.specs.declared.access.Access.{Access}
+use Rattle.co_profile.specs.declared.access.Access.TheVariants.{Ro, Wo, Rw, Rwr, Rww, Constant}
 use Rattle.co_sheet_text.specs.Text.{same_name}
 use Rattle.co_sheet_text.specs.Sections.{TextSection, property_at, section_at}
 use Rattle.co_sheet_text.specs.Properties.{property_number, number_at}

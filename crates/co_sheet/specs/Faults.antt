@@ -3,9 +3,9 @@ use Rattle.std.specs.Prelude.{ℕ}
 use Rattle.co_sheet_text.specs.declared.fault.TextFaultKind.{TextFaultKind}
 use Rattle.co_sheet_text.specs.declared.fault.TextFaultKind.TheVariants.{TooLarge as LongLine, BadLine as BadText, KeyOutsideSection as Outside, DuplicateSection as SectionTwice, DuplicateKey as KeyTwice, Memory as OutOfMemory}
 use Rattle.co_sheet_text.specs.declared.fault.TextFault.{TextFault}
-use Rattle.co_sheet.specs.declared.fault.FaultKind.{FaultKind}
-use Rattle.co_sheet.specs.declared.fault.FaultKind.TheVariants.{TooLarge, BadLine, KeyOutsideSection, DuplicateSection, DuplicateKey, Memory}
-use Rattle.co_sheet.specs.declared.fault.SheetFault.{SheetFault}
+use Rattle.co_sheet_rows.specs.declared.fault.FaultKind.{FaultKind}
+use Rattle.co_sheet_rows.specs.declared.fault.FaultKind.TheVariants.{TooLarge, BadLine, KeyOutsideSection, DuplicateSection, DuplicateKey, Memory}
+use Rattle.co_sheet_rows.specs.declared.fault.SheetFault.{SheetFault}
 
 -- a fault of a kind, at a line
 abbrev pub fault_at : ℕ → FaultKind → SheetFault

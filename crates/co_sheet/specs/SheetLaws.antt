@@ -6,7 +6,7 @@ use Rattle.co_value.specs.declared.data_type.DataType.{DataType}
 use Rattle.co_value.specs.declared.data_type.DataType.TheVariants.{VisibleString, OctetString, Domain}
 use Rattle.co_value.specs.Types.{least_of, greatest_of, InRange}
 use Rattle.co_sheet_text.specs.Names.{is_hexadecimal_digit}
-use Rattle.co_sheet.specs.FixedTypes.{fixed_type_of}
+use Rattle.co_profile.specs.FixedTypes.{fixed_type_of}
 use Rattle.co_sheet.specs.Limits.{absent, number, node_id, text, pairs, is_pairs, is_numeric}
 use Rattle.co_value.specs.Keys.{is_key_before}
 use Rattle.co_sheet.specs.Content.{Row, row_of, ObjectRow, SheetContent}
@@ -30,9 +30,10 @@ pub record IsWithinRow (row : Row) (value : ℤ) : Type 0 where
   pub above_low : IfSome row.low (λ low. low ≤ℤ value)
   pub below_high : IfSome row.high (λ high. value ≤ℤ high)
 
--- What each entry of a sheet keeps: limits are numbers of its type, in order; a default is of its
+-- What each entry of a sheet keeps: its index is from 1000h on; limits are numbers of its type, in order; a default is of its
 -- type's form, a number within the limits, and as short as a line; a type that is fixed is that one.
 pub record IsSheetRow (row : Row) : Type 0 where
+  pub from_1000 : 0x1000 ≤ row.key.index
   pub low_in_type : IfSome row.low (InRange row.data_type)
   pub high_in_type : IfSome row.high (InRange row.data_type)
   pub limits_in_order : IfSome row.low (λ low. IfSome row.high (λ high. low ≤ℤ high))

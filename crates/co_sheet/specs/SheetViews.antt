@@ -1,10 +1,10 @@
 -- What the rows of a sheet say, without where their texts lie in memory.
 use Rattle.std.specs.Prelude.{List, Bool, map}
 use Rattle.std.specs.Option.{option_copied}
-use Rattle.co_sheet.specs.declared.section.Section.{Section}
-use Rattle.co_sheet.specs.declared.entry.EntryRow.{EntryRow}
-use Rattle.co_sheet.specs.declared.object.Object.{Object}
-use Rattle.co_sheet.specs.declared.note.Note.{Note}
+use Rattle.co_sheet_rows.specs.declared.section.Section.{Section}
+use Rattle.co_sheet_rows.specs.declared.entry.EntryRow.{EntryRow}
+use Rattle.co_sheet_rows.specs.declared.object.Object.{Object}
+use Rattle.co_sheet_rows.specs.declared.note.Note.{Note}
 use Rattle.co_sheet.specs.Views.{default_view}
 use Rattle.co_sheet.specs.Content.{Row, ObjectRow, SectionName, SheetContent}
 

@@ -1,6 +1,6 @@
 -- What a value says, without where its bytes lie in memory.
-use Rattle.co_sheet.specs.declared.entry.Preset.{Preset}
-use Rattle.co_sheet.specs.declared.entry.Preset.TheVariants.{Absent, Number, NodeId, Text, Pairs}
+use Rattle.co_sheet_rows.specs.declared.entry.Preset.{Preset}
+use Rattle.co_sheet_rows.specs.declared.entry.Preset.TheVariants.{Absent, Number, NodeId, Text, Pairs}
 use Rattle.co_sheet.specs.Limits.{Default, absent, number, node_id, text, pairs}
 
 -- a default

@@ -1,4 +1,4 @@
-//! The entries of a data sheet's objects.
+//! What an entry states.
 
 ghost use Rattle.std.specs.Prelude.{◌≡◌};
 ghost use Rattle.co_sheet_text.specs.Numerals.{result_map};
@@ -6,82 +6,31 @@ ghost use Rattle.co_sheet.specs.Entries.{access_with};
 ghost use Rattle.co_sheet.specs.Limits.{numeric_default, node_id_sum, is_node_id, is_pairs};
 ghost use Rattle.co_sheet.specs.Views.{default_view};
 
+use co_profile::Access;
+use co_sheet_rows::Preset;
 use co_sheet_text::{NumeralFault, all_digits, same_name, signed_numeral, trim, unsigned_number};
 use co_text::split_at_first;
-use co_value::{DataType, Key};
+use co_value::DataType;
 
-/// How an entry may be accessed, by the word of its AccessType (CiA 306, object description).
-#[derive(Clone, Copy, Debug, PartialEq, Eq, Hash)]
-pub enum Access {
-    /// `ro`: read only.
-    Ro,
-    /// `wo`: write only.
-    Wo,
-    /// `rw`: read and write.
-    Rw,
-    /// `rwr`: read and write, and may be mapped into a TPDO.
-    Rwr,
-    /// `rww`: read and write, and may be mapped into an RPDO.
-    Rww,
-    /// `const`: read only, and never changed.
-    Constant,
-}
-
-impl Access {
-    /// The access that a word means (CiA 306, object description); `None` for every other word.
-    pub(crate) fn of_word(word: &[u8]) -> Option<Access>
-        ensures { result ≡ access_with word.now }
-    {
-        if same_name(word, b"ro") {
-            Some(Access::Ro)
-        } else if same_name(word, b"wo") {
-            Some(Access::Wo)
-        } else if same_name(word, b"rw") {
-            Some(Access::Rw)
-        } else if same_name(word, b"rwr") {
-            Some(Access::Rwr)
-        } else if same_name(word, b"rww") {
-            Some(Access::Rww)
-        } else if same_name(word, b"const") {
-            Some(Access::Constant)
-        } else {
-            None
-        }
+/// The access that a word means (CiA 306, object description); `None` for every other word.
+pub(crate) fn access_with(word: &[u8]) -> Option<Access>
+    ensures { result ≡ access_with word.now }
+{
+    if same_name(word, b"ro") {
+        Some(Access::Ro)
+    } else if same_name(word, b"wo") {
+        Some(Access::Wo)
+    } else if same_name(word, b"rw") {
+        Some(Access::Rw)
+    } else if same_name(word, b"rwr") {
+        Some(Access::Rwr)
+    } else if same_name(word, b"rww") {
+        Some(Access::Rww)
+    } else if same_name(word, b"const") {
+        Some(Access::Constant)
+    } else {
+        None
     }
-}
-
-/// The default of an entry, by its DefaultValue (CiA 306, object description).
-#[derive(Clone, Copy, Debug, PartialEq, Eq, Hash)]
-pub enum Preset<'a> {
-    /// There is none, or the entry is a DOMAIN.
-    Absent,
-    /// The number of a numeric entry.
-    Number(i128),
-    /// The node-ID plus this number, of a numeric entry.
-    NodeId(u64),
-    /// The bytes of a VISIBLE_STRING.
-    Text(&'a [u8]),
-    /// Pairs of hexadecimal digits, one for each byte of an OCTET_STRING.
-    Pairs(&'a [u8]),
-}
-
-/// What a data sheet says of one entry (CiA 306, object description).
-#[derive(Clone, Copy, Debug, PartialEq, Eq, Hash)]
-pub struct EntryRow<'a> {
-    pub key: Key,
-    pub data_type: DataType,
-    pub access: Access,
-    /// LowLimit, where a numeric entry has one.
-    pub low: Option<i128>,
-    /// HighLimit, where a numeric entry has one.
-    pub high: Option<i128>,
-    pub default: Preset<'a>,
-    /// Whether PDOMapping is there and not 0.
-    pub mappable: bool,
-    /// ParameterName, where it is there.
-    pub name: Option<&'a [u8]>,
-    /// The line of the entry's section, from 1.
-    pub line: usize,
 }
 
 /// Reads the default of a numeric type: a number, `$NODEID`, or a sum of both with blanks allowed round `+`

@@ -4,23 +4,19 @@
 mod checks;
 mod data_type;
 mod entry;
-mod fault;
-mod note;
 mod notes;
-mod object;
-mod out_of_memory;
+mod object_type;
 mod reader;
 mod rows;
-mod section;
 mod sections;
 mod sheet;
 mod tables;
 mod text_fault;
 
-pub use entry::{Access, EntryRow, Preset};
-pub use fault::{FaultKind, SheetFault};
-pub use note::{Note, NoteKind};
-pub use object::{Object, ObjectType};
+pub use co_profile::Access;
+pub use co_sheet_rows::{
+    EntryRow, FaultKind, Note, NoteKind, Object, ObjectType, Preset, Section, SheetFault,
+};
+pub use co_stream::{LineFault, LineReader, StreamFault, read_text};
 pub use reader::{GREATEST_SIZE, accepted_texts, read};
-pub use section::Section;
 pub use sheet::Sheet;

@@ -7,8 +7,8 @@ ghost use Rattle.co_sheet.specs.Entries.{sub_indices};
 ghost use Rattle.co_sheet.specs.Notes.{note_unlisted, sub_number_note, notes_at, notes_of};
 ghost use Rattle.co_sheet_text.specs.Views.{section_view};
 
-use crate::note::{Note, NoteKind};
 use crate::tables::Tables;
+use co_sheet_rows::{Note, NoteKind};
 use co_sheet_text::{SectionKind, TextSection};
 use indexmap::IndexSet;
 use std::alloc::{AllocError, Global};

@@ -2,16 +2,17 @@
 
 ghost use Rattle.std.specs.Prelude.{◌≡◌, ◌<◌, ◌≤◌, ◌⊎◌, ℕ, List, length, Err, Some, None, IfOk, IfErr};
 ghost use Rattle.co_sheet_text.specs.SectionLaws.{IsParsed};
-ghost use Rattle.co_sheet.specs.declared.fault.FaultKind.TheVariants.{TooLarge};
+ghost use Rattle.co_sheet_rows.specs.declared.fault.FaultKind.TheVariants.{TooLarge};
 ghost use Rattle.co_sheet.specs.Accepted.{IsAccepted, first_fault, first_bad_line, sections_in, IsAnswered};
 ghost use Rattle.co_sheet.specs.AcceptedTexts.{IsFaultless};
 ghost use Rattle.co_sheet.specs.Content.{IsSheet, IsWhole};
 ghost use Rattle.co_sheet.specs.Faults.{fault_at};
-ghost use Rattle.co_sheet.specs.OutOfMemory.{out_of_memory};
+ghost use Rattle.co_sheet_rows.specs.OutOfMemory.{out_of_memory};
 ghost use Rattle.co_sheet.specs.PlaceLaws.{AllCountPlaces};
 
-use crate::fault::{FaultKind, SheetFault};
 use crate::sheet::{Sheet, sheet_of};
+use crate::text_fault::sheet_fault;
+use co_sheet_rows::{FaultKind, SheetFault};
 use co_sheet_text::ParsedText;
 use std::alloc::Global;
 
@@ -56,5 +57,8 @@ fn sections_in(alloc: Global, text: &[u8]) -> Result<ParsedText<'_>, SheetFault>
     ensures err { IfErr result (λ fault. (fault ≡ out_of_memory)
         ⊎ (first_bad_line text.now ≡ Some fault)) }
 {
-    Ok(co_sheet_text::sections_in(alloc, text)?)
+    match co_sheet_text::sections_in(alloc, text) {
+        Ok(sections) => Ok(sections),
+        Err(fault) => Err(sheet_fault(fault)),
+    }
 }

@@ -9,10 +9,8 @@ ghost use Rattle.co_sheet.specs.Content.{section_names_in, rows_in_order, object
 ghost use Rattle.co_sheet_text.specs.Views.{section_view};
 ghost use Rattle.co_sheet.specs.SheetViews.{row_view, object_row_view, section_name_view};
 
-use crate::entry::EntryRow;
-use crate::object::Object;
-use crate::section::Section;
 use crate::sections::section_at;
+use co_sheet_rows::{EntryRow, Object, Section};
 use co_sheet_text::{SectionKind, TextSection};
 use std::alloc::{AllocError, Global};
 

@@ -16,14 +16,10 @@ ghost use Rattle.co_sheet.specs.SheetLaws.{IsSheetRow, IsSheetContent, KeepsEntr
 use crate::checks::entries::read_entries;
 use crate::checks::lists::{listed_indices, missing_mandatory, read_lists};
 use crate::checks::objects::read_objects;
-use crate::entry::EntryRow;
-use crate::fault::SheetFault;
-use crate::note::Note;
 use crate::notes::notes;
-use crate::object::Object;
 use crate::rows::{dummies, ordered_objects, ordered_rows, section_names};
-use crate::section::Section;
 use crate::tables::Tables;
+use co_sheet_rows::{EntryRow, Note, Object, Section, SheetFault};
 use co_sheet_text::TextSection;
 use indexmap::IndexSet;
 use std::alloc::{AllocError, Global};

@@ -3,17 +3,16 @@
 ghost use Rattle.std.specs.Prelude.{◌≡◌};
 ghost use Rattle.co_sheet.specs.Faults.{line_fault_kind, sheet_fault};
 
-use crate::fault::{FaultKind, SheetFault};
+use co_sheet_rows::{FaultKind, SheetFault};
 use co_sheet_text::{TextFault, TextFaultKind};
 
-impl From<TextFault> for SheetFault {
-    ghost from_gives = { λ fault e. e ≡ sheet_fault fault };
-
-    fn from(fault: TextFault) -> SheetFault {
-        SheetFault {
-            kind: line_fault_kind(fault.kind),
-            line: fault.line,
-        }
+/// A fault of a line as one of the sheet.
+pub(crate) fn sheet_fault(fault: TextFault) -> SheetFault
+    ensures { result ≡ sheet_fault fault }
+{
+    SheetFault {
+        kind: line_fault_kind(fault.kind),
+        line: fault.line,
     }
 }
 

@@ -1,5 +1,5 @@
 -- Worked examples, computed from the definitions: the ends of each type and their bytes, and how keys compare.
-use Rattle.std.proofs.Common.{◌≡◌, ℕ, List, [], ◌∷◌, ℤ, pos, negsuc, true, false, None, Some, refl, arith}
+use Rattle.std.proofs.Common.{◌≡◌, ℕ, List, [], ◌∷◌, ℤ, pos, negsuc, true, false, None, Some, refl, arith, codes}
 use Rattle.std.proofs.lemmas.Int.{ints}
 use Rattle.std.specs.declared.cmp.Ordering.TheVariants.{Less, Equal, Greater}
 use Rattle.co_value.specs.declared.key.Key.{Key}
@@ -7,7 +7,9 @@ use Rattle.co_value.specs.declared.data_type.DataType.{DataType}
 use Rattle.co_value.specs.declared.data_type.DataType.TheVariants.{Boolean, Integer8, Integer16, Integer24, Integer32, Integer40, Integer48, Integer56, Integer64, Unsigned8, Unsigned16, Unsigned24, Unsigned32, Unsigned40, Unsigned48, Unsigned56, Unsigned64, VisibleString, OctetString, Domain}
 use Rattle.co_value.specs.Types.{width_of, least_of, greatest_of, FitsWidth, InRange}
 use Rattle.co_value.specs.Numbers.{number_of, bytes_of}
+use Rattle.co_text.specs.Printed.{digits_text}
 use Rattle.co_value.specs.Keys.{same_key, is_key_before, key_cmp}
+use Rattle.co_value.specs.KeyTexts.{key_text, key_in}
 
 -- a number and its bytes at a type
 abbrev pub Written : DataType → ℤ → List ℕ → Type 0
@@ -115,3 +117,16 @@ then_the_lower_sub_index = (refl, refl, refl)
 
 not_before_itself : (key_cmp (key 0x1018 1) (key 0x1018 1) ≡ Equal) × (is_key_before (key 0x1018 1) (key 0x1018 1) ≡ false) × (same_key (key 0x1018 1) (key 0x1018 1) ≡ true) × (same_key (key 0x1017 1) (key 0x1018 1) ≡ false)
 not_before_itself = (refl, refl, refl, refl)
+
+printed_key : (key_text (key 0x1018 1) ≡ codes "1018:01") × (key_text (key 0xABCD 0xEF) ≡ codes "ABCD:EF") × (key_text (key 0 0) ≡ codes "0000:00")
+unfolding digits_text
+printed_key = (refl, refl, refl)
+
+-- digits in either case, four and two of them, and a colon
+read_key : (key_in (codes "1018:01") ≡ Some (key 0x1018 1)) × (key_in (codes "abCD:eF") ≡ Some (key 0xABCD 0xEF))
+unfolding key_in
+read_key = (refl, refl)
+
+no_key : (key_in (codes "1018:1") ≡ None) × (key_in (codes "01018:01") ≡ None) × (key_in (codes "1018.01") ≡ None) × (key_in (codes "101G:01") ≡ None) × (key_in (codes "1018:0g") ≡ None) × (key_in [] ≡ None)
+unfolding key_in
+no_key = (refl, refl, refl, refl, refl, refl)

@@ -1,3 +1,4 @@
 pub mod Bytes
 mod Reading
 mod Examples
+mod KeyLemmas

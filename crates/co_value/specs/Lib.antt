@@ -1,4 +1,5 @@
 pub mod Keys
+pub mod KeyTexts
 pub mod Types
 pub mod Numbers
 pub mod ValueFaults

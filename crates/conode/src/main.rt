@@ -2,22 +2,15 @@
 //! answers the SDO requests of one.
 #![tactic(auto)]
 
-mod command_line;
-mod help;
-mod tasks;
-#[cfg(test)]
-mod tests;
-
 use co_dict_list::Limits;
-use command_line::task;
 use conode_answers::answer_input;
 use conode_check::check_file;
 use conode_decode::decode_files;
 use conode_io::{CmdFault, stopped};
+use conode_words::{Task, task};
 use std::io::{BufWriter, Write};
 use std::process::ExitCode;
 use std::{env, io};
-use tasks::Task;
 
 /// Does what the words ask for; without a subcommand it answers standard input.
 fn carry_out<O: Write, E: Write>(

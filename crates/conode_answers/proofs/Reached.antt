@@ -4,7 +4,7 @@ use Rattle.std.specs.Option.{option_map, option_map_or}
 use Rattle.std.specs.Io.KnownBytes.{Appends, Keeps}
 use Rattle.std.proofs.KnownBytes.{Appends-trans, Appends-nil, Appends-kept}
 use Rattle.std.proofs.lemmas.List.Sums.{take_while-cons}
-use Rattle.conode_trace.specs.Texts.{◌>>=◌}
+use Rattle.co_text.specs.Texts.{◌>>=◌}
 use Rattle.conode_trace.specs.Clocks.{ClockState, clock_at_start}
 use Rattle.conode_trace.specs.FrameLines.{line_in}
 use Rattle.conode_trace.specs.declared.trace_line.TraceLine.{TraceLine}

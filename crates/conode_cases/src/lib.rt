@@ -3,16 +3,14 @@
 #![tactic(auto)]
 
 #[cfg(test)]
-mod builds;
-#[cfg(test)]
 mod decode_tables;
 #[cfg(test)]
 mod decodes;
-#[cfg(test)]
-mod edges;
 #[cfg(test)]
 mod fakes;
 #[cfg(test)]
 mod sheets;
 #[cfg(test)]
 mod traces;
+#[cfg(test)]
+mod words;

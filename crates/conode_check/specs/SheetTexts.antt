@@ -1,11 +1,11 @@
 -- What is written of a data sheet that is checked.
 use Rattle.std.specs.Prelude.{◌&&◌, ℕ, Bool, List, [], ◌∷◌, ◌++◌, map, length, Option, option_and_then, is_none, codes, decimal}
 use Rattle.std.specs.Option.{option_map_or}
-use Rattle.co_sheet.specs.declared.fault.SheetFault.{SheetFault}
-use Rattle.co_sheet.specs.declared.note.Note.{Note}
+use Rattle.co_sheet_rows.specs.declared.fault.SheetFault.{SheetFault}
+use Rattle.co_sheet_rows.specs.declared.note.Note.{Note}
 use Rattle.co_sheet.specs.Accepted.{first_fault, sections_in}
 use Rattle.co_sheet.specs.Content.{SheetContent, content_of}
-use Rattle.co_sheet.specs.FaultTexts.{fault_text, note_text}
+use Rattle.co_sheet_rows.specs.FaultTexts.{fault_text, note_text}
 use Rattle.co_dict_list.specs.declared.build_fault.BuildFault.{BuildFault}
 use Rattle.co_dict_list.specs.BuildFaults.{build_fault}
 use Rattle.co_dict_list.specs.BuildFaultTexts.{fault_text as build_fault_text}

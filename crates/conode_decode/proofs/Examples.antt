@@ -8,10 +8,11 @@ use Rattle.co_value.specs.declared.data_type.DataType.TheVariants.{Unsigned16}
 use Rattle.co_frame.specs.FrameContent.{FrameContent}
 use Rattle.co_frame.specs.SdoRequests.{request_row_in}
 use Rattle.co_frame.specs.SdoResponses.{response_row_in}
-use Rattle.co_sheet.specs.declared.entry.Access.TheVariants.{Rw}
+use Rattle.co_profile.specs.declared.access.Access.TheVariants.{Rw}
 use Rattle.co_sheet.specs.Limits.{absent}
 use Rattle.co_sheet.specs.Content.{Row, SheetContent}
-use Rattle.conode_trace.specs.Printed.{digits_text, frame_text}
+use Rattle.co_text.specs.Printed.{digits_text}
+use Rattle.conode_trace.specs.Printed.{frame_text}
 use Rattle.conode_decode.specs.Names.{Names, name_of, name_text}
 use Rattle.conode_decode.specs.SdoTexts.{expedited_text, initiate_text, segment_text, abort_text, acknowledge_text, block_end_text, request_text, request_key, answer_text, answer_key}
 use Rattle.conode_decode.specs.Texts.{nmt_text, sync_text, of_node, emergency_text, pdo_text, named_request, named_answer, sdo_request_text, sdo_answer_text, text_of_frame, decoded_line}

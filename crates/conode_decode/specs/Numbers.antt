@@ -1,12 +1,7 @@
 -- How the fields of a frame are printed.
 use Rattle.std.specs.Prelude.{ℕ, Bool, if◌then◌else◌, List, [], ◌∷◌, ◌++◌, codes, Option, Some, None, decimal}
 use Rattle.std.specs.List.{flat_map}
-use Rattle.co_value.specs.declared.key.Key.{Key}
-use Rattle.conode_trace.specs.Printed.{byte_text, digits_text}
-
--- a key: four hexadecimal digits, a colon and two more
-abbrev pub key_text : Key → List ℕ
-key_text key = digits_text 16 4 key.index ++ codes ":" ++ digits_text 16 2 key.sub
+use Rattle.co_text.specs.Printed.{byte_text}
 
 -- bytes, two hexadecimal digits each; a hyphen for none
 abbrev pub hex_text : List ℕ → List ℕ

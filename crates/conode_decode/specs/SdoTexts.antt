@@ -1,7 +1,7 @@
 -- The texts of SDO requests and answers (CiA 301, 7.2.4.3).
 use Rattle.std.specs.Prelude.{ℕ, Bool, if◌then◌else◌, List, [], ◌++◌, codes, Option, Some, None, decimal}
 use Rattle.co_value.specs.declared.key.Key.{Key}
-use Rattle.conode_trace.specs.Printed.{digits_text}
+use Rattle.co_text.specs.Printed.{digits_text}
 use Rattle.co_frame.specs.declared.abort_code.AbortCode.{AbortCode}
 use Rattle.co_frame.specs.declared.sdo_request.ExpeditedData.{ExpeditedData}
 use Rattle.co_frame.specs.declared.sdo_request.ExpeditedData.TheVariants.{Indicated, NotIndicated}
@@ -9,7 +9,8 @@ use Rattle.co_frame.specs.declared.sdo_request.SdoRequest.{SdoRequest}
 use Rattle.co_frame.specs.declared.sdo_request.SdoRequest.TheVariants as requests
 use Rattle.co_frame.specs.declared.sdo_response.SdoResponse.{SdoResponse}
 use Rattle.co_frame.specs.declared.sdo_response.SdoResponse.TheVariants as answers
-use Rattle.conode_decode.specs.Numbers.{key_text, hex_text, toggle_text, size_text}
+use Rattle.co_value.specs.KeyTexts.{key_text}
+use Rattle.conode_decode.specs.Numbers.{hex_text, toggle_text, size_text}
 
 -- ---- what requests and answers share
 

@@ -1,7 +1,8 @@
 -- The text of a frame, by its identifier and its service (CiA 301, 7.2 and 7.3.3).
 use Rattle.std.specs.Prelude.{ℕ, ◌==◌, if◌then◌else◌, List, [], ◌∷◌, ◌++◌, length, codes, decimal}
 use Rattle.std.specs.Option.{option_map_or}
-use Rattle.conode_trace.specs.Printed.{digits_text, frame_text}
+use Rattle.co_text.specs.Printed.{digits_text}
+use Rattle.conode_trace.specs.Printed.{frame_text}
 use Rattle.co_frame.specs.FrameContent.{FrameContent}
 use Rattle.co_frame.specs.declared.nmt.NmtService.{NmtService}
 use Rattle.co_frame.specs.declared.nmt.NmtService.TheVariants.{Start, Stop, EnterPreOperational, ResetNode, ResetCommunication}

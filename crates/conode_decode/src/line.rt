@@ -6,8 +6,9 @@ ghost use Rattle.conode_decode.specs.Texts.{decoded_line};
 
 use crate::names::Names;
 use crate::node_services::push_text;
-use crate::numbers::{push_decimal, push_words};
+use crate::numbers::push_words;
 use co_frame::Frame;
+use co_text::push_decimal;
 use conode_trace::push_frame;
 use std::alloc::AllocError;
 

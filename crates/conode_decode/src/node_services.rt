@@ -6,13 +6,13 @@ ghost use Rattle.conode_decode.specs.Names.{names_view};
 ghost use Rattle.conode_decode.specs.Texts.{emergency_text, heartbeat_text, named_answer, named_request, nmt_service_text, nmt_text, of_node, pdo_text, sdo_answer_text, sdo_request_text, service_text, sync_text, text_of_frame, unknown_text};
 
 use crate::names::Names;
-use crate::numbers::{push_decimal, push_words};
+use crate::numbers::push_words;
 use crate::sdo_texts::{answer_key, push_answer, push_request, request_key};
 use crate::service::Service;
 use co_frame::{
     Emergency, Frame, Heartbeat, NmtCommand, NmtService, SdoRequest, SdoResponse, Sync,
 };
-use conode_trace::{push_byte, push_u16};
+use co_text::{push_byte, push_decimal, push_u16};
 use std::alloc::AllocError;
 
 fn nmt_service_text(service: NmtService) -> &'static str

@@ -1,11 +1,11 @@
 //! The fields of a frame. Each function appends a text; on an `Err` memory ran out, and a part of it may be there.
 
-ghost use Rattle.std.specs.Prelude.{◌≡◌, ◌++◌, OnOk, string_bytes, decimal};
-ghost use Rattle.conode_decode.specs.Numbers.{key_text, hex_text, toggle_text, size_text};
+ghost use Rattle.std.specs.Prelude.{◌≡◌, ◌++◌, OnOk, string_bytes};
+ghost use Rattle.co_value.specs.KeyTexts.{key_text};
+ghost use Rattle.conode_decode.specs.Numbers.{hex_text, toggle_text, size_text};
 
+use co_text::{push_bytes, push_decimal};
 use co_value::Key;
-use conode_trace::{push_byte, push_bytes, push_u16};
-use itoa::Buffer;
 use std::alloc::AllocError;
 
 pub(crate) fn push_words(text: &mut String, words: &str) -> Result<(), AllocError>
@@ -14,19 +14,10 @@ pub(crate) fn push_words(text: &mut String, words: &str) -> Result<(), AllocErro
     text.push_str(words)
 }
 
-pub(crate) fn push_decimal(text: &mut String, number: u64) -> Result<(), AllocError>
-    ensures { OnOk result (string_bytes text.new ≡ string_bytes text.old ++ decimal number) }
-{
-    let mut buffer = Buffer::new();
-    text.push_str(buffer.format(number))
-}
-
 pub(crate) fn push_key(text: &mut String, key: Key) -> Result<(), AllocError>
     ensures { OnOk result (string_bytes text.new ≡ string_bytes text.old ++ key_text key) }
 {
-    push_u16(text, key.index)?;
-    text.push(':')?;
-    push_byte(text, key.sub)
+    text.push_str(key.text().as_str())
 }
 
 pub(crate) fn push_hex(text: &mut String, bytes: &[u8]) -> Result<(), AllocError>

@@ -2,7 +2,7 @@
 use Rattle.std.proofs.Common.{◌≡◌, [], ◌∷◌, ◌++◌, refl}
 use Rattle.std.specs.Prelude.{codes}
 use Rattle.std.specs.Fmt.{digits}
-use Rattle.co_sheet.specs.declared.fault.FaultKind.TheVariants.{Memory}
+use Rattle.co_sheet_rows.specs.declared.fault.FaultKind.TheVariants.{Memory}
 use Rattle.conode_io.specs.declared.fault.CmdFault.TheVariants.{BadLine, NeverEnds}
 use Rattle.conode_io.specs.declared.message.Message.TheVariants.{Stopped, Fault}
 use Rattle.conode_io.specs.Messages.{message_line}

@@ -1,6 +1,6 @@
 -- What the program says where a command doesn't come to its end.
 use Rattle.std.specs.Prelude.{ℕ, List, [], ◌∷◌, ◌++◌, codes, decimal}
-use Rattle.co_sheet.specs.FaultTexts.{fault_text}
+use Rattle.co_sheet_rows.specs.FaultTexts.{fault_text}
 use Rattle.conode_io.specs.declared.fault.CmdFault.{CmdFault}
 use Rattle.conode_io.specs.declared.fault.CmdFault.TheVariants.{Read, Write, BadLine, Memory, NeverEnds}
 use Rattle.conode_io.specs.declared.message.Message.{Message}

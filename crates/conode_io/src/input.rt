@@ -64,11 +64,7 @@ pub fn read_all<R: io::Read>(
     while asks.take() {
         match reader.read(&mut piece) {
             Ok(0) => return Ok(text),
-            Ok(count) => {
-                if text.extend_from_slice(&piece[..count]).is_err() {
-                    return Err(CmdFault::Memory);
-                }
-            }
+            Ok(count) => text.extend_from_slice(&piece[..count])?,
             Err(error) => {
                 if error.kind() != io::ErrorKind::Interrupted {
                     return Err(CmdFault::Read);

@@ -59,12 +59,23 @@ pub fn flushed<W: Write, T: Drop>(
 }
 
 /// Writes the line of a message at once.
-#[tactic(auto, unfolding(crate::specs::Messages::message_line))]
 pub fn say<W: Write>(message: Message<'_>, writer: &mut W) -> io::Result<()>
     ensures { OnOk result
         (Appends (W.contents writer.old) (W.contents writer.new) (message_line message.entry)) }
 {
-    writeln!(writer, "{message}")?;
+    match message {
+        Message::Stopped(fault) => {
+            let text = fault.text();
+            let text = text.as_str();
+            writeln!(writer, "stopped: {text}")?;
+        }
+        Message::Fault(fault) => {
+            let text = fault.text();
+            let text = text.as_str();
+            writeln!(writer, "{text}")?;
+        }
+        Message::CannotRead(name) => writeln!(writer, "cannot read {name}")?,
+    }
     writer.flush()
 }
 

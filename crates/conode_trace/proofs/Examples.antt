@@ -5,7 +5,8 @@ use Rattle.std.specs.Fmt.{digits}
 use Rattle.conode_trace.specs.declared.trace_line.TraceLine.TheVariants.{Skipped, PassedOver, Data}
 use Rattle.conode_trace.specs.Clocks.{ClockState, clock_at_start, clock_after}
 use Rattle.conode_trace.specs.FrameLines.{line_in, stamp_at, identifier_at, body_in, frame_at, frame_line_in}
-use Rattle.conode_trace.specs.Printed.{frame_line, frame_text, digits_text, seconds_text, stamp_text}
+use Rattle.co_text.specs.Printed.{digits_text}
+use Rattle.conode_trace.specs.Printed.{frame_line, frame_text, seconds_text, stamp_text}
 
 -- ---- what a line says
 

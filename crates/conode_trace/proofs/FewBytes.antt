@@ -14,12 +14,14 @@ use Rattle.conode_trace.specs.declared.frame_fields.Body.TheVariants.{Bytes, Oth
 use Rattle.conode_trace.specs.declared.event_line.EventLine.{EventLine}
 use Rattle.conode_trace.specs.declared.event_line.EventLine.TheVariants.{Ticks, App}
 use Rattle.conode_trace.specs.declared.event_line.AppLine.TheVariants as app
-use Rattle.conode_trace.specs.Texts.{◌>>=◌, is_blank, decimal_in}
-use Rattle.conode_trace.specs.HexPairs.{pairs_at, pairs_in, hex_in, byte_in, word_in, key_in, bytes_in}
+use Rattle.co_text.specs.Texts.{◌>>=◌, is_blank, decimal_in}
+use Rattle.co_text.specs.HexPairs.{pairs_at, pairs_in, hex_in, byte_in, word_in, bytes_in}
+use Rattle.co_value.specs.KeyTexts.{key_in}
 use Rattle.conode_trace.specs.Events.{words, event_of_one, event_of_two, event_of_three, event_in, HasFewBytes}
 use Rattle.conode_trace.specs.FrameLines.{stamp_at, identifier_at, body_in, past_run, is_name_byte, line_of, frame_at, frame_line_in, is_skipped, begins_as_event, line_in, WritesFewBytes}
-use Rattle.conode_trace.proofs.GrammarRuns.{by_test, guarded, if_some}
-use Rattle.conode_trace.proofs.Pairs.{length-pairs}
+use Rattle.co_text.proofs.Tests.{by_test, guarded}
+use Rattle.conode_trace.proofs.GrammarRuns.{if_some}
+use Rattle.co_text.proofs.Pairs.{length-pairs}
 
 -- ---- a word is no longer than its line
 

@@ -8,11 +8,13 @@ use Rattle.std.specs.List.{list_all}
 use Rattle.std.specs.Option.{option_map_or}
 use Rattle.conode_trace.specs.declared.frame_fields.Body.{Body}
 use Rattle.conode_trace.specs.declared.frame_fields.Body.TheVariants.{Bytes, Other}
-use Rattle.conode_trace.specs.Texts.{◌>>=◌, is_blank, is_digit, hex_digit, hex_pair}
-use Rattle.conode_trace.specs.HexPairs.{pairs_at}
+use Rattle.co_text.specs.Texts.{◌>>=◌, is_blank, is_digit, hex_digit, hex_pair}
+use Rattle.co_text.specs.HexPairs.{pairs_at}
 use Rattle.conode_trace.specs.FrameLines.{few_pairs_at, is_mark, is_ending, past_digit, body_in}
 use Rattle.conode_trace.specs.Grammar.{IsRun, SpellsPairs, IsEnding, SpellsBody}
-use Rattle.conode_trace.proofs.GrammarRuns.{by_test, guarded, both, take-run}
+use Rattle.std.proofs.lemmas.Bool.{and_parts}
+use Rattle.co_text.proofs.Tests.{by_test, guarded}
+use Rattle.conode_trace.proofs.GrammarRuns.{take-run}
 
 -- both ways that an option may go
 by_option : {P : Type 0} (o : Option ℕ) → ((x : ℕ) → o ≡ Some x → P) → (o ≡ None → P) → P
@@ -79,8 +81,8 @@ ending_spelled (x ∷ xs) few e =
     let last : length (x ∷ xs) - 1 ≡ length xs = omega arith in
     let some : eqb (length (x ∷ xs)) 0 ≡ false = grind (arith, nat_tests) in
     let tests : (ltb 0 (length xs) && (is_mark (get_or (x ∷ xs) (length xs) 0) && list_all is_blank (take (length xs) (x ∷ xs)))) ≡ true = rw (last, some) at e in
-    let first = both (ltb 0 (length xs)) (is_mark (get_or (x ∷ xs) (length xs) 0) && list_all is_blank (take (length xs) (x ∷ xs))) tests in
-    let second = both (is_mark (get_or (x ∷ xs) (length xs) 0)) (list_all is_blank (take (length xs) (x ∷ xs))) first.1 in
+    let first = and_parts (ltb 0 (length xs)) (is_mark (get_or (x ∷ xs) (length xs) 0) && list_all is_blank (take (length xs) (x ∷ xs))) tests in
+    let second = and_parts (is_mark (get_or (x ∷ xs) (length xs) 0)) (list_all is_blank (take (length xs) (x ∷ xs))) first.1 in
     let long : 0 < length xs = grind (arith, nat_tests, first.0) in
     let n = length-take-le (length xs) (x ∷ xs) (omega arith) in
     let run : IsRun is_blank 1 512 (take (length xs) (x ∷ xs)) = record { all = second.1; enough = omega arith; few = omega arith } in
@@ -94,8 +96,8 @@ blank_digit byte e = by_test (eqb byte 32) (λ space. rw (eqb-true byte 32 space
 no_pair : (text : List ℕ) → IsEnding text → pairs_at text ≡ ([], text)
 no_pair text (inl e) = rw e refl
 no_pair text (inr ([], mark, run, marked, joined)) = absurd (omega (arith, run.enough))
-no_pair text (inr (blank ∷ [], mark, run, marked, joined)) = rw (joined, blank_digit blank (both (is_blank blank) true run.all).0) refl
-no_pair text (inr (blank ∷ other ∷ blanks, mark, run, marked, joined)) = rw (joined, blank_digit blank (both (is_blank blank) (list_all is_blank (other ∷ blanks)) run.all).0) refl
+no_pair text (inr (blank ∷ [], mark, run, marked, joined)) = rw (joined, blank_digit blank (and_parts (is_blank blank) true run.all).0) refl
+no_pair text (inr (blank ∷ other ∷ blanks, mark, run, marked, joined)) = rw (joined, blank_digit blank (and_parts (is_blank blank) (list_all is_blank (other ∷ blanks)) run.all).0) refl
 
 -- the first byte after the number sign of a data frame is no number sign and no `R`
 abbrev IsDataFirst : ℕ → Type 0
@@ -107,7 +109,7 @@ blank_first byte e = by_test (eqb byte 32) (λ space. rw (eqb-true byte 32 space
 ending_first : (text : List ℕ) → IsEnding text → IsDataFirst (get_or text 0 0)
 ending_first text (inl e) = rw e (refl, refl)
 ending_first text (inr ([], mark, run, marked, joined)) = absurd (omega (arith, run.enough))
-ending_first text (inr (blank ∷ blanks, mark, run, marked, joined)) = rw joined (blank_first blank (both (is_blank blank) (list_all is_blank blanks) run.all).0)
+ending_first text (inr (blank ∷ blanks, mark, run, marked, joined)) = rw joined (blank_first blank (and_parts (is_blank blank) (list_all is_blank blanks) run.all).0)
 
 pair_first : (high low byte : ℕ) → hex_pair high low ≡ Some byte → IsDataFirst high
 pair_first high low byte e = (
@@ -135,12 +137,12 @@ no_digit : (text : List ℕ) → IsEnding text → is_digit (get_or text 0 0) �
 no_digit text (inl e) = rw e refl
 no_digit text (inr ([], mark, run, marked, joined)) = absurd (omega (arith, run.enough))
 no_digit text (inr (blank ∷ blanks, mark, run, marked, joined)) =
-    let test = (both (is_blank blank) (list_all is_blank blanks) run.all).0 in
+    let test = (and_parts (is_blank blank) (list_all is_blank blanks) run.all).0 in
     rw joined (by_test (eqb blank 32) (λ space. rw (eqb-true blank 32 space) refl) (λ other. rw (eqb-true blank 9 (rw other at test)) refl))
 
 digit_passed : (digit ending : List ℕ) → IsRun is_digit 0 1 digit → IsEnding ending → past_digit (digit ++ ending) ≡ ending
 digit_passed [] ending h e = rw (no_digit ending e) refl
-digit_passed (d ∷ []) ending h e = rw (both (is_digit d) true h.all).0 refl
+digit_passed (d ∷ []) ending h e = rw (and_parts (is_digit d) true h.all).0 refl
 digit_passed (d ∷ c ∷ more) ending h e = absurd (omega (arith, h.few))
 
 remote_is : (digit ending : List ℕ) → IsRun is_digit 0 1 digit → IsEnding ending → body_in (82 ∷ (digit ++ ending)) ≡ Some Other

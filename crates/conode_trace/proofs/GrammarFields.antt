@@ -7,10 +7,12 @@ use Rattle.std.proofs.lemmas.List.{take-append-drop}
 use Rattle.std.specs.List.{prefix_len, list_all}
 use Rattle.conode_trace.specs.declared.frame_fields.Identifier.{Identifier}
 use Rattle.conode_trace.specs.declared.frame_fields.Identifier.TheVariants.{Base, Extended}
-use Rattle.conode_trace.specs.Texts.{is_digit, is_hex_digit, decimal_value}
+use Rattle.co_text.specs.Texts.{is_digit, is_hex_digit, decimal_value}
 use Rattle.conode_trace.specs.FrameLines.{past_byte, number_at, stamp_at, three_digits, identifier_at}
 use Rattle.conode_trace.specs.Grammar.{IsRun, SpellsStamp, SpellsIdentifier}
-use Rattle.conode_trace.proofs.GrammarRuns.{by_test, guarded, both, prefix_len-run, take-run, drop-run, front_run}
+use Rattle.std.proofs.lemmas.Bool.{and_parts}
+use Rattle.co_text.proofs.Tests.{by_test, guarded}
+use Rattle.conode_trace.proofs.GrammarRuns.{prefix_len-run, take-run, drop-run, front_run}
 
 -- ---- one byte
 
@@ -86,10 +88,10 @@ extended_is a b c d e f g h rest all fourth = rw (not_sign d fourth, all) refl
 
 fourth_digit : (a b c d : ℕ) (rest : List ℕ) → list_all is_hex_digit (a ∷ b ∷ c ∷ d ∷ rest) ≡ true → is_hex_digit d ≡ true
 fourth_digit a b c d rest all =
-    let first = both (is_hex_digit a) (list_all is_hex_digit (b ∷ c ∷ d ∷ rest)) all in
-    let second = both (is_hex_digit b) (list_all is_hex_digit (c ∷ d ∷ rest)) first.1 in
-    let third = both (is_hex_digit c) (list_all is_hex_digit (d ∷ rest)) second.1 in
-    (both (is_hex_digit d) (list_all is_hex_digit rest) third.1).0
+    let first = and_parts (is_hex_digit a) (list_all is_hex_digit (b ∷ c ∷ d ∷ rest)) all in
+    let second = and_parts (is_hex_digit b) (list_all is_hex_digit (c ∷ d ∷ rest)) first.1 in
+    let third = and_parts (is_hex_digit c) (list_all is_hex_digit (d ∷ rest)) second.1 in
+    (and_parts (is_hex_digit d) (list_all is_hex_digit rest) third.1).0
 
 pub identifier_is : (id : Identifier) (text rest : List ℕ) → SpellsIdentifier id text → identifier_at (text ++ 35 ∷ rest) ≡ Some (id, rest)
 identifier_is (Base id) [] rest h = absurd (omega (arith, h.0))
@@ -141,7 +143,7 @@ unfolding identifier_at
 extended_spelled text x other e =
     let test = eqb (get_or text 8 0) 35 && list_all is_hex_digit (take 8 text) in
     let g = guarded test (Extended, drop 9 text) x (rw other at e) in
-    let parts = both (eqb (get_or text 8 0) 35) (list_all is_hex_digit (take 8 text)) g.0 in
+    let parts = and_parts (eqb (get_or text 8 0) 35) (list_all is_hex_digit (take 8 text)) g.0 in
     let cut = split_at 8 35 text (lit< tt) (eqb-true (get_or text 8 0) 35 parts.0) in
     let long = cut.1 in
     let result : IsFound text (Extended, drop 9 text) = (take 8 text, record { all = parts.1; enough = omega arith; few = omega arith }, cut.0) in

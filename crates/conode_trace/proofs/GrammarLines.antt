@@ -10,11 +10,13 @@ use Rattle.conode_trace.specs.declared.trace_line.TraceLine.TheVariants.{Event}
 use Rattle.conode_trace.specs.declared.event_line.EventLine.{EventLine}
 use Rattle.conode_trace.specs.declared.frame_fields.Identifier.{Identifier}
 use Rattle.conode_trace.specs.declared.frame_fields.Identifier.TheVariants.{Base, Extended}
-use Rattle.conode_trace.specs.Texts.{is_blank, is_hex_digit}
+use Rattle.co_text.specs.Texts.{is_blank, is_hex_digit}
 use Rattle.conode_trace.specs.FrameLines.{past_run, stamp_at, is_name_byte, identifier_at, body_in, line_of, frame_at, frame_line_in, is_skipped, begins_as_event, line_in}
 use Rattle.conode_trace.specs.Events.{words, event_of_one, event_of_two, event_of_three, event_in}
 use Rattle.conode_trace.specs.Grammar.{IsRun, SpellsIdentifier, SpellsFrameLine, IsSkipped, IsEventLine, SpellsLine}
-use Rattle.conode_trace.proofs.GrammarRuns.{by_test, both, if_some, past_run-is, run_passed}
+use Rattle.std.proofs.lemmas.Bool.{and_parts}
+use Rattle.co_text.proofs.Tests.{by_test}
+use Rattle.conode_trace.proofs.GrammarRuns.{if_some, past_run-is, run_passed}
 use Rattle.conode_trace.proofs.GrammarFields.{stamp_is, stamp_spelled, identifier_is, identifier_spelled}
 use Rattle.conode_trace.proofs.GrammarBodies.{blank_digit, body_is, body_spelled}
 
@@ -23,12 +25,12 @@ use Rattle.conode_trace.proofs.GrammarBodies.{blank_digit, body_is, body_spelled
 after_blanks : (name rest : List ℕ) → IsRun is_name_byte 1 15 name → prefix_len is_blank (name ++ rest) ≡ 0
 after_blanks [] rest h = absurd (omega (arith, h.enough))
 after_blanks (x ∷ xs) rest h =
-    let named = (both (is_name_byte x) (list_all is_name_byte xs) h.all).0 in
+    let named = (and_parts (is_name_byte x) (list_all is_name_byte xs) h.all).0 in
     by_test (is_blank x) (λ e. let no : false ≡ true = rw e at named in cc) (λ e. rw e refl)
 
 after_name : (blanks rest : List ℕ) → IsRun is_blank 1 512 blanks → prefix_len is_name_byte (blanks ++ rest) ≡ 0
 after_name [] rest h = absurd (omega (arith, h.enough))
-after_name (x ∷ xs) rest h = rw (both (is_blank x) (list_all is_blank xs) h.all).0 refl
+after_name (x ∷ xs) rest h = rw (and_parts (is_blank x) (list_all is_blank xs) h.all).0 refl
 
 before_id : (id : Identifier) (text rest : List ℕ) → SpellsIdentifier id text → prefix_len is_blank (text ++ rest) ≡ 0
 before_id (Base id) [] rest h = absurd (omega (arith, h.0))
@@ -36,7 +38,7 @@ before_id (Base id) (x ∷ xs) rest h =
     by_test (is_blank x) (λ e. let no : None ≡ Some id = rw (blank_digit x e) at h.1 in cc) (λ e. rw e refl)
 before_id Extended [] rest h = absurd (omega (arith, h.enough))
 before_id Extended (x ∷ xs) rest h =
-    let digit = (both (is_hex_digit x) (list_all is_hex_digit xs) h.all).0 in
+    let digit = (and_parts (is_hex_digit x) (list_all is_hex_digit xs) h.all).0 in
     by_test (is_blank x) (λ e. let no : false ≡ true = rw (blank_digit x e) at digit in cc) (λ e. rw e refl)
 
 -- ---- what is spelled is read

@@ -1,30 +1,17 @@
 -- Runs of bytes at the front of a text.
-use Rattle.std.proofs.Common.{◌≡◌, ℕ, suc, ◌+◌, Bool, true, false, cond, ◌&&◌, List, [], ◌∷◌, ◌++◌, length, take, drop, Option, Some, None, IfSome, leb, refl, sym, ap, ◌∙◌, arith, take-append-drop}
+use Rattle.std.proofs.Common.{◌≡◌, ℕ, suc, ◌+◌, Bool, true, ◌&&◌, List, [], ◌∷◌, ◌++◌, length, take, drop, Option, Some, None, IfSome, leb, refl, sym, ap, ◌∙◌, arith, take-append-drop}
 use Rattle.std.proofs.lemmas.List.Folds.{length-prefix_len}
+use Rattle.std.proofs.lemmas.Bool.{and_parts}
 use Rattle.std.proofs.lemmas.Bool.Decides.{nat_tests}
 use Rattle.std.specs.List.{prefix_len, list_all}
+use Rattle.co_text.proofs.Tests.{by_test, guarded}
 use Rattle.conode_trace.specs.FrameLines.{past_run}
 use Rattle.conode_trace.specs.Grammar.{IsRun}
-
--- both ways that a test may go
-pub by_test : {P : Type 0} (b : Bool) → (b ≡ true → P) → (b ≡ false → P) → P
-by_test true then otherwise = then refl
-by_test false then otherwise = otherwise refl
-
--- a test that guards a value was met
-pub guarded : {A : Type 0} (b : Bool) (x y : A) → cond b (Some x) None ≡ Some y → (b ≡ true) × (x ≡ y)
-guarded true x y e = (refl, cc)
-guarded false x y e = cc
 
 -- what holds of each value that there may be
 pub if_some : {A : Type 0} {P : A → Type 0} (o : Option A) → ((x : A) → o ≡ Some x → P x) → IfSome o P
 if_some None each = tt
 if_some (Some x) each = each x refl
-
-pub both : (a b : Bool) → (a && b) ≡ true → (a ≡ true) × (b ≡ true)
-both true true e = (refl, refl)
-both true false e = cc
-both false b e = cc
 
 -- the bytes at the front pass
 pub list_all-prefix : (p : ℕ → Bool) (text : List ℕ) → list_all p (take (prefix_len p text) text) ≡ true
@@ -37,7 +24,7 @@ list_all-prefix p (x ∷ xs) =
 pub prefix_len-run : (p : ℕ → Bool) (run rest : List ℕ) → list_all p run ≡ true → prefix_len p rest ≡ 0 → prefix_len p (run ++ rest) ≡ length run
 prefix_len-run p [] rest h e = e
 prefix_len-run p (x ∷ xs) rest h e =
-    let parts = both (p x) (list_all p xs) h in
+    let parts = and_parts (p x) (list_all p xs) h in
     let more = prefix_len-run p xs rest parts.1 e in
     rw parts.0 (omega (arith, more))
 
@@ -59,7 +46,7 @@ past_run-is p least most run rest h e =
 -- the bytes at the front, where they are from least to most, are a run
 pub front_run : (p : ℕ → Bool) (least most : ℕ) (text : List ℕ) → (leb least (prefix_len p text) && leb (prefix_len p text) most) ≡ true → IsRun p least most (take (prefix_len p text) text)
 front_run p least most text e =
-    let parts = both (leb least (prefix_len p text)) (leb (prefix_len p text) most) e in
+    let parts = and_parts (leb least (prefix_len p text)) (leb (prefix_len p text) most) e in
     let n = length-prefix_len p text in
     record {
       all = list_all-prefix p text;

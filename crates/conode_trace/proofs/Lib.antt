@@ -1,15 +1,13 @@
 pub mod TenDigits
-pub mod EightDigits
 pub mod EventExamples
 pub mod Examples
 pub mod FewBytes
+pub mod FewPairs
 pub mod GrammarBodies
 pub mod GrammarFields
 pub mod GrammarLines
 pub mod GrammarRuns
-pub mod HexDigits
 pub mod Numbers
-pub mod Pairs
 pub mod Reading
 pub mod TraceExamples
 pub mod Words

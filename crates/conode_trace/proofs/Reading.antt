@@ -1,5 +1,5 @@
 -- A trace that is read line by line.
-use Rattle.std.proofs.Common.{◌≡◌, ℕ, ◌+◌, List, [], ◌∷◌, length, Some, None, refl}
+use Rattle.std.proofs.Common.{◌≡◌, ℕ, ◌+◌, List, [], ◌∷◌, Some, None, refl}
 use Rattle.std.specs.Str.Lines.{lines}
 use Rattle.conode_trace.specs.declared.timed_line.TimedLine.{TimedLine}
 use Rattle.conode_trace.specs.Clocks.{ClockState}

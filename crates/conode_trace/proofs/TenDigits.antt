@@ -1,7 +1,8 @@
 -- Ten digits as twice five.
 use Rattle.std.proofs.Common.{◌≡◌, ℕ, ◌/◌, ◌%◌, ◌<◌, ◌^◌, ◌++◌, arith}
 use Rattle.std.proofs.lemmas.Bool.Decides.{nat_tests}
-use Rattle.conode_trace.specs.Printed.{digits_text, seconds_text}
+use Rattle.co_text.specs.Printed.{digits_text}
+use Rattle.conode_trace.specs.Printed.{seconds_text}
 
 -- the digits of the front and of the rest
 pub ten_digits : (s : ℕ) → digits_text 10 5 (s / 100000) ++ digits_text 10 5 (s % 100000) ≡ digits_text 10 10 s

@@ -5,8 +5,9 @@ use Rattle.std.specs.Option.{option_map}
 use Rattle.conode_trace.specs.declared.event_line.EventLine.{EventLine}
 use Rattle.conode_trace.specs.declared.event_line.EventLine.TheVariants.{Ticks, App}
 use Rattle.conode_trace.specs.declared.event_line.AppLine.TheVariants as app
-use Rattle.conode_trace.specs.Texts.{◌>>=◌, decimal_in}
-use Rattle.conode_trace.specs.HexPairs.{hex_in, byte_in, word_in, key_in, bytes_in}
+use Rattle.co_text.specs.Texts.{◌>>=◌, decimal_in}
+use Rattle.co_text.specs.HexPairs.{hex_in, byte_in, word_in, bytes_in}
+use Rattle.co_value.specs.KeyTexts.{key_in}
 
 -- the parts of a line between its single spaces: two spaces in a row have an empty word between them
 abbrev pub words : List ℕ → List (List ℕ)

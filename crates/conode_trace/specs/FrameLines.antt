@@ -8,8 +8,8 @@ use Rattle.conode_trace.specs.declared.frame_fields.Identifier.{Identifier}
 use Rattle.conode_trace.specs.declared.frame_fields.Identifier.TheVariants.{Base, Extended}
 use Rattle.conode_trace.specs.declared.frame_fields.Body.{Body}
 use Rattle.conode_trace.specs.declared.frame_fields.Body.TheVariants.{Bytes, Other}
-use Rattle.conode_trace.specs.Texts.{◌>>=◌, is_blank, is_digit, decimal_value, hex_digit, is_hex_digit}
-use Rattle.conode_trace.specs.HexPairs.{pairs_at}
+use Rattle.co_text.specs.Texts.{◌>>=◌, is_blank, is_digit, decimal_value, hex_digit, is_hex_digit}
+use Rattle.co_text.specs.HexPairs.{pairs_at}
 use Rattle.conode_trace.specs.Events.{words, event_in, HasFewBytes}
 
 -- what follows this byte, which must come first

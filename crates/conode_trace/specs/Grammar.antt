@@ -8,7 +8,7 @@ use Rattle.conode_trace.specs.declared.frame_fields.Identifier.{Identifier}
 use Rattle.conode_trace.specs.declared.frame_fields.Identifier.TheVariants.{Base, Extended}
 use Rattle.conode_trace.specs.declared.frame_fields.Body.{Body}
 use Rattle.conode_trace.specs.declared.frame_fields.Body.TheVariants.{Bytes, Other}
-use Rattle.conode_trace.specs.Texts.{is_blank, is_digit, is_hex_digit, decimal_value, hex_pair}
+use Rattle.co_text.specs.Texts.{is_blank, is_digit, is_hex_digit, decimal_value, hex_pair}
 use Rattle.conode_trace.specs.Events.{words, event_in}
 use Rattle.conode_trace.specs.FrameLines.{is_name_byte, three_digits, line_of}
 

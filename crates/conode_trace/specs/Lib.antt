@@ -2,8 +2,6 @@ pub mod Clocks
 pub mod Events
 pub mod FrameLines
 pub mod Grammar
-pub mod HexPairs
 pub mod Printed
-pub mod Texts
 pub mod TraceLaws
 pub mod Traces

@@ -1,21 +1,8 @@
--- How numbers and frames are printed.
-use Rattle.std.specs.Prelude.{ℕ, zero, suc, ◌+◌, ◌/◌, ◌%◌, ◌^◌, nat_lt, if◌then◌else◌, List, [], ◌∷◌, ◌++◌, codes, decimal}
+-- How frames are printed.
+use Rattle.std.specs.Prelude.{ℕ, ◌/◌, ◌%◌, ◌^◌, nat_lt, if◌then◌else◌, List, [], ◌∷◌, ◌++◌, codes, decimal}
 use Rattle.std.specs.List.{flat_map}
+use Rattle.co_text.specs.Printed.{byte_text, digits_text}
 use Rattle.co_frame.specs.FrameContent.{FrameContent}
-
--- a digit, from ten on a letter in upper case
-abbrev pub printed_digit : ℕ → ℕ
-printed_digit digit = if nat_lt digit 10 then 48 + digit else 55 + digit
-
--- the last digits of a number in a base of at most 16, as many as are asked for
-unfoldable pub digits_text : ℕ → ℕ → ℕ → List ℕ
-digits_text base zero number = []
-digits_text base (suc count) number =
-    digits_text base count (number / base) ++ printed_digit (number % base) ∷ []
-
--- a byte in two hexadecimal digits
-abbrev pub byte_text : ℕ → List ℕ
-byte_text byte = digits_text 16 2 byte
 
 -- an identifier of three digits, the number sign, and two digits a byte
 unfoldable pub frame_text : FrameContent → List ℕ

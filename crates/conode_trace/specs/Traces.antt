@@ -7,7 +7,7 @@ use Rattle.conode_trace.specs.declared.trace_line.TraceLine.TheVariants.{Skipped
 use Rattle.conode_trace.specs.declared.event_line.EventLine.TheVariants.{Ticks, App}
 use Rattle.conode_trace.specs.declared.event_line.AppLine.{AppLine}
 use Rattle.conode_trace.specs.declared.timed_line.TimedLine.{TimedLine}
-use Rattle.conode_trace.specs.Texts.{◌>>=◌}
+use Rattle.co_text.specs.Texts.{◌>>=◌}
 use Rattle.conode_trace.specs.FrameLines.{line_in}
 use Rattle.conode_trace.specs.Clocks.{ClockState, clock_at_start, move_to, move_by}
 

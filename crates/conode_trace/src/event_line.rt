@@ -1,13 +1,10 @@
 //! Event lines: what an application does to a device, and time that passes.
 
-ghost use Rattle.std.specs.Prelude.{◌≡◌, ◌<◌, ◌≤◌, ◌∷◌, [], ◌+◌, length, IfSome, bytes_eq};
+ghost use Rattle.std.specs.Prelude.{◌≡◌, ◌∷◌, [], bytes_eq};
 ghost use Rattle.std.specs.Option.{option_map_or, option_copied};
-ghost use Rattle.conode_trace.specs.Texts.{decimal_in};
 ghost use Rattle.conode_trace.specs.Events.{words, event_of_one, event_of_two, event_of_three, event_in};
 
-use crate::hex_digit::is_digit;
-use crate::hex_pairs::{HexPairs, byte_in, five_bytes_in, key_in, word_in};
-use co_text::split_at_first;
+use co_text::{HexPairs, byte_in, decimal_in, five_bytes_in, split_at_first, word_in};
 use co_value::Key;
 
 /// What an application does to a device.
@@ -45,26 +42,6 @@ fn first_word(text: &[u8]) -> (&[u8], Option<&[u8]>)
     }
 }
 
-// a decimal number from least to most, in digits alone, one at least
-fn decimal_in(word: &[u8], least: u32, most: u32) -> Option<u32>
-    ensures { result ≡ decimal_in least most word.now }
-{
-    let mut number: u64 = 0;
-    for byte in word {
-        if !is_digit(*byte) {
-            return None;
-        }
-        number = 10 * number + u64::from(*byte - b'0');
-        if number > u64::from(most) {
-            return None;
-        }
-    }
-    if word.is_empty() || number < u64::from(least) {
-        return None;
-    }
-    Some(number as u32)
-}
-
 fn is_word(word: &[u8], name: &[u8]) -> bool
     ensures { result ≡ bytes_eq word.now name.now }
 {
@@ -83,7 +60,7 @@ fn event_of_one<'a>(name: &[u8], word: &'a [u8]) -> Option<EventLine<'a>>
         return Some(EventLine::App(AppLine::Event(number as u16)));
     }
     if is_word(name, b"!changed") {
-        return Some(EventLine::App(AppLine::Changed(key_in(word)?)));
+        return Some(EventLine::App(AppLine::Changed(Key::parse(word)?)));
     }
     if is_word(name, b"!clear") {
         return Some(EventLine::App(AppLine::Clear(byte_in(word)?)));
@@ -98,7 +75,7 @@ fn event_of_two<'a>(name: &[u8], first: &[u8], second: &'a [u8]) -> Option<Event
     if !is_word(name, b"!write") {
         return None;
     }
-    let key = key_in(first)?;
+    let key = Key::parse(first)?;
     let bytes = HexPairs::read(second)?;
     Some(EventLine::App(AppLine::Write(key, bytes)))
 }

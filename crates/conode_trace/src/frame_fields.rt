@@ -3,12 +3,11 @@
 ghost use Rattle.std.specs.Prelude.{◌≡◌, ◌+◌, ◌*◌, ◌^◌, ◌<◌, ◌≤◌, ℕ, List, length, slice_index, ◌==◌, Option, IfSome, IsTrue};
 ghost use Rattle.std.specs.Option.{option_map, option_copied};
 ghost use Rattle.std.specs.List.{prefix_len, list_all};
-ghost use Rattle.conode_trace.specs.Texts.{is_blank, is_digit, is_hex_digit};
+ghost use Rattle.co_text.specs.Texts.{is_blank, is_digit, is_hex_digit};
 ghost use Rattle.conode_trace.specs.FrameLines.{past_byte, past_run, number_at, stamp_at, is_name_byte, three_digits, identifier_at, few_pairs_at, IsIdentifier, is_ending, is_mark, past_digit, body_in};
 
-use crate::hex_digit::{hex_digit, is_digit};
-use crate::hex_pairs::pair_at;
 use arrayvec::ArrayVec;
+use co_text::{hex_digit, is_blank, is_digit, pair_at};
 
 /// The identifier of a frame line.
 #[derive(Clone, Copy, Debug, PartialEq, Eq)]
@@ -26,12 +25,6 @@ pub(crate) enum Body {
     Bytes(ArrayVec<u8, 8>),
     /// A remote frame or a CAN FD frame, which is passed over.
     Other,
-}
-
-fn is_blank(byte: u8) -> bool
-    ensures { result ≡ is_blank byte }
-{
-    byte == b' ' || byte == b'\t'
 }
 
 fn past_byte(text: &[u8], wanted: u8) -> Option<&[u8]>

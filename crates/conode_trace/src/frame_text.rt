@@ -1,15 +1,16 @@
 //! The line of a frame that is sent.
 
 ghost use Rattle.std.specs.Prelude.{◌≡◌, ◌<◌, ◌+◌, ◌%◌, ◌^◌, [], ◌∷◌, ◌++◌, ℕ, List, OnOk, string_bytes};
-ghost use Rattle.conode_trace.specs.Printed.{frame_text, digits_text, seconds_text, stamp_text, frame_line};
+ghost use Rattle.co_text.specs.Printed.{digits_text};
+ghost use Rattle.conode_trace.specs.Printed.{frame_text, seconds_text, stamp_text, frame_line};
 
-use crate::digits::{push_byte, push_bytes, push_digit};
 use co_frame::Frame;
+use co_text::{push_byte, push_bytes, push_digit};
 use std::alloc::AllocError;
 
 /// Appends a frame, as `605#2B17`: its identifier in three hexadecimal digits, a number sign, and two digits a byte. On an
 /// `Err` memory ran out, and the text may have a part of it.
-#[tactic(auto, unfolding(crate::specs::Printed::frame_text, crate::specs::Printed::digits_text))]
+#[tactic(auto, unfolding(crate::specs::Printed::frame_text, co_text::specs::Printed::digits_text))]
 pub fn push_frame(text: &mut String, frame: &Frame) -> Result<(), AllocError>
     ensures { OnOk result (string_bytes text.new ≡ string_bytes text.old ++ frame_text frame.now) }
 {
@@ -20,7 +21,7 @@ pub fn push_frame(text: &mut String, frame: &Frame) -> Result<(), AllocError>
     push_bytes(text, frame.bytes())
 }
 
-#[tactic(auto, unfolding(crate::specs::Printed::digits_text))]
+#[tactic(auto, unfolding(co_text::specs::Printed::digits_text))]
 fn push_three(text: &mut String, number: u32) -> Result<(), AllocError>
     ensures { OnOk result (string_bytes text.new ≡ string_bytes text.old ++ digits_text 10 3 number) }
 {
@@ -30,7 +31,7 @@ fn push_three(text: &mut String, number: u32) -> Result<(), AllocError>
     push_digit(text, (number % 10) as u8)
 }
 
-#[tactic(auto, unfolding(crate::specs::Printed::digits_text))]
+#[tactic(auto, unfolding(co_text::specs::Printed::digits_text))]
 fn push_five(text: &mut String, number: u32) -> Result<(), AllocError>
     ensures { OnOk result (string_bytes text.new ≡ string_bytes text.old ++ digits_text 10 5 number) }
 {

@@ -3,21 +3,16 @@
 #![tactic(auto)]
 
 mod clock;
-mod digits;
 mod event_line;
 mod frame_fields;
 mod frame_text;
-mod hex_digit;
-mod hex_pairs;
 mod timed_line;
 mod trace_line;
 mod trace_reader;
 
 pub use clock::Clock;
-pub use digits::{push_byte, push_bytes, push_u16, push_u32};
 pub use event_line::{AppLine, EventLine};
 pub use frame_text::{push_frame, set_frame_line};
-pub use hex_pairs::{HexPairs, key_in};
 pub use timed_line::TimedLine;
 pub use trace_line::TraceLine;
 pub use trace_reader::{BadLine, TraceReader};

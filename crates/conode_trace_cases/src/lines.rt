@@ -1,6 +1,8 @@
 //! What single lines say.
 
-use conode_trace::{AppLine, EventLine, HexPairs, TraceLine, key_in};
+use co_text::HexPairs;
+use co_value::Key;
+use conode_trace::{AppLine, EventLine, TraceLine};
 use std::alloc::AllocError;
 use std::process::Abort;
 use std::test::Fail;
@@ -130,7 +132,7 @@ fn words_of_the_command_line(rt: HostRuntime) -> Result<(), Fail> {
     assert_eq!(rt; bytes.next(), None);
     assert!(rt; HexPairs::read(b"").is_none());
     assert!(rt; HexPairs::read(b"0").is_none());
-    assert!(rt; key_in(b"1018:01").is_some());
-    assert!(rt; key_in(b"1018:1").is_none());
+    assert!(rt; Key::parse(b"1018:01").is_some());
+    assert!(rt; Key::parse(b"1018:1").is_none());
     Ok(())
 }

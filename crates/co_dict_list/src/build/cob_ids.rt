@@ -8,25 +8,26 @@ use super::pdo_pairs::is_communication;
 use co_dict::{
     CobId, ObjectStore, is_good_sync_word, is_good_word, is_restricted, number_u32, sdo_channel,
 };
+use co_profile::{EMERGENCY_COB_ID, IndexRange, SYNC_COB_ID};
 use co_sheet::EntryRow;
 use co_value::Key;
 
 fn is_sync_key(key: Key) -> bool
     ensures { result ≡ is_sync_key key }
 {
-    key.index == 0x1005 && key.sub == 0
+    key.index == SYNC_COB_ID && key.sub == 0
 }
 
 fn is_word_key(key: Key) -> bool
     ensures { result ≡ is_word_key key }
 {
-    (key.index == 0x1014 && key.sub == 0) || (is_communication(key.index) && key.sub == 1)
+    (key.index == EMERGENCY_COB_ID && key.sub == 0) || (is_communication(key.index) && key.sub == 1)
 }
 
 fn is_channel_key(key: Key) -> bool
     ensures { result ≡ is_channel_key key }
 {
-    matches!(key.index, 0x1200..=0x127F) && matches!(key.sub, 1..=2)
+    IndexRange::SDO_SERVER.contains(key.index) && matches!(key.sub, 1..=2)
 }
 
 // whether a channel exists, and one of its words has the identifier at a smaller key
@@ -35,7 +36,7 @@ fn is_used_by_channel<S: ObjectStore>(store: &S, key: Key, identifier: u16, numb
     ensures { result ≡ is_used_by_channel (S.description store.now).node (S.contents store.now)
         key identifier number }
 {
-    let index = 0x1200 + u16::from(number);
+    let index = IndexRange::SDO_SERVER.nth(u16::from(number));
     match sdo_channel(store, number) {
         Some(channel) => {
             (Key { index, sub: 1 } < key && identifier == channel.request)
@@ -86,7 +87,7 @@ fn is_bad_cob_id<S: ObjectStore>(store: &S, key: Key) -> bool
     } else if is_word_key(key) {
         is_bad_word(store, CobId(number_u32(store, key)))
     } else if is_channel_key(key) {
-        sdo_channel(store, (key.index - 0x1200) as u8).is_some()
+        sdo_channel(store, (key.index - IndexRange::SDO_SERVER.0) as u8).is_some()
             && is_bad_channel_word(store, key, CobId(number_u32(store, key)))
     } else {
         false

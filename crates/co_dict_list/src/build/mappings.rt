@@ -5,16 +5,17 @@ ghost use Rattle.co_dict.specs.MappingCounts.{is_mapping_index};
 ghost use Rattle.co_dict_list.specs.BuildFaults.{is_bad_count, is_bad_mapping, smallest_key};
 
 use co_dict::{ObjectStore, Side, check_count, number_u8};
+use co_profile::IndexRange;
 use co_sheet::EntryRow;
 use co_value::Key;
 
-// whether an index is that of a mapping of a side
+// whether an index is that of a mapping parameter of a side
 fn is_mapping_index(side: Side, index: u16) -> bool
     ensures { result ≡ is_mapping_index side index }
 {
     match side {
-        Side::Rpdo => matches!(index, 0x1600..=0x17FF),
-        Side::Tpdo => matches!(index, 0x1A00..=0x1BFF),
+        Side::Rpdo => IndexRange::RPDO_MAPPING.contains(index),
+        Side::Tpdo => IndexRange::TPDO_MAPPING.contains(index),
     }
 }
 

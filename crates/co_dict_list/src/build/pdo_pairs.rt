@@ -4,22 +4,23 @@ ghost use Rattle.std.specs.Prelude.{◌≡◌, find, map};
 ghost use Rattle.co_dict_list.specs.BuildFaults.{is_communication, is_mapping, is_lone_communication, is_lone_mapping, is_unpaired};
 
 use co_dict::{ObjectStore, has_object, has_sub};
+use co_profile::IndexRange;
 use co_sheet::EntryRow;
 
-/// Whether an object is the communication of a PDO.
+/// Whether an object is the communication parameter of a PDO.
 pub(crate) fn is_communication(index: u16) -> bool
     ensures { result ≡ is_communication index }
 {
-    matches!(index, 0x1400..=0x15FF | 0x1800..=0x19FF)
+    IndexRange::RPDO_COMMUNICATION.contains(index) || IndexRange::TPDO_COMMUNICATION.contains(index)
 }
 
 fn is_mapping(index: u16) -> bool
     ensures { result ≡ is_mapping index }
 {
-    matches!(index, 0x1600..=0x17FF | 0x1A00..=0x1BFF)
+    IndexRange::RPDO_MAPPING.contains(index) || IndexRange::TPDO_MAPPING.contains(index)
 }
 
-// whether a PDO's communication is without its mapping, or without sub-index 1 or 2
+// whether a PDO's communication parameter is without its mapping parameter, or without sub-index 1 or 2
 fn is_lone_communication<S: ObjectStore>(store: &S, index: u16) -> bool
     ensures { result ≡ is_lone_communication (S.description store.now).rows index }
 {
@@ -29,7 +30,7 @@ fn is_lone_communication<S: ObjectStore>(store: &S, index: u16) -> bool
             && has_sub(store, index, 2))
 }
 
-// whether a PDO's mapping is without its communication, or without sub-index 0
+// whether a PDO's mapping parameter is without its communication parameter, or without sub-index 0
 fn is_lone_mapping<S: ObjectStore>(store: &S, index: u16) -> bool
     ensures { result ≡ is_lone_mapping (S.description store.now).rows index }
 {

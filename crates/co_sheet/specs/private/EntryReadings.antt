@@ -3,22 +3,22 @@ use Rattle.std.specs.Prelude.{◌≡◌, ℕ, ◌∷◌, [], ◌++◌, Bool, fal
 use Rattle.std.specs.Option.{option_map_or, option_or}
 use Rattle.co_value.specs.declared.data_type.DataType.{DataType}
 use Rattle.co_value.specs.Types.{least_of, greatest_of}
-use Rattle.co_sheet.specs.declared.entry.Preset.{Preset}
+use Rattle.co_sheet_rows.specs.declared.entry.Preset.{Preset}
 use Rattle.co_sheet.specs.declared.checks.entries.Limit.{Limit}
-use Rattle.co_sheet.specs.declared.fault.FaultKind.TheVariants.{BadLimits}
-use Rattle.co_sheet.specs.declared.fault.SheetFault.{SheetFault}
+use Rattle.co_sheet_rows.specs.declared.fault.FaultKind.TheVariants.{BadLimits}
+use Rattle.co_sheet_rows.specs.declared.fault.SheetFault.{SheetFault}
 use Rattle.co_sheet.specs.declared.checks.findings.Finding.{Finding}
 use Rattle.co_sheet_text.specs.declared.text_section.Property.{Property as CodeProperty}
 use Rattle.co_sheet_text.specs.Sections.{Property, property_at}
 use Rattle.co_sheet_text.specs.Views.{property_view}
-use Rattle.co_sheet.specs.declared.entry.EntryRow.{EntryRow}
+use Rattle.co_sheet_rows.specs.declared.entry.EntryRow.{EntryRow}
 use Rattle.co_sheet.specs.Accepted.{least_fault}
 use Rattle.co_sheet.specs.Content.{row_of}
 use Rattle.co_sheet.specs.SheetViews.{row_view}
 use Rattle.co_sheet_text.specs.Numerals.{unsigned_number}
 use Rattle.co_sheet.specs.Entries.{Entry}
 use Rattle.co_sheet.specs.declared.checks.entries.Values.{Values}
-use Rattle.co_sheet.specs.declared.fault.FaultKind.TheVariants.{BadDefault}
+use Rattle.co_sheet_rows.specs.declared.fault.FaultKind.TheVariants.{BadDefault}
 use Rattle.co_sheet.specs.Limits.{Default, absent, number, pairs, number_at_type, numeric_default, default_with, default_of, low_limit, high_limit, is_pairs, at_most, is_in_type}
 use Rattle.co_sheet.specs.Checks.{fault_if, entry_checks, bad_type, left_out_type, in_numeric, unread_limits, bad_limits, bad_default}
 use Rattle.co_sheet.specs.private.Findings.{first_finding, soonest}

@@ -9,8 +9,8 @@ use Rattle.co_sheet_text.specs.Properties.{property_number}
 use Rattle.co_sheet_text.specs.SectionLaws.{RisesFrom}
 use Rattle.co_sheet.specs.declared.checks.findings.Finding.{Finding}
 use Rattle.co_sheet.specs.declared.checks.lists.Listing.{Listing as ListingOfCode}
-use Rattle.co_sheet.specs.declared.fault.FaultKind.TheVariants.{BadList, ListedTwice, MissingMandatory}
-use Rattle.co_sheet.specs.declared.fault.SheetFault.{SheetFault}
+use Rattle.co_sheet_rows.specs.declared.fault.FaultKind.TheVariants.{BadList, ListedTwice, MissingMandatory}
+use Rattle.co_sheet_rows.specs.declared.fault.SheetFault.{SheetFault}
 use Rattle.co_sheet.specs.ObjectLists.{Listing, count_of, listings_in}
 use Rattle.co_sheet.specs.Checks.{fault_if, unread_number, has_numbers, is_listed_before, is_bad_list, missing_lists, unread_list_numbers, bad_lists}
 use Rattle.co_sheet.specs.private.Findings.{first_finding}

@@ -7,12 +7,12 @@ use Rattle.co_sheet_text.specs.declared.section_kind.SectionKind.TheVariants.{De
 use Rattle.co_sheet_text.specs.Sections.{TextSection, section_at}
 use Rattle.co_sheet.specs.Accepted.{least_fault}
 use Rattle.co_sheet.specs.declared.checks.objects.Listed.{Listed}
-use Rattle.co_sheet.specs.declared.fault.FaultKind.TheVariants.{MissingSub0}
-use Rattle.co_sheet.specs.declared.object.ObjectType.TheVariants.{Domain, Var}
+use Rattle.co_sheet_rows.specs.declared.fault.FaultKind.TheVariants.{MissingSub0}
+use Rattle.co_sheet_rows.specs.declared.object.ObjectType.TheVariants.{Domain, Var}
 use Rattle.co_sheet.specs.declared.checks.findings.Finding.{Finding}
-use Rattle.co_sheet.specs.declared.fault.SheetFault.{SheetFault}
-use Rattle.co_sheet.specs.declared.object.Object.{Object}
-use Rattle.co_sheet.specs.declared.object.ObjectType.{ObjectType}
+use Rattle.co_sheet_rows.specs.declared.fault.SheetFault.{SheetFault}
+use Rattle.co_sheet_rows.specs.declared.object.Object.{Object}
+use Rattle.co_sheet_rows.specs.declared.object.ObjectType.{ObjectType}
 use Rattle.co_sheet.specs.ObjectLists.{Listing, listings}
 use Rattle.co_sheet.specs.Entries.{single_codes, compound_codes, object_code, object_type_with, ListedObject, Entry, entries_in}
 use Rattle.co_sheet.specs.Checks.{fault_if, at_key, unread_number, missing_section, unread_object_numbers, other_object_type, bad_object_types, compact_form, missing_sub_index_0}

@@ -4,7 +4,7 @@ ghost use Rattle.std.specs.Prelude.{◌≡◌, ◌==◌, not, true, false, codes
 ghost use Rattle.std.specs.Option.{option_map_or, option_or};
 ghost use Rattle.std.specs.Result.{result_err};
 ghost use Rattle.co_value.specs.Types.{code_of};
-ghost use Rattle.co_sheet.specs.FixedTypes.{fixed_type_of};
+ghost use Rattle.co_profile.specs.FixedTypes.{fixed_type_of};
 ghost use Rattle.co_sheet.specs.Entries.{is_domain, type_code, data_type_of, access_of, is_mappable};
 ghost use Rattle.co_sheet.specs.Limits.{at_most, is_in_type, is_numeric};
 ghost use Rattle.co_sheet.specs.Checks.{missing_key, unread_number, unread_limit, unread_default, unread_entry_numbers, type_line, is_bad_type, in_numeric, unread_limits, bad_access};
@@ -18,11 +18,12 @@ ghost use Rattle.co_sheet.specs.Views.{default_view};
 
 use crate::checks::faults::{both, earlier, fault_if, unread};
 use crate::checks::findings::{Finding, checked, found, sooner};
-use crate::data_type::{data_type_with, fixed_type, is_left_out};
-use crate::entry::{Access, EntryRow, Preset, is_pairs, numeric_default};
-use crate::fault::{FaultKind, SheetFault};
+use crate::data_type::{data_type_with, is_left_out};
+use crate::entry::{access_with, is_pairs, numeric_default};
 use crate::rows::name_of;
 use crate::tables::EntrySection;
+use co_profile::{Access, fixed_type};
+use co_sheet_rows::{EntryRow, FaultKind, Preset, SheetFault};
 use co_sheet_text::{Property, signed_numeral, unsigned_number};
 use co_value::DataType;
 use std::alloc::Global;
@@ -281,7 +282,7 @@ impl<'s, 'a> EntrySection<'s, 'a> {
         let Some(given) = given else {
             return Ok(Access::Rw);
         };
-        Access::of_word(given.value).ok_or(SheetFault {
+        access_with(given.value).ok_or(SheetFault {
             kind: FaultKind::BadAccess,
             line: given.line,
         })

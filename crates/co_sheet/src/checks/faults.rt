@@ -5,13 +5,13 @@ ghost use Rattle.std.specs.Fn.{FnReturnsAt};
 ghost use Rattle.std.specs.Result.{result_ok, result_err};
 ghost use Rattle.co_sheet_text.specs.Properties.{property_number};
 ghost use Rattle.co_sheet_text.specs.Views.{property_view};
-ghost use Rattle.co_sheet.specs.declared.fault.SheetFault.{SheetFault as Fault};
+ghost use Rattle.co_sheet_rows.specs.declared.fault.SheetFault.{SheetFault as Fault};
 ghost use Rattle.co_sheet.specs.Faults.{fault_at};
 ghost use Rattle.co_sheet.specs.Checks.{fault_if, numeral_fault, unread_number};
 ghost use Rattle.co_sheet.specs.Accepted.{least_fault};
 ghost use Rattle.co_sheet.specs.private.LeastFaults.{earlier};
 
-use crate::fault::{FaultKind, SheetFault};
+use co_sheet_rows::{FaultKind, SheetFault};
 use co_sheet_text::{NumeralFault, Property, unsigned_number};
 
 // a fault at a line, where a test says so

@@ -4,7 +4,7 @@ ghost use Rattle.std.specs.Prelude.{◌≡◌, option_map, IfOk};
 ghost use Rattle.std.specs.Result.{result_err};
 ghost use Rattle.co_sheet.specs.private.Findings.{found_by, is_before, sooner, checked};
 
-use crate::fault::SheetFault;
+use co_sheet_rows::SheetFault;
 
 /// What the first check that finds anything finds.
 #[derive(Clone, Copy, Debug, PartialEq, Eq)]

@@ -10,8 +10,8 @@ ghost use Rattle.co_sheet.specs.private.ListReadings.{listing_view, listed, list
 
 use crate::checks::faults::{fault_if, least_over, number_of};
 use crate::checks::findings::{Finding, found, sooner};
-use crate::fault::{FaultKind, SheetFault};
 use crate::sections::section_at;
+use co_sheet_rows::{FaultKind, SheetFault};
 use co_sheet_text::{Property, SectionKind, TextSection, number_in};
 use indexmap::IndexSet;
 use std::alloc::{AllocError, Global};

@@ -18,11 +18,11 @@ ghost use Rattle.co_sheet.specs.private.ObjectReadings.{type_of, type_finding, o
 use crate::checks::faults::{fault_if, number_of};
 use crate::checks::findings::{Finding, checked, found, sooner, unless};
 use crate::checks::lists::Listing;
-use crate::fault::{FaultKind, SheetFault};
-use crate::object::{Object, ObjectType};
+use crate::object_type::object_type_with;
 use crate::rows::name_of;
 use crate::sections::section_at;
 use crate::tables::{EntrySection, ListedSection, Tables};
+use co_sheet_rows::{FaultKind, Object, ObjectType, SheetFault};
 use co_sheet_text::{SectionKind, TextSection};
 use co_value::Key;
 use std::alloc::{AllocError, Global};
@@ -86,7 +86,7 @@ impl<'s, 'a> ListedSection<'s, 'a> {
             return Ok(ObjectType::Var);
         };
         let code = checked(6, number_of(&given))?;
-        ObjectType::of_code(code).ok_or(Finding {
+        object_type_with(code).ok_or(Finding {
             check: 7,
             fault: SheetFault {
                 kind: FaultKind::BadType,

@@ -13,10 +13,15 @@ store_of-requires-clause-ready c =
     let none : value_out_of_range c.args.node_id (map row_view c.args.rows.now) ≡ None = search rules in
     all_ready c.args.node_id c.args.rows.now c.if-node_id-gt127.false c.requires.sheet none
 
-pub dictionary_fault-requires-clause-keys : goal.dictionary_fault-requires-clause-keys
-dictionary_fault-requires-clause-keys c =
-    ap (λ (d : Description). d.keys) c.in-Ok.ensures.description ∙ keys_built c.args.node_id (limits_view c.args.limits.now) c.args.rows.now
+pub parameter_fault-requires : goal.parameter_fault-requires
+parameter_fault-requires c =
+    ap (λ (d : Description). d.keys) c.in-Ok-store_of.ensures.description ∙ keys_built c.args.node_id (limits_view c.args.limits.now) c.args.rows.now
+
+pub parameter_fault_of-requires-clause-ready : goal.parameter_fault_of-requires-clause-ready
+parameter_fault_of-requires-clause-ready c =
+    let none : value_out_of_range c.args.node_id (map row_view c.args.rows.now) ≡ None = search rules in
+    all_ready c.args.node_id c.args.rows.now c.if-node_id-gt127.false c.requires.sheet none
 
 pub returns-in-None-clause-initial : goal.returns-in-None-clause-initial
 returns-in-None-clause-initial c =
-    begins_initially (plan_in c.args.node_id c.args.limits.now c.args.rows.now c.args.dummies) _ _ c.in-Ok.ensures.description c.in-Ok.ensures.contents
+    begins_initially (plan_in c.args.node_id c.args.limits.now c.args.rows.now c.args.dummies) _ _ c.in-Ok-store_of.ensures.description c.in-Ok-store_of.ensures.contents

@@ -2,5 +2,5 @@ use Rattle.co_sheet.proofs.PlaceLemmas.{all-counted}
 use Rattle.co_sheet.proofs.reader.sections_in.Goals as goal
 
 -- no property is there twice, so none of a list's places is
-pub returns-clause-counted : goal.returns-clause-counted
-returns-clause-counted c = all-counted c.in_ok-sections_in.field-0 c.in_ok-sections_in.ensures.parsed.properties_differ
+pub returns-in-Ok-clause-counted : goal.returns-in-Ok-clause-counted
+returns-in-Ok-clause-counted c = all-counted c.in-Ok.sections c.in-Ok.ensures.parsed.properties_differ

@@ -4,7 +4,7 @@ use Rattle.std.specs.Prelude.{nat_lt}
 use Rattle.std.proofs.lemmas.Fn.{always_returns_same}
 use Rattle.std.proofs.lemmas.Cmp.{nat_cmp_total}
 use Rattle.std.proofs.lemmas.List.Sorted.{ranks_by}
-use Rattle.co_sheet.specs.declared.object.Object.{Object}
+use Rattle.co_sheet_rows.specs.declared.object.Object.{Object}
 use Rattle.co_sheet.specs.SheetViews.{object_row_view}
 use Rattle.co_sheet.proofs.OrderLemmas.{sorted-in_order, in_order-map, is_lt-number}
 use Rattle.co_sheet.proofs.rows.sort_objects.Goals as goal

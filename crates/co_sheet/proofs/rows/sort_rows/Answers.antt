@@ -2,7 +2,7 @@ use Rattle.std.proofs.Common.{ℕ, ap, ◌∙◌, map, rules}
 use Rattle.std.specs.Ordering.{nat_cmp, is_lt, ordering_then}
 use Rattle.std.proofs.lemmas.Fn.{always_returns_same}
 use Rattle.std.proofs.lemmas.List.Sorted.{ranks_by}
-use Rattle.co_sheet.specs.declared.entry.EntryRow.{EntryRow}
+use Rattle.co_sheet_rows.specs.declared.entry.EntryRow.{EntryRow}
 use Rattle.co_value.specs.Keys.{is_key_before}
 use Rattle.co_sheet.specs.Content.{}
 use Rattle.co_sheet.specs.SheetViews.{row_view}

@@ -3,7 +3,7 @@ use Rattle.std.specs.Prelude.{IfErr}
 use Rattle.std.specs.Result.{result_err}
 use Rattle.co_sheet_text.specs.SectionLaws.{IsParsed}
 use Rattle.co_sheet_text.specs.Views.{section_view}
-use Rattle.co_sheet.specs.declared.fault.SheetFault.{SheetFault}
+use Rattle.co_sheet_rows.specs.declared.fault.SheetFault.{SheetFault}
 use Rattle.co_sheet.specs.ObjectLists.{is_listed, listings}
 use Rattle.co_sheet.specs.Entries.{entries_of}
 use Rattle.co_sheet.specs.Checks.{object_checks, checks}

@@ -1,6 +1,6 @@
 use Rattle.std.proofs.Common.{◌≡◌, get_or, rules, subst}
-use Rattle.co_sheet.specs.declared.note.Note.{Note}
-use Rattle.co_sheet.specs.declared.note.NoteKind.TheVariants.{SubNumber}
+use Rattle.co_sheet_rows.specs.declared.note.Note.{Note}
+use Rattle.co_sheet_rows.specs.declared.note.NoteKind.TheVariants.{SubNumber}
 use Rattle.conode_check.specs.SheetTexts.{note_line}
 use Rattle.conode_io.specs.Written.{AppendsFront}
 use Rattle.conode_io.proofs.WriteLemmas.{some_lines, front_of_lines}

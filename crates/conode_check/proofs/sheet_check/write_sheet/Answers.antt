@@ -1,7 +1,7 @@
 use Rattle.std.proofs.Common.{◌≡◌, List, ◌++◌, map, subst, rules}
 use Rattle.std.specs.Io.KnownBytes.{Appends}
 use Rattle.std.specs.List.{flat_map}
-use Rattle.co_sheet.specs.declared.note.Note.{Note}
+use Rattle.co_sheet_rows.specs.declared.note.Note.{Note}
 use Rattle.conode_check.specs.SheetTexts.{build_lines, note_line, summary_line}
 use Rattle.conode_io.specs.Written.{AppendsFront, WritesSome, WritesFront}
 use Rattle.conode_io.proofs.WriteLemmas.{first_lines, appends_front_after, appends_front_of_longer}

@@ -1,6 +1,6 @@
 use Rattle.std.proofs.Common.{sym, arith}
 use Rattle.std.proofs.lemmas.List.Sums.{prefix_len_is}
-use Rattle.conode_trace.specs.Texts.{is_blank}
+use Rattle.co_text.specs.Texts.{is_blank}
 use Rattle.conode_trace.proofs.frame_fields.blank_count.Goals as goal
 
 pub returns-then-not-is_blank-clause-count : goal.returns-then-not-is_blank-clause-count

@@ -1,5 +1,5 @@
 use Rattle.std.proofs.Common.{◌≡◌, ℕ, ◌<◌, true, get_or}
-use Rattle.conode_trace.specs.Texts.{is_blank}
+use Rattle.co_text.specs.Texts.{is_blank}
 use Rattle.conode_trace.proofs.frame_fields.blank_count.Given as goal
 
 abbrev pub invariant-loop-count : goal.invariant-loop-count

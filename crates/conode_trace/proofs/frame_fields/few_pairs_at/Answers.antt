@@ -1,5 +1,5 @@
 use Rattle.std.proofs.Common.{sym}
-use Rattle.conode_trace.proofs.Pairs.{few_all}
+use Rattle.conode_trace.proofs.FewPairs.{few_all}
 use Rattle.conode_trace.proofs.frame_fields.few_pairs_at.Goals as goal
 
 pub returns : goal.returns

@@ -1,5 +1,5 @@
 use Rattle.std.proofs.Common.{◌≤◌, length}
-use Rattle.conode_trace.proofs.Pairs.{AreRead}
+use Rattle.co_text.proofs.Pairs.{AreRead}
 use Rattle.conode_trace.proofs.frame_fields.few_pairs_at.Given as goal
 
 abbrev pub invariant-loop-byte : goal.invariant-loop-byte

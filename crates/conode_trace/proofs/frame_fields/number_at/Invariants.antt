@@ -1,5 +1,5 @@
 use Rattle.std.proofs.Common.{◌≡◌, ℕ, ◌^◌, ◌<◌, ◌≤◌, true, get_or, take}
-use Rattle.conode_trace.specs.Texts.{is_digit, decimal_value}
+use Rattle.co_text.specs.Texts.{is_digit, decimal_value}
 use Rattle.conode_trace.proofs.frame_fields.number_at.Given as goal
 
 abbrev pub invariant-loop-count : goal.invariant-loop-count

@@ -1,5 +1,5 @@
 use Rattle.std.proofs.Common.{◌≡◌, ℕ, ◌+◌, ◌<◌, List, [], ◌∷◌, ◌++◌, Option, Some, None, refl, sym, ap, ◌∙◌, length, get_or, drop, map}
-use Rattle.co_sheet.specs.declared.entry.EntryRow.{EntryRow}
+use Rattle.co_sheet_rows.specs.declared.entry.EntryRow.{EntryRow}
 use Rattle.co_sheet.specs.declared.checks.findings.Finding.{Finding}
 use Rattle.co_sheet.specs.declared.tables.EntrySection.{EntrySection}
 use Rattle.co_sheet.specs.Content.{row_of}

@@ -1,7 +1,7 @@
 use Rattle.std.proofs.Common.{◌≡◌, List, drop}
 use Rattle.std.specs.Prelude.{flat_map}
 use Rattle.std.specs.Fn.{FnReturnsAt}
-use Rattle.co_sheet.specs.declared.fault.SheetFault.{SheetFault as Fault}
+use Rattle.co_sheet_rows.specs.declared.fault.SheetFault.{SheetFault as Fault}
 use Rattle.co_sheet.specs.Accepted.{least_fault}
 use Rattle.co_sheet.specs.private.LeastFaults.{earlier}
 use Rattle.co_sheet.proofs.checks.faults.least_over.Given as goal

@@ -1,5 +1,4 @@
-use Rattle.std.proofs.Common.{◌++◌, Bool, [], sym, ap, ◌∙◌, arith, map, length, get_or}
-use Rattle.std.specs.List.{filter, list_any}
+use Rattle.std.proofs.Common.{◌++◌, Bool, [], sym, ap, ◌∙◌, arith, map, get_or}
 use Rattle.co_sheet_text.specs.declared.text_section.Property.{Property as CodeProperty}
 use Rattle.co_sheet_text.specs.Sections.{Property}
 use Rattle.co_sheet_text.specs.Properties.{property_number}

@@ -1,6 +1,6 @@
 use Rattle.std.proofs.Common.{ap, ◌∙◌, not, eqb}
 use Rattle.std.specs.Prelude.{option_map}
-use Rattle.co_sheet.specs.declared.fault.FaultKind.TheVariants.{MissingSub0}
+use Rattle.co_sheet_rows.specs.declared.fault.FaultKind.TheVariants.{MissingSub0}
 use Rattle.co_sheet.specs.Accepted.{least_fault}
 use Rattle.co_sheet.specs.Checks.{fault_if}
 use Rattle.co_sheet.specs.Entries.{Entry}

@@ -1,7 +1,7 @@
 use Rattle.std.proofs.Common.{◌≡◌, List, ◌∷◌, [], Option, refl, sym, ap, ◌∙◌, map, inr}
 use Rattle.std.specs.Prelude.{option_map, flat_map}
 use Rattle.co_sheet.specs.declared.checks.findings.Finding.{Finding}
-use Rattle.co_sheet.specs.declared.fault.SheetFault.{SheetFault}
+use Rattle.co_sheet_rows.specs.declared.fault.SheetFault.{SheetFault}
 use Rattle.co_sheet.specs.declared.checks.lists.Listing.{Listing}
 use Rattle.co_sheet_text.specs.Sections.{TextSection}
 use Rattle.co_sheet.specs.SectionViews.{entry_view}

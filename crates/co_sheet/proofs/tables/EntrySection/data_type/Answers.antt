@@ -1,7 +1,7 @@
 use Rattle.std.proofs.Common.{◌≡◌, false, sym, ap, ◌∙◌}
 use Rattle.std.specs.Result.{result_err}
 use Rattle.std.specs.Prelude.{ok_or}
-use Rattle.co_sheet.specs.declared.fault.FaultKind.TheVariants.{BadType, LeftOutType}
+use Rattle.co_sheet_rows.specs.declared.fault.FaultKind.TheVariants.{BadType, LeftOutType}
 use Rattle.co_sheet.specs.Checks.{is_bad_type}
 use Rattle.co_sheet.specs.private.Findings.{found_by}
 use Rattle.co_sheet.specs.SectionViews.{entry_view}

@@ -2,7 +2,7 @@ use Rattle.std.proofs.Common.{◌≡◌, Some, sym, ap, ◌∙◌, rules, ℕ, L
 use Rattle.std.specs.Prelude.{option_map}
 use Rattle.std.specs.Result.{result_ok, result_err}
 use Rattle.co_sheet.specs.Content.{ObjectRow, object_row_with}
-use Rattle.co_sheet.specs.declared.object.ObjectType.{ObjectType}
+use Rattle.co_sheet_rows.specs.declared.object.ObjectType.{ObjectType}
 use Rattle.co_sheet.specs.Entries.{ListedObject}
 use Rattle.co_sheet.specs.SectionViews.{object_view}
 use Rattle.co_sheet.specs.private.ObjectReadings.{parts_finding}

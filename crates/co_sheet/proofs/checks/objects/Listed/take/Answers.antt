@@ -1,7 +1,7 @@
 use Rattle.std.proofs.Common.{◌∷◌, [], ◌++◌, Some, sym, ap, ◌∙◌, map}
 use Rattle.std.specs.Prelude.{option_and_then}
 use Rattle.std.specs.Option.{option_map_or}
-use Rattle.co_sheet.specs.declared.object.Object.{Object}
+use Rattle.co_sheet_rows.specs.declared.object.Object.{Object}
 use Rattle.co_sheet.specs.Content.{object_row_of}
 use Rattle.co_sheet.specs.Entries.{entries_in}
 use Rattle.co_sheet.specs.SectionViews.{object_view, entry_view}

@@ -1,0 +1,2 @@
+mod FixedTypeExamples
+mod FixedTypeLemmas

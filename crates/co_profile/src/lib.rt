@@ -1,0 +1,15 @@
+//! The communication profile of CANopen: the access of entries, and the objects from 1000h to 1FFFh.
+#![tactic(auto)]
+
+mod access;
+mod fixed_types;
+mod indices;
+
+pub use access::Access;
+pub use fixed_types::fixed_type;
+pub use indices::{
+    CONSUMER_HEARTBEAT, DEVICE_TYPE, EMERGENCY_COB_ID, EMERGENCY_INHIBIT_TIME, ERROR_BEHAVIOUR,
+    ERROR_FIELD, ERROR_REGISTER, EVENT_TIMER, INHIBIT_TIME, IndexRange, PDO_COB_ID,
+    PRODUCER_HEARTBEAT, RESTORE_PARAMETERS, STORE_PARAMETERS, SYNC_COB_ID, SYNC_COUNTER_OVERFLOW,
+    SYNC_START_VALUE, TRANSMISSION_TYPE, index_numbers,
+};

@@ -1,9 +1,0 @@
-use Rattle.std.proofs.Common.{◌≡◌, ◌&&◌, nat_le, drop}
-use Rattle.std.specs.Prelude.{find}
-use Rattle.co_sheet.proofs.data_type.type_among.Given as goal
-
--- what is found in the rest is found in all
-abbrev pub invariant-loop-fixed : goal.invariant-loop-fixed
-invariant-loop-fixed l =
-    find (λ f. nat_le f.1 l.key.index && nat_le l.key.index f.2 && nat_le f.3 l.key.sub && nat_le l.key.sub f.4) (drop l.fixed-index l.types)
-    ≡ find (λ f. nat_le f.1 l.key.index && nat_le l.key.index f.2 && nat_le f.3 l.key.sub && nat_le l.key.sub f.4) l.types

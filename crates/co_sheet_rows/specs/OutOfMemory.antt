@@ -1,0 +1,7 @@
+-- Out of memory, which is no line's fault.
+use Rattle.co_sheet_rows.specs.declared.fault.FaultKind.TheVariants.{Memory}
+use Rattle.co_sheet_rows.specs.declared.fault.SheetFault.{SheetFault}
+
+-- it has no line
+abbrev pub out_of_memory : SheetFault
+out_of_memory = record { kind = Memory; line = 0 }

@@ -1,0 +1,5 @@
+pub mod LineLemmas
+pub mod PieceLemmas
+pub mod ReadingLemmas
+pub mod TextLemmas
+pub mod Examples

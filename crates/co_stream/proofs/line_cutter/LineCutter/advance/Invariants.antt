@@ -1,0 +1,19 @@
+use Rattle.std.proofs.Common.{◌≡◌, ◌≤◌, true, false}
+use Rattle.std.specs.Io.KnownBytes.{Consumes}
+use Rattle.co_stream.specs.Lines.{has_line_feed}
+use Rattle.co_stream.specs.Readings.{known_bytes}
+use Rattle.co_stream.proofs.line_cutter.LineCutter.advance.Given as goal
+
+abbrev pub invariant-loop-self : goal.invariant-loop-self
+invariant-loop-self g l =
+    let remaining = g.R.Read.remaining in
+    record {
+      came : Consumes (known_bytes l.fn.self.ended l.fn.self.piece (remaining l.fn.reader)) (known_bytes l.self.ended l.self.piece (remaining l.reader)) l.self.line;
+      within : has_line_feed l.self.line ≡ false;
+      held : has_line_feed l.fn.self.piece ≡ true → (l.reader ≡ l.fn.reader) × (l.self.piece ≡ l.fn.self.piece);
+      ended : l.fn.self.ended ≡ true → (l.reader ≡ l.fn.reader) × (l.self.ended ≡ true);
+      asked : l.self.asks ≤ l.fn.self.asks;
+    }
+
+abbrev pub decreases-loop-self : goal.decreases-loop-self
+decreases-loop-self g l = l.self.asks

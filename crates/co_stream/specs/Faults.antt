@@ -1,0 +1,17 @@
+-- What a reader's fault is to those who read lines and texts.
+use Rattle.co_stream.specs.declared.fault.AskFault.{AskFault}
+use Rattle.co_stream.specs.declared.fault.AskFault.TheVariants.{Read, NeverEnds}
+use Rattle.co_stream.specs.declared.fault.LineFault.{LineFault}
+use Rattle.co_stream.specs.declared.fault.LineFault.TheVariants as line
+use Rattle.co_stream.specs.declared.fault.StreamFault.{StreamFault}
+use Rattle.co_stream.specs.declared.fault.StreamFault.TheVariants as stream
+
+-- to who reads lines
+abbrev pub line_fault : AskFault → LineFault
+line_fault Read = line.Read
+line_fault NeverEnds = line.NeverEnds
+
+-- to who reads a text
+abbrev pub stream_fault : AskFault → StreamFault
+stream_fault Read = stream.Read
+stream_fault NeverEnds = stream.NeverEnds

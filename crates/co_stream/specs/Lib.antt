@@ -1,0 +1,5 @@
+pub mod Faults
+pub mod Lines
+pub mod Readings
+pub mod Texts
+pub mod Nexts

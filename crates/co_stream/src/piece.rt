@@ -1,0 +1,109 @@
+//! What a reader gives at once.
+
+ghost use Rattle.std.specs.Prelude.{◌≡◌, ℕ, ◌<◌, ◌≤◌, List, [], ◌∷◌, ◌++◌, length, IfOk, IfErr, OnOk, OnErr, Ok, true, false};
+ghost use Rattle.std.specs.Io.KnownBytes.{Consumes, Keeps, IsAtEnd};
+ghost use Rattle.std.specs.Str.Lines.{strip_carriage_return};
+ghost use Rattle.co_stream.specs.declared.fault.LineFault.TheVariants.{TooLong};
+ghost use Rattle.co_stream.specs.declared.fault.AskFault.TheVariants.{NeverEnds};
+ghost use Rattle.co_stream.specs.Lines.{has_line_feed, BeginsTooLong};
+
+use crate::asks::{Asks, ask};
+use crate::fault::{AskFault, LineFault};
+use crate::line_buffer::LineBuffer;
+use co_text::split_at_first;
+use std::io::Read;
+use std::marker::Model;
+
+const LINE_FEED: u8 = b'\n';
+
+/// What a reader gave at once, at most 512 bytes, without what is taken of it already. Contracts see the bytes that are
+/// left.
+#[derive(Drop)]
+pub(crate) struct Piece {
+    bytes: [u8; 512],
+    start: usize,
+    end: usize,
+}
+
+impl Model for Piece {
+    ghost use Rattle.std.specs.Prelude.{ℕ, ◌≤◌, List, take, drop};
+
+    ghost Value = { List ℕ };
+
+    ghost view = { λ piece. drop piece.start (take piece.end piece.bytes) };
+
+    ghost invariant = { λ piece. (piece.start ≤ piece.end) × (piece.end ≤ 512) };
+}
+
+impl Piece {
+    /// Nothing is left.
+    pub(crate) fn new() -> Self
+        ensures { result ≡ [] }
+    {
+        Piece {
+            bytes: [0; 512],
+            start: 0,
+            end: 0,
+        }
+    }
+
+    // the bytes that are left
+    fn rest(&self) -> &[u8]
+        ensures { result.now ≡ self.now }
+    {
+        let read = &self.bytes[..self.end];
+        &read[self.start..]
+    }
+
+    /// Whether a line feed is left.
+    pub(crate) fn has_line_feed(&self) -> bool
+        ensures { result ≡ has_line_feed self.now }
+    {
+        split_at_first(self.rest(), LINE_FEED).is_some()
+    }
+
+    /// Another piece in its place. `false` where the reader has come to its end.
+    pub(crate) fn refill<R: Read>(
+        &mut self,
+        reader: &mut R,
+        asks: &mut Asks,
+    ) -> Result<bool, AskFault>
+        ensures bytes { OnOk result
+            (Consumes (R.remaining reader.old) (R.remaining reader.new) self.new) }
+        ensures end { result ≡ Ok false → (self.new ≡ []) × IsAtEnd (R.remaining reader.new) }
+        ensures err { OnErr result (Keeps (R.remaining reader.old) (R.remaining reader.new)) }
+        ensures asked { asks.new ≤ asks.old }
+        ensures counted { OnOk result (asks.new < asks.old) }
+        ensures never_ends { IfErr result (λ fault. fault ≡ AskFault.NeverEnds → asks.new ≡ 0) }
+    {
+        self.start = 0;
+        self.end = 0;
+        let count = ask(reader, &mut self.bytes, asks)?;
+        self.end = count;
+        Ok(count > 0)
+    }
+
+    /// Moves the bytes before the first line feed to the line, and passes over the line feed; all bytes where there is none.
+    /// Whether there is one.
+    pub(crate) fn move_line(&mut self, line: &mut LineBuffer) -> Result<bool, LineFault>
+        ensures whole { result ≡ Ok true → (front : List ℕ) × (self.old ≡ front ++ 10 ∷ self.new)
+            × (has_line_feed front ≡ false) × (line.new ≡ line.old ++ front) }
+        ensures part { result ≡ Ok false → (self.new ≡ []) × (has_line_feed self.old ≡ false)
+            × (line.new ≡ line.old ++ self.old) }
+        ensures too_long { OnErr result (BeginsTooLong line.old self.old) }
+        ensures fault { IfErr result (λ fault. fault ≡ LineFault.TooLong) }
+    {
+        match split_at_first(self.rest(), LINE_FEED) {
+            Some((front, after)) => {
+                line.add(front)?;
+                self.start = self.end - after.len();
+                Ok(true)
+            }
+            None => {
+                line.add(self.rest())?;
+                self.start = self.end;
+                Ok(false)
+            }
+        }
+    }
+}

@@ -1,3 +1,0 @@
-//! Command lines.
-
-mod words;

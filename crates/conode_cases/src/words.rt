@@ -1,0 +1,44 @@
+//! Command lines: a row is the words after the program's name, and after ` => ` what they ask for. What is read of them
+//! is proved, with closed examples; here they are taken at all, and mistakes and help have their status.
+
+use conode_words::{Task, task};
+use std::test::Fail;
+
+const ROWS: &str = "\
+check a => check
+ => nothing
+check --node 127 a --strings=0 --domains 65535 => check
+decode --sheet s t --node=1 => decode
+check a --nodes 5 => status 2
+check a --node 0 => status 2
+chek => status 2
+--all => status 2
+check --help => status 0
+help check => status 0";
+
+#[test]
+fn command_lines(rt: HostRuntime) -> Result<(), Fail> {
+    for row in ROWS.lines() {
+        let (line, wanted) = row.split_once(" => ").ok_or("no row")?;
+        let mut words = vec![in rt.alloc(); "conode"]?;
+        for word in line.split(' ') {
+            if !word.is_empty() {
+                words.push(word)?;
+            }
+        }
+        let asked = match task(rt.alloc(), words.as_slice()) {
+            Ok(task) => match task {
+                Some(Task::Check { .. }) => "check",
+                Some(Task::Decode { .. }) => "decode",
+                None => "nothing",
+            },
+            Err(error) => match error.exit_code() {
+                0 => "status 0",
+                2 => "status 2",
+                _ => "another status",
+            },
+        };
+        assert_eq!(rt; asked, wanted, "for {line}");
+    }
+    Ok(())
+}

@@ -1,6 +1,0 @@
-use Rattle.std.proofs.Common.{append_assoc, rules}
-use Rattle.conode_trace.proofs.EightDigits.{eight_digits}
-use Rattle.conode_trace.proofs.digits.push_u32.Goals as goal
-
-pub returns : goal.returns
-returns c = rw (← eight_digits c.args.number) (search (rules, append_assoc))

@@ -1,6 +1,0 @@
-use Rattle.std.proofs.Common.{sym, ◌∙◌}
-use Rattle.conode_trace.proofs.Pairs.{pairs_left}
-use Rattle.conode_trace.proofs.hex_pairs.HexPairs.next.Goals as goal
-
-pub invariant_of-self : goal.invariant_of-self
-invariant_of-self c = sym (pairs_left c.self.inside.digits.now c.in_ok-byte.byte c.in_ok-byte.rest.now (sym c.in_ok-byte.ensures.exact)) ∙ c.self.invariant

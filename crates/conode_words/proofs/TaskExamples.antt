@@ -1,0 +1,99 @@
+-- Command lines, evaluated.
+use Rattle.std.proofs.Common.{◌≡◌, List, [], ◌∷◌, Option, Some, None, codes, refl, true}
+use Rattle.clap.specs.Words.{Text, fault_of, is_simple_and_free, subcommand_of}
+use Rattle.clap.specs.declared.error.kind.ErrorKind.{ErrorKind}
+use Rattle.clap.specs.declared.error.kind.ErrorKind.TheVariants as kind
+use Rattle.clap.proofs.OnLiterals.{clap_on_literals}
+use Rattle.conode_words.specs.Tasks.{Asked, check, decode, asked_of, conode_command}
+
+abbrev asked : List Text → Option Asked
+asked words = asked_of (subcommand_of conode_command (codes "conode" ∷ words))
+
+is_simple : is_simple_and_free conode_command ≡ true
+unfolding clap_on_literals
+is_simple = refl
+
+check_of_a_sheet : asked (codes "check" ∷ codes "a" ∷ []) ≡ Some (check (record { sheet = codes "a"; node = None; strings = 16; domains = 889 }))
+unfolding clap_on_literals
+check_of_a_sheet = refl
+
+all_options : asked (codes "check" ∷ codes "--node" ∷ codes "127" ∷ codes "a" ∷ codes "--strings=0" ∷ codes "--domains" ∷ codes "65535" ∷ [])
+    ≡ Some (check (record { sheet = codes "a"; node = Some 127; strings = 0; domains = 65535 }))
+unfolding clap_on_literals
+all_options = refl
+
+decode_of_a_trace : asked (codes "decode" ∷ codes "t" ∷ []) ≡ Some (decode (record { trace = codes "t"; sheet = None; node = None }))
+unfolding clap_on_literals
+decode_of_a_trace = refl
+
+decode_with_options : asked (codes "decode" ∷ codes "--node" ∷ codes "5" ∷ codes "t" ∷ codes "--sheet" ∷ codes "s" ∷ []) ≡ Some (decode (record { trace = codes "t"; sheet = Some (codes "s"); node = Some 5 }))
+unfolding clap_on_literals
+decode_with_options = refl
+
+decode_of_nothing : fault_of conode_command (codes "conode" ∷ codes "decode" ∷ codes "--sheet" ∷ codes "s" ∷ []) ≡ kind.MissingRequiredArgument ∷ []
+unfolding clap_on_literals
+decode_of_nothing = refl
+
+decode_for_node_128 : fault_of conode_command (codes "conode" ∷ codes "decode" ∷ codes "t" ∷ codes "--node" ∷ codes "128" ∷ []) ≡ kind.ValueValidation ∷ []
+unfolding clap_on_literals
+decode_for_node_128 = refl
+
+-- the faults of `check a` and an option with a word
+abbrev with_option : Text → Text → List ErrorKind
+with_option option word = fault_of conode_command (codes "conode" ∷ codes "check" ∷ codes "a" ∷ option ∷ word ∷ [])
+
+node_0 : with_option (codes "--node") (codes "0") ≡ kind.ValueValidation ∷ []
+unfolding clap_on_literals
+node_0 = refl
+
+node_1 : with_option (codes "--node") (codes "1") ≡ []
+unfolding clap_on_literals
+node_1 = refl
+
+node_127 : with_option (codes "--node") (codes "127") ≡ []
+unfolding clap_on_literals
+node_127 = refl
+
+node_128 : with_option (codes "--node") (codes "128") ≡ kind.ValueValidation ∷ []
+unfolding clap_on_literals
+node_128 = refl
+
+node_x : with_option (codes "--node") (codes "x") ≡ kind.ValueValidation ∷ []
+unfolding clap_on_literals
+node_x = refl
+
+strings_65536 : with_option (codes "--strings") (codes "65536") ≡ kind.ValueValidation ∷ []
+unfolding clap_on_literals
+strings_65536 = refl
+
+domains_65536 : with_option (codes "--domains") (codes "65536") ≡ kind.ValueValidation ∷ []
+unfolding clap_on_literals
+domains_65536 = refl
+
+two_nodes : fault_of conode_command (codes "conode" ∷ codes "check" ∷ codes "a" ∷ codes "--node" ∷ codes "5" ∷ codes "--node" ∷ codes "6" ∷ []) ≡ kind.ArgumentConflict ∷ []
+unfolding clap_on_literals
+two_nodes = refl
+
+check_is_taken : fault_of conode_command (codes "conode" ∷ codes "check" ∷ codes "a" ∷ []) ≡ []
+unfolding clap_on_literals
+check_is_taken = refl
+
+check_of_nothing : fault_of conode_command (codes "conode" ∷ codes "check" ∷ []) ≡ kind.MissingRequiredArgument ∷ []
+unfolding clap_on_literals
+check_of_nothing = refl
+
+check_of_two : fault_of conode_command (codes "conode" ∷ codes "check" ∷ codes "a" ∷ codes "b" ∷ []) ≡ kind.UnknownArgument ∷ []
+unfolding clap_on_literals
+check_of_two = refl
+
+no_words : asked [] ≡ None
+unfolding clap_on_literals
+no_words = refl
+
+no_words_are_taken : fault_of conode_command (codes "conode" ∷ []) ≡ []
+unfolding clap_on_literals
+no_words_are_taken = refl
+
+asked_for_help : fault_of conode_command (codes "conode" ∷ codes "--help" ∷ []) ≡ kind.DisplayHelp ∷ []
+unfolding clap_on_literals
+asked_for_help = refl

@@ -1,0 +1,49 @@
+-- What clap makes of the program's command, and Rust's `parse` of a word.
+use Rattle.std.proofs.Common.{◌≡◌, ℕ, ◌^◌, Bool, true, false, List, [], ◌∷◌, Some, None, Result, Ok, Err, refl, sym, ap}
+use Rattle.std.proofs.lemmas.Bool.{ltb-true, lt-ltb}
+use Rattle.std.specs.Prelude.{◌&&◌, nat_lt, length}
+use Rattle.std.specs.Result.{result_ok}
+use Rattle.std.specs.Char.{digit_value}
+use Rattle.std.specs.List.{list_all}
+use Rattle.std.specs.Str.Parse.{AllDigits, ParsesUnsigned, digits_value, without_leading_plus}
+use Rattle.clap.specs.Words.{Text, first_of, first_value, rows_of, is_simple_and_free}
+use Rattle.clap.specs.ValueTests.{is_numeral}
+use Rattle.clap.specs.declared.parser.matches.Found.{Found}
+use Rattle.clap.proofs.OnLiterals.{clap_on_literals}
+use Rattle.clap.proofs.WalkLemmas.{both, first_value-rows}
+use Rattle.conode_words.specs.Tasks.{conode_command, number_of_bits}
+
+pub is_free_command : is_simple_and_free conode_command ≡ true
+unfolding clap_on_literals
+is_free_command = refl
+
+pub first_in_rows : (found : Found) (name : Text) → first_of name (rows_of found) ≡ first_value found name
+first_in_rows found name = sym (first_value-rows found name)
+
+-- digits by the test, and by the statement
+digits_pass : (ds : List ℕ) → AllDigits 10 ds → list_all (λ d. nat_lt (digit_value d) 10) ds ≡ true
+digits_pass [] h = refl
+digits_pass (d ∷ ds) h = rw (lt-ltb (digit_value d) 10 h.0) (digits_pass ds h.1)
+
+digits_from : (ds : List ℕ) → list_all (λ d. nat_lt (digit_value d) 10) ds ≡ true → AllDigits 10 ds
+digits_from [] e = tt
+digits_from (d ∷ ds) e =
+    let parts = both _ _ e in
+    (ltb-true _ _ parts.0, digits_from ds parts.1)
+
+-- what `parse` gives of a word
+pub number_read : {E : Type 0} (bits : ℕ) (word : Text) (r : Result ℕ E) → ParsesUnsigned bits 10 word r → result_ok r ≡ number_of_bits bits word
+number_read bits word (Ok n) h =
+    let ds = without_leading_plus word in
+    rw (lt-ltb 0 (length ds) h.0.0.0, digits_pass ds h.0.0.1, lt-ltb (digits_value 10 ds) (2 ^ bits) h.0.1) (ap (λ (k : ℕ). Some k) h.1)
+number_read bits word (Err e) h = go (is_numeral ds && nat_lt (digits_value 10 ds) (2 ^ bits)) refl
+  where
+    ds : List ℕ
+    ds = without_leading_plus word
+
+    go : (b : Bool) → (is_numeral ds && nat_lt (digits_value 10 ds) (2 ^ bits)) ≡ b → None ≡ number_of_bits bits word
+    go false t = rw t refl
+    go true t =
+        let outer = both _ _ t in
+        let inner = both _ _ outer.0 in
+        absurd (h ((ltb-true _ _ inner.0, digits_from ds inner.1), ltb-true _ _ outer.1))

@@ -1,0 +1,9 @@
+//! What the words of the command line ask for, and the text of help.
+#![tactic(auto)]
+
+mod command_line;
+mod help;
+mod tasks;
+
+pub use command_line::task;
+pub use tasks::Task;
