@@ -1,6 +1,6 @@
-//! A small data sheet: the mandatory objects, a string of ten bytes at 2001h and a number at 2002h.
+//! A data sheet: the mandatory objects, a string at 2001h, numbers at 2002h to 2004h, and a domain at 2100h.
 
-pub(crate) const SMALL: &str = "\
+pub(crate) const SHEET: &str = "\
 [MandatoryObjects]
 SupportedObjects=3
 1=0x1000
@@ -9,6 +9,7 @@ SupportedObjects=3
 [1000]
 DataType=7
 AccessType=ro
+DefaultValue=0x191
 [1001]
 DataType=5
 AccessType=ro
@@ -22,9 +23,12 @@ DefaultValue=1
 DataType=7
 AccessType=ro
 [ManufacturerObjects]
-SupportedObjects=2
+SupportedObjects=5
 1=0x2001
 2=0x2002
+3=0x2003
+4=0x2004
+5=0x2100
 [2001]
 DataType=9
 AccessType=rw
@@ -33,4 +37,13 @@ DefaultValue=0123456789
 DataType=7
 AccessType=rw
 DefaultValue=0xDEADBEEF
+[2003]
+DataType=6
+AccessType=rw
+HighLimit=1000
+[2004]
+DataType=6
+AccessType=wo
+[2100]
+ObjectType=2
 ";
