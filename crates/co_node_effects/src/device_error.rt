@@ -53,10 +53,12 @@ impl DeviceError {
     /// Each constant is the error of the definitions. This is a law: a call of it changes nothing.
     pub fn codes()
         ensures heartbeat_lost { DeviceError.HEARTBEAT_LOST ≡ errors.heartbeat_lost }
-        ensures value_outside_limits { DeviceError.VALUE_OUTSIDE_LIMITS ≡ errors.value_outside_limits }
+        ensures value_outside_limits { DeviceError.VALUE_OUTSIDE_LIMITS
+            ≡ errors.value_outside_limits }
         ensures pdo_too_short { DeviceError.PDO_TOO_SHORT ≡ errors.pdo_too_short }
         ensures pdo_too_long { DeviceError.PDO_TOO_LONG ≡ errors.pdo_too_long }
-        ensures unexpected_sync_length { DeviceError.UNEXPECTED_SYNC_LENGTH ≡ errors.unexpected_sync_length }
+        ensures unexpected_sync_length { DeviceError.UNEXPECTED_SYNC_LENGTH
+            ≡ errors.unexpected_sync_length }
     {}
 
     /// Raises the error: sets its bits in the error register, puts its code in front of the pre-defined

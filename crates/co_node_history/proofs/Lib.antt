@@ -7,3 +7,4 @@ mod RpdoExamples
 mod EventExamples
 pub mod Answers
 pub mod Resets
+pub mod BootUps

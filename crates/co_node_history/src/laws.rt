@@ -1,6 +1,6 @@
 //! What follows for every device and all inputs. Each is a law: a call of it changes nothing.
 
-ghost use Rattle.std.specs.Prelude.{◌≡◌, ◌∷◌};
+ghost use Rattle.std.specs.Prelude.{◌≡◌, [], ◌∷◌};
 ghost use Rattle.co_dict.specs.Rows.{restored};
 ghost use Rattle.co_dict.specs.declared.area.Area.{Area};
 ghost use Rattle.co_frame.specs.FrameContent.{FrameContent};
@@ -10,8 +10,8 @@ ghost use Rattle.co_node_inputs.specs.declared.app_answer.AppAnswer.{AppAnswer};
 ghost use Rattle.co_node_inputs.specs.declared.app_answer.AppAnswer.TheVariants as answer;
 ghost use Rattle.co_node_parts.specs.declared.nmt_state.NodeState.TheVariants.{PreOperational};
 ghost use Rattle.co_node_history.specs.Moments.{Constants};
-ghost use Rattle.co_node_history.specs.Histories.{app_after, state_of, contents_of};
-ghost use Rattle.co_node_history.specs.Laws.{reset_of};
+ghost use Rattle.co_node_history.specs.Histories.{app_after, prescribed, state_of, contents_of};
+ghost use Rattle.co_node_history.specs.Laws.{reset_of, boot_up};
 
 /// After a frame there is no answer to an application event.
 #[tactic(auto, using(crate::proofs::Answers::none_to_frame))]
@@ -43,4 +43,11 @@ pub fn reset_restores_area()
     ensures contents { (k : Constants) (inputs : Inputs) (area : Area) →
         contents_of k (reset_of area ∷ inputs) ≡
         restored area k.description.initial (contents_of k inputs) }
+{}
+
+/// And it sends the boot-up alone: no emergency, no heartbeat and no TPDO (CiA 301, 7.2.8.3.3).
+#[tactic(auto, using(crate::proofs::BootUps::boot_up_alone))]
+pub fn reset_sends_boot_up_alone()
+    ensures { (k : Constants) (inputs : Inputs) (area : Area) →
+        prescribed k inputs (reset_of area) ≡ boot_up k ∷ [] }
 {}

@@ -3,4 +3,7 @@
 
 mod laws;
 
-pub use laws::{event_answer, no_answer_to_frames, no_answer_to_ticks, reset_restores_area};
+pub use laws::{
+    event_answer, no_answer_to_frames, no_answer_to_ticks, reset_restores_area,
+    reset_sends_boot_up_alone,
+};

@@ -4,13 +4,14 @@ use Rattle.std.specs.Prelude.{◌%◌, ◌&&◌, ◌||◌, Option, Some, None, m
 use Rattle.std.specs.List.{list_all}
 use Rattle.std.proofs.lemmas.Bool.Decides.{nat_tests}
 use Rattle.std.proofs.Math.Bool.{and-true, and-false, or-true, or-false}
+use Rattle.co_frame.specs.InhibitTimes.{in_ms}
 use Rattle.co_pdo.specs.declared.settings.Settings.{Settings}
 use Rattle.co_pdo.specs.declared.tpdo.Occasion.{Occasion}
 use Rattle.co_pdo.specs.declared.tpdo.Occasion.TheVariants.{Sync, Event, Tick}
 use Rattle.co_pdo.specs.declared.tpdo.Part.TheVariants.{Whole, Timer}
 use Rattle.co_pdo.specs.declared.tpdo.Tpdo.{Tpdo}
 use Rattle.co_pdo.specs.Log.{Log, Started, Happened, started_with}
-use Rattle.co_pdo.specs.Due.{begins_count, syncs, has_begun, since_beginning, counted_syncs, event_since_sync, timer_ticks, event_waits, sendings, in_ms, is_due_by_count, is_due_at_sync, is_event_driven, is_due_by_event, is_due}
+use Rattle.co_pdo.specs.Due.{begins_count, syncs, has_begun, since_beginning, counted_syncs, event_since_sync, timer_ticks, event_waits, sendings, is_due_by_count, is_due_at_sync, is_event_driven, is_due_by_event, is_due}
 use Rattle.co_pdo.specs.Countdowns.{left_of, type_of, inhibit_of, IsAfter, IsAsAt, IsCurrent}
 use Rattle.co_pdo.specs.Steps.{counts, counted, counted_with, wants_with, marked}
 use Rattle.co_pdo.proofs.Counts.{last_sync, next_sync, left-tick, last_tick}

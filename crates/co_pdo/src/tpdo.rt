@@ -20,7 +20,7 @@ pub enum Occasion {
     Sync(u8, Option<u8>),
     /// Something mapped into it changed, or the application asks for it.
     Event,
-    /// 1 ms went by.
+    /// 1 ms elapsed.
     Tick,
 }
 
