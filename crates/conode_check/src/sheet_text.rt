@@ -25,7 +25,8 @@ pub(crate) fn set_build_fault_line(text: &mut String, fault: BuildFault) -> Resu
     ensures { OnOk result (string_bytes text.new ≡ build_fault_line fault) }
 {
     text.clear();
-    writeln!(text, "{fault}")
+    text.push_str(fault.text().as_str())?;
+    text.push('\n')
 }
 
 /// Makes the text the line of a note: its line and its name. On an `Err` memory ran out, and the text holds a part of
