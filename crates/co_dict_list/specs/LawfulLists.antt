@@ -69,7 +69,7 @@ module _ (entries : List ListedEntry) (all : AllByRecursion IsEntry entries) whe
       let f = with_part (λ e. e.row) key row h in
       subst (P key) f.2 (subst (λ k. P k f.0.row) f.1.key_is (each f.0 f.1.is_entry))
 
-list_has : (entries : List ListedEntry) (key : Key) → is_some (rows_in entries key) ≡ list_any (same_key key) (keys_in entries)
+pub list_has : (entries : List ListedEntry) (key : Key) → is_some (rows_in entries key) ≡ list_any (same_key key) (keys_in entries)
 list_has [] key = refl
 list_has (e ∷ entries) key = by_test (same_key key e.key) (list_has entries key)
   where
@@ -117,6 +117,7 @@ module _ (node : ℕ) (dummies : List Bool) (entries : List ListedEntry) (all : 
     width = λ key row width r h. of_row entries all (λ k r. HasWidth r) (λ e is. is.width) key row r width h;
     fixed = λ key row t r h. of_row entries all HasFixedType (λ e is. is.fixed) key row r t h;
     key = of_row entries all (λ k r. IsKey k) (λ e is. is.key);
+    from_1000 = of_row entries all (λ k r. 0x1000 ≤ k.index) (λ e is. is.from_1000);
     capacity = of_row entries all (λ k r. r.capacity ≤ 65535) (λ e is. is.capacity);
     limits = of_row entries all (λ k r. HasLimits r) (λ e is. is.limits);
     dummies = dummy_range dummies six;

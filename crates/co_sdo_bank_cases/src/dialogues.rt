@@ -1,13 +1,16 @@
 //! Transfers on two channels at once.
 
 use crate::served::two_channels;
-use co_frame::{Frame, Outbox};
+use co_frame::Frame;
 use std::test::Fail;
 
 // a download of ten bytes on each channel, and the first segment of each
 const BEGUN: &str = "
-    605#210120000A000000 585#6001200000000000 680#210120000A000000 681#6001200000000000
-    605#0030313233343536 585#2000000000000000 680#0061626364656667 681#2000000000000000";
+    605#210120000A000000 585#6001200000000000
+    680#210120000A000000 681#6001200000000000
+    605#0030313233343536 585#2000000000000000
+    680#0061626364656667 681#2000000000000000
+    682#4001200000000000";
 
 const LAST_ON_0: &str = "605#1937383900000000 585#3000000000000000";
 
@@ -21,25 +24,28 @@ fn interleaved(rt: HostRuntime) -> Result<(), Fail> {
         (LAST_ON_0, LAST_ON_1, b"abcdefghij"),
     ] {
         served.shows(&rt, BEGUN)?;
-        assert_eq!(rt; (served.bank.held(0), served.bank.held(1)), (7, 7));
+        assert_eq!(rt; served.held(), [7, 7, 0]);
         served.shows(&rt, first)?;
         served.shows(&rt, second)?;
-        assert!(rt; served.has(value) && served.bank.held(0) == 0 && served.bank.held(1) == 0);
+        assert!(rt; served.has(value) && served.held() == [0; 3]);
     }
     Ok(())
 }
 
+// of two whose time is over one gives up in a tick; the other waits, or goes on with its next frame
 #[test]
 fn one_time_out_in_a_tick(rt: HostRuntime) -> Result<(), Fail> {
-    let mut served = two_channels(rt.alloc(), 10)?;
-    served.shows(&rt, BEGUN)?;
-    served.shows(&rt, "+10 585#8001200000000405 +1 681#8001200000000405 +30")?;
-    // the other one waits, and goes on with its next frame
-    served.shows(&rt, BEGUN)?;
-    served.shows(&rt, "+10 585#8001200000000405")?;
-    served.shows(&rt, LAST_ON_1)?;
-    served.shows(&rt, "+30")?;
-    assert!(rt; served.has(b"abcdefghij"));
+    let mut served = two_channels(rt.alloc(), 2)?;
+    for (next, after) in [
+        ("+ 681#8001200000000405\n+", b"".as_slice()),
+        (LAST_ON_1, b"abcdefghij".as_slice()),
+    ] {
+        served.shows(&rt, BEGUN)?;
+        served.shows(&rt, "+\n+ 585#8001200000000405")?;
+        served.shows(&rt, next)?;
+        served.shows(&rt, "+\n+\n+")?;
+        assert!(rt; served.has(after));
+    }
     Ok(())
 }
 
@@ -49,39 +55,22 @@ fn dropped(rt: HostRuntime) -> Result<(), Fail> {
     served.shows(&rt, BEGUN)?;
     served.bank.drop_transfers();
     served.shows(&rt, "605#1937383900000000 585#8000000001000405")?;
-    served.shows(&rt, "680#1968696A00000000 681#8000000001000405 +30")?;
+    served.shows(&rt, "680#1968696A00000000 681#8000000001000405")?;
     assert!(rt; served.has(b""));
     Ok(())
 }
 
 #[test]
-fn addresses(rt: HostRuntime) -> Result<(), Fail> {
-    let mut served = two_channels(rt.alloc(), 0)?;
-    for (id, channel) in [
+fn numbers(rt: HostRuntime) -> Result<(), Fail> {
+    let served = two_channels(rt.alloc(), 0)?;
+    for (id, number) in [
         (0x605, Some(0)),
         (0x585, None),
         (0x680, Some(1)),
-        (0x681, None),
         (0x682, None),
     ] {
-        assert_eq!(rt; served.bank.channel_for(id), channel, "{id}");
+        let frame = Frame::new(id, &[])?;
+        assert_eq!(rt; served.bank.channel_for(frame.id()), number, "{id}");
     }
-    served.shows(&rt, BEGUN)?;
-    // seven bytes, and another identifier: nothing is sent, and nothing changes
-    for frame in [
-        Frame::new(0x680, &[0; 7])?,
-        Frame::new(0x682, &[0x40, 1, 0x20, 0, 0, 0, 0, 0])?,
-    ] {
-        let sent: Outbox = served.take(&frame);
-        assert!(rt; sent.is_empty());
-    }
-    assert_eq!(rt;
-        (
-            served.bank.held(1),
-            served.bank.held(2),
-            served.bank.held(127)
-        ),
-        (7, 0, 0)
-    );
-    served.shows(&rt, LAST_ON_1)
+    Ok(())
 }

@@ -49,57 +49,38 @@ impl<S: ObjectStore + Drop> Served<S> {
         Ok(Served { bank, store })
     }
 
-    /// The frames that answer a frame.
-    pub(crate) fn take(&mut self, frame: &Frame) -> Outbox {
+    // The frames that are sent at a word: `+` is a tick, any other a frame that comes.
+    fn sent_at(&mut self, word: &str) -> Result<Outbox, Fail> {
         let mut sent = Outbox::new();
-        self.bank.take(&mut self.store, frame, &mut sent);
-        sent
-    }
-
-    // The frames that the last of so many ticks sends.
-    fn ticks(&mut self, rt: &impl Abort, count: u16) -> Outbox {
-        let mut sent = Outbox::new();
-        for tick in 0..count {
-            assert!(rt; sent.is_empty(), "after tick {tick} of {count}");
-            sent.clear();
+        if word == "+" {
             self.bank.tick(&mut sent);
+        } else {
+            let frame = frame_of(word)?;
+            self.bank.take(&mut self.store, &frame, &mut sent);
         }
-        sent
+        Ok(sent)
     }
 
-    /// Whether what comes in this text is answered as it says: the requests of a channel, and ticks (`+10` is ten of
-    /// them, of which the last alone may send a frame), each with the frames that are sent after it, and no other.
+    /// Whether in each line of a text the first word is answered by the frames after it, and no other.
     pub(crate) fn shows(&mut self, rt: &impl Abort, dialogue: &str) -> Result<(), Fail> {
-        let mut sent = Outbox::new();
-        let mut seen = 0usize;
-        for text in dialogue.split_whitespace() {
-            let response = match text.strip_prefix('+') {
-                Some(count) => {
-                    assert_eq!(rt; sent.len(), seen, "frames before {text} in {dialogue}");
-                    sent = self.ticks(rt, count.parse()?);
-                    None
+        for line in dialogue.lines() {
+            let mut words = line.split_whitespace();
+            if let Some(word) = words.next() {
+                let sent = self.sent_at(word)?;
+                let mut count = 0usize;
+                for text in words {
+                    assert_eq!(rt; sent.get(count), Some(&frame_of(text)?), "{line}");
+                    count = count.saturating_add(1);
                 }
-                None => {
-                    let frame = frame_of(text)?;
-                    if self.bank.channel_for(frame.id()).is_some() {
-                        assert_eq!(rt; sent.len(), seen, "frames before {text} in {dialogue}");
-                        sent = self.take(&frame);
-                        None
-                    } else {
-                        Some(frame)
-                    }
-                }
-            };
-            match response {
-                Some(frame) => {
-                    assert_eq!(rt; sent.get(seen), Some(&frame), "{text} in {dialogue}");
-                    seen = seen.saturating_add(1);
-                }
-                None => seen = 0,
+                assert_eq!(rt; sent.len(), count, "{line}");
             }
         }
-        assert_eq!(rt; sent.len(), seen, "frames at the end of {dialogue}");
         Ok(())
+    }
+
+    /// How many bytes channels 0, 1 and 2 hold.
+    pub(crate) fn held(&self) -> [usize; 3] {
+        [self.bank.held(0), self.bank.held(1), self.bank.held(2)]
     }
 
     /// Whether the string at 2001h has these bytes.

@@ -104,6 +104,7 @@ described = record {
   width = λ key held width h. wide key held width (row_at key held h);
   fixed = λ key held t h. fixed key held t (row_at key held h);
   key = λ key held h. keyed key held (row_at key held h);
+  from_1000 = λ key held h. high key held (row_at key held h);
   capacity = λ key held h. small key held (row_at key held h);
   limits = λ key held h. limits key held (row_at key held h);
   dummies = λ index h. cc;
@@ -130,6 +131,10 @@ described = record {
     keyed : (key : Key) (held : Row) → Has key held → IsKey key
     keyed key held (has_string e f) = rw e (record { index = omega arith; sub = omega arith })
     keyed key held (has_domain e f) = rw e (record { index = omega arith; sub = omega arith })
+
+    high : (key : Key) (held : Row) → Has key held → 0x1000 ≤ key.index
+    high key held (has_string e f) = rw e (omega arith)
+    high key held (has_domain e f) = rw e (omega arith)
 
     small : (key : Key) (held : Row) → Has key held → held.capacity ≤ 65535
     small key held (has_string e f) = rw f (omega arith)
