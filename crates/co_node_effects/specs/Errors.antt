@@ -1,9 +1,8 @@
 -- What errors do, as they are raised and cleared: the error register, the pre-defined error field, and the emergencies
 -- that are queued (CiA 301, 7.2.7, 7.5.2.2 and 7.5.2.4).
-use Rattle.std.specs.Prelude.{ℕ, ◌-◌, bit_or, bit_and, is_some, List, [], ◌∷◌, if◌then◌else◌}
-use Rattle.co_value.specs.Numbers.{low_bytes}
+use Rattle.std.specs.Prelude.{ℕ, ◌-◌, bit_or, bit_and, List, [], ◌∷◌}
 use Rattle.co_frame.specs.declared.emergency.Emergency.{Emergency}
-use Rattle.co_dict.specs.Rows.{Rows, Contents, number_at, written}
+use Rattle.co_dict.specs.Rows.{Rows, Contents, number_at, with_number}
 use Rattle.co_dict.specs.ErrorField.{pushed}
 use Rattle.co_node_inputs.specs.Keys.{error_register_key}
 use Rattle.co_node_effects.specs.declared.device_error.DeviceError.{DeviceError}
@@ -54,8 +53,7 @@ register_without bits contents = bit_and (error_register contents) (255 - bits)
 
 -- the contents with another error register, where there is one
 abbrev pub with_register : Rows → ℕ → Contents → Contents
-with_register rows register contents =
-    if is_some (rows error_register_key) then written contents error_register_key (low_bytes 1 register) else contents
+with_register rows register contents = with_number rows error_register_key register contents
 
 -- ---- raised
 

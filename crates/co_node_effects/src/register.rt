@@ -3,7 +3,7 @@
 ghost use Rattle.std.specs.Prelude.{◌≡◌};
 ghost use Rattle.co_node_effects.specs.Errors as errors;
 
-use co_dict::{ObjectStore, number_u8, store_laws};
+use co_dict::{ObjectStore, number_u8, set_u8};
 use co_frame::Emergency;
 use co_profile::ERROR_REGISTER as ERROR_REGISTER_INDEX;
 use co_value::Key;
@@ -27,10 +27,7 @@ pub(crate) fn set_register<S: ObjectStore>(store: &mut S, register: u8)
         ≡ errors.with_register (S.description store.old).rows register (S.contents store.old) }
     ensures description { S.description store.new ≡ S.description store.old }
 {
-    store_laws(store);
-    if store.row(ERROR_REGISTER).is_some() {
-        store.set(ERROR_REGISTER, &[register]);
-    }
+    set_u8(store, ERROR_REGISTER, register);
 }
 
 /// Clears bits of the error register, and gives the emergency that is to be queued: error code 0000h
