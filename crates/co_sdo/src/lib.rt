@@ -15,3 +15,4 @@ mod upload;
 
 pub use channel::Channel;
 pub use co_frame::Ids;
+pub use co_sdo_client::{Client, ClientState, Mode};
