@@ -7,4 +7,5 @@ pub mod CountLemmas
 pub mod ExampleDevice
 pub mod ObjectLemmas
 pub mod StoreLemmas
+mod WriteLemmas
 pub mod PushLemmas

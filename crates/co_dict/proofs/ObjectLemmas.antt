@@ -1,5 +1,6 @@
 -- An entry that is there is one of its object.
 use Rattle.std.proofs.Common.{◌≡◌, ℕ, zero, suc, ◌+◌, ◌<◌, ◌≤◌, Bool, true, false, Some, None, refl, ap, ◌∙◌, arith, inl, inr}
+use Rattle.std.proofs.lemmas.Bool.{or_left, or_right}
 use Rattle.std.proofs.Math.Nat.{eq-or-lt_of_le}
 use Rattle.std.specs.Prelude.{◌||◌, is_some, is_none, not}
 use Rattle.std.specs.List.{list_any, range_with_len}
@@ -9,14 +10,6 @@ use Rattle.co_dict.specs.Rows.{Rows}
 use Rattle.co_dict.specs.Refusals.{refused_if, first_of}
 use Rattle.co_dict.specs.Objects.{has_sub, has_object, missing_entry}
 use Rattle.co_frame.specs.AbortCodes.{object_missing, sub_index_missing}
-
-or_left : (a b : Bool) → a ≡ true → (a || b) ≡ true
-or_left true b h = refl
-or_left false b h = cc
-
-or_right : (a b : Bool) → b ≡ true → (a || b) ≡ true
-or_right true b h = refl
-or_right false b h = h
 
 -- what holds of a number of a range holds of one of them
 pub any_in_range : (p : ℕ → Bool) (first count i : ℕ) → first ≤ i → i < first + count → p i ≡ true → list_any p (range_with_len first count) ≡ true

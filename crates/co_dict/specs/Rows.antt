@@ -1,10 +1,10 @@
 -- An object dictionary: the rows and the bytes of its entries, by their keys (CiA 301, 7.4).
-use Rattle.std.specs.Prelude.{ℕ, ◌==◌, ◌&&◌, Bool, true, false, nat_le, List, [], Option, Some, if◌then◌else◌, unwrap_or}
+use Rattle.std.specs.Prelude.{ℕ, ◌==◌, ◌&&◌, Bool, true, false, nat_le, List, [], Option, Some, if◌then◌else◌, unwrap_or, is_some}
 use Rattle.std.specs.Option.{option_map_or}
 use Rattle.co_value.specs.declared.key.Key.{Key}
 use Rattle.co_value.specs.Keys.{same_key}
 use Rattle.co_value.specs.Types.{width_of}
-use Rattle.co_value.specs.Numbers.{unsigned_of}
+use Rattle.co_value.specs.Numbers.{unsigned_of, low_bytes}
 use Rattle.co_profile.specs.Indices.{is_within, communication_profile}
 use Rattle.co_dict.specs.declared.row.Row.{Row}
 use Rattle.co_dict.specs.declared.area.Area.{Area}
@@ -33,6 +33,10 @@ capacity_at rows key = option_map_or (λ row. row.capacity) (rows key) 0
 -- the contents after one entry was set
 abbrev pub written : Contents → Key → List ℕ → Contents
 written contents key bytes = λ other. if same_key other key then Some bytes else contents other
+
+-- the contents after the number of an entry of UNSIGNED8 was set, where there is such an entry
+abbrev pub with_number : Rows → Key → ℕ → Contents → Contents
+with_number rows key number contents = if is_some (rows key) then written contents key (low_bytes 1 number) else contents
 
 -- the entries that a reset restores: the communication profile's, 1000h to 1FFFh, or all
 abbrev pub is_in_area : Area → Key → Bool

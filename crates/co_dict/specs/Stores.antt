@@ -36,8 +36,8 @@ pub record HasLimits (row : Row) : Type 0 where
   pub low : (width : ℕ) → width_of row.data_type ≡ Some width → InRange row.data_type row.low
   pub high : (width : ℕ) → width_of row.data_type ≡ Some width → InRange row.data_type row.high
 
--- the rows of a dictionary: finitely many; the capacity of a number is its width; fixed types are as they must be; the
--- dummy entries are 0002h to 0007h
+-- the rows of a dictionary: finitely many; their indices are from 1000h on; the capacity of a number is its width; fixed
+-- types are as they must be; the dummy entries are 0002h to 0007h
 pub record IsDescription (d : Description) : Type 0 where
   pub first_node : 1 ≤ d.node
   pub last_node : d.node ≤ 127
@@ -45,6 +45,7 @@ pub record IsDescription (d : Description) : Type 0 where
   pub width : (key : Key) (row : Row) (width : ℕ) → d.rows key ≡ Some row → width_of row.data_type ≡ Some width → row.capacity ≡ width
   pub fixed : (key : Key) (row : Row) (t : DataType) → d.rows key ≡ Some row → fixed_type_of key ≡ Some t → row.data_type ≡ t
   pub key : (key : Key) (row : Row) → d.rows key ≡ Some row → IsKey key
+  pub from_1000 : (key : Key) (row : Row) → d.rows key ≡ Some row → 0x1000 ≤ key.index
   pub capacity : (key : Key) (row : Row) → d.rows key ≡ Some row → row.capacity ≤ 65535
   pub limits : (key : Key) (row : Row) → d.rows key ≡ Some row → HasLimits row
   pub dummies : (index : ℕ) → d.dummies index ≡ true → (2 ≤ index) × (index ≤ 7)

@@ -7,8 +7,8 @@ use crate::cob_id::{CobId, is_default_sdo, is_restricted};
 use crate::sdo_channels::is_sdo_id;
 use crate::store::ObjectStore;
 
-/// Whether a PDO, the emergency or SYNC may have the identifier: it is not restricted, and no SDO channel has it
-/// (CiA 301, 7.3.5).
+/// Whether a PDO, the emergency or SYNC may have the identifier: it is not restricted, it is none of 581h to 5FFh and
+/// 601h to 67Fh, which default SDO channels have, and no SDO channel of this device has it (CiA 301, 7.3.5).
 pub fn is_free<S: ObjectStore>(store: &S, identifier: u16) -> bool
     ensures { result ≡ is_free (S.description store.now).node (S.contents store.now) identifier }
 {

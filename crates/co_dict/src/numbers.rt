@@ -4,7 +4,7 @@ ghost use Rattle.std.specs.Prelude.{◌≡◌, Some, true, length};
 ghost use Rattle.co_value.specs.Numbers.{unsigned_of};
 ghost use Rattle.co_value.specs.declared.data_type.DataType.TheVariants.{Unsigned8, Unsigned16, Unsigned32};
 ghost use Rattle.co_profile.specs.FixedTypes.{fixed_type_of};
-ghost use Rattle.co_dict.specs.Rows.{number_at, takes};
+ghost use Rattle.co_dict.specs.Rows.{number_at, takes, with_number};
 
 use crate::store::{ObjectStore, store_laws};
 use co_value::Key;
@@ -42,6 +42,20 @@ pub fn number_u8<S: ObjectStore>(store: &S, key: Key) -> u8
     match store.bytes(key) {
         Some(bytes) => number_of_1(bytes),
         None => 0,
+    }
+}
+
+/// Sets the number of an entry whose type is UNSIGNED8 wherever it is; where there is no such entry nothing changes. No
+/// limits or rights are asked (CiA 301, 7.5.2).
+pub fn set_u8<S: ObjectStore>(store: &mut S, key: Key, number: u8)
+    requires { fixed_type_of key ≡ Some Unsigned8 }
+    ensures contents { S.contents store.new
+        ≡ with_number (S.description store.old).rows key number (S.contents store.old) }
+    ensures description { S.description store.new ≡ S.description store.old }
+{
+    store_laws(store);
+    if store.row(key).is_some() {
+        store.set(key, &[number]);
     }
 }
 

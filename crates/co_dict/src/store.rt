@@ -52,8 +52,8 @@ pub trait ObjectStore {
     ghost lawful: { (store : Self) → IsDictionary (description store) (contents store) };
 }
 
-/// What holds of each store: its keys are finitely many, each entry has bytes that fit it, the room of a number is its
-/// width, and fixed types are as they must be. This is a law: a call of it changes nothing.
+/// What holds of each store: its keys are finitely many, none has an index below 1000h, each entry has bytes that fit it,
+/// the room of a number is its width, and fixed types are as they must be. This is a law: a call of it changes nothing.
 pub fn store_laws<S: ObjectStore>(store: &S)
     ensures { IsDictionary (S.description store.now) (S.contents store.now) }
 {}

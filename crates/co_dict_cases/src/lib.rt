@@ -9,5 +9,3 @@ mod readers;
 mod rules;
 #[cfg(test)]
 mod sheet;
-#[cfg(test)]
-mod store;

@@ -2,7 +2,6 @@
 
 use co_dict_list::{BuildFault, Limits, ListStore};
 use co_sheet::read;
-use co_value::Key;
 use std::alloc::Global;
 use std::string::String;
 use std::test::Fail;
@@ -14,30 +13,35 @@ pub(crate) const LIMITS: Limits<'static> = Limits {
     own: &[],
 };
 
-/// The key of a number such as 0x1800_01.
-pub(crate) fn key(place: u32) -> Key {
-    let [_, high, low, sub] = place.to_be_bytes();
-    Key {
-        index: u16::from_be_bytes([high, low]),
-        sub,
-    }
-}
-
-/// The sheet's text with other parts in the place of some.
-pub(crate) fn text_with(alloc: Global, changes: &[(&str, &str)]) -> Result<String, Fail> {
+/// The sheet's text after changes, each of a part that is there: `PART>OTHER`, after `;`, with `/` for a line feed.
+pub(crate) fn text_with(alloc: Global, changes: &str) -> Result<String, Fail> {
     let mut text = format!(in alloc; "{LARGE}")?;
-    for &(part, other) in changes {
-        let (front, rest) = text.as_str().split_once(part).ok_or("no such part")?;
+    for change in changes.split(';') {
+        let (part, other) = change.split_once('>').unwrap_or(("", ""));
+        let part = lines(alloc, part)?;
+        let other = lines(alloc, other)?;
+        let (front, rest) = text
+            .as_str()
+            .split_once(part.as_str())
+            .ok_or("no such part")?;
         let changed = format!(in alloc; "{front}{other}{rest}")?;
         text = changed;
     }
     Ok(text)
 }
 
+fn lines(alloc: Global, text: &str) -> Result<String, Fail> {
+    let mut lines = String::new(alloc);
+    for piece in text.chars() {
+        lines.push(if piece == '/' { '\n' } else { piece })?;
+    }
+    Ok(lines)
+}
+
 /// What the changed sheet makes.
 pub(crate) fn built(
     alloc: Global,
-    changes: &[(&str, &str)],
+    changes: &str,
     node_id: u8,
     limits: &Limits<'_>,
 ) -> Result<Result<ListStore, BuildFault>, Fail> {
@@ -46,8 +50,10 @@ pub(crate) fn built(
     Ok(ListStore::build(alloc, &sheet, node_id, limits))
 }
 
-/// 22 objects and 46 entries.
+/// 25 objects and 54 entries.
 pub(crate) const LARGE: &str = "\
+[DummyUsage]
+Dummy0005=1
 [MandatoryObjects]
 SupportedObjects=3
 1=0x1000
@@ -60,6 +66,7 @@ DefaultValue=0x191
 [1001]
 DataType=5
 AccessType=ro
+PDOMapping=1
 [1018]
 ObjectType=9
 [1018sub0]
@@ -70,7 +77,7 @@ DefaultValue=1
 DataType=7
 AccessType=ro
 [OptionalObjects]
-SupportedObjects=14
+SupportedObjects=17
 1=0x1003
 2=0x1005
 3=0x1014
@@ -85,6 +92,9 @@ SupportedObjects=14
 12=0x1801
 13=0x1A00
 14=0x1A01
+15=0x1010
+16=0x1011
+17=0x1019
 [ManufacturerObjects]
 SupportedObjects=5
 1=0x2001
@@ -107,6 +117,27 @@ AccessType=ro
 DataType=7
 AccessType=rw
 DefaultValue=0x80
+[1010]
+ObjectType=8
+[1010sub0]
+DataType=5
+AccessType=ro
+DefaultValue=1
+[1010sub1]
+DataType=7
+AccessType=rw
+[1011]
+ObjectType=8
+[1011sub0]
+DataType=5
+AccessType=ro
+DefaultValue=1
+[1011sub1]
+DataType=7
+AccessType=rw
+[1019]
+DataType=5
+AccessType=rw
 [1014]
 DataType=7
 AccessType=rw
@@ -123,12 +154,15 @@ DefaultValue=2
 [1016sub1]
 DataType=7
 AccessType=rw
+DefaultValue=0x70064
 [1016sub2]
 DataType=7
 AccessType=rw
 [1017]
 DataType=6
 AccessType=rw
+PDOMapping=1
+DefaultValue=1000
 [1029]
 ObjectType=8
 [1029sub0]
@@ -180,7 +214,14 @@ DefaultValue=0x20020020
 [1600sub2]
 DataType=7
 AccessType=rw
-DefaultValue=0
+DefaultValue=0x20020020
+[1600sub3]
+DataType=7
+AccessType=rw
+DefaultValue=0x20030010
+[1600sub4]
+DataType=7
+AccessType=rw
 [1800]
 ObjectType=9
 [1800sub0]
@@ -225,6 +266,9 @@ DefaultValue=0
 DataType=6
 AccessType=rw
 DefaultValue=0
+[1801sub6]
+DataType=5
+AccessType=rw
 [1A00]
 ObjectType=9
 [1A00sub0]
@@ -256,6 +300,7 @@ DefaultValue=0
 [2001]
 DataType=9
 AccessType=rw
+PDOMapping=1
 [2002]
 DataType=7
 AccessType=rw
@@ -264,10 +309,12 @@ PDOMapping=1
 DataType=6
 AccessType=rw
 PDOMapping=1
+LowLimit=10
 HighLimit=1000
 [2004]
 DataType=6
 AccessType=wo
+PDOMapping=1
 [2100]
 DataType=15
 AccessType=rw

@@ -10,6 +10,7 @@ use Rattle.co_sheet.specs.Limits.{Default, absent, number, node_id}
 use Rattle.co_sheet.specs.Content.{Row as SheetRow}
 use Rattle.co_dict_list.specs.declared.build_fault.BuildFault.{BuildFault}
 use Rattle.co_dict_list.specs.declared.build_fault.BuildFault.TheVariants.{NodeId, ValueRange, BadCobId, PdoPair, BadMapping, TooMany, Memory}
+use Rattle.co_text.specs.Printed.{digits_text}
 use Rattle.co_dict_list.specs.BuildFaultTexts.{fault_text}
 use Rattle.co_dict.specs.SdoChannels.{is_sdo_id}
 use Rattle.co_dict.specs.Objects.{has_object, subs_present}
@@ -529,19 +530,19 @@ unfolding digits
 text_of_NodeId = refl
 
 text_of_ValueRange : fault_text (ValueRange (key 0x2003 0)) ≡ codes "build fault 2 ValueRange 2003:00"
-unfolding digits
+unfolding digits digits_text
 text_of_ValueRange = refl
 
 text_of_BadCobId : fault_text (BadCobId (key 0x1800 1)) ≡ codes "build fault 3 BadCobId 1800:01"
-unfolding digits
+unfolding digits digits_text
 text_of_BadCobId = refl
 
 text_of_PdoPair : fault_text (PdoPair 0x1A01) ≡ codes "build fault 4 PdoPair 1A01"
-unfolding digits
+unfolding digits digits_text
 text_of_PdoPair = refl
 
 text_of_BadMapping : fault_text (BadMapping (key 0x1BFF 0xFE)) ≡ codes "build fault 5 BadMapping 1BFF:FE"
-unfolding digits
+unfolding digits digits_text
 text_of_BadMapping = refl
 
 text_of_TooMany : fault_text TooMany ≡ codes "build fault 6 TooMany"

@@ -1,4 +1,5 @@
 -- The greatest capacity of a list of entries.
+use Rattle.std.proofs.lemmas.Bool.{and_parts}
 use Rattle.std.proofs.Common.{◌≡◌, ◌≤◌, ◌⊎◌, ℕ, Bool, true, false, cond, ltb, max, List, [], ◌∷◌, Some, None, inl, inr, refl, sym, ap, ◌∙◌, subst, arith}
 use Rattle.std.specs.Prelude.{fold, IsSomeAnd}
 use Rattle.std.specs.List.{list_all}
@@ -12,7 +13,7 @@ use Rattle.co_dict.specs.declared.row.Row.{Row}
 use Rattle.co_dict.specs.Rows.{Rows, capacity_at}
 use Rattle.co_dict.specs.Stores.{IsGreatestCapacity}
 use Rattle.co_dict_list.specs.ListedEntries.{ListedEntry, entry_at, rows_in, keys_in, are_increasing}
-use Rattle.co_dict_list.specs.LawfulLists.{and_first, and_second, equal_keys}
+use Rattle.co_dict_list.specs.LawfulLists.{equal_keys}
 use Rattle.co_dict.proofs.StoreLemmas.{room_of}
 use Rattle.co_dict_list.proofs.Search.{after_compares, other_compares, same_itself}
 
@@ -39,9 +40,9 @@ bounded most (e ∷ entries) key row h = by_same (same_key key e.key) h (bounded
 absent : (key : Key) (entries : List ListedEntry) → list_all (is_key_before key) (keys_in entries) ≡ true → rows_in entries key ≡ None
 absent key [] before = refl
 absent key (e ∷ entries) before =
-    let other = other_compares e.key key (ap is_eq (after_compares key e.key (and_first (is_key_before key e.key) (list_all (is_key_before key) (keys_in entries)) before))) in
+    let other = other_compares e.key key (ap is_eq (after_compares key e.key (and_parts (is_key_before key e.key) (list_all (is_key_before key) (keys_in entries)) before).0)) in
     ap (λ b. option_map (λ (e : ListedEntry). e.row) (cond b (Some e) (entry_at entries key))) other
-    ∙ absent key entries (and_second (is_key_before key e.key) (list_all (is_key_before key) (keys_in entries)) before)
+    ∙ absent key entries (and_parts (is_key_before key e.key) (list_all (is_key_before key) (keys_in entries)) before).1
 
 -- an entry of the list has this capacity
 abbrev HasCapacity : List ListedEntry → ℕ → Type 0
@@ -74,8 +75,8 @@ reached : (most : ℕ) (entries : List ListedEntry) → are_increasing (keys_in 
 reached most [] increasing = inl refl
 reached most (e ∷ entries) increasing =
     one_more most e entries (most_of (max most e.row.capacity) entries)
-    (and_first (list_all (is_key_before e.key) (keys_in entries)) (are_increasing (keys_in entries)) increasing)
-    (reached (max most e.row.capacity) entries (and_second (list_all (is_key_before e.key) (keys_in entries)) (are_increasing (keys_in entries)) increasing))
+    (and_parts (list_all (is_key_before e.key) (keys_in entries)) (are_increasing (keys_in entries)) increasing).0
+    (reached (max most e.row.capacity) entries (and_parts (list_all (is_key_before e.key) (keys_in entries)) (are_increasing (keys_in entries)) increasing).1)
 
 pub most_is_greatest : (entries : List ListedEntry) → are_increasing (keys_in entries) ≡ true → IsGreatestCapacity (rows_in entries) (most_of 0 entries)
 most_is_greatest entries increasing = record { bound = bounded 0 entries; reached = reached 0 entries increasing }

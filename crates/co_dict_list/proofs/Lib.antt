@@ -7,6 +7,7 @@ mod GreatestCapacity
 mod InitialLemmas
 mod Roomless
 mod ListExamples
+mod PairLaws
 mod Pairs
 mod Places
 mod Plans

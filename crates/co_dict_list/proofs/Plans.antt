@@ -1,5 +1,6 @@
 -- From the rows of a sheet to the entries of a dictionary: each row is ready, and the keys stay as they are.
 use Rattle.std.proofs.Common.{◌≡◌, ℕ, suc, ◌≤◌, Bool, true, false, cond, List, [], ◌∷◌, Option, Some, None, refl, sym, ap, ◌∙◌, map, get_or, All, arith}
+use Rattle.std.proofs.lemmas.Bool.{and_from}
 use Rattle.std.proofs.lemmas.List.Elements.{All-nil, All-cons, All-head, All-tail}
 use Rattle.std.specs.Prelude.{◌&&◌, find, option_map, AllPairs}
 use Rattle.std.specs.List.{list_all}
@@ -46,13 +47,10 @@ before_all key [] h = refl
 before_all key (row ∷ rows) h =
     rw (All-head (λ (row : EntryRow). is_key_before key row.key ≡ true) row rows h) (before_all key rows (All-tail (λ (row : EntryRow). is_key_before key row.key ≡ true) row rows h))
 
-both : (p q : Bool) → p ≡ true → q ≡ true → (p && q) ≡ true
-both p q h i = rw (h, i) refl
-
 pub keys_increase : (rows : List EntryRow) → AllPairs (λ (e f : EntryRow). is_key_before e.key f.key ≡ true) rows → are_increasing (map (λ (row : EntryRow). row.key) rows) ≡ true
 keys_increase [] h = refl
 keys_increase (row ∷ rows) h =
-    both (list_all (is_key_before row.key) (map (λ (row : EntryRow). row.key) rows)) (are_increasing (map (λ (row : EntryRow). row.key) rows))
+    and_from (list_all (is_key_before row.key) (map (λ (row : EntryRow). row.key) rows)) (are_increasing (map (λ (row : EntryRow). row.key) rows))
     (before_all row.key rows (λ k d i. h 0 (suc k) d (omega arith) (omega arith)))
     (keys_increase rows (λ i j d l m. h (suc i) (suc j) d (omega arith) (omega arith)))
 

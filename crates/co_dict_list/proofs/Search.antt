@@ -1,4 +1,5 @@
 -- Where a binary search by key finds what it looks for.
+use Rattle.std.proofs.lemmas.Bool.{and_parts}
 use Rattle.std.proofs.Common.{◌≡◌, ℕ, zero, suc, ◌+◌, ◌<◌, ◌≤◌, Bool, true, false, cond, ◌&&◌, ◌||◌, eqb, ltb, List, [], ◌∷◌, length, get_or, map, Some, None, Result, Ok, Err, refl, sym, ap, ◌∙◌, subst, arith}
 use Rattle.std.specs.Prelude.{position, nat_lt}
 use Rattle.std.specs.List.{list_all}
@@ -15,7 +16,7 @@ use Rattle.std.proofs.lemmas.List.Sorted.{searchable_from_sorted}
 use Rattle.co_value.specs.declared.key.Key.{Key}
 use Rattle.co_value.specs.Keys.{same_key, is_key_before}
 use Rattle.co_dict_list.specs.ListedEntries.{are_increasing}
-use Rattle.co_dict_list.specs.LawfulLists.{and_first, and_second, equal_keys}
+use Rattle.co_dict_list.specs.LawfulLists.{equal_keys}
 
 -- the order of keys that `Key` derives
 abbrev pub key_cmp : Key → Key → Ordering
@@ -72,15 +73,15 @@ other_compares a b h = by_same (same_key b a) refl
 module _ {X : Type 0} (key_of : X → Key) where
   all_after : (key : Key) (xs : List X) (k : ℕ) (d : X) → list_all (is_key_before key) (map key_of xs) ≡ true → k < length xs → is_key_before key (key_of (get_or xs k d)) ≡ true
   all_after key [] k d h lt = absurd (omega arith)
-  all_after key (x ∷ xs) zero d h lt = and_first (is_key_before key (key_of x)) (list_all (is_key_before key) (map key_of xs)) h
-  all_after key (x ∷ xs) (suc k) d h lt = all_after key xs k d (and_second (is_key_before key (key_of x)) (list_all (is_key_before key) (map key_of xs)) h) (omega arith)
+  all_after key (x ∷ xs) zero d h lt = (and_parts (is_key_before key (key_of x)) (list_all (is_key_before key) (map key_of xs)) h).0
+  all_after key (x ∷ xs) (suc k) d h lt = all_after key xs k d (and_parts (is_key_before key (key_of x)) (list_all (is_key_before key) (map key_of xs)) h).1 (omega arith)
 
   -- an element is before all that come after it
   before_later : (xs : List X) (i j : ℕ) (d : X) → are_increasing (map key_of xs) ≡ true → i < j → j < length xs → is_key_before (key_of (get_or xs i d)) (key_of (get_or xs j d)) ≡ true
   before_later [] i j d h lt within = absurd (omega arith)
   before_later (x ∷ xs) i zero d h lt within = absurd (omega arith)
-  before_later (x ∷ xs) zero (suc j) d h lt within = all_after (key_of x) xs j d (and_first (list_all (is_key_before (key_of x)) (map key_of xs)) (are_increasing (map key_of xs)) h) (omega arith)
-  before_later (x ∷ xs) (suc i) (suc j) d h lt within = before_later xs i j d (and_second (list_all (is_key_before (key_of x)) (map key_of xs)) (are_increasing (map key_of xs)) h) (omega arith) (omega arith)
+  before_later (x ∷ xs) zero (suc j) d h lt within = all_after (key_of x) xs j d (and_parts (list_all (is_key_before (key_of x)) (map key_of xs)) (are_increasing (map key_of xs)) h).0 (omega arith)
+  before_later (x ∷ xs) (suc i) (suc j) d h lt within = before_later xs i j d (and_parts (list_all (is_key_before (key_of x)) (map key_of xs)) (are_increasing (map key_of xs)) h).1 (omega arith) (omega arith)
 
 module _ {X : Type 0} (key_of : X → Key) (xs : List X) (increasing : are_increasing (map key_of xs) ≡ true) (key : Key) where
   comparisons_rise : IsNonDecreasingBy (λ x. ordering_index (key_cmp (key_of x) key)) xs

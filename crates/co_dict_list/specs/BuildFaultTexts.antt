@@ -1,7 +1,8 @@
 -- The numbers, the names and the printed lines of the faults of a dictionary.
-use Rattle.std.specs.Prelude.{ℕ, ◌/◌, ◌%◌, true, List, [], ◌∷◌, ◌++◌, codes}
-use Rattle.std.specs.Fmt.{decimal, digit_glyph}
-use Rattle.co_value.specs.declared.key.Key.{Key}
+use Rattle.std.specs.Prelude.{ℕ, List, [], ◌++◌, codes}
+use Rattle.std.specs.Fmt.{decimal}
+use Rattle.co_text.specs.Printed.{digits_text}
+use Rattle.co_value.specs.KeyTexts.{key_text}
 use Rattle.co_dict_list.specs.declared.build_fault.BuildFault.{BuildFault}
 use Rattle.co_dict_list.specs.declared.build_fault.BuildFault.TheVariants.{NodeId, ValueRange, BadCobId, PdoPair, BadMapping, TooMany, Memory}
 
@@ -25,23 +26,11 @@ fault_name (BadMapping key) = codes "BadMapping"
 fault_name TooMany = codes "TooMany"
 fault_name Memory = codes "Memory"
 
--- two hexadecimal digits in upper case
-abbrev pub pair_text : ℕ → List ℕ
-pair_text byte = digit_glyph true (byte / 16) ∷ digit_glyph true (byte % 16) ∷ []
-
--- an index: `1800`
-abbrev pub index_text : ℕ → List ℕ
-index_text index = pair_text (index / 256) ++ pair_text (index % 256)
-
--- a key: `1800:01`
-abbrev pub key_text : Key → List ℕ
-key_text key = index_text key.index ++ codes ":" ++ pair_text key.sub
-
 -- where a fault is, after a space: at a key, at an index or at no place
 abbrev pub fault_place : BuildFault → List ℕ
 fault_place (ValueRange key) = codes " " ++ key_text key
 fault_place (BadCobId key) = codes " " ++ key_text key
-fault_place (PdoPair index) = codes " " ++ index_text index
+fault_place (PdoPair index) = codes " " ++ digits_text 16 4 index
 fault_place (BadMapping key) = codes " " ++ key_text key
 fault_place other = []
 

@@ -3,7 +3,7 @@ use Rattle.std.proofs.Common.{◌≡◌, ◌≤◌, ◌<◌, ◌-◌, ℕ, zero,
 use Rattle.std.specs.Prelude.{is_some, nat_le, slice_get, unwrap_or}
 use Rattle.std.specs.Option.{option_map}
 use Rattle.std.specs.List.{list_any, AllByRecursion}
-use Rattle.std.proofs.lemmas.Bool.{eqb-true, false≢true}
+use Rattle.std.proofs.lemmas.Bool.{and_parts, eqb-true, false≢true}
 use Rattle.std.proofs.lemmas.Bool.Decides.{nat_tests}
 use Rattle.std.proofs.lemmas.Option.{none-some, same_Some}
 use Rattle.co_value.specs.declared.key.Key.{Key}
@@ -14,20 +14,11 @@ use Rattle.co_dict.specs.Rows.{fits}
 use Rattle.co_dict.specs.Stores.{IsFilled, IsDescription, IsDictionary, IsKey, HasLimits}
 use Rattle.co_dict_list.specs.ListedEntries.{ListedEntry, IsEntry, entry_at, rows_in, contents_in, keys_in, description_in, HasWidth, HasFixedType}
 
--- where two tests pass, the first and the second pass
-pub and_first : (a b : Bool) → (a && b) ≡ true → a ≡ true
-and_first true b h = refl
-and_first false b h = h
-
-pub and_second : (a b : Bool) → (a && b) ≡ true → b ≡ true
-and_second true b h = h
-and_second false b h = absurd cc
-
 -- keys that are the same are equal
 pub equal_keys : (a b : Key) → same_key a b ≡ true → a ≡ b
 equal_keys a b same =
-    let index : a.index ≡ b.index = eqb-true _ _ (and_first (eqb a.index b.index) (eqb a.sub b.sub) same) in
-    let sub : a.sub ≡ b.sub = eqb-true _ _ (and_second (eqb a.index b.index) (eqb a.sub b.sub) same) in
+    let index : a.index ≡ b.index = eqb-true _ _ (and_parts (eqb a.index b.index) (eqb a.sub b.sub) same).0 in
+    let sub : a.sub ≡ b.sub = eqb-true _ _ (and_parts (eqb a.index b.index) (eqb a.sub b.sub) same).1 in
     let key : ℕ → ℕ → Key = λ i s. record { index = i; sub = s } in
     ap (λ i. key i a.sub) index ∙ ap (λ s. key b.index s) sub
 
@@ -69,7 +60,7 @@ module _ (entries : List ListedEntry) (all : AllByRecursion IsEntry entries) whe
       let f = with_part (λ e. e.row) key row h in
       subst (P key) f.2 (subst (λ k. P k f.0.row) f.1.key_is (each f.0 f.1.is_entry))
 
-list_has : (entries : List ListedEntry) (key : Key) → is_some (rows_in entries key) ≡ list_any (same_key key) (keys_in entries)
+pub list_has : (entries : List ListedEntry) (key : Key) → is_some (rows_in entries key) ≡ list_any (same_key key) (keys_in entries)
 list_has [] key = refl
 list_has (e ∷ entries) key = by_test (same_key key e.key) (list_has entries key)
   where
@@ -104,8 +95,8 @@ set_within (flag ∷ flags) (suc i) h = let within = set_within flags i h in ome
 
 dummy_range : (dummies : List Bool) → length dummies ≡ 6 → (index : ℕ) → (nat_le 2 index && unwrap_or (slice_get dummies (index - 2)) false) ≡ true → (2 ≤ index) × (index ≤ 7)
 dummy_range dummies six index h =
-    let from : 2 ≤ index = grind (arith, nat_tests, and_first (nat_le 2 index) (unwrap_or (slice_get dummies (index - 2)) false) h) in
-    let within = set_within dummies (index - 2) (and_second (nat_le 2 index) (unwrap_or (slice_get dummies (index - 2)) false) h) in
+    let from : 2 ≤ index = grind (arith, nat_tests, (and_parts (nat_le 2 index) (unwrap_or (slice_get dummies (index - 2)) false) h).0) in
+    let within = set_within dummies (index - 2) (and_parts (nat_le 2 index) (unwrap_or (slice_get dummies (index - 2)) false) h).1 in
     (from, omega arith)
 
 module _ (node : ℕ) (dummies : List Bool) (entries : List ListedEntry) (all : AllByRecursion IsEntry entries) (first : 1 ≤ node) (last : node ≤ 127) (six : length dummies ≡ 6) where
@@ -117,6 +108,7 @@ module _ (node : ℕ) (dummies : List Bool) (entries : List ListedEntry) (all : 
     width = λ key row width r h. of_row entries all (λ k r. HasWidth r) (λ e is. is.width) key row r width h;
     fixed = λ key row t r h. of_row entries all HasFixedType (λ e is. is.fixed) key row r t h;
     key = of_row entries all (λ k r. IsKey k) (λ e is. is.key);
+    from_1000 = of_row entries all (λ k r. 0x1000 ≤ k.index) (λ e is. is.from_1000);
     capacity = of_row entries all (λ k r. r.capacity ≤ 65535) (λ e is. is.capacity);
     limits = of_row entries all (λ k r. HasLimits r) (λ e is. is.limits);
     dummies = dummy_range dummies six;

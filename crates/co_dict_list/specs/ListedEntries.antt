@@ -39,6 +39,7 @@ HasFixedType key row = (t : DataType) → fixed_type_of key ≡ Some t → row.d
 -- what holds of an entry of each dictionary
 pub record IsEntry (entry : ListedEntry) : Type 0 where
   pub key : IsKey entry.key
+  pub from_1000 : 0x1000 ≤ entry.key.index
   pub capacity : entry.row.capacity ≤ 65535
   pub width : HasWidth entry.row
   pub fixed : HasFixedType entry.key entry.row

@@ -29,6 +29,7 @@ size_is e = length-take-le e.size (boxed_slice_items e.buffer) (omega (arith, e.
 is_entry : (e : StoredEntry) → IsEntry (entry_view e)
 is_entry e = record {
   key = e.is_key;
+  from_1000 = e.from_1000;
   capacity = e.capacity;
   width = e.width;
   fixed = e.fixed;

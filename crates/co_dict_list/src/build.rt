@@ -1,14 +1,16 @@
 //! From a data sheet, a node-ID and limits to a dictionary, or to the first fault.
 
-ghost use Rattle.std.specs.Prelude.{◌≡◌, option_map, ◌≤◌, map, All, AllPairs, true, Err, IfOk, IfErr, None, false};
+ghost use Rattle.std.specs.Prelude.{◌≡◌, ℕ, option_map, ◌≤◌, map, All, AllPairs, true, Err, IfOk, IfErr, None, false};
 ghost use Rattle.co_sheet.specs.SheetViews.{row_view};
 ghost use Rattle.co_value.specs.declared.key.Key.{Key};
 ghost use Rattle.co_value.specs.Keys.{is_key_before};
 ghost use Rattle.co_sheet.specs.SheetLaws.{IsSheetRow};
 ghost use Rattle.co_dict_list.specs.SheetRows.{IsReady};
 ghost use Rattle.co_dict_list.specs.Capacities.{limits_view};
-ghost use Rattle.co_dict_list.specs.Built.{dummies_of, plan_of, plan_in, built_description, built_contents};
-ghost use Rattle.co_dict_list.specs.BuildFaults.{is_node, bad_cob_id, unpaired, bad_mapping, parameter_fault, build_fault, IsBuildFault};
+ghost use Rattle.co_dict_list.specs.Built.{Plan, dummies_of, plan_of, plan_in, built_description, built_contents};
+ghost use Rattle.co_dict.specs.Objects.{has_object, has_sub};
+ghost use Rattle.co_profile.specs.Indices.{pdo_cob_id};
+ghost use Rattle.co_dict_list.specs.BuildFaults.{is_node, is_communication, bad_cob_id, unpaired, bad_mapping, parameter_fault, build_fault, IsBuildFault};
 
 mod cob_ids;
 mod entries;
@@ -194,4 +196,12 @@ impl ListStore {
             usable_dummies(sheet),
         )
     }
+
+    /// In a dictionary that was built each PDO communication parameter has its COB-ID, sub-index 1. This is a law: a call
+    /// of it changes nothing.
+    pub fn communication_law()
+        ensures { (plan : Plan) → build_fault plan ≡ None → (index : ℕ) → is_communication index ≡ true
+            → has_object (built_description plan).rows index ≡ true
+            → has_sub (built_description plan).rows index pdo_cob_id ≡ true }
+    {}
 }

@@ -1,9 +1,12 @@
 //! Why a data sheet makes no dictionary.
 
-ghost use Rattle.std.specs.Prelude.{◌≡◌, Some};
-ghost use Rattle.co_dict_list.specs.BuildFaultTexts.{fault_number, fault_name, fault_text, pair_text, index_text, key_text};
+ghost use Rattle.std.specs.Prelude.{◌≡◌, ◌≤◌, Some, length};
+ghost use Rattle.co_dict_list.specs.BuildFaultTexts.{fault_number, fault_name, fault_text};
 
+use arrayvec::ArrayString;
+use co_text::word_digits;
 use co_value::Key;
+use itoa::Buffer;
 use std::error::Error;
 use std::fmt;
 
@@ -45,7 +48,8 @@ impl BuildFault {
 
     /// The fault's name, `BadCobId` for one.
     pub fn name(&self) -> &'static str
-        ensures { result.now ≡ fault_name self.now }
+        ensures name { result.now ≡ fault_name self.now }
+        ensures short { length result.now ≤ 10 }
     {
         match self {
             BuildFault::NodeId => "NodeId",
@@ -57,56 +61,40 @@ impl BuildFault {
             BuildFault::Memory => "Memory",
         }
     }
-}
 
-// an index as four hexadecimal digits
-#[derive(Clone, Copy)]
-struct IndexText(u16);
-
-impl fmt::Display for IndexText {
-    ghost output = { λ text. Some (index_text text.0) };
-
-    #[tactic(auto, using(std::proofs::lemmas::Fmt::hex_byte))]
-    fn fmt<W: fmt::Write>(&self, f: &mut fmt::Formatter<W>) -> fmt::Result {
-        let high = self.0 / 256;
-        let low = self.0 % 256;
-        write!(f, "{high:02X}{low:02X}")
+    /// The fault in words: its number, its name and its place, as `build fault 3 BadCobId 1800:01`.
+    pub fn text(&self) -> ArrayString<64>
+        ensures { result.bytes ≡ fault_text self.now }
+    {
+        let mut text = ArrayString::new();
+        let mut digits = Buffer::new();
+        text.push_str("build fault ");
+        text.push_str(digits.format(self.number()));
+        text.push(' ');
+        text.push_str(self.name());
+        match *self {
+            BuildFault::ValueRange(key) | BuildFault::BadCobId(key) | BuildFault::BadMapping(key) =>
+                {
+                    text.push(' ');
+                    text.push_str(key.text().as_str());
+                }
+            BuildFault::PdoPair(index) => {
+                text.push(' ');
+                text.push_str(word_digits(index).as_str());
+            }
+            BuildFault::NodeId | BuildFault::TooMany | BuildFault::Memory => {}
+        }
+        text
     }
 }
 
-// a key as four hexadecimal digits, a colon and two more
-#[derive(Clone, Copy)]
-struct KeyText(Key);
-
-impl fmt::Display for KeyText {
-    ghost output = { λ text. Some (key_text text.0) };
-
-    #[tactic(auto, using(std::proofs::lemmas::Fmt::hex_byte))]
-    fn fmt<W: fmt::Write>(&self, f: &mut fmt::Formatter<W>) -> fmt::Result {
-        let index = IndexText(self.0.index);
-        let sub = self.0.sub;
-        write!(f, "{index}:{sub:02X}")
-    }
-}
+/// Prints the fault as `text` has it.
 
 impl fmt::Display for BuildFault {
     ghost output = { λ fault. Some (fault_text fault) };
 
     fn fmt<W: fmt::Write>(&self, f: &mut fmt::Formatter<W>) -> fmt::Result {
-        let number = self.number();
-        let name = self.name();
-        match *self {
-            BuildFault::ValueRange(key) | BuildFault::BadCobId(key) | BuildFault::BadMapping(key) =>
-                {
-                    let place = KeyText(key);
-                    write!(f, "build fault {number} {name} {place}")
-                }
-            BuildFault::PdoPair(index) => {
-                let place = IndexText(index);
-                write!(f, "build fault {number} {name} {place}")
-            }
-            _ => write!(f, "build fault {number} {name}"),
-        }
+        f.write_str(self.text().as_str())
     }
 }
 

@@ -24,6 +24,7 @@ pub(crate) struct StoredEntry {
     size: u16,
     initial: BoxedSlice<u8>,
     ghost is_key: { IsKey key },
+    ghost from_1000: { 0x1000 ≤ key.index },
     ghost capacity: { row.capacity ≤ 65535 },
     ghost width: { HasWidth row },
     ghost fixed: { HasFixedType key row } by { Prim.hlevel props },
@@ -49,6 +50,7 @@ impl StoredEntry {
 
     /// An entry that has its initial bytes, with room for `row.capacity` bytes.
     pub(crate) fn new(alloc: Global, key: Key, row: Row, initial: &[u8]) -> Result<Self, AllocError>
+        requires from_1000 { 0x1000 ≤ key.index }
         requires width { HasWidth row }
         requires fixed { HasFixedType key row }
         requires limits { HasLimits row }

@@ -1,7 +1,7 @@
 -- Byte 0 of what is written is 80h exactly for an abort.
 use Rattle.std.proofs.Common.{◌≡◌, ℕ, ◌≤◌, Bool, true, false, ◌&&◌, Some, None, List, [], length, slice_index, eqb, refl, arith}
 use Rattle.std.specs.Prelude.{◌↔◌, ◌≢◌}
-use Rattle.std.proofs.lemmas.Bool.{eqb-true}
+use Rattle.std.proofs.lemmas.Bool.{eqb-true, and_parts}
 use Rattle.std.proofs.lemmas.Bool.Decides.{nat_tests}
 use Rattle.co_frame.specs.declared.block_segment.BlockSegment.{BlockSegment}
 use Rattle.co_frame.specs.declared.sdo_request.ExpeditedData.TheVariants.{Indicated, NotIndicated}
@@ -63,14 +63,10 @@ abort_is_no_segment segment bytes h =
     let other : eqb (slice_index bytes 0) 0x80 ≡ false = grind (arith, nat_tests) in
     rw (h.length, other) refl
 
-both_true : (a b : Bool) → a && b ≡ true → (a ≡ true) × (b ≡ true)
-both_true true b h = (refl, h)
-both_true false b h = absurd cc
-
 -- the command specifier of 80h
 long_and_four : (bytes : List ℕ) → is_abort_in_sub_block bytes ≡ true → (length bytes ≡ 8) × (specifier bytes ≡ 4)
 long_and_four bytes h =
-    let tests = both_true (eqb (length bytes) 8) (eqb (slice_index bytes 0) 0x80) h in
+    let tests = and_parts (eqb (length bytes) 8) (eqb (slice_index bytes 0) 0x80) h in
     let first = eqb-true (slice_index bytes 0) 0x80 tests.1 in
     (eqb-true (length bytes) 8 tests.0, omega arith)
 

@@ -35,9 +35,9 @@ counted bytes = record { items = bytes }
 abbrev pub IsRequest : SdoRequest → List ℕ → Type 0
 IsRequest request bytes = (request_bytes request ≡ bytes) × (request_in bytes ≡ Some request)
 
--- an answer and its bytes
-abbrev pub IsAnswer : SdoResponse → List ℕ → Type 0
-IsAnswer response bytes = (response_bytes response ≡ bytes) × (response_in bytes ≡ Some response)
+-- a response and its bytes
+abbrev pub IsResponse : SdoResponse → List ℕ → Type 0
+IsResponse response bytes = (response_bytes response ≡ bytes) × (response_in bytes ≡ Some response)
 
 -- ---- requests
 
@@ -121,71 +121,71 @@ block_download_end_seven_unused : IsRequest (requests.BlockDownloadEnd 7) (0xDD 
 unfolding request_row_in
 block_download_end_seven_unused = (refl, refl)
 
--- ---- answers
+-- ---- responses
 
-download_done : IsAnswer (responses.DownloadDone key) (0x60 ∷ 0x18 ∷ 0x10 ∷ 1 ∷ 0 ∷ 0 ∷ 0 ∷ 0 ∷ [])
+download_done : IsResponse (responses.DownloadDone key) (0x60 ∷ 0x18 ∷ 0x10 ∷ 1 ∷ 0 ∷ 0 ∷ 0 ∷ 0 ∷ [])
 unfolding response_row_in
 download_done = (refl, refl)
 
-download_segment_done : IsAnswer (responses.DownloadSegmentDone false) (0x20 ∷ 0 ∷ 0 ∷ 0 ∷ 0 ∷ 0 ∷ 0 ∷ 0 ∷ [])
+download_segment_done : IsResponse (responses.DownloadSegmentDone false) (0x20 ∷ 0 ∷ 0 ∷ 0 ∷ 0 ∷ 0 ∷ 0 ∷ 0 ∷ [])
 unfolding response_row_in
 download_segment_done = (refl, refl)
 
-download_segment_done_toggled : IsAnswer (responses.DownloadSegmentDone true) (0x30 ∷ 0 ∷ 0 ∷ 0 ∷ 0 ∷ 0 ∷ 0 ∷ 0 ∷ [])
+download_segment_done_toggled : IsResponse (responses.DownloadSegmentDone true) (0x30 ∷ 0 ∷ 0 ∷ 0 ∷ 0 ∷ 0 ∷ 0 ∷ 0 ∷ [])
 unfolding response_row_in
 download_segment_done_toggled = (refl, refl)
 
-upload_four_bytes : IsAnswer (responses.UploadExpedited key (Indicated (counted (0x91 ∷ 1 ∷ 0 ∷ 0 ∷ [])))) (0x43 ∷ 0x18 ∷ 0x10 ∷ 1 ∷ 0x91 ∷ 1 ∷ 0 ∷ 0 ∷ [])
+upload_four_bytes : IsResponse (responses.UploadExpedited key (Indicated (counted (0x91 ∷ 1 ∷ 0 ∷ 0 ∷ [])))) (0x43 ∷ 0x18 ∷ 0x10 ∷ 1 ∷ 0x91 ∷ 1 ∷ 0 ∷ 0 ∷ [])
 unfolding response_row_in
 upload_four_bytes = (refl, refl)
 
-upload_one_byte : IsAnswer (responses.UploadExpedited key (Indicated (counted (5 ∷ [])))) (0x4F ∷ 0x18 ∷ 0x10 ∷ 1 ∷ 5 ∷ 0 ∷ 0 ∷ 0 ∷ [])
+upload_one_byte : IsResponse (responses.UploadExpedited key (Indicated (counted (5 ∷ [])))) (0x4F ∷ 0x18 ∷ 0x10 ∷ 1 ∷ 5 ∷ 0 ∷ 0 ∷ 0 ∷ [])
 unfolding response_row_in
 upload_one_byte = (refl, refl)
 
-upload_without_s : IsAnswer (responses.UploadExpedited key (NotIndicated (5 ∷ 6 ∷ 7 ∷ 8 ∷ []))) (0x42 ∷ 0x18 ∷ 0x10 ∷ 1 ∷ 5 ∷ 6 ∷ 7 ∷ 8 ∷ [])
+upload_without_s : IsResponse (responses.UploadExpedited key (NotIndicated (5 ∷ 6 ∷ 7 ∷ 8 ∷ []))) (0x42 ∷ 0x18 ∷ 0x10 ∷ 1 ∷ 5 ∷ 6 ∷ 7 ∷ 8 ∷ [])
 unfolding response_row_in
 upload_without_s = (refl, refl)
 
-upload_with_size : IsAnswer (responses.UploadInitiated key (Some 10)) (0x41 ∷ 0x18 ∷ 0x10 ∷ 1 ∷ 0x0A ∷ 0 ∷ 0 ∷ 0 ∷ [])
+upload_with_size : IsResponse (responses.UploadInitiated key (Some 10)) (0x41 ∷ 0x18 ∷ 0x10 ∷ 1 ∷ 0x0A ∷ 0 ∷ 0 ∷ 0 ∷ [])
 unfolding response_row_in
 upload_with_size = (refl, refl)
 
-upload_without_size : IsAnswer (responses.UploadInitiated key None) (0x40 ∷ 0x18 ∷ 0x10 ∷ 1 ∷ 0 ∷ 0 ∷ 0 ∷ 0 ∷ [])
+upload_without_size : IsResponse (responses.UploadInitiated key None) (0x40 ∷ 0x18 ∷ 0x10 ∷ 1 ∷ 0 ∷ 0 ∷ 0 ∷ 0 ∷ [])
 unfolding response_row_in
 upload_without_size = (refl, refl)
 
-upload_last_segment : IsAnswer (responses.UploadSegment true (counted (0x37 ∷ 0x38 ∷ 0x39 ∷ [])) true) (0x19 ∷ 0x37 ∷ 0x38 ∷ 0x39 ∷ 0 ∷ 0 ∷ 0 ∷ 0 ∷ [])
+upload_last_segment : IsResponse (responses.UploadSegment true (counted (0x37 ∷ 0x38 ∷ 0x39 ∷ [])) true) (0x19 ∷ 0x37 ∷ 0x38 ∷ 0x39 ∷ 0 ∷ 0 ∷ 0 ∷ 0 ∷ [])
 unfolding response_row_in
 upload_last_segment = (refl, refl)
 
-answer_abort : IsAnswer (responses.Abort key (record { 0 = 0x06020000 })) (0x80 ∷ 0x18 ∷ 0x10 ∷ 1 ∷ 0 ∷ 0 ∷ 2 ∷ 6 ∷ [])
+response_abort : IsResponse (responses.Abort key (record { 0 = 0x06020000 })) (0x80 ∷ 0x18 ∷ 0x10 ∷ 1 ∷ 0 ∷ 0 ∷ 2 ∷ 6 ∷ [])
 unfolding response_row_in
-answer_abort = (refl, refl)
+response_abort = (refl, refl)
 
-block_download_initiated : IsAnswer (responses.BlockDownloadInitiated key 0x7F) (0xA0 ∷ 0x18 ∷ 0x10 ∷ 1 ∷ 0x7F ∷ 0 ∷ 0 ∷ 0 ∷ [])
+block_download_initiated : IsResponse (responses.BlockDownloadInitiated key 0x7F) (0xA0 ∷ 0x18 ∷ 0x10 ∷ 1 ∷ 0x7F ∷ 0 ∷ 0 ∷ 0 ∷ [])
 unfolding response_row_in
 block_download_initiated = (refl, refl)
 
-block_download_done : IsAnswer (responses.BlockDownloadDone) (0xA1 ∷ 0 ∷ 0 ∷ 0 ∷ 0 ∷ 0 ∷ 0 ∷ 0 ∷ [])
+block_download_done : IsResponse (responses.BlockDownloadDone) (0xA1 ∷ 0 ∷ 0 ∷ 0 ∷ 0 ∷ 0 ∷ 0 ∷ 0 ∷ [])
 unfolding response_row_in
 block_download_done = (refl, refl)
 
-block_download_acknowledge : IsAnswer (responses.BlockDownloadAcknowledge 2 0x7F) (0xA2 ∷ 2 ∷ 0x7F ∷ 0 ∷ 0 ∷ 0 ∷ 0 ∷ 0 ∷ [])
+block_download_acknowledge : IsResponse (responses.BlockDownloadAcknowledge 2 0x7F) (0xA2 ∷ 2 ∷ 0x7F ∷ 0 ∷ 0 ∷ 0 ∷ 0 ∷ 0 ∷ [])
 unfolding response_row_in
 block_download_acknowledge = (refl, refl)
 
-block_upload_initiated : IsAnswer (responses.BlockUploadInitiated key (Some 4)) (0xC2 ∷ 0x18 ∷ 0x10 ∷ 1 ∷ 4 ∷ 0 ∷ 0 ∷ 0 ∷ [])
+block_upload_initiated : IsResponse (responses.BlockUploadInitiated key (Some 4)) (0xC2 ∷ 0x18 ∷ 0x10 ∷ 1 ∷ 4 ∷ 0 ∷ 0 ∷ 0 ∷ [])
 unfolding response_row_in
 block_upload_initiated = (refl, refl)
 
-block_upload_initiated_without_size : IsAnswer (responses.BlockUploadInitiated key None) (0xC0 ∷ 0x18 ∷ 0x10 ∷ 1 ∷ 0 ∷ 0 ∷ 0 ∷ 0 ∷ [])
+block_upload_initiated_without_size : IsResponse (responses.BlockUploadInitiated key None) (0xC0 ∷ 0x18 ∷ 0x10 ∷ 1 ∷ 0 ∷ 0 ∷ 0 ∷ 0 ∷ [])
 unfolding response_row_in
 block_upload_initiated_without_size = (refl, refl)
 
-block_upload_answer_end : IsAnswer (responses.BlockUploadEnd 3) (0xCD ∷ 0 ∷ 0 ∷ 0 ∷ 0 ∷ 0 ∷ 0 ∷ 0 ∷ [])
+block_upload_response_end : IsResponse (responses.BlockUploadEnd 3) (0xCD ∷ 0 ∷ 0 ∷ 0 ∷ 0 ∷ 0 ∷ 0 ∷ 0 ∷ [])
 unfolding response_row_in
-block_upload_answer_end = (refl, refl)
+block_upload_response_end = (refl, refl)
 
 -- ---- the edges between rows, with every reserved bit set
 

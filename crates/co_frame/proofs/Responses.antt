@@ -1,4 +1,4 @@
--- What is read of an answer's bytes is what they spell, and nothing else.
+-- What is read of a response's bytes is what they spell, and nothing else.
 use Rattle.std.proofs.Common.{◌≡◌, ℕ, Some, None, IfSome, List, length, refl, sym, ap, eqb}
 use Rattle.std.proofs.lemmas.Bool.{eqb-true}
 use Rattle.co_frame.specs.declared.sdo_request.ExpeditedData.TheVariants.{Indicated, NotIndicated}

@@ -6,6 +6,7 @@ pub mod FrameContent
 pub mod FrameFaults
 pub mod FrameFields
 pub mod Heartbeats
+pub mod InhibitTimes
 pub mod Nmt
 pub mod Outboxes
 pub mod Scs

@@ -15,7 +15,7 @@ abbrev pub SpellsExpedited : Key → ExpeditedData → List ℕ → Type 0
 SpellsExpedited key (Indicated counted) bytes = (has_bit 1 bytes ≡ true) × (has_bit 0 bytes ≡ true) × (key ≡ key_in bytes) × (counted.items ≡ take (4 - unused_of_expedited bytes) (drop 4 bytes))
 SpellsExpedited key (NotIndicated four) bytes = (has_bit 1 bytes ≡ true) × (has_bit 0 bytes ≡ false) × (key ≡ key_in bytes) × (four ≡ drop 4 bytes)
 
--- the begin of a segmented transfer: bit 1 (e) is clear; where bit 0 (s) is set, the data bytes are the size
+-- initiate of a segmented transfer: bit 1 (e) is clear; where bit 0 (s) is set, the data bytes are the size
 abbrev pub SpellsInitiate : Key → Option ℕ → List ℕ → Type 0
 SpellsInitiate key (Some size) bytes = (has_bit 1 bytes ≡ false) × (has_bit 0 bytes ≡ true) × (key ≡ key_in bytes) × (size ≡ number_in bytes)
 SpellsInitiate key None bytes = (has_bit 1 bytes ≡ false) × (has_bit 0 bytes ≡ false) × (key ≡ key_in bytes)
@@ -28,7 +28,7 @@ SpellsSegment toggle segment last bytes = (toggle ≡ has_bit 4 bytes) × (segme
 abbrev pub SpellsAbort : Key → AbortCode → List ℕ → Type 0
 SpellsAbort key code bytes = (key ≡ key_in bytes) × (code.0 ≡ number_in bytes)
 
--- the begin of a block transfer: bit 0 is clear; where bit 1 (s) is set, the data bytes are the size
+-- initiate of a block transfer: bit 0 is clear; where bit 1 (s) is set, the data bytes are the size
 abbrev pub SpellsBlockInitiate : Key → Option ℕ → List ℕ → Type 0
 SpellsBlockInitiate key (Some size) bytes = (has_bit 0 bytes ≡ false) × (has_bit 1 bytes ≡ true) × (key ≡ key_in bytes) × (size ≡ number_in bytes)
 SpellsBlockInitiate key None bytes = (has_bit 0 bytes ≡ false) × (has_bit 1 bytes ≡ false) × (key ≡ key_in bytes)
@@ -69,7 +69,7 @@ abbrev pub expedited_bytes : ℕ → Key → ExpeditedData → List ℕ
 expedited_bytes specifier key (Indicated counted) = command_with specifier (4 * (4 - length counted.items) + 3) ∷ key_bytes key ++ padded 4 counted.items
 expedited_bytes specifier key (NotIndicated four) = command_with specifier 2 ∷ key_bytes key ++ four
 
--- the begin of a segmented transfer
+-- initiate of a segmented transfer
 abbrev pub initiate_bytes : ℕ → Key → Option ℕ → List ℕ
 initiate_bytes specifier key (Some size) = command_with specifier 1 ∷ key_bytes key ++ low_bytes 4 size
 initiate_bytes specifier key None = command_with specifier 0 ∷ key_bytes key ++ replicate 4 0
@@ -82,7 +82,7 @@ segment_bytes toggle segment last = (weight 4 toggle + 2 * (7 - length segment.i
 abbrev pub abort_bytes : Key → AbortCode → List ℕ
 abort_bytes key code = command_with ccs.abort 0 ∷ key_bytes key ++ low_bytes 4 code.0
 
--- the begin of a block transfer, without a CRC
+-- initiate of a block transfer, without a CRC
 abbrev pub block_initiate_bytes : ℕ → Key → Option ℕ → List ℕ
 block_initiate_bytes specifier key (Some size) = command_with specifier 2 ∷ key_bytes key ++ low_bytes 4 size
 block_initiate_bytes specifier key None = command_with specifier 0 ∷ key_bytes key ++ replicate 4 0

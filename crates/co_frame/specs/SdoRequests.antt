@@ -28,7 +28,7 @@ SpellsSdoRequest request bytes = (length bytes ≡ 8) × SpellsRequestRow reques
 
 -- ---- what a frame's bytes say
 
--- a download: expedited where e is set, else the begin of a segmented one
+-- a download: expedited where e is set, else initiate of a segmented one
 abbrev pub download_in : List ℕ → SdoRequest
 download_in bytes =
     if has_bit 1 bytes
@@ -43,7 +43,7 @@ block_upload_in bytes =
     else (if subcommand bytes == subcommands.acknowledge then BlockUploadAcknowledge (slice_index bytes 1) (slice_index bytes 2)
     else BlockUploadStart))
 
--- a block download: its end, or its begin
+-- a block download: end or initiate
 abbrev pub block_download_in : List ℕ → SdoRequest
 block_download_in bytes =
     if has_bit 0 bytes then BlockDownloadEnd (unused_of_end bytes)

@@ -1,4 +1,4 @@
--- The answers of an SDO server (CiA 301, 7.2.4.3): the table of the eight bytes that spell each.
+-- The responses of an SDO server (CiA 301, 7.2.4.3): the table of the eight bytes that spell each.
 use Rattle.std.specs.Prelude.{◌≡◌, ℕ, ◌≤◌, ◌==◌, if◌then◌else◌, Option, Some, None, List, [], ◌∷◌, length, slice_index, replicate}
 use Rattle.co_frame.specs.declared.sdo_response.SdoResponse.{SdoResponse}
 use Rattle.co_frame.specs.declared.sdo_response.SdoResponse.TheVariants.{DownloadDone, DownloadSegmentDone, UploadExpedited, UploadInitiated, UploadSegment, Abort, BlockDownloadInitiated, BlockDownloadDone, BlockDownloadAcknowledge, BlockUploadInitiated, BlockUploadEnd}
@@ -21,13 +21,13 @@ SpellsResponseRow (BlockDownloadAcknowledge sequence block_size) bytes = (specif
 SpellsResponseRow (BlockUploadInitiated key size) bytes = (specifier bytes ≡ scs.block_upload) × SpellsBlockInitiate key size bytes
 SpellsResponseRow (BlockUploadEnd unused) bytes = (specifier bytes ≡ scs.block_upload) × SpellsBlockEnd unused bytes
 
--- eight bytes that are in the answer's row
+-- eight bytes that are in the response's row
 abbrev pub SpellsSdoResponse : SdoResponse → List ℕ → Type 0
 SpellsSdoResponse response bytes = (length bytes ≡ 8) × SpellsResponseRow response bytes
 
 -- ---- what a frame's bytes say
 
--- an upload: expedited where e is set, else the begin of a segmented one
+-- an upload: expedited where e is set, else initiate of a segmented one
 abbrev pub upload_in : List ℕ → SdoResponse
 upload_in bytes =
     if has_bit 1 bytes
@@ -42,13 +42,13 @@ block_download_in bytes =
     else (if subcommand bytes == subcommands.acknowledge then Some (BlockDownloadAcknowledge (slice_index bytes 1) (slice_index bytes 2))
     else None))
 
--- a block upload: its end, or its begin
+-- a block upload: end or initiate
 abbrev pub block_upload_in : List ℕ → SdoResponse
 block_upload_in bytes =
     if has_bit 0 bytes then BlockUploadEnd (unused_of_end bytes)
     else BlockUploadInitiated (key_in bytes) (size_in (has_bit 1 bytes) bytes)
 
--- the answer that eight bytes spell, by the command specifier; none where it is 7
+-- the response that eight bytes spell, by the command specifier; none where it is 7
 unfoldable pub response_row_in : List ℕ → Option SdoResponse
 response_row_in bytes =
     if specifier bytes == scs.upload_segment then Some (UploadSegment (has_bit 4 bytes) (segment_in bytes) (has_bit 0 bytes))
@@ -60,13 +60,13 @@ response_row_in bytes =
     else (if specifier bytes == scs.block_upload then Some (block_upload_in bytes)
     else None))))))
 
--- the answer that a frame's data spells
+-- the response that a frame's data spells
 abbrev pub response_in : List ℕ → Option SdoResponse
 response_in bytes = if length bytes == 8 then response_row_in bytes else None
 
 -- ---- what is written
 
--- an answer that can be spelled
+-- a response that can be spelled
 abbrev pub IsSdoResponse : SdoResponse → Type 0
 IsSdoResponse (UploadExpedited key expedited) = IsExpeditedData expedited
 IsSdoResponse (BlockUploadEnd unused) = unused ≤ 7
@@ -77,7 +77,7 @@ abbrev pub IsAbortResponse : SdoResponse → Type 0
 IsAbortResponse (Abort key code) = Unit {0}
 IsAbortResponse other = ⊥
 
--- the eight bytes of an answer, reserved bits and bytes 0
+-- the eight bytes of a response, reserved bits and bytes 0
 abbrev pub response_bytes : SdoResponse → List ℕ
 response_bytes (UploadSegment toggle segment last) = segment_bytes toggle segment last
 response_bytes (DownloadSegmentDone toggle) = bare_bytes (command_with scs.download_segment (weight 4 toggle))

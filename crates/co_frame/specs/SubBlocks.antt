@@ -1,5 +1,5 @@
 -- The sub-blocks of a block transfer (CiA 301, 7.2.4.3.10 and 7.2.4.3.14): the frames that its
--- receiver got after the begin, newest first.
+-- receiver got after initiate, newest first.
 use Rattle.std.specs.Prelude.{ℕ, ◌+◌, ◌==◌, ◌||◌, Bool, false, List, [], ◌∷◌, ◌++◌, length, Option, Some, None, if◌then◌else◌}
 use Rattle.std.specs.Option.{option_map_or}
 use Rattle.co_frame.specs.SegmentSizes.{segments_per_sub_block}

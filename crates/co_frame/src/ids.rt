@@ -5,6 +5,6 @@
 pub struct Ids {
     /// That of the client's requests.
     pub request: u16,
-    /// That of the server's answers.
+    /// That of the server's responses.
     pub answer: u16,
 }

@@ -1,4 +1,4 @@
-//! The server command specifiers, scs, of answers.
+//! The server command specifiers, scs, of responses.
 
 pub(crate) const UPLOAD_SEGMENT: u8 = 0;
 

@@ -45,12 +45,14 @@ impl ExpeditedData {
 pub enum SdoRequest {
     /// Initiate SDO download, ccs = 1, e = 1: a whole download of 1 to 4 bytes (CiA 301, 7.2.4.3.3).
     DownloadExpedited {
+        /// The multiplexor: index and sub-index of the entry.
         key: Key,
         data: ExpeditedData,
     },
-    /// Initiate SDO download, ccs = 1, e = 0: a segmented download begins, of as many bytes where s = 1
+    /// Initiate SDO download, ccs = 1, e = 0: a segmented download, of as many bytes where s = 1
     /// (CiA 301, 7.2.4.3.3).
     DownloadInitiate {
+        /// The multiplexor: index and sub-index of the entry.
         key: Key,
         size: Option<u32>,
     },
@@ -62,6 +64,7 @@ pub enum SdoRequest {
     },
     /// Initiate SDO upload, ccs = 2 (CiA 301, 7.2.4.3.6).
     Upload {
+        /// The multiplexor: index and sub-index of the entry.
         key: Key,
     },
     /// Upload SDO segment, ccs = 3: the next segment is asked for (CiA 301, 7.2.4.3.7).
@@ -70,12 +73,14 @@ pub enum SdoRequest {
     },
     /// Abort SDO transfer, cs = 4 (CiA 301, 7.2.4.3.17).
     Abort {
+        /// The multiplexor: index and sub-index of the entry.
         key: Key,
         code: AbortCode,
     },
     /// Initiate SDO block upload, ccs = 5, cs = 0: with the number of segments in a sub-block (blksize), and the
     /// number of bytes up to which the server may switch to another protocol (pst) (CiA 301, 7.2.4.3.13).
     BlockUploadInitiate {
+        /// The multiplexor: index and sub-index of the entry.
         key: Key,
         block_size: u8,
         threshold: u8,
@@ -92,6 +97,7 @@ pub enum SdoRequest {
     BlockUploadStart,
     /// Initiate SDO block download, ccs = 6, cs = 0: of as many bytes where s = 1 (CiA 301, 7.2.4.3.9).
     BlockDownloadInitiate {
+        /// The multiplexor: index and sub-index of the entry.
         key: Key,
         size: Option<u32>,
     },

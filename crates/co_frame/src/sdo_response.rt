@@ -1,4 +1,4 @@
-//! What an SDO server answers.
+//! The responses of an SDO server.
 
 ghost use Rattle.std.specs.Prelude.{◌≡◌, ◌↔◌, ◌<◌, List, length, ℕ, Some, None, IfSome, IsTrue};
 ghost use Rattle.co_frame.specs.declared.sdo_response.SdoResponse.{SdoResponse};
@@ -19,12 +19,13 @@ use crate::{scs, subcommands};
 use arrayvec::ArrayVec;
 use co_value::Key;
 
-/// An answer of an SDO server (CiA 301, 7.2.4.3).
+/// A response of an SDO server (CiA 301, 7.2.4.3).
 #[derive(Clone, Debug, PartialEq, Eq, Drop)]
 pub enum SdoResponse {
     /// Initiate SDO download, scs = 3: a segmented download may go on, or an expedited one is done
     /// (CiA 301, 7.2.4.3.3).
     DownloadDone {
+        /// The multiplexor: index and sub-index of the entry.
         key: Key,
     },
     /// Download SDO segment, scs = 1: the segment was taken (CiA 301, 7.2.4.3.4).
@@ -33,12 +34,14 @@ pub enum SdoResponse {
     },
     /// Initiate SDO upload, scs = 2, e = 1: a whole upload of 1 to 4 bytes (CiA 301, 7.2.4.3.6).
     UploadExpedited {
+        /// The multiplexor: index and sub-index of the entry.
         key: Key,
         data: ExpeditedData,
     },
-    /// Initiate SDO upload, scs = 2, e = 0: a segmented upload begins, of as many bytes where s = 1
+    /// Initiate SDO upload, scs = 2, e = 0: a segmented upload, of as many bytes where s = 1
     /// (CiA 301, 7.2.4.3.6).
     UploadInitiated {
+        /// The multiplexor: index and sub-index of the entry.
         key: Key,
         size: Option<u32>,
     },
@@ -50,12 +53,14 @@ pub enum SdoResponse {
     },
     /// Abort SDO transfer, cs = 4 (CiA 301, 7.2.4.3.17).
     Abort {
+        /// The multiplexor: index and sub-index of the entry.
         key: Key,
         code: AbortCode,
     },
     /// Initiate SDO block download, scs = 5, ss = 0: with the number of segments in a sub-block (blksize)
     /// (CiA 301, 7.2.4.3.9).
     BlockDownloadInitiated {
+        /// The multiplexor: index and sub-index of the entry.
         key: Key,
         block_size: u8,
     },
@@ -69,6 +74,7 @@ pub enum SdoResponse {
     },
     /// Initiate SDO block upload, scs = 6, ss = 0: of as many bytes where s = 1 (CiA 301, 7.2.4.3.13).
     BlockUploadInitiated {
+        /// The multiplexor: index and sub-index of the entry.
         key: Key,
         size: Option<u32>,
     },
@@ -80,11 +86,11 @@ pub enum SdoResponse {
 }
 
 impl SdoResponse {
-    /// The answer that a frame's data spells, whatever its identifier (CiA 301, 7.2.4.3).
-    /// `None` for a frame that hasn't eight bytes, and for a command specifier or subcommand that no answer has.
+    /// The response that a frame's data spells, whatever its identifier (CiA 301, 7.2.4.3).
+    /// `None` for a frame that hasn't eight bytes, and for a command specifier or subcommand that no response has.
     pub fn read(frame: &Frame) -> Option<SdoResponse>
         ensures exact { result ≡ response_in frame.now.bytes }
-        // What is read is spelled by the frame, and what the frame spells is read: one answer at most.
+        // What is read is spelled by the frame, and what the frame spells is read: one response at most.
         ensures found { IfSome result (λ response. SpellsSdoResponse response frame.now.bytes) }
         ensures only { (response : SdoResponse)
             → SpellsSdoResponse response frame.now.bytes → result ≡ Some response }
@@ -93,7 +99,7 @@ impl SdoResponse {
         response_of(frame.bytes())
     }
 
-    /// Whether the answer can be spelled: expedited data whose size is indicated has 1 to 4 bytes, and an
+    /// Whether the response can be spelled: expedited data whose size is indicated has 1 to 4 bytes, and an
     /// end of a block upload leaves at most 7 unused.
     pub fn is_spellable(&self) -> bool
         ensures { IsTrue result ↔ IsSdoResponse self.now }
@@ -105,7 +111,7 @@ impl SdoResponse {
         }
     }
 
-    /// The frame of the answer on an identifier, 0 to 7FFh; reserved bits and bytes are 0 (CiA 301, 7.2.4.3).
+    /// The frame of the response on an identifier, 0 to 7FFh; reserved bits and bytes are 0 (CiA 301, 7.2.4.3).
     #[inline(always)]
     pub fn write(&self, id: u16) -> Frame
         requires id { id < 2048 }
@@ -116,7 +122,7 @@ impl SdoResponse {
         Frame::of_eight(id, self.spelling())
     }
 
-    /// Writing and then reading gives the same answer. This is a law: a call of it changes nothing.
+    /// Writing and then reading gives the same response. This is a law: a call of it changes nothing.
     pub fn round_trip(&self)
         requires spellable { IsSdoResponse self.now }
         ensures { response_in (response_bytes self.now) ≡ Some self.now }

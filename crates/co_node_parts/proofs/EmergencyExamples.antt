@@ -1,9 +1,10 @@
 -- Which emergency is sent, computed from the definitions: both sides of each edge.
 use Rattle.std.proofs.Common.{◌≡◌, ℕ, true, false, List, [], ◌∷◌, refl}
 use Rattle.std.specs.Prelude.{map, zero, suc, Some, None}
+use Rattle.co_frame.specs.InhibitTimes.{in_ms}
 use Rattle.co_frame.specs.declared.emergency.Emergency.{Emergency}
 use Rattle.co_node_parts.specs.declared.emergencies.EmergencyEvent.TheVariants.{Queue, Empty, Tick, Quiet}
-use Rattle.co_node_parts.specs.EmergencyQueues.{EmergencyLog, Noted, Sent, queue_of, in_ms, emergency_due, with_sending, with_queued}
+use Rattle.co_node_parts.specs.EmergencyQueues.{EmergencyLog, Noted, Sent, queue_of, emergency_due, with_sending, with_queued}
 
 -- an emergency with a code, the error register 1 and no bytes of the manufacturer's
 abbrev coded : ℕ → Emergency

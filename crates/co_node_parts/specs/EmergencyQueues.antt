@@ -1,8 +1,9 @@
 -- The queue of emergencies, and when its front is sent (CiA 301, 7.2.7, 7.5.2.17 and 7.5.2.18).
 -- A tick is 1 ms.
-use Rattle.std.specs.Prelude.{◌≡◌, ℕ, ◌+◌, ◌-◌, ◌/◌, ◌&&◌, Bool, nat_le, max, List, [], ◌∷◌, ◌++◌, drop, map, slice_get, Option, Some, None, if◌then◌else◌}
+use Rattle.std.specs.Prelude.{◌≡◌, ℕ, ◌+◌, ◌-◌, ◌&&◌, Bool, max, List, [], ◌∷◌, ◌++◌, drop, map, slice_get, Option, Some, None, if◌then◌else◌}
 use Rattle.std.specs.List.{list_all}
 use Rattle.circular_buffer.specs.Buffer.{keep_last}
+use Rattle.co_frame.specs.InhibitTimes.{in_ms, has_elapsed}
 use Rattle.co_frame.specs.declared.emergency.Emergency.{Emergency}
 use Rattle.co_node_parts.specs.declared.emergencies.EmergencyEvent.{EmergencyEvent}
 use Rattle.co_node_parts.specs.declared.emergencies.EmergencyEvent.TheVariants.{Queue, Empty, Tick, Quiet}
@@ -10,7 +11,7 @@ use Rattle.co_node_parts.specs.declared.emergencies.EmergencyEvent.TheVariants.{
 -- one thing that happened
 pub data EmergencyEntry : Type 0 where
   Noted : EmergencyEvent → EmergencyEntry
-  -- the front was sent, with the inhibit time in 100 µs as it stood then
+  -- the front was sent, with the inhibit time in 100 µs as it was then
   Sent : ℕ → EmergencyEntry
 
 -- the newest first
@@ -27,7 +28,7 @@ queue_of (Noted Tick ∷ log) = queue_of log
 queue_of (Noted Quiet ∷ log) = queue_of log
 queue_of (Sent inhibit ∷ log) = drop 1 (queue_of log)
 
--- a sending: how many ticks ago it was, and the inhibit time in 100 µs as it stood then
+-- a sending: how many ticks ago it was, and the inhibit time in 100 µs as it was then
 pub record Sending : Type 0 where
   pub age : ℕ
   pub inhibit : ℕ
@@ -45,15 +46,11 @@ sendings (Noted Tick ∷ log) = map older (sendings log)
 sendings (Noted Quiet ∷ log) = sendings log
 sendings (Sent inhibit ∷ log) = record { age = 0; inhibit = inhibit } ∷ sendings log
 
--- from 100 µs to ms, rounded up
-abbrev pub in_ms : ℕ → ℕ
-in_ms n = (n + 9) / 10
-
--- a sending is as many ticks ago as its inhibit time has ms
+-- the inhibit time of a sending has elapsed
 abbrev pub is_past : Sending → Bool
-is_past s = nat_le (in_ms s.inhibit) s.age
+is_past s = has_elapsed s.inhibit s.age
 
--- no sending since the last reset is fewer ticks ago than its inhibit time has ms
+-- the inhibit time of each sending since the last reset has elapsed
 abbrev pub is_inhibit_over : EmergencyLog → Bool
 is_inhibit_over log = list_all is_past (sendings log)
 
@@ -72,7 +69,7 @@ with_queued [] log = log
 with_queued (emergency ∷ emergencies) log =
     with_queued emergencies (Noted (Queue emergency) ∷ log)
 
--- how many ticks are left until each of these sendings is past
+-- ticks until the inhibit time of each of these sendings has elapsed
 abbrev pub inhibit_left : List Sending → ℕ
 inhibit_left [] = 0
 inhibit_left (s ∷ older) = max (in_ms s.inhibit - s.age) (inhibit_left older)

@@ -18,9 +18,9 @@ pub enum EmergencyEvent {
     Queue(Emergency),
     /// A reset: nothing waits, and the inhibit time is over.
     Empty,
-    /// 1 ms went by.
+    /// 1 ms elapsed.
     Tick,
-    /// Nothing that concerns emergencies.
+    /// Any other event.
     Quiet,
 }
 

@@ -35,9 +35,9 @@ pub enum ConsumerEvent {
     Begin(u32),
     /// The heartbeat of the node with this node-ID came.
     Heard(u8),
-    /// 1 ms went by.
+    /// 1 ms elapsed.
     Tick,
-    /// Nothing that concerns the entry.
+    /// Any other event.
     Quiet,
 }
 
@@ -51,7 +51,7 @@ pub struct HeartbeatConsumer {
 }
 
 impl HeartbeatConsumer {
-    /// An entry that didn't begin.
+    /// A stopped entry: it monitors nothing.
     pub(crate) fn new() -> HeartbeatConsumer
         ensures { ConsumerStands result [] }
     {

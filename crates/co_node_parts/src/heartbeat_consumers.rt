@@ -23,9 +23,9 @@ pub enum ConsumersEvent {
     Begin(u8, u32),
     /// The heartbeat of the node with this node-ID came.
     Heard(u8),
-    /// 1 ms went by.
+    /// 1 ms elapsed.
     Tick,
-    /// Nothing that concerns heartbeat consumers.
+    /// Any other event.
     Quiet,
 }
 

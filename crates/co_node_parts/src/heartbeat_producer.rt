@@ -11,9 +11,9 @@ pub enum ProducerEvent {
     /// It begins with the producer heartbeat time of 1017h in ms, 0 for none: when the device is
     /// built, at each reset, and at each accepted write of 1017h, also of the same time.
     Begin(u16),
-    /// 1 ms went by.
+    /// 1 ms elapsed.
     Tick,
-    /// Nothing that concerns the producer.
+    /// Any other event.
     Quiet,
 }
 
@@ -33,7 +33,7 @@ impl Model for HeartbeatProducer {
 }
 
 impl HeartbeatProducer {
-    /// A producer that didn't begin: nothing is due.
+    /// A stopped producer: nothing is due.
     pub fn new() -> HeartbeatProducer
         ensures { ProducerStands result [] }
     {

@@ -62,7 +62,7 @@ pub enum StateEvent {
     Command(NmtService),
     /// The heartbeat of another node was lost.
     HeartbeatLost(LossReaction),
-    /// Nothing that concerns the state.
+    /// Any other event.
     Quiet,
 }
 

@@ -31,7 +31,7 @@ pub enum SlotEvent {
     EmptyAll,
     /// A SYNC came: all frames are taken.
     Sync,
-    /// Nothing that concerns the frames that wait.
+    /// Any other event.
     Quiet,
 }
 

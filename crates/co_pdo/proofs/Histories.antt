@@ -1,7 +1,8 @@
 -- One more call in the history of a schedule.
 use Rattle.std.proofs.Common.{◌≡◌, ◌≢◌, ℕ, zero, suc, ◌+◌, ◌<◌, ◌≤◌, Bool, true, false, cond, eqb, List, [], ◌∷◌, ◌++◌, length, map, get_or, set, take, Option, Some, None, refl, sym, ap, ◌∙◌, subst, arith, get_or-set_same, get_or-set_other, length-set}
-use Rattle.std.specs.Prelude.{◌&&◌, ◌||◌, is_some, position}
+use Rattle.std.specs.Prelude.{◌&&◌, ◌||◌, position}
 use Rattle.std.specs.List.{filter, range_with_len}
+use Rattle.std.proofs.Math.Bool.{and-false}
 use Rattle.std.proofs.Math.Seq.{take-append_seam}
 use Rattle.std.proofs.lemmas.List.{length-map}
 use Rattle.std.proofs.lemmas.List.Quantifiers.{position-Some}
@@ -13,11 +14,13 @@ use Rattle.co_pdo.specs.declared.tpdo.Part.{Part}
 use Rattle.co_pdo.specs.declared.tpdo.Occasion.{Occasion}
 use Rattle.co_pdo.specs.declared.tpdo.Occasion.TheVariants.{Sync, Event, Tick}
 use Rattle.co_pdo.specs.declared.tpdo.Tpdo.{Tpdo}
-use Rattle.co_pdo.specs.Tpdos.{tpdo_key, is_active, settings_of, has_tpdo, tpdo_numbers, tpdos_of}
+use Rattle.co_pdo.specs.Tpdos.{settings_of, has_tpdo, tpdo_numbers, tpdos_of}
 use Rattle.co_pdo.specs.Log.{Log, LogEntry, Started, Happened}
 use Rattle.co_pdo.specs.Due.{is_due, is_due_at_sync, is_due_by_event}
 use Rattle.co_pdo.specs.Countdowns.{IsAfter, IsCurrent}
-use Rattle.co_pdo.specs.Schedules.{Call, Moment, History, is_among, part_of, log_of, with_start, with_event, is_tpdo_due, all_due, IsTable, AllAfter, AllCurrentAfter, with_occasion, IsScheduleAfter, AllCurrent}
+use Rattle.co_pdo.specs.Schedules.{Call, Moment, History, is_among, part_of, log_of, with_start, with_all_started, with_event, with_events, is_tpdo_due, all_due, all_due_among, IsTable, AllAfter, AllCurrentAfter, with_occasion, with_whole_start, with_events_among, IsScheduleAfter, AllCurrent}
+use Rattle.co_dict.specs.declared.side.Side.TheVariants as side
+use Rattle.co_pdo.proofs.Actives.{inactive}
 use Rattle.co_pdo.proofs.Lists.{numbers_set, number_at_place}
 use Rattle.co_pdo.proofs.Numbers.{one_tpdo, position-None}
 
@@ -30,22 +33,13 @@ eqb_same n = grind (arith, nat_tests)
 
 -- ---- a TPDO that the dictionary doesn't have is never due
 
-no_bytes : {X Y : Type 0} (o : Option X) (r : Option Y) → is_some o ≡ is_some r → is_some r ≡ false → o ≡ None
-no_bytes None r e h = refl
-no_bytes (Some x) r e h = cc
-
-pub inactive : (d : Description) (contents : Contents) (k : ℕ) → IsDictionary d contents → has_tpdo d.rows k ≡ false → is_active contents k ≡ false
-inactive d contents k laws h =
-    let absent : contents (tpdo_key k 1) ≡ None = no_bytes (contents (tpdo_key k 1)) (d.rows (tpdo_key k 1)) (laws.filled.present (tpdo_key k 1)) h in
-    rw absent refl
-
 not_due : (s : Settings) (log : Log) (o : Occasion) → s.is_active ≡ false → is_due s log o ≡ false
 not_due s log (Sync overflow counter) e = ap (λ b. b && is_due_at_sync s.transmission_type log (Happened (Sync overflow counter) s false)) e
 not_due s log Event e = ap (λ b. b && is_due_by_event s (Happened Event s false ∷ log)) e
 not_due s log Tick e = ap (λ b. b && is_due_by_event s (Happened Tick s false ∷ log)) e
 
 pub absent_not_due : (d : Description) (contents : Contents) (history : History) (o : Occasion) (k : ℕ) → IsDictionary d contents → has_tpdo d.rows k ≡ false → is_tpdo_due contents history o k ≡ false
-absent_not_due d contents history o k laws h = not_due (settings_of contents k) (log_of k history) o (inactive d contents k laws h)
+absent_not_due d contents history o k laws h = not_due (settings_of contents k) (log_of k history) o (inactive side.Tpdo d contents k laws h)
 
 filter_within : (p q : ℕ → Bool) → ((k : ℕ) → q k ≡ false → p k ≡ false) → (xs : List ℕ) → filter p (filter q xs) ≡ filter p xs
 filter_within p q never [] = refl
@@ -55,11 +49,10 @@ filter_within p q never (x ∷ xs) = by_test (q x) refl (filter_within p q never
     by_test true e more = ap (λ ys. cond (p x) (x ∷ ys) ys) more
     by_test false e more = more ∙ ap (λ b. cond b (x ∷ filter p xs) (filter p xs)) (sym (never x e))
 
--- those that are due of the TPDOs that the dictionary has are those that are due
-pub due_numbers : (d : Description) (contents : Contents) (history : History) (o : Occasion) (tpdos : List Tpdo) (sent : List ℕ) → IsDictionary d contents → map (λ t. t.number) tpdos ≡ tpdos_of d.rows
-    → sent ≡ filter (λ k. is_tpdo_due contents history o k) (map (λ t. t.number) tpdos) → sent ≡ all_due contents history o
-due_numbers d contents history o tpdos sent laws numbers e =
-    e ∙ ap (filter (λ k. is_tpdo_due contents history o k)) numbers ∙ filter_within (λ k. is_tpdo_due contents history o k) (has_tpdo d.rows) (λ k h. absent_not_due d contents history o k laws h) tpdo_numbers
+-- those that pass a test of the TPDOs that the dictionary has are those that pass it
+pub due_numbers : (d : Description) (p : ℕ → Bool) (tpdos : List Tpdo) (sent : List ℕ) → ((k : ℕ) → has_tpdo d.rows k ≡ false → p k ≡ false) → map (λ t. t.number) tpdos ≡ tpdos_of d.rows
+    → sent ≡ filter p (map (λ t. t.number) tpdos) → sent ≡ filter p tpdo_numbers
+due_numbers d p tpdos sent never numbers e = e ∙ ap (filter p) numbers ∙ filter_within p (has_tpdo d.rows) never tpdo_numbers
 
 -- ---- a number is among those of a range that pass a test if it passes
 
@@ -90,9 +83,9 @@ among_from p k a (suc n) le lt = by_tests (eqb a k) refl (p a) refl (λ up. amon
         let other : a ≢ k = grind (arith, nat_tests) in
         more (omega arith)
 
-due_among : (contents : Contents) (history : History) (o : Occasion) (k : ℕ) → k < 512 → is_among k (all_due contents history o) ≡ is_tpdo_due contents history o k
+among_range : (p : ℕ → Bool) (k : ℕ) → k < 512 → is_among k (filter p tpdo_numbers) ≡ p k
 unfolding tpdo_numbers
-due_among contents history o k lt = among_from (λ j. is_tpdo_due contents history o j) k 0 512 (omega arith) (omega arith)
+among_range p k lt = among_from p k 0 512 (omega arith) (omega arith)
 
 not_among : (k : ℕ) (tpdos : List Tpdo) → ((j : ℕ) (d : Tpdo) → j < length tpdos → eqb (get_or tpdos j d).number k ≡ false) → is_among k (map (λ t. t.number) tpdos) ≡ false
 not_among k [] other = refl
@@ -221,36 +214,51 @@ module _ (dict : Description) (tpdos value : List Tpdo) (history : History) (k :
         subst (λ (log : Log). IsAfter new log) (sym (log_started k part contents history))
         (subst (λ (s : Settings). IsAfter new (Started part s ∷ log_of k history)) e (after (log_of k history) old_after)))
 
--- ---- a SYNC or a tick
+-- ---- a call that concerns all
+
+-- an event in a log, if there is one, and what the call is to the TPDO
+log_asked : (asked sent due : Bool) (s : Settings) (log : Log) → sent ≡ asked && due → cond asked (Happened Event s due ∷ log) log ≡ cond asked (Happened Event s sent ∷ []) [] ++ log
+log_asked true sent due s log h = ap (λ b. Happened Event s b ∷ log) (sym h)
+log_asked false sent due s log h = refl
 
 -- what a call left in the slice of a list is the list
 pub all_written : (n : ℕ) (new rest : List Tpdo) → length new ≡ n → take n (new ++ rest) ≡ new
 all_written n new rest e = ap (λ m. take m (new ++ rest)) (sym e) ∙ take-append_seam new rest
 
-module _ (d : Description) (contents : Contents) (laws : IsDictionary d contents) (value old new : List Tpdo) (history : History) (o : Occasion) (sent : List ℕ) (same : old ≡ value) (table : IsTable old)
-    (numbers : map (λ t. t.number) new ≡ map (λ t. t.number) old) (given : IsScheduleAfter d value history) (current : AllCurrent contents history)
-    (due : (logs : ℕ → Log) → AllAfter old logs → AllCurrentAfter contents logs → sent ≡ filter (λ k. is_due (settings_of contents k) (logs k) o) (map (λ t. t.number) old)) where
+module _ (d : Description) (value old new : List Tpdo) (history : History) (same : old ≡ value) (given : IsScheduleAfter d value history) where
   had : IsScheduleAfter d old history
   had = subst (λ (ts : List Tpdo). IsScheduleAfter d ts history) (sym same) given
 
-  pub all_due_is : sent ≡ all_due contents history o
-  all_due_is = due_numbers d contents history o old sent laws had.numbers (due (λ k. log_of k history) had.countdowns current)
+  -- after a call that gives each its longer log
+  after_call : IsTable old → map (λ t. t.number) new ≡ map (λ t. t.number) old → (next : ℕ → Log) → AllAfter new next → (m : Moment) → ((k : ℕ) → k < 512 → next k ≡ log_of k (m ∷ history)) → IsScheduleAfter d new (m ∷ history)
+  after_call table numbers next after m is = record {
+    numbers = numbers ∙ had.numbers;
+    countdowns = λ i t lt. subst (λ (log : Log). IsAfter (get_or new i t) log) (is (get_or new i t).number ((table_kept old new table numbers).small i t lt)) (after i t lt);
+  }
 
-  each_after : ((logs : ℕ → Log) → AllAfter old logs → AllCurrentAfter contents logs → AllAfter new (with_occasion contents o logs)) → AllAfter new (λ k. Happened o (settings_of contents k) (is_among k sent) ∷ log_of k history)
-  each_after after i e lt =
-      let small : (get_or new i e).number < 512 = (table_kept old new table numbers).small i e lt in
-      subst (λ (b : Bool). IsAfter (get_or new i e) (Happened o (settings_of contents (get_or new i e).number) b ∷ log_of (get_or new i e).number history))
-      (sym (ap (is_among (get_or new i e).number) all_due_is ∙ due_among contents history o (get_or new i e).number small)) (after (λ k. log_of k history) had.countdowns current i e lt)
+  module _ (table : IsTable old) (numbers : map (λ t. t.number) new ≡ map (λ t. t.number) old) (contents : Contents) where
+    pub after_all_started : ((logs : ℕ → Log) → AllAfter old logs → AllAfter new (with_whole_start contents logs)) → (written : List Tpdo) → written ≡ new → IsScheduleAfter d written (with_all_started contents history)
+    after_all_started after written e = rw e (after_call table numbers _ (after (λ k. log_of k history) had.countdowns) _ (λ k lt. refl))
 
-pub after_occasion : (d : Description) (contents : Contents) (laws : IsDictionary d contents) (value old new : List Tpdo) (history : History) (o : Occasion) (sent : List ℕ) (same : old ≡ value) (table : IsTable old)
-    (numbers : map (λ t. t.number) new ≡ map (λ t. t.number) old) (given : IsScheduleAfter d value history) (current : AllCurrent contents history)
-    (due : (logs : ℕ → Log) → AllAfter old logs → AllCurrentAfter contents logs → sent ≡ filter (λ k. is_due (settings_of contents k) (logs k) o) (map (λ t. t.number) old))
-    (after : (logs : ℕ → Log) → AllAfter old logs → AllCurrentAfter contents logs → AllAfter new (with_occasion contents o logs))
-    (call : Call) → ((k : ℕ) → Happened o (settings_of contents k) (is_among k sent) ∷ [] ≡ part_of k call contents sent) → (written : List Tpdo) → written ≡ new
-    → IsScheduleAfter d written (record { call = call; contents = contents; sent = sent } ∷ history)
-after_occasion d contents laws value old new history o sent same table numbers given current due after call each written e = rw e (record {
-  numbers = numbers ∙ ap (map (λ t. t.number)) same ∙ given.numbers;
-  countdowns = λ i t lt.
-      subst (λ (entries : Log). IsAfter (get_or new i t) (entries ++ log_of (get_or new i t).number history)) (each (get_or new i t).number)
-      (each_after d contents laws value old new history o sent same table numbers given current due after i t lt);
-})
+    module _ (laws : IsDictionary d contents) (current : AllCurrent contents history) (sent : List ℕ) where
+      module _ (o : Occasion) (due : (logs : ℕ → Log) → AllAfter old logs → AllCurrentAfter contents logs → sent ≡ filter (λ k. is_due (settings_of contents k) (logs k) o) (map (λ t. t.number) old)) where
+        pub all_due_is : sent ≡ all_due contents history o
+        all_due_is = due_numbers d (λ k. is_tpdo_due contents history o k) old sent (λ k h. absent_not_due d contents history o k laws h) had.numbers (due (λ k. log_of k history) had.countdowns current)
+
+        pub after_occasion : ((logs : ℕ → Log) → AllAfter old logs → AllCurrentAfter contents logs → AllAfter new (with_occasion contents o logs))
+            → (call : Call) → ((k : ℕ) → Happened o (settings_of contents k) (is_among k sent) ∷ [] ≡ part_of k call contents sent) → (written : List Tpdo) → written ≡ new
+            → IsScheduleAfter d written (record { call = call; contents = contents; sent = sent } ∷ history)
+        after_occasion after call each written e = rw e (after_call table numbers _ (after (λ k. log_of k history) had.countdowns current) _ (λ k lt.
+            ap (λ b. Happened o (settings_of contents k) b ∷ log_of k history) (sym (ap (is_among k) all_due_is ∙ among_range (λ j. is_tpdo_due contents history o j) k lt))
+            ∙ ap (λ (entries : Log). entries ++ log_of k history) (each k)))
+
+      module _ (asked : List ℕ) (due : (logs : ℕ → Log) → AllAfter old logs → AllCurrentAfter contents logs → sent ≡ filter (λ k. is_among k asked && is_due (settings_of contents k) (logs k) Event) (map (λ t. t.number) old)) where
+        pub all_due_among_is : sent ≡ all_due_among asked contents history
+        all_due_among_is =
+            due_numbers d (λ k. is_among k asked && is_tpdo_due contents history Event k) old sent (λ k h. ap (λ b. is_among k asked && b) (absent_not_due d contents history Event k laws h) ∙ and-false (is_among k asked))
+            had.numbers (due (λ k. log_of k history) had.countdowns current)
+
+        pub after_events : ((logs : ℕ → Log) → AllAfter old logs → AllCurrentAfter contents logs → AllAfter new (with_events_among asked contents logs)) → (written : List Tpdo) → written ≡ new → IsScheduleAfter d written (with_events asked contents sent history)
+        after_events after written e = rw e (after_call table numbers _ (after (λ k. log_of k history) had.countdowns current) _ (λ k lt.
+            log_asked (is_among k asked) (is_among k sent) (is_tpdo_due contents history Event k) (settings_of contents k) (log_of k history)
+            (ap (is_among k) all_due_among_is ∙ among_range (λ j. is_among j asked && is_tpdo_due contents history Event j) k lt)))

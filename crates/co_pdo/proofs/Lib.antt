@@ -6,6 +6,8 @@ mod Numbers
 mod Histories
 mod Words
 mod Parts
+mod Written
+mod Actives
 mod TpdoExamples
 mod ScheduleExamples
 mod MappingExamples

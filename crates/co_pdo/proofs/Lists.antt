@@ -7,13 +7,17 @@ use Rattle.std.proofs.lemmas.List.Elements.{filter_more}
 use Rattle.std.proofs.lemmas.List.FromFn.{filter_of_map_range_with_len_more}
 use Rattle.std.proofs.lemmas.Bool.Decides.{nat_tests}
 use Rattle.co_dict.specs.Rows.{Contents}
+use Rattle.std.specs.Prelude.{◌&&◌}
+use Rattle.co_pdo.specs.declared.settings.Settings.{Settings}
 use Rattle.co_pdo.specs.declared.tpdo.Occasion.{Occasion}
+use Rattle.co_pdo.specs.declared.tpdo.Occasion.TheVariants.{Event}
+use Rattle.co_pdo.specs.declared.tpdo.Part.TheVariants.{Whole}
 use Rattle.co_pdo.specs.declared.tpdo.Tpdo.{Tpdo}
 use Rattle.co_pdo.specs.Tpdos.{settings_of}
-use Rattle.co_pdo.specs.Log.{Log, Happened}
+use Rattle.co_pdo.specs.Log.{Log, Started, Happened}
 use Rattle.co_pdo.specs.Due.{is_due}
 use Rattle.co_pdo.specs.Countdowns.{IsAfter, IsCurrent}
-use Rattle.co_pdo.specs.Schedules.{AllAfter, AllCurrentAfter, with_occasion}
+use Rattle.co_pdo.specs.Schedules.{AllAfter, AllCurrentAfter, is_among, with_occasion, with_whole_start, with_event_if, with_events_among}
 
 -- one more number of a range
 pub filter_range_more : (p : ℕ → Bool) (n : ℕ) → filter p (range_with_len 0 (n + 1)) ≡ filter p (range_with_len 0 n) ++ cond (p n) (n ∷ []) []
@@ -44,46 +48,82 @@ numbers_set xs i new old e = map-set_same (λ t. t.number) xs i new old e
 pub number_at_place : (xs : List Tpdo) (i : ℕ) (d : Tpdo) → i < length xs → get_or (map (λ t. t.number) xs) i 0 ≡ (get_or xs i d).number
 number_at_place xs i d lt = get_or-map (λ t. t.number) xs i d 0 lt
 
--- what a call did to one TPDO
-pub record Took (contents : Contents) (o : Occasion) (old new : Tpdo) (sent : Bool) : Type 0 where
+-- what a call did to one TPDO, by its number: whether it was sent, and its countdowns after it
+pub record Took (goes : ℕ → Bool) (next : ℕ → Log) (old new : Tpdo) (sent : Bool) : Type 0 where
   pub number : new.number ≡ old.number
-  pub due : (log : Log) → IsAfter old log → IsCurrent (settings_of contents old.number) log → sent ≡ is_due (settings_of contents old.number) log o
-  pub after : (log : Log) → IsAfter old log → IsCurrent (settings_of contents old.number) log → IsAfter new (Happened o (settings_of contents old.number) sent ∷ log)
+  pub due : sent ≡ goes old.number
+  pub after : IsAfter new (next old.number)
 
-took_after : (contents : Contents) (o : Occasion) (old new : Tpdo) (sent : Bool) → Took contents o old new sent → (logs : ℕ → Log) → IsAfter old (logs old.number) → IsCurrent (settings_of contents old.number) (logs old.number) → IsAfter new (with_occasion contents o logs old.number)
-took_after contents o old new sent t logs h c = subst (λ (b : Bool). IsAfter new (Happened o (settings_of contents old.number) b ∷ logs old.number)) (t.due (logs old.number) h c) (t.after (logs old.number) h c)
+module _ (fn xs : List Tpdo) (i : ℕ) (d : Tpdo) (lt : i < length fn) (rest : (j : ℕ) (e : Tpdo) → i ≤ j → get_or xs j e ≡ get_or fn j e) where
+  here : get_or xs i d ≡ get_or fn i d
+  here = rest i d (omega arith)
 
-module _ (contents : Contents) (o : Occasion) (fn xs : List Tpdo) (i : ℕ) (d : Tpdo) (new : Tpdo) (sent : Bool) (lt : i < length fn) (len : length xs ≡ length fn)
-    (rest : (j : ℕ) (e : Tpdo) → i ≤ j → get_or xs j e ≡ get_or fn j e) (took : Took contents o (get_or xs i d) new sent)
-    (small : (j : ℕ) (e : Tpdo) → j < length fn → (get_or fn j e).number < 512) (logs : ℕ → Log) (all : AllAfter fn logs) (current : AllCurrentAfter contents logs) where
-  took_here : Took contents o (get_or fn i d) new sent
-  took_here = subst (λ (t : Tpdo). Took contents o t new sent) (rest i d (omega arith)) took
+  -- the countdowns of a TPDO that the call did not come to
+  had_after : (logs : ℕ → Log) → AllAfter fn logs → IsAfter (get_or xs i d) (logs (get_or xs i d).number)
+  had_after logs all = subst (λ (t : Tpdo). IsAfter t (logs t.number)) (sym here) (all i d lt)
 
-  pub done_set : ((j : ℕ) (e : Tpdo) → j < i → IsAfter (get_or xs j e) (with_occasion contents o logs (get_or fn j e).number)) → (j : ℕ) (e : Tpdo) → j < i + 1 → IsAfter (get_or (set xs i new) j e) (with_occasion contents o logs (get_or fn j e).number)
-  done_set done j e below = by_test (eqb j i) refl
-    where
-      by_test : (b : Bool) → eqb j i ≡ b → IsAfter (get_or (set xs i new) j e) (with_occasion contents o logs (get_or fn j e).number)
-      by_test true h =
-          let same : j ≡ i = grind (arith, nat_tests) in
-          let within : i < length xs = omega arith in
-          let same_place : get_or fn i d ≡ get_or fn i e = get_or_default fn i d e lt in
-          let taken : IsAfter new (with_occasion contents o logs (get_or fn i e).number) =
-          subst (λ (t : Tpdo). IsAfter new (with_occasion contents o logs t.number)) same_place (took_after contents o _ new sent took_here logs (all i d lt) (current _ (small i d lt))) in
-          rw same (rw get_or-set_same taken)
-      by_test false h = let other : j ≢ i = grind (arith, nat_tests) in rw get_or-set_other (done j e (omega arith))
+  had_current : (contents : Contents) (logs : ℕ → Log) → ((j : ℕ) (e : Tpdo) → j < length fn → (get_or fn j e).number < 512) → AllCurrentAfter contents logs → IsCurrent (settings_of contents (get_or xs i d).number) (logs (get_or xs i d).number)
+  had_current contents logs small current = subst (λ (t : Tpdo). IsCurrent (settings_of contents t.number) (logs t.number)) (sym here) (current _ (small i d lt))
 
-  pub due_more : (before after : List ℕ) → before ≡ filter (λ k. is_due (settings_of contents k) (logs k) o) (take i (map (λ t. t.number) fn)) → after ≡ before ++ cond sent (new.number ∷ []) []
-      → after ≡ filter (λ k. is_due (settings_of contents k) (logs k) o) (take (i + 1) (map (λ t. t.number) fn))
-  due_more before after b a =
-      let p : ℕ → Bool = λ k. is_due (settings_of contents k) (logs k) o in
-      let n : ℕ = (get_or fn i d).number in
-      let here : get_or (map (λ t. t.number) fn) i 0 ≡ n = number_at_place fn i d lt in
-      let within : i < length (map (λ (t : Tpdo). t.number) fn) = simp length-map lt in
-      a ∙ ap (λ ys. ys ++ cond sent (new.number ∷ []) []) b
-      ∙ ap (λ (k : ℕ). filter p (take i (map (λ t. t.number) fn)) ++ cond sent (k ∷ []) []) took_here.number
-      ∙ ap (λ (w : Bool). filter p (take i (map (λ t. t.number) fn)) ++ cond w (n ∷ []) []) (took_here.due (logs n) (all i d lt) (current n (small i d lt)))
-      ∙ ap (λ (k : ℕ). filter p (take i (map (λ t. t.number) fn)) ++ cond (p k) (k ∷ []) []) (sym here)
-      ∙ sym (filter_more p (map (λ t. t.number) fn) i 0 within)
+  module _ (contents : Contents) (logs : ℕ → Log) (new : Tpdo) (number : new.number ≡ (get_or xs i d).number) (all : AllAfter fn logs) where
+    -- a whole start
+    pub started : (settings : Settings) → settings ≡ settings_of contents (get_or xs i d).number → ((log : Log) → IsAfter (get_or xs i d) log → IsAfter new (Started Whole settings ∷ log)) → Took (λ k. false) (with_whole_start contents logs) (get_or xs i d) new false
+    started settings e after = record {
+      number = number;
+      due = refl;
+      after = subst (λ (s : Settings). IsAfter new (Started Whole s ∷ logs (get_or xs i d).number)) e (after (logs (get_or xs i d).number) (had_after logs all));
+    }
+
+    module _ (sent : Bool) (small : (j : ℕ) (e : Tpdo) → j < length fn → (get_or fn j e).number < 512) (current : AllCurrentAfter contents logs) where
+      -- a SYNC, an event or a tick
+      pub happened : (o : Occasion) → ((log : Log) → IsAfter (get_or xs i d) log → IsCurrent (settings_of contents (get_or xs i d).number) log → sent ≡ is_due (settings_of contents (get_or xs i d).number) log o)
+          → ((log : Log) → IsAfter (get_or xs i d) log → IsCurrent (settings_of contents (get_or xs i d).number) log → IsAfter new (Happened o (settings_of contents (get_or xs i d).number) sent ∷ log))
+          → Took (λ k. is_due (settings_of contents k) (logs k) o) (with_occasion contents o logs) (get_or xs i d) new sent
+      happened o due after =
+          let k : ℕ = (get_or xs i d).number in
+          let is : sent ≡ is_due (settings_of contents k) (logs k) o = due (logs k) (had_after logs all) (had_current contents logs small current) in
+          record {
+            number = number;
+            due = is;
+            after = subst (λ (b : Bool). IsAfter new (Happened o (settings_of contents k) b ∷ logs k)) is (after (logs k) (had_after logs all) (had_current contents logs small current));
+          }
+
+      -- an event, if its number is among some
+      pub happened_among : (numbers : List ℕ) → ((log : Log) → IsAfter (get_or xs i d) log → IsCurrent (settings_of contents (get_or xs i d).number) log → sent ≡ is_among (get_or xs i d).number numbers && is_due (settings_of contents (get_or xs i d).number) log Event)
+          → ((log : Log) → IsAfter (get_or xs i d) log → IsCurrent (settings_of contents (get_or xs i d).number) log → IsAfter new (with_event_if (is_among (get_or xs i d).number numbers) (settings_of contents (get_or xs i d).number) log))
+          → Took (λ k. is_among k numbers && is_due (settings_of contents k) (logs k) Event) (with_events_among numbers contents logs) (get_or xs i d) new sent
+      happened_among numbers due after = record {
+        number = number;
+        due = due (logs (get_or xs i d).number) (had_after logs all) (had_current contents logs small current);
+        after = after (logs (get_or xs i d).number) (had_after logs all) (had_current contents logs small current);
+      }
+
+  module _ (goes : ℕ → Bool) (next : ℕ → Log) (new : Tpdo) (sent : Bool) (len : length xs ≡ length fn) (took : Took goes next (get_or xs i d) new sent) where
+    took_here : Took goes next (get_or fn i d) new sent
+    took_here = subst (λ (t : Tpdo). Took goes next t new sent) here took
+
+    pub done_set : ((j : ℕ) (e : Tpdo) → j < i → IsAfter (get_or xs j e) (next (get_or fn j e).number)) → (j : ℕ) (e : Tpdo) → j < i + 1 → IsAfter (get_or (set xs i new) j e) (next (get_or fn j e).number)
+    done_set done j e below = by_test (eqb j i) refl
+      where
+        by_test : (b : Bool) → eqb j i ≡ b → IsAfter (get_or (set xs i new) j e) (next (get_or fn j e).number)
+        by_test true h =
+            let same : j ≡ i = grind (arith, nat_tests) in
+            let within : i < length xs = omega arith in
+            let same_place : get_or fn i d ≡ get_or fn i e = get_or_default fn i d e lt in
+            let taken : IsAfter new (next (get_or fn i e).number) = subst (λ (t : Tpdo). IsAfter new (next t.number)) same_place took_here.after in
+            rw same (rw get_or-set_same taken)
+        by_test false h = let other : j ≢ i = grind (arith, nat_tests) in rw get_or-set_other (done j e (omega arith))
+
+    pub due_more : (before after : List ℕ) → before ≡ filter goes (take i (map (λ t. t.number) fn)) → after ≡ before ++ cond sent (new.number ∷ []) [] → after ≡ filter goes (take (i + 1) (map (λ t. t.number) fn))
+    due_more before after b a =
+        let n : ℕ = (get_or fn i d).number in
+        let at_place : get_or (map (λ t. t.number) fn) i 0 ≡ n = number_at_place fn i d lt in
+        let within : i < length (map (λ (t : Tpdo). t.number) fn) = simp length-map lt in
+        a ∙ ap (λ ys. ys ++ cond sent (new.number ∷ []) []) b
+        ∙ ap (λ (k : ℕ). filter goes (take i (map (λ t. t.number) fn)) ++ cond sent (k ∷ []) []) took_here.number
+        ∙ ap (λ (w : Bool). filter goes (take i (map (λ t. t.number) fn)) ++ cond w (n ∷ []) []) took_here.due
+        ∙ ap (λ (k : ℕ). filter goes (take i (map (λ t. t.number) fn)) ++ cond (goes k) (k ∷ []) []) (sym at_place)
+        ∙ sym (filter_more goes (map (λ t. t.number) fn) i 0 within)
 
 -- after the last place
 pub due_to_the_end : (p : ℕ → Bool) (fn : List Tpdo) (i : ℕ) (due : List ℕ) → length fn ≤ i → due ≡ filter p (take i (map (λ t. t.number) fn)) → due ≡ filter p (map (λ t. t.number) fn)
@@ -91,9 +131,9 @@ due_to_the_end p fn i due le e =
     let all : length (map (λ (t : Tpdo). t.number) fn) ≤ i = simp length-map le in
     e ∙ ap (filter p) (take_all i (map (λ t. t.number) fn) all)
 
-pub done_to_the_end : (contents : Contents) (o : Occasion) (fn xs : List Tpdo) (i : ℕ) (logs : ℕ → Log) → length xs ≡ length fn → length fn ≤ i → map (λ t. t.number) xs ≡ map (λ t. t.number) fn
-    → ((j : ℕ) (e : Tpdo) → j < i → IsAfter (get_or xs j e) (with_occasion contents o logs (get_or fn j e).number)) → AllAfter xs (with_occasion contents o logs)
-done_to_the_end contents o fn xs i logs len le numbers done j e lt =
+pub done_to_the_end : (fn xs : List Tpdo) (i : ℕ) (next : ℕ → Log) → length xs ≡ length fn → length fn ≤ i → map (λ t. t.number) xs ≡ map (λ t. t.number) fn
+    → ((j : ℕ) (e : Tpdo) → j < i → IsAfter (get_or xs j e) (next (get_or fn j e).number)) → AllAfter xs next
+done_to_the_end fn xs i next len le numbers done j e lt =
     let within : j < length fn = omega arith in
     let same : (get_or fn j e).number ≡ (get_or xs j e).number = sym (number_at_place fn j e within) ∙ ap (λ ns. get_or ns j 0) (sym numbers) ∙ number_at_place xs j e lt in
-    subst (λ (k : ℕ). IsAfter (get_or xs j e) (with_occasion contents o logs k)) same (done j e (omega arith))
+    subst (λ (k : ℕ). IsAfter (get_or xs j e) (next k)) same (done j e (omega arith))

@@ -3,13 +3,15 @@ use Rattle.std.proofs.Common.{◌≡◌, ℕ, suc, ◌+◌, ◌-◌, ◌<◌, Bo
 use Rattle.std.specs.Prelude.{◌%◌, ◌&&◌, ◌||◌, Option, Some, None, map}
 use Rattle.std.specs.List.{list_all}
 use Rattle.std.proofs.lemmas.Bool.Decides.{nat_tests}
+use Rattle.std.proofs.Math.Bool.{and-true, and-false, or-true, or-false}
+use Rattle.co_frame.specs.InhibitTimes.{in_ms}
 use Rattle.co_pdo.specs.declared.settings.Settings.{Settings}
 use Rattle.co_pdo.specs.declared.tpdo.Occasion.{Occasion}
 use Rattle.co_pdo.specs.declared.tpdo.Occasion.TheVariants.{Sync, Event, Tick}
 use Rattle.co_pdo.specs.declared.tpdo.Part.TheVariants.{Whole, Timer}
 use Rattle.co_pdo.specs.declared.tpdo.Tpdo.{Tpdo}
 use Rattle.co_pdo.specs.Log.{Log, Started, Happened, started_with}
-use Rattle.co_pdo.specs.Due.{begins_count, syncs, has_begun, since_beginning, counted_syncs, event_since_sync, timer_ticks, event_waits, sendings, in_ms, is_due_by_count, is_due_at_sync, is_event_driven, is_due_by_event, is_due}
+use Rattle.co_pdo.specs.Due.{begins_count, syncs, has_begun, since_beginning, counted_syncs, event_since_sync, timer_ticks, event_waits, sendings, is_due_by_count, is_due_at_sync, is_event_driven, is_due_by_event, is_due}
 use Rattle.co_pdo.specs.Countdowns.{left_of, type_of, inhibit_of, IsAfter, IsAsAt, IsCurrent}
 use Rattle.co_pdo.specs.Steps.{counts, counted, counted_with, wants_with, marked}
 use Rattle.co_pdo.proofs.Counts.{last_sync, next_sync, left-tick, last_tick}
@@ -79,16 +81,8 @@ left_then kind left b false older e h =
 
 -- a SYNC counts where the count has begun with it
 counts_is : (begun b : Bool) (older : List Bool) → begun ≡ has_begun older → begun || b ≡ has_begun (b ∷ older)
-counts_is begun true older h = or_true begun
-  where
-    or_true : (a : Bool) → a || true ≡ true
-    or_true true = refl
-    or_true false = refl
-counts_is begun false older h = or_false begun ∙ h
-  where
-    or_false : (a : Bool) → a || false ≡ a
-    or_false true = refl
-    or_false false = refl
+counts_is begun true older h = or-true begun
+counts_is begun false older h = or-false begun ∙ h
 
 -- the countdowns after a call in which the TPDO is not sent
 after_counted : (t : Tpdo) (log : Log) (s : Settings) (o : Occasion) → IsAfter t log → IsCurrent s log → IsAfter (counted_with s o t) (Happened o s false ∷ log)
@@ -207,18 +201,10 @@ after_unsent t new log s o e h f = rw e (after_counted t log s o h f)
 pub after_sent : (t mid new : Tpdo) (log : Log) (s : Settings) (o : Occasion) → mid ≡ counted_with s o t → new ≡ marked mid → IsAfter t log → IsCurrent s log → IsAfter new (Happened o s true ∷ log)
 after_sent t mid new log s o e k h f = rw k (after_marked mid log s o (after_unsent t mid log s o e h f))
 
-and_true : (a : Bool) → a && true ≡ a
-and_true true = refl
-and_true false = refl
-
-and_false : (a : Bool) → a && false ≡ false
-and_false true = refl
-and_false false = refl
-
 -- it was wanted, and the dictionary says whether the TPDO is active
 pub due_wanted : (t : Tpdo) (log : Log) (s : Settings) (o : Occasion) (w : Bool) → IsAfter t log → IsCurrent s log → w ≡ wants_with s o t → w ≡ true → s.is_active ≡ is_due s log o
-due_wanted t log s o w h f e k = sym (and_true s.is_active) ∙ ap (λ b. s.is_active && b) (sym k ∙ e) ∙ due_is t log s o h f
+due_wanted t log s o w h f e k = sym (and-true s.is_active) ∙ ap (λ b. s.is_active && b) (sym k ∙ e) ∙ due_is t log s o h f
 
 -- it was not wanted
 pub due_unwanted : (t : Tpdo) (log : Log) (s : Settings) (o : Occasion) (w : Bool) → IsAfter t log → IsCurrent s log → w ≡ wants_with s o t → w ≡ false → false ≡ is_due s log o
-due_unwanted t log s o w h f e k = sym (and_false s.is_active) ∙ ap (λ b. s.is_active && b) (sym k ∙ e) ∙ due_is t log s o h f
+due_unwanted t log s o w h f e k = sym (and-false s.is_active) ∙ ap (λ b. s.is_active && b) (sym k ∙ e) ∙ due_is t log s o h f

@@ -1,4 +1,5 @@
 -- The bytes of what is mapped are as many as it is wide, so that an image is cut back into them.
+use Rattle.std.proofs.lemmas.Bool.{and_parts}
 use Rattle.std.proofs.Common.{◌≡◌, ℕ, ◌+◌, ◌≤◌, Bool, true, false, eqb, leb, List, [], ◌∷◌, ◌++◌, length, map, take, drop, Option, Some, None, refl, sym, ap, ◌∙◌, arith, Bor}
 use Rattle.std.specs.Prelude.{◌&&◌, is_some, unwrap_or, option_map}
 use Rattle.std.specs.Option.{option_map_or}
@@ -54,15 +55,11 @@ pub bytes_wide : (d : Description) (contents : Contents) (mapped : Mapped) → I
 bytes_wide d contents (Entry key w) laws there = entry_bytes d contents key w laws there
 bytes_wide d contents (Dummy w) laws there = length-replicate w 0
 
-and_both : (a b : Bool) → a && b ≡ true → (a ≡ true) × (b ≡ true)
-and_both true b h = (refl, h)
-and_both false b h = cc
-
 -- the image is cut into the bytes of each
 pub parts_of_image : (d : Description) (contents : Contents) (mapping : List Mapped) → IsDictionary d contents → all_there d.rows mapping ≡ true → parts_of mapping (image_of contents mapping) ≡ map (bytes_in contents) mapping
 parts_of_image d contents [] laws there = refl
 parts_of_image d contents (mapped ∷ mapping) laws there =
-    let both = and_both (is_there d.rows mapped) (all_there d.rows mapping) there in
+    let both = and_parts (is_there d.rows mapped) (all_there d.rows mapping) there in
     let width : length (bytes_in contents mapped) ≡ width_in mapped = bytes_wide d contents mapped laws both.0 in
     let front : take (width_in mapped) (bytes_in contents mapped ++ image_of contents mapping) ≡ bytes_in contents mapped =
     ap (λ n. take n (bytes_in contents mapped ++ image_of contents mapping)) (sym width) ∙ take-append_seam (bytes_in contents mapped) (image_of contents mapping) in

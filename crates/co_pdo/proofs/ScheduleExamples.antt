@@ -7,7 +7,7 @@ use Rattle.co_dict.proofs.ExampleDevice.{at, nothing, with_u8, with_u32}
 use Rattle.co_pdo.specs.declared.tpdo.Occasion.TheVariants.{Sync, Event, Tick}
 use Rattle.co_pdo.specs.declared.tpdo.Part.TheVariants.{Whole}
 use Rattle.co_pdo.specs.Tpdos.{is_active, settings_of, tpdo_numbers}
-use Rattle.co_pdo.specs.Schedules.{History, sync_with, with_start, with_sync, with_event, with_tick, is_tpdo_due, all_due}
+use Rattle.co_pdo.specs.Schedules.{History, sync_with, with_start, with_all_started, with_sync, with_event, with_events, with_tick, is_tpdo_due, all_due, all_due_among}
 
 abbrev with_u16 : ℕ → ℕ → ℕ → Contents → Contents
 with_u16 index sub number contents = written contents (at index sub) (low_bytes 2 number)
@@ -124,6 +124,39 @@ second_tick = refl
 third_tick : all_due (device 255 25 0) (ticks 2 (device 255 25 0) (with_event 0 (device 255 25 0) false (with_event 0 (device 255 25 0) true (started (device 255 25 0))))) Tick ≡ 0 ∷ []
 unfolding tpdo_numbers
 third_tick = refl
+
+-- ---- calls that concern several
+
+-- all are started: the third SYNC again
+third_sync_after_all_started : all_due (device 3 0 0) (syncs 2 (device 3 0 0) (with_all_started (device 3 0 0) (syncs 1 (device 3 0 0) (started (device 3 0 0))))) (Sync 0 None) ≡ 0 ∷ []
+unfolding tpdo_numbers
+third_sync_after_all_started = refl
+
+second_sync_after_all_started : all_due (device 3 0 0) (syncs 1 (device 3 0 0) (with_all_started (device 3 0 0) (syncs 1 (device 3 0 0) (started (device 3 0 0))))) (Sync 0 None) ≡ []
+unfolding tpdo_numbers
+second_sync_after_all_started = refl
+
+-- an event for some: those that are there, increasing
+event_for_both : all_due_among (511 ∷ 1 ∷ 0 ∷ []) (device 255 0 0) (started (device 255 0 0)) ≡ 0 ∷ 1 ∷ []
+unfolding tpdo_numbers
+event_for_both = refl
+
+event_for_one : all_due_among (1 ∷ 2 ∷ []) (device 255 0 0) (started (device 255 0 0)) ≡ 1 ∷ []
+unfolding tpdo_numbers
+event_for_one = refl
+
+event_for_none : all_due_among [] (device 255 0 0) (started (device 255 0 0)) ≡ []
+unfolding tpdo_numbers
+event_for_none = refl
+
+-- type 0: the SYNC after it
+sync_after_events : all_due (device 0 0 0) (with_events (1 ∷ 0 ∷ []) (device 0 0 0) (1 ∷ []) (started (device 0 0 0))) (Sync 0 None) ≡ 0 ∷ []
+unfolding tpdo_numbers
+sync_after_events = refl
+
+sync_after_event_for_another : all_due (device 0 0 0) (with_events (1 ∷ []) (device 0 0 0) (1 ∷ []) (started (device 0 0 0))) (Sync 0 None) ≡ []
+unfolding tpdo_numbers
+sync_after_event_for_another = refl
 
 -- ---- the SYNC start value
 

@@ -1,12 +1,13 @@
 -- When one TPDO is due, computed from the definitions: both sides of each edge.
 use Rattle.std.proofs.Common.{◌≡◌, ℕ, Bool, true, false, List, [], ◌∷◌, Option, Some, None, map, refl}
+use Rattle.co_frame.specs.InhibitTimes.{in_ms}
 use Rattle.co_pdo.specs.declared.settings.Settings.{Settings}
 use Rattle.co_pdo.specs.declared.tpdo.Occasion.{Occasion}
 use Rattle.co_pdo.specs.declared.tpdo.Occasion.TheVariants.{Sync, Event, Tick}
 use Rattle.co_pdo.specs.declared.tpdo.Part.TheVariants.{Whole, Timer}
 use Rattle.co_pdo.specs.Pdos.{is_supported_type}
 use Rattle.co_pdo.specs.Log.{Log, Started, Happened}
-use Rattle.co_pdo.specs.Due.{in_ms, begins_count, is_due}
+use Rattle.co_pdo.specs.Due.{begins_count, is_due}
 
 -- an active TPDO with a transmission type, an inhibit time in 100 µs and an event timer in ms
 abbrev active : ℕ → ℕ → ℕ → Settings

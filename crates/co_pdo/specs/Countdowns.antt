@@ -1,9 +1,10 @@
 -- Which countdowns a TPDO has after its log.
 use Rattle.std.specs.Prelude.{◌≡◌, ℕ, ◌-◌, ◌%◌, true, List, [], ◌∷◌, Option, Some, None}
+use Rattle.co_frame.specs.InhibitTimes.{in_ms}
 use Rattle.co_pdo.specs.declared.settings.Settings.{Settings}
 use Rattle.co_pdo.specs.declared.tpdo.Tpdo.{Tpdo}
 use Rattle.co_pdo.specs.Log.{Log, started_with, timer_of}
-use Rattle.co_pdo.specs.Due.{syncs, has_begun, counted_syncs, event_since_sync, timer_ticks, event_waits, sendings, in_ms}
+use Rattle.co_pdo.specs.Due.{syncs, has_begun, counted_syncs, event_since_sync, timer_ticks, event_waits, sendings}
 
 -- what is left of a time that began at the last sending; nothing where there was none
 abbrev pub left_of : ℕ → List ℕ → ℕ

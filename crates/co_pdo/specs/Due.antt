@@ -1,7 +1,8 @@
 -- When a TPDO is due, by distances in its log (CiA 301, 7.2.2.2 to 7.2.2.4 and 7.5.2.37). A tick is 1 ms.
-use Rattle.std.specs.Prelude.{ℕ, ◌+◌, ◌/◌, ◌%◌, ◌==◌, ◌&&◌, ◌||◌, Bool, true, false, not, nat_le, nat_lt, Option, List, [], ◌∷◌, length, map, if◌then◌else◌}
+use Rattle.std.specs.Prelude.{ℕ, ◌+◌, ◌%◌, ◌==◌, ◌&&◌, ◌||◌, Bool, true, false, not, nat_le, nat_lt, Option, List, [], ◌∷◌, length, map, if◌then◌else◌}
 use Rattle.std.specs.List.{list_all, list_any}
 use Rattle.std.specs.Option.{option_map_or}
+use Rattle.co_frame.specs.InhibitTimes.{has_elapsed}
 use Rattle.co_pdo.specs.declared.settings.Settings.{Settings}
 use Rattle.co_pdo.specs.declared.tpdo.Occasion.{Occasion}
 use Rattle.co_pdo.specs.declared.tpdo.Occasion.TheVariants.{Sync, Event, Tick}
@@ -80,13 +81,9 @@ sendings (Happened (Sync overflow counter) s sent ∷ log) = if sent then 0 ∷ 
 sendings (Happened Event s sent ∷ log) = if sent then 0 ∷ sendings log else sendings log
 sendings (Happened Tick s sent ∷ log) = if sent then 0 ∷ map (λ n. n + 1) (sendings log) else map (λ n. n + 1) (sendings log)
 
--- from 100 µs to ms, rounded up
-abbrev pub in_ms : ℕ → ℕ
-in_ms n = (n + 9) / 10
-
--- each sending since the last whole start is as many ticks ago as the inhibit time has ms
+-- the inhibit time has elapsed since each sending since the last whole start
 abbrev pub is_inhibit_over : ℕ → Log → Bool
-is_inhibit_over inhibit_time log = list_all (λ n. nat_le (in_ms inhibit_time) n) (sendings log)
+is_inhibit_over inhibit_time log = list_all (λ n. has_elapsed inhibit_time n) (sendings log)
 
 -- type n from 1 to 240 is due at the newest of some SYNCs where the count has begun, and how many came since then is a
 -- multiple of n

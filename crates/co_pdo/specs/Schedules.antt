@@ -1,9 +1,11 @@
 -- What a schedule was asked and answered, the newest first, and which TPDOs are due after that.
-use Rattle.std.specs.Prelude.{◌≡◌, ℕ, ◌<◌, ◌≤◌, ◌==◌, Bool, Option, List, [], ◌∷◌, ◌++◌, length, map, if◌then◌else◌}
+use Rattle.std.specs.Prelude.{◌≡◌, ℕ, ◌<◌, ◌≤◌, ◌==◌, ◌&&◌, Bool, Option, List, [], ◌∷◌, ◌++◌, length, map, if◌then◌else◌}
 use Rattle.std.specs.List.{filter, list_any, slice_index_or}
 use Rattle.co_dict.specs.Rows.{Contents, number_at}
 use Rattle.co_dict.specs.Stores.{Description}
+use Rattle.co_pdo.specs.declared.settings.Settings.{Settings}
 use Rattle.co_pdo.specs.declared.tpdo.Part.{Part}
+use Rattle.co_pdo.specs.declared.tpdo.Part.TheVariants.{Whole}
 use Rattle.co_pdo.specs.declared.tpdo.Occasion.{Occasion}
 use Rattle.co_pdo.specs.declared.tpdo.Occasion.TheVariants.{Sync, Event, Tick}
 use Rattle.co_pdo.specs.declared.tpdo.Tpdo.{Tpdo}
@@ -15,8 +17,10 @@ use Rattle.co_pdo.specs.Countdowns.{IsAfter, IsCurrent}
 -- one call of a schedule
 pub data Call : Type 0 where
   Start : ℕ → Part → Call
+  StartAll : Call
   OnSync : Option ℕ → Call
   OnEvent : ℕ → Call
+  OnEvents : List ℕ → Call
   OnTick : Call
 
 -- a call, the contents of the dictionary then, and the numbers of the TPDOs that were sent
@@ -40,8 +44,10 @@ is_among k numbers = list_any (λ j. j == k) numbers
 -- what one call is to TPDO k
 abbrev pub part_of : ℕ → Call → Contents → List ℕ → Log
 part_of k (Start j part) contents sent = if j == k then Started part (settings_of contents k) ∷ [] else []
+part_of k StartAll contents sent = Started Whole (settings_of contents k) ∷ []
 part_of k (OnSync counter) contents sent = Happened (sync_with counter contents) (settings_of contents k) (is_among k sent) ∷ []
 part_of k (OnEvent j) contents sent = if j == k then Happened Event (settings_of contents k) (is_among k sent) ∷ [] else []
+part_of k (OnEvents numbers) contents sent = if is_among k numbers then Happened Event (settings_of contents k) (is_among k sent) ∷ [] else []
 part_of k OnTick contents sent = Happened Tick (settings_of contents k) (is_among k sent) ∷ []
 
 -- the log of TPDO k
@@ -49,15 +55,22 @@ abbrev pub log_of : ℕ → History → Log
 log_of k [] = []
 log_of k (m ∷ history) = part_of k m.call m.contents m.sent ++ log_of k history
 
--- a history with one more call: a start, a SYNC with a counter or none, an event on TPDO k that was sent or not, or a tick
+-- a history with one more call: a start of TPDO k or of all, a SYNC with a counter or none, an event for TPDO k that was
+-- sent or not, one for each of some, or a tick
 abbrev pub with_start : ℕ → Part → Contents → History → History
 with_start k part contents history = record { call = Start k part; contents = contents; sent = [] } ∷ history
+
+abbrev pub with_all_started : Contents → History → History
+with_all_started contents history = record { call = StartAll; contents = contents; sent = [] } ∷ history
 
 abbrev pub with_sync : Option ℕ → Contents → List ℕ → History → History
 with_sync counter contents sent history = record { call = OnSync counter; contents = contents; sent = sent } ∷ history
 
 abbrev pub with_event : ℕ → Contents → Bool → History → History
 with_event k contents is_sent history = record { call = OnEvent k; contents = contents; sent = if is_sent then k ∷ [] else [] } ∷ history
+
+abbrev pub with_events : List ℕ → Contents → List ℕ → History → History
+with_events numbers contents sent history = record { call = OnEvents numbers; contents = contents; sent = sent } ∷ history
 
 abbrev pub with_tick : Contents → List ℕ → History → History
 with_tick contents sent history = record { call = OnTick; contents = contents; sent = sent } ∷ history
@@ -69,6 +82,10 @@ is_tpdo_due contents history occasion k = is_due (settings_of contents k) (log_o
 -- the numbers of the TPDOs that are due, increasing
 abbrev pub all_due : Contents → History → Occasion → List ℕ
 all_due contents history occasion = filter (λ k. is_tpdo_due contents history occasion k) tpdo_numbers
+
+-- the numbers of those among these that are due at an event, increasing
+abbrev pub all_due_among : List ℕ → Contents → History → List ℕ
+all_due_among numbers contents history = filter (λ k. is_among k numbers && is_tpdo_due contents history Event k) tpdo_numbers
 
 -- at most 512 TPDOs, with numbers up to 511
 pub record IsTable (tpdos : List Tpdo) : Type 0 where
@@ -87,6 +104,18 @@ AllCurrentAfter contents logs = (k : ℕ) → k < 512 → IsCurrent (settings_of
 abbrev pub with_occasion : Contents → Occasion → (ℕ → Log) → ℕ → Log
 with_occasion contents occasion logs = λ k.
     Happened occasion (settings_of contents k) (is_due (settings_of contents k) (logs k) occasion) ∷ logs k
+
+-- the logs with one more whole start in each
+abbrev pub with_whole_start : Contents → (ℕ → Log) → ℕ → Log
+with_whole_start contents logs = λ k. Started Whole (settings_of contents k) ∷ logs k
+
+-- the log with one more event, if there is one, at which the TPDO is sent if it is due
+abbrev pub with_event_if : Bool → Settings → Log → Log
+with_event_if is_there s log = if is_there then Happened Event s (is_due s log Event) ∷ log else log
+
+-- the logs with one more event in those of some numbers
+abbrev pub with_events_among : List ℕ → Contents → (ℕ → Log) → ℕ → Log
+with_events_among numbers contents logs = λ k. with_event_if (is_among k numbers) (settings_of contents k) (logs k)
 
 -- a schedule over a dictionary is one after this history: it has the TPDOs of the dictionary, each with
 -- the countdowns after its log

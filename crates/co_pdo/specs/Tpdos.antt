@@ -2,7 +2,7 @@
 use Rattle.std.specs.Prelude.{ℕ, ◌+◌, Bool, is_some, List}
 use Rattle.std.specs.List.{filter, range_with_len}
 use Rattle.co_value.specs.declared.key.Key.{Key}
-use Rattle.co_profile.specs.Indices.{nth, tpdo_communication, tpdo_mapping, sync_counter_overflow}
+use Rattle.co_profile.specs.Indices.{nth, sync_counter_overflow, tpdo_communication, tpdo_mapping}
 use Rattle.co_dict.specs.Rows.{Rows, Contents, number_at}
 use Rattle.co_dict.specs.declared.side.Side.TheVariants.{Tpdo}
 use Rattle.co_pdo.specs.Pdos.{is_pdo_active}

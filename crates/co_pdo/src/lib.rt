@@ -2,6 +2,7 @@
 #![tactic(auto)]
 
 mod data;
+mod laws;
 mod mapping;
 mod pdos;
 mod schedule;
@@ -11,6 +12,7 @@ mod tpdos;
 
 pub use co_dict::{CobId, Side};
 pub use data::{PdoFault, apply, image, parts_joined};
+pub use laws::{active_is_there, settings_by_numbers, written_from_2000};
 pub use mapping::{Mapped, Mapping};
 pub use pdos::{cob_id, has_pdo, is_active};
 pub use schedule::Schedule;

@@ -1,14 +1,14 @@
 //! Which TPDOs are due.
 
-ghost use Rattle.std.specs.Prelude.{◌≡◌, ℕ, ◌<◌, ◌==◌, false, [], IfOk};
+ghost use Rattle.std.specs.Prelude.{◌≡◌, ℕ, ◌<◌, ◌≤◌, ◌==◌, false, [], length, IfOk};
 ghost use Rattle.co_pdo.specs.declared.settings.Settings.{Settings};
 ghost use Rattle.co_pdo.specs.Tpdos.{settings_of};
 ghost use Rattle.co_pdo.specs.Countdowns.{IsCurrent, IsAsStarted};
-ghost use Rattle.co_pdo.specs.Schedules.{History, log_of, sync_with, with_start, with_sync, with_event, with_tick, is_tpdo_due, all_due, IsScheduleAfter, IsCurrentOn, AllCurrent};
+ghost use Rattle.co_pdo.specs.Schedules.{History, log_of, sync_with, with_start, with_all_started, with_sync, with_event, with_events, with_tick, is_tpdo_due, all_due, all_due_among, IsScheduleAfter, IsCurrentOn, AllCurrent};
 
 use crate::settings::{counter_overflow, read_settings};
 use crate::tpdo::{Occasion, Part, Tpdo};
-use crate::tpdos::{Due, all_happen, place_of, tpdos_in};
+use crate::tpdos::{Due, all_happen, all_happen_among, all_start, place_of, tpdos_in};
 use co_dict::ObjectStore;
 use std::alloc::{AllocError, Global};
 use std::marker::Model;
@@ -64,11 +64,25 @@ impl Schedule {
         ensures others { (history : History) (j : ℕ) (s : Settings) → (k == j) ≡ false →
             IsCurrent s (log_of j history) →
             IsCurrent s (log_of j (with_start k part (S.contents store.now) history)) }
+        ensures size { length self.new ≡ length self.old }
     {
         if let Some(i) = place_of(&self.tpdos, k) {
             let settings = read_settings(store, k);
             self.tpdos[i].start(&settings, part);
         }
+    }
+
+    /// Starts each TPDO whole, as NMT state operational is entered.
+    pub fn start_all<S: ObjectStore>(&mut self, store: &S)
+        ensures after { (history : History) →
+            IsScheduleAfter (S.description store.now) self.old history →
+            IsScheduleAfter (S.description store.now) self.new
+            (with_all_started (S.contents store.now) history) }
+        ensures current { (history : History) →
+            AllCurrent (S.contents store.now) (with_all_started (S.contents store.now) history) }
+        ensures size { length self.new ≡ length self.old }
+    {
+        all_start(&mut self.tpdos, store);
     }
 
     /// A SYNC came, with the counter in its one byte or with none: the numbers of the TPDOs that are due, increasing. They
@@ -89,6 +103,8 @@ impl Schedule {
             IsCurrent s (log_of j history) →
             IsCurrent s
             (log_of j (with_sync counter (S.contents store.now) result.items history)) }
+        ensures few { length result.items ≤ length self.old }
+        ensures size { length self.new ≡ length self.old }
     {
         let sync = Occasion::Sync(counter_overflow(store), counter);
         all_happen(&mut self.tpdos, sync, store)
@@ -109,11 +125,33 @@ impl Schedule {
         ensures current { (history : History) (j : ℕ) (s : Settings) →
             IsCurrent s (log_of j history) →
             IsCurrent s (log_of j (with_event k (S.contents store.now) result history)) }
+        ensures size { length self.new ≡ length self.old }
     {
         match place_of(&self.tpdos, k) {
             Some(i) => self.tpdos[i].happens(Occasion::Event, store),
             None => false,
         }
+    }
+
+    /// An event came for each TPDO whose number is among these: the numbers of those that are due, increasing. They count
+    /// as sent.
+    pub fn on_events<S: ObjectStore>(&mut self, store: &S, numbers: &[u16]) -> Due
+        ensures due { (history : History) →
+            IsScheduleAfter (S.description store.now) self.old history →
+            AllCurrent (S.contents store.now) history →
+            result.items ≡ all_due_among numbers.now (S.contents store.now) history }
+        ensures after { (history : History) →
+            IsScheduleAfter (S.description store.now) self.old history →
+            AllCurrent (S.contents store.now) history →
+            IsScheduleAfter (S.description store.now) self.new
+            (with_events numbers.now (S.contents store.now) result.items history) }
+        ensures current { (history : History) (j : ℕ) (s : Settings) →
+            IsCurrent s (log_of j history) → IsCurrent s
+            (log_of j (with_events numbers.now (S.contents store.now) result.items history)) }
+        ensures few { length result.items ≤ length self.old }
+        ensures size { length self.new ≡ length self.old }
+    {
+        all_happen_among(&mut self.tpdos, numbers, store)
     }
 
     /// A tick of 1 ms: the numbers of the TPDOs that are due, increasing. They count as sent.
@@ -130,6 +168,8 @@ impl Schedule {
         ensures current { (history : History) (j : ℕ) (s : Settings) →
             IsCurrent s (log_of j history) →
             IsCurrent s (log_of j (with_tick (S.contents store.now) result.items history)) }
+        ensures few { length result.items ≤ length self.old }
+        ensures size { length self.new ≡ length self.old }
     {
         all_happen(&mut self.tpdos, Occasion::Tick, store)
     }

@@ -1,11 +1,12 @@
 //! One TPDO: what is counted for it.
 
-ghost use Rattle.std.specs.Prelude.{◌≡◌, ◌<◌, [], ◌∷◌};
+ghost use Rattle.std.specs.Prelude.{◌≡◌, ◌<◌, ◌&&◌, [], ◌∷◌};
 ghost use Rattle.co_pdo.specs.declared.settings.Settings.{Settings};
 ghost use Rattle.co_pdo.specs.Tpdos.{settings_of};
 ghost use Rattle.co_pdo.specs.Log.{Log, Started, Happened};
 ghost use Rattle.co_pdo.specs.Due.{is_due, is_event_driven};
 ghost use Rattle.co_pdo.specs.Countdowns.{IsAfter, IsCurrent};
+ghost use Rattle.co_pdo.specs.Schedules.{is_among, with_event_if};
 ghost use Rattle.co_pdo.specs.Steps.{counts, counted, wants, marked};
 
 use crate::pdos::is_active;
@@ -19,7 +20,7 @@ pub enum Occasion {
     Sync(u8, Option<u8>),
     /// Something mapped into it changed, or the application asks for it.
     Event,
-    /// 1 ms went by.
+    /// 1 ms elapsed.
     Tick,
 }
 
@@ -189,5 +190,23 @@ impl Tpdo {
             self.mark_sent();
         }
         due
+    }
+
+    /// An event, if the TPDO's number is among these; answers whether the TPDO is sent.
+    pub(crate) fn happens_among<S: ObjectStore>(&mut self, numbers: &[u16], store: &S) -> bool
+        requires { self.old.number < 512 }
+        ensures number { self.new.number ≡ self.old.number }
+        ensures due { (log : Log) → let s = settings_of (S.contents store.now) self.old.number in
+            IsAfter self.old log → IsCurrent s log →
+            result ≡ is_among self.old.number numbers.now && is_due s log Occasion.Event }
+        ensures after { (log : Log) → let s = settings_of (S.contents store.now) self.old.number in
+            IsAfter self.old log → IsCurrent s log →
+            IsAfter self.new (with_event_if (is_among self.old.number numbers.now) s log) }
+    {
+        if numbers.contains(&self.number) {
+            self.happens(Occasion::Event, store)
+        } else {
+            false
+        }
     }
 }

@@ -1,14 +1,15 @@
 //! All TPDOs of a dictionary.
 
-ghost use Rattle.std.specs.Prelude.{◌≡◌, ℕ, ◌==◌, [], map, position, IfOk};
+ghost use Rattle.std.specs.Prelude.{◌≡◌, ℕ, ◌≤◌, ◌==◌, ◌&&◌, [], length, map, position, IfOk};
 ghost use Rattle.std.specs.List.{filter};
 ghost use Rattle.co_pdo.specs.Tpdos.{settings_of, tpdos_of};
 ghost use Rattle.co_pdo.specs.Log.{Log};
 ghost use Rattle.co_pdo.specs.Due.{is_due};
-ghost use Rattle.co_pdo.specs.Schedules.{IsTable, AllAfter, AllCurrentAfter, with_occasion};
+ghost use Rattle.co_pdo.specs.Schedules.{IsTable, AllAfter, AllCurrentAfter, is_among, with_occasion, with_whole_start, with_events_among};
 
 use crate::pdos::has_pdo;
-use crate::tpdo::{Occasion, Tpdo};
+use crate::settings::read_settings;
+use crate::tpdo::{Occasion, Part, Tpdo};
 use arrayvec::ArrayVec;
 use co_dict::{ObjectStore, Side};
 use std::alloc::{AllocError, Global};
@@ -43,6 +44,7 @@ pub(crate) fn all_happen<S: ObjectStore>(tpdos: &mut [Tpdo], occasion: Occasion,
     ensures after { (logs : ℕ → Log) → AllAfter tpdos.old logs →
         AllCurrentAfter (S.contents store.now) logs →
         AllAfter tpdos.new (with_occasion (S.contents store.now) occasion logs) }
+    ensures few { length result.items ≤ length tpdos.old }
 {
     let mut due = Due::new();
     for tpdo in tpdos.iter_mut() {
@@ -51,6 +53,46 @@ pub(crate) fn all_happen<S: ObjectStore>(tpdos: &mut [Tpdo], occasion: Occasion,
         }
     }
     due
+}
+
+/// An event for each of them whose number is among these, and the numbers of those that are sent.
+pub(crate) fn all_happen_among<S: ObjectStore>(
+    tpdos: &mut [Tpdo],
+    numbers: &[u16],
+    store: &S,
+) -> Due
+    requires { IsTable tpdos.old }
+    ensures numbers { map (λ t. t.number) tpdos.new ≡ map (λ t. t.number) tpdos.old }
+    ensures due { (logs : ℕ → Log) → AllAfter tpdos.old logs →
+        AllCurrentAfter (S.contents store.now) logs →
+        result.items ≡ filter (λ k. is_among k numbers.now &&
+        is_due (settings_of (S.contents store.now) k) (logs k) Occasion.Event)
+        (map (λ t. t.number) tpdos.old) }
+    ensures after { (logs : ℕ → Log) → AllAfter tpdos.old logs →
+        AllCurrentAfter (S.contents store.now) logs →
+        AllAfter tpdos.new (with_events_among numbers.now (S.contents store.now) logs) }
+    ensures few { length result.items ≤ length tpdos.old }
+{
+    let mut due = Due::new();
+    for tpdo in tpdos.iter_mut() {
+        if tpdo.happens_among(numbers, store) {
+            due.push(tpdo.number);
+        }
+    }
+    due
+}
+
+/// Starts each of them whole.
+pub(crate) fn all_start<S: ObjectStore>(tpdos: &mut [Tpdo], store: &S)
+    requires { IsTable tpdos.old }
+    ensures numbers { map (λ t. t.number) tpdos.new ≡ map (λ t. t.number) tpdos.old }
+    ensures after { (logs : ℕ → Log) → AllAfter tpdos.old logs →
+        AllAfter tpdos.new (with_whole_start (S.contents store.now) logs) }
+{
+    for tpdo in tpdos.iter_mut() {
+        let settings = read_settings(store, tpdo.number);
+        tpdo.start(&settings, Part::Whole);
+    }
 }
 
 /// The place of the TPDO with a number.

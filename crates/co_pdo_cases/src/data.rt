@@ -2,7 +2,7 @@
 
 use crate::device::device;
 use co_dict::ObjectStore;
-use co_pdo::{Mapped, Mapping, PdoFault, Side, apply, image};
+use co_pdo::{Mapped, Mapping, PdoFault, Side, apply, cob_id, has_pdo, image, is_active};
 use co_value::Key;
 use std::test::Fail;
 
@@ -19,6 +19,15 @@ const LIMITED: Key = Key {
 #[test]
 fn mappings(rt: HostRuntime) -> Result<(), Fail> {
     let store = device(rt.alloc())?;
+    for (side, k, is_there, word) in [
+        (Side::Rpdo, 0, true, 0x205),
+        (Side::Tpdo, 1, true, 0x285),
+        (Side::Tpdo, 511, false, 0),
+    ] {
+        assert_eq!(rt; has_pdo(&store, side, k), is_there, "{side:?} {k}");
+        assert_eq!(rt; is_active(&store, side, k), is_there, "{side:?} {k}");
+        assert_eq!(rt; cob_id(&store, side, k).0, word, "{side:?} {k}");
+    }
     let number = Mapped::Entry(NUMBER, 4);
     let limited = Mapped::Entry(LIMITED, 2);
     assert_eq!(rt; number.width(), 4);

@@ -1,8 +1,8 @@
 //! Which TPDOs are due, as scripts say it.
 //!
 //! `180002=3` writes a number by SDO, and one that is refused has its abort code after it, as `180003=19:08000022`. `n.` is
-//! a new schedule. Each other word is a call, `s` and `u` a start of TPDO 0 and 1, `r` one of the timer of TPDO 1, `e` and
-//! `f` an event for TPDO 0 and 1, `t` a tick, a digit a SYNC with that counter and `-` one with none, and then the TPDO
+//! a new schedule. Each other word is a call, `s` a start of TPDO 0, `u` one of all, `r` one of the timer of TPDO 1, `e` an
+//! event for TPDO 0, `f` one for TPDO 1 and 511, `t` a tick, a digit a SYNC with that counter and `-` one with none, and then the TPDO
 //! that is due, `.` for none.
 
 use crate::device::{device, write};
@@ -13,7 +13,7 @@ use std::test::Fail;
 
 const SCRIPTS: [&str; 6] = [
     // the inhibit time of TPDO 0 is 3 ticks, and the timer of TPDO 1 begins again after the fourth
-    "180001=80000185 180003=19 180001=185 180105=A s. u. e0 e. f1 t. t. t0 t. r.
+    "180001=80000185 180003=19 180001=185 180105=A u. e0 e. f1 t. t. t0 t. r.
      t. t. t. t. t. t. t. t. t. t1 t. t.",
     // the longest times
     "180001=80000185 180003=FFFF 180001=185 180005=FFFF n. s. e0 e. t. e. t.",
@@ -47,11 +47,7 @@ fn due_at(schedule: &mut Schedule, store: &ListStore, call: u8) -> u8 {
         } else {
             b'.'
         },
-        b'f' => return if schedule.on_event(store, 1) {
-            b'1'
-        } else {
-            b'.'
-        },
+        b'f' => schedule.on_events(store, &[1, 511]),
         b't' => schedule.on_tick(store),
         b'-' => schedule.on_sync(store, None),
         _ => schedule.on_sync(store, Some(call.saturating_sub(b'0'))),
@@ -66,13 +62,12 @@ fn due_at(schedule: &mut Schedule, store: &ListStore, call: u8) -> u8 {
 
 /// Starts what a letter says; false for other letters.
 fn starts(schedule: &mut Schedule, store: &ListStore, call: u8) -> bool {
-    let (k, part) = match call {
-        b's' => (0, Part::Whole),
-        b'u' => (1, Part::Whole),
-        b'r' => (1, Part::Timer),
+    match call {
+        b's' => schedule.start(store, 0, Part::Whole),
+        b'u' => schedule.start_all(store),
+        b'r' => schedule.start(store, 1, Part::Timer),
         _ => return false,
-    };
-    schedule.start(store, k, part);
+    }
     true
 }
 

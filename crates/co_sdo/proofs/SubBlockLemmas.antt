@@ -3,7 +3,7 @@ use Rattle.std.proofs.Common.{◌≡◌, ℕ, ◌+◌, ◌*◌, ◌/◌, ◌%◌
 use Rattle.std.specs.Prelude.{◌&&◌, ◌||◌, ◌==◌, nat_lt, nat_le, slice_index}
 use Rattle.std.specs.List.{list_any}
 use Rattle.std.specs.Option.{option_map_or}
-use Rattle.std.proofs.lemmas.Bool.{false≢true}
+use Rattle.std.proofs.lemmas.Bool.{false≢true, or_parts}
 use Rattle.std.proofs.lemmas.Bool.Decides.{nat_tests}
 use Rattle.co_value.specs.declared.key.Key.{Key}
 use Rattle.co_frame.specs.SdoFields.{command}
@@ -67,15 +67,11 @@ goes_on : (taken : ℕ) (found : Option BlockSegment) → option_map_or (λ s. s
 goes_on taken None h = record { last = refl; number = λ segment e. cc }
 goes_on taken (Some s) h = by_test (s.sequence == taken + 1)
   where
-    neither : (a b : Bool) → a || b ≡ false → (a ≡ false) × (b ≡ false)
-    neither true b h = absurd (false≢true (sym h))
-    neither false b h = (refl, h)
-
     by_test : (b : Bool) → GoesOn (cond b (Some s) None)
     by_test false = record { last = refl; number = λ segment e. cc }
     by_test true = record {
-      last = (neither s.last (s.sequence == 127) h).0;
-      number = λ segment e. let same : s ≡ segment = cc in rw (← same) ((neither s.last (s.sequence == 127) h).1);
+      last = (or_parts s.last (s.sequence == 127) h).0;
+      number = λ segment e. let same : s ≡ segment = cc in rw (← same) ((or_parts s.last (s.sequence == 127) h).1);
     }
 
 -- how many are taken with a segment
@@ -171,12 +167,8 @@ ended rows contents key size t frame e h u n c ends None r =
     let most : count_with next (taken_in t) ≤ 127 = count_most next (taken_in t) inside.1 in
     rw (extended_inside x t key size false e h (rw c refl)) (opens_to rows _ (and_exchange x t) _ e
     (rw (h, ends) refl)
-    (record { inside = λ last. rw ends (room (is_last_taken next) (or_last (has_last (requests t.later)) (is_last_taken next) last) r, omega arith); bytes = omega arith }))
+    (record { inside = λ last. rw ends (room (is_last_taken next) ((or_parts (has_last (requests t.later)) (is_last_taken next) last).1) r, omega arith); bytes = omega arith }))
   where
-    or_last : (a b : Bool) → a || b ≡ false → b ≡ false
-    or_last true b h = absurd (false≢true (sym h))
-    or_last false b h = h
-
     room : (last : Bool) → last ≡ false → cond last None (room_refusal rows key (block_bytes (requests t.later) ++ bytes_taken (next_in t frame))) ≡ None
         → length (block_bytes (requests t.later) ++ bytes_taken (next_in t frame)) ≤ capacity_at rows key + 7 * 0
     room true l r = absurd (false≢true (sym l))

@@ -128,7 +128,7 @@ upload_end_answers o _ = unexpected (Some o)
 
 -- ---- the table
 
--- the answers to a begin: its first refusal, or its confirmation; those to an abort: none
+-- the answers to an initiate: its first refusal, or its confirmation; those to an abort: none
 abbrev pub initiate_answers : Description → Contents → SdoRequest → List Answer
 initiate_answers d contents (DownloadExpedited key expedited) =
     unless_refused (completion_refusal d contents key None (expedited_part d.rows key expedited)) key (Response (DownloadDone key) ∷ [])

@@ -45,7 +45,7 @@ fn append_next(buffer: &mut Buffer, taken: u8, segment: &BlockSegment, bytes: &[
 }
 
 impl Channel {
-    // The begin of a block download: initiate SDO block download, ccs = 6, cs = 0.
+    // Initiate SDO block download, ccs = 6, cs = 0.
     #[inline(never)]
     pub(crate) fn initiate_block_download<S: ObjectStore>(
         &mut self,

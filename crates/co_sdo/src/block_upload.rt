@@ -85,7 +85,7 @@ impl Sender {
 }
 
 impl Channel {
-    // The begin of a block upload: initiate SDO block upload, ccs = 5, cs = 0.
+    // Initiate SDO block upload, ccs = 5, cs = 0.
     #[inline(never)]
     pub(crate) fn initiate_block_upload<S: ObjectStore>(
         &mut self,

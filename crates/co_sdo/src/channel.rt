@@ -33,7 +33,7 @@ pub struct Channel {
     pub(crate) greatest: u32,
     pub(crate) time: u16,
     pub(crate) left: u16,
-    // of the entry of a segmented download, looked up at its begin alone
+    // capacity of the entry being downloaded in segments; looked up once, at initiate
     pub(crate) room: usize,
     pub(crate) current: Option<Ongoing>,
     pub(crate) buffer: Buffer,

@@ -118,7 +118,7 @@ impl Channel {
         self.sender.complete(store, key, None, bytes, done, outbox)
     }
 
-    // The begin of a segmented download: initiate SDO download, ccs = 1, e = 0.
+    // Initiate SDO download, ccs = 1, e = 0: a segmented one.
     #[inline(never)]
     pub(crate) fn initiate_download<S: ObjectStore>(
         &mut self,

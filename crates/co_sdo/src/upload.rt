@@ -71,7 +71,7 @@ fn segment(part: &[u8]) -> ArrayVec<u8, 7>
 }
 
 impl Channel {
-    // The begin of an upload: initiate SDO upload, ccs = 2.
+    // Initiate SDO upload, ccs = 2.
     #[inline(never)]
     pub(crate) fn initiate_upload<S: ObjectStore>(
         &mut self,

@@ -3,3 +3,5 @@ mod Numbers
 mod Changes
 mod Places
 mod Outcomes
+mod Permitted
+mod Examples

@@ -1,7 +1,8 @@
 -- The channels that exist are in order: their numbers come from a range.
 use Rattle.std.proofs.Common.{◌≡◌, ℕ, zero, suc, ◌+◌, ◌<◌, ◌≤◌, Bool, true, false, cond, List, [], ◌∷◌, ◌++◌, length, get_or, refl, sym, ap, ◌∙◌, subst, arith}
 use Rattle.std.specs.Prelude.{map}
-use Rattle.std.specs.List.{filter, range_with_len}
+use Rattle.std.specs.Prelude.{option_map, ◌&&◌}
+use Rattle.std.specs.List.{filter, find, range_with_len}
 use Rattle.std.proofs.lemmas.List.{get_or-map, length-map, map-append, append-nil}
 use Rattle.co_value.specs.declared.key.Key.{Key}
 use Rattle.co_dict.specs.Rows.{Rows, Contents, capacity_at}
@@ -9,6 +10,7 @@ use Rattle.co_dict.specs.Stores.{Description}
 use Rattle.co_dict.specs.SdoChannels.{is_channel}
 use Rattle.co_sdo_bank.specs.declared.channels.NumberedChannel.{NumberedChannel}
 use Rattle.co_sdo_bank.specs.Banks.{BankStands}
+use Rattle.co_sdo_bank.proofs.Searches.{find_filter, find_map}
 use Rattle.co_sdo_bank.specs.Channels.{ChannelSettings, AreInOrder, HaveRoom, settings_for, channels_below, channels_of}
 
 -- numbers from low on, below high, that increase
@@ -125,3 +127,11 @@ module _ (number : ℕ) (d : Description) (contents : Contents) (greatest time :
 pub none_below : (d : Description) (contents : Contents) (greatest time : ℕ) (bank : List NumberedChannel) → bank ≡ [] → BankStands d (channels_below 0 d contents greatest time) bank (λ n. [])
 unfolding channels_below
 none_below d contents greatest time bank e = subst (λ (b : List NumberedChannel). BankStands d [] b (λ n. [])) (sym e) (record { settings = refl; each = λ i e lt. absurd (omega arith) })
+
+-- what is found first is the lowest that exists and passes
+pub lowest_found : (d : Description) (contents : Contents) (greatest time : ℕ) (passes : ChannelSettings → Bool)
+    → find passes (channels_of d contents greatest time) ≡ option_map (settings_for d contents greatest time) (find (λ n. is_channel contents n && passes (settings_for d contents greatest time n)) (range_with_len 0 128))
+unfolding channels_below
+lowest_found d contents greatest time passes =
+    find_map passes (settings_for d contents greatest time) (filter (is_channel contents) (range_with_len 0 128))
+    ∙ ap (option_map (settings_for d contents greatest time)) (find_filter (λ n. passes (settings_for d contents greatest time n)) (is_channel contents) (range_with_len 0 128))

@@ -1,8 +1,9 @@
 -- The channel at a place of the list, and what its event makes of all.
-use Rattle.std.proofs.Common.{◌≡◌, ◌≢◌, ℕ, ◌-◌, ◌<◌, ◌≤◌, Bool, true, false, eqb, ltb, List, length, get_or, set, refl, sym, ap, ◌∙◌, subst, arith, get_or-set_same, get_or-set_other, length-set, Some, None}
-use Rattle.std.specs.Prelude.{position, option_map, ◌&&◌, not, nat_lt, nat_le, is_some}
-use Rattle.std.specs.List.{find}
+use Rattle.std.proofs.Common.{◌≡◌, ◌≢◌, ℕ, ◌+◌, ◌-◌, ◌<◌, ◌≤◌, Bool, true, false, eqb, ltb, List, [], ◌∷◌, ◌++◌, length, get_or, set, refl, sym, ap, ◌∙◌, subst, arith, get_or-set_same, get_or-set_other, length-set, Some, None, Option}
+use Rattle.std.specs.Prelude.{position, map, option_map, ◌&&◌, not, nat_lt, nat_le, is_some}
+use Rattle.std.specs.List.{find, range_with_len}
 use Rattle.std.proofs.lemmas.List.{get_or-map, length-map}
+use Rattle.std.proofs.lemmas.List.FromFn.{get_or-map-range_with_len, length-map-range_with_len, map-range_with_len_more}
 use Rattle.std.proofs.lemmas.List.Quantifiers.{position-Some}
 use Rattle.std.proofs.lemmas.Bool.Decides.{nat_tests}
 use Rattle.co_value.specs.declared.key.Key.{Key}
@@ -13,9 +14,9 @@ use Rattle.co_sdo.specs.Opened.{opened_after, is_time_over}
 use Rattle.co_sdo.specs.Standing.{Standing, Stands, is_expired}
 use Rattle.co_sdo_bank.specs.declared.channels.NumberedChannel.{NumberedChannel}
 use Rattle.co_sdo_bank.specs.Channels.{ChannelSettings, AreInOrder, HaveRoom}
-use Rattle.co_sdo_bank.specs.Banks.{BankStands, settings_of, all_settings}
+use Rattle.co_sdo_bank.specs.Banks.{BankStands, IsBank, settings_of, all_settings, places_below}
 use Rattle.co_sdo_bank.proofs.Changes.{settings_set}
-use Rattle.co_sdo_bank.proofs.Searches.{find_map, find_same, find_at_place, find_nowhere}
+use Rattle.co_sdo_bank.proofs.Searches.{find_map, find_same, find_at_place, find_nowhere, position_map}
 
 -- ---- what never changes of the one at a place
 
@@ -25,8 +26,34 @@ settings_at bank i c e lt is = get_or-map settings_of bank i c e lt ∙ ap setti
 pub settings_kept : (value bank : List NumberedChannel) (i : ℕ) (c new : NumberedChannel) → bank ≡ value → c ≡ get_or bank i c → settings_of new ≡ settings_of c → all_settings (set bank i new) ≡ all_settings value
 settings_kept value bank i c new same is e = settings_set bank i new c (e ∙ ap settings_of is) ∙ ap all_settings same
 
-pub order_kept : (bank : List NumberedChannel) (i : ℕ) (c new : NumberedChannel) → c ≡ get_or bank i c → settings_of new ≡ settings_of c → AreInOrder (all_settings bank) → AreInOrder (all_settings (set bank i new))
-order_kept bank i c new is e order = subst (λ (s : List ChannelSettings). AreInOrder s) (sym (settings_kept bank bank i c new refl is e)) order
+pub bank_kept : (table : List (Option ℕ)) (bank : List NumberedChannel) (i : ℕ) (c new : NumberedChannel) → c ≡ get_or bank i c → settings_of new ≡ settings_of c → IsBank table (all_settings bank) → IsBank table (all_settings (set bank i new))
+bank_kept table bank i c new is e b = subst (λ (s : List ChannelSettings). IsBank table s) (sym (settings_kept bank bank i c new refl is e)) b
+
+-- ---- the table of places
+
+-- one identifier more
+pub places_more : (table : List (Option ℕ)) (bank : List NumberedChannel) (id : ℕ) (o : Option ℕ) → table ≡ places_below id (all_settings bank) → o ≡ position (λ e. eqb e.channel.request id) bank → table ++ o ∷ [] ≡ places_below (id + 1) (all_settings bank)
+unfolding places_below
+places_more table bank id o before is =
+    let f : ℕ → Option ℕ = λ n. position (λ s. eqb s.request n) (all_settings bank) in
+    ap (λ t. t ++ o ∷ []) before
+    ∙ ap (λ p. map f (range_with_len 0 id) ++ p ∷ []) (is ∙ sym (position_map (λ s. eqb s.request id) settings_of bank))
+    ∙ sym (map-range_with_len_more f 0 id id (omega arith))
+
+pub no_places : (bank : List NumberedChannel) (table : List (Option ℕ)) → table ≡ [] → table ≡ places_below 0 (all_settings bank)
+unfolding places_below
+no_places bank table e = e
+
+pub table_length : (table : List (Option ℕ)) (end : ℕ) (channels : List ChannelSettings) → table ≡ places_below end channels → length table ≡ end
+unfolding places_below
+table_length table end channels is = ap length is ∙ length-map-range_with_len (λ n. position (λ s. eqb s.request n) channels) 0 end
+
+-- what is in the table is what a search finds
+pub place_at : (table : List (Option ℕ)) (end : ℕ) (bank : List NumberedChannel) (id : ℕ) (o : Option ℕ) → table ≡ places_below end (all_settings bank) → id < end → o ≡ get_or table id o → position (λ e. eqb e.channel.request id) bank ≡ o
+unfolding places_below
+place_at table end bank id o is lt at =
+    let f : ℕ → Option ℕ = λ n. position (λ s. eqb s.request n) (all_settings bank) in
+    sym (at ∙ ap (λ t. get_or t id o) is ∙ get_or-map-range_with_len f 0 end id id o lt (omega arith) ∙ position_map (λ s. eqb s.request id) settings_of bank)
 
 -- the place that a search found is one of the list
 pub within : (p : NumberedChannel → Bool) (bank : List NumberedChannel) (i : ℕ) (c : NumberedChannel) → position p bank ≡ Some i → i < length bank

@@ -1,11 +1,11 @@
 -- All SDO channels of a device, each after the log of its number.
-use Rattle.std.specs.Prelude.{◌≡◌, ℕ, ◌<◌, List, length, map}
-use Rattle.std.specs.List.{slice_index_or}
+use Rattle.std.specs.Prelude.{◌≡◌, ℕ, ◌<◌, ◌==◌, List, length, map, Option, position}
+use Rattle.std.specs.List.{range_with_len, slice_index_or}
 use Rattle.co_dict.specs.Stores.{Description}
 use Rattle.co_sdo.specs.Log.{Log}
 use Rattle.co_sdo.specs.Standing.{Stands}
 use Rattle.co_sdo_bank.specs.declared.channels.NumberedChannel.{NumberedChannel}
-use Rattle.co_sdo_bank.specs.Channels.{ChannelSettings}
+use Rattle.co_sdo_bank.specs.Channels.{ChannelSettings, AreInOrder}
 
 -- what never changes of a channel
 abbrev pub settings_of : NumberedChannel → ChannelSettings
@@ -26,3 +26,12 @@ pub record BankStands (d : Description) (channels : List ChannelSettings) (bank 
   pub settings : all_settings bank ≡ channels
   pub each : (i : ℕ) (e : NumberedChannel) → i < length bank →
       Stands d (slice_index_or bank i e).channel (logs (slice_index_or bank i e).number)
+
+-- for each identifier below this the place of the first channel whose requests have it
+unfoldable pub places_below : ℕ → List ChannelSettings → List (Option ℕ)
+places_below end channels = map (λ id. position (λ c. c.request == id) channels) (range_with_len 0 end)
+
+-- the channels are in order, and the table is that of their places
+pub record IsBank (table : List (Option ℕ)) (channels : List ChannelSettings) : Type 0 where
+  pub order : AreInOrder channels
+  pub places : table ≡ places_below 2048 channels

@@ -15,8 +15,7 @@ ghost use Rattle.co_sdo_bank.specs.Banks.{BankStands, all_settings};
 ghost use Rattle.co_sdo_bank.specs.Events.{exchange_of, frames_at, held_on, logs_after, number_for, number_in, set_of, time_out_of, with_each};
 
 use crate::channels::{
-    NumberedChannel, drop_each, existing_channels, expired_place, place_of, receiver_place,
-    tick_each,
+    NumberedChannel, drop_each, existing_channels, expired_place, place_of, places_by_id, tick_each,
 };
 use co_dict::ObjectStore;
 use co_frame::{Frame, Outbox};
@@ -30,20 +29,23 @@ use std::marker::Model;
 #[derive(Drop)]
 pub struct Bank {
     channels: BoxedSlice<NumberedChannel>,
+    // for each identifier the place of the first channel whose requests have it, so that no frame is
+    // searched for among the channels
+    places: BoxedSlice<Option<u8>>,
 }
 
 impl Model for Bank {
     ghost use Rattle.std.specs.Prelude.{List};
     ghost use Rattle.std.specs.Box.{boxed_slice_items};
     ghost use Rattle.co_sdo_bank.specs.declared.channels.NumberedChannel.{NumberedChannel};
-    ghost use Rattle.co_sdo_bank.specs.Channels.{AreInOrder};
-    ghost use Rattle.co_sdo_bank.specs.Banks.{all_settings};
+    ghost use Rattle.co_sdo_bank.specs.Banks.{IsBank, all_settings};
 
     ghost Value = { List NumberedChannel };
 
     ghost view = { λ b. boxed_slice_items b.channels };
 
-    ghost invariant = { λ b. AreInOrder (all_settings (boxed_slice_items b.channels)) };
+    ghost invariant = { λ b. IsBank (boxed_slice_items b.places)
+        (all_settings (boxed_slice_items b.channels)) };
 }
 
 impl Bank {
@@ -63,18 +65,21 @@ impl Bank {
             greatest) → HaveRoom rows (all_settings bank)) }
     {
         let channels = existing_channels(alloc, store, greatest, time)?;
+        let places = places_by_id(alloc, &channels)?;
         Ok(Bank {
             channels: channels.into_boxed_slice(),
+            places: places.into_boxed_slice(),
         })
     }
 
-    /// The number of the channel whose requests have an identifier; the lowest, if several have it.
+    /// The number of the channel whose requests have an identifier, 0 to 7FFh; the lowest, if several have it.
     pub fn channel_for(&self, id: u16) -> Option<u8>
+        requires { id < 2048 }
         ensures { (d : Description) (channels : List ChannelSettings) (logs : ℕ → Log) →
             BankStands d channels self.now logs → result ≡ number_for channels id }
     {
-        match receiver_place(&self.channels, id) {
-            Some(place) => Some(self.channels[place].number),
+        match self.places[usize::from(id)] {
+            Some(place) => Some(self.channels[usize::from(place)].number),
             None => None,
         }
     }
@@ -111,8 +116,11 @@ impl Bank {
             BankStands (S.description store.old) channels self.new (logs_after (exchange_of
             channels (S.description store.old) (S.contents store.old) logs frame.now) logs) }
     {
-        match receiver_place(&self.channels, frame.id()) {
-            Some(place) => self.channels[place].channel.take(store, frame, outbox),
+        match self.places[usize::from(frame.id())] {
+            Some(place) => {
+                let receiver = &mut self.channels[usize::from(place)];
+                receiver.channel.take(store, frame, outbox)
+            }
             None => None,
         }
     }

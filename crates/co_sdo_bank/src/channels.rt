@@ -5,12 +5,15 @@ ghost use Rattle.co_dict.specs.Stores.{Description};
 ghost use Rattle.co_sdo.specs.Log.{Log, Ticked, Dropped};
 ghost use Rattle.co_sdo.specs.Standing.{is_expired};
 ghost use Rattle.co_sdo_bank.specs.Channels.{ChannelSettings, channels_below, channels_of};
-ghost use Rattle.co_sdo_bank.specs.Banks.{BankStands, all_settings};
+ghost use Rattle.co_sdo_bank.specs.Banks.{BankStands, all_settings, places_below};
 ghost use Rattle.co_sdo_bank.specs.Events.{with_each};
 
 use co_dict::{ObjectStore, sdo_channel};
 use co_sdo::{Channel, Ids};
 use std::alloc::{AllocError, Global};
+
+/// How many identifiers there are: 0 to 7FFh.
+const IDENTIFIERS: u16 = 2048;
 
 /// A channel and its number, j of 1200h + j.
 #[derive(Drop)]
@@ -99,9 +102,35 @@ pub(crate) fn place_of(bank: &[NumberedChannel], number: u8) -> Option<usize>
 }
 
 /// The place of the first channel whose requests have an identifier.
-pub(crate) fn receiver_place(bank: &[NumberedChannel], id: u16) -> Option<usize>
+fn receiver_place(bank: &[NumberedChannel], id: u16) -> Option<usize>
     ensures { result ≡ position (λ c. c.channel.request == id) bank.now }
 {
     bank.iter()
         .position(|numbered| numbered.channel.ids().request == id)
+}
+
+/// The same, in a byte.
+fn receiver_byte(bank: &[NumberedChannel], id: u16) -> Option<u8>
+    requires { length bank.now ≤ 128 }
+    ensures { result ≡ position (λ c. c.channel.request == id) bank.now }
+{
+    match receiver_place(bank, id) {
+        Some(place) => Some(place as u8),
+        None => None,
+    }
+}
+
+/// For each identifier the place of the first channel whose requests have it.
+pub(crate) fn places_by_id(
+    alloc: Global,
+    bank: &[NumberedChannel],
+) -> Result<Vec<Option<u8>>, AllocError>
+    requires { length bank.now ≤ 128 }
+    ensures { IfOk result (λ places. places.items ≡ places_below 2048 (all_settings bank.now)) }
+{
+    let mut places = Vec::with_capacity(alloc, usize::from(IDENTIFIERS))?;
+    for id in 0..IDENTIFIERS {
+        places.push(receiver_byte(bank, id))?;
+    }
+    Ok(places)
 }

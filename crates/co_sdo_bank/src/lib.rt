@@ -3,5 +3,6 @@
 
 mod bank;
 mod channels;
+mod laws;
 
 pub use bank::Bank;

@@ -4,8 +4,7 @@ ghost use Rattle.std.specs.Prelude.{◌≡◌, ◌≤◌};
 ghost use Rattle.co_value.specs.declared.key.Key.{Key};
 ghost use Rattle.co_sdo.specs.Refused.{capacity_at};
 
-use crate::large_sheet::LARGE;
-use crate::small_sheet::SMALL;
+use crate::sheet::SHEET;
 use co_dict::{Area, ObjectStore, app_store, capacity_law};
 use co_dict_list::{Limits, ListStore};
 use co_frame::{Frame, Outbox};
@@ -35,31 +34,16 @@ pub(crate) struct Served<S: ObjectStore> {
 /// A device of a data sheet.
 pub(crate) type Device = Served<ListStore>;
 
-// A sheet at node-ID 5.
-fn device_of(alloc: Global, text: &str, limits: &Limits<'_>, time: u16) -> Result<Device, Fail> {
-    let sheet = read(alloc, text.as_bytes())?;
-    let store = ListStore::build(alloc, &sheet, 5, limits)?;
-    Ok(Served::over(alloc, store, time)?)
-}
-
-/// The large sheet at node-ID 5, with room for strings of 16 bytes; `time` is that of a transfer.
-pub(crate) fn large_device(alloc: Global, domains: u16, time: u16) -> Result<Device, Fail> {
+/// The sheet at node-ID 5, with room for strings of 12 bytes; `time` is that of a transfer.
+pub(crate) fn device_of(alloc: Global, domains: u16, time: u16) -> Result<Device, Fail> {
     let limits = Limits {
-        strings: 16,
+        strings: 12,
         domains,
         own: &[],
     };
-    device_of(alloc, LARGE, &limits, time)
-}
-
-/// The small sheet at node-ID 5, with room for strings of 12 bytes; a transfer has all the time that it needs.
-pub(crate) fn small_device(alloc: Global) -> Result<Device, Fail> {
-    let limits = Limits {
-        strings: 12,
-        domains: 0,
-        own: &[],
-    };
-    device_of(alloc, SMALL, &limits, 0)
+    let sheet = read(alloc, SHEET.as_bytes())?;
+    let store = ListStore::build(alloc, &sheet, 5, &limits)?;
+    Ok(Served::over(alloc, store, time)?)
 }
 
 impl<S: ObjectStore + Drop> Served<S> {
@@ -86,49 +70,68 @@ impl<S: ObjectStore + Drop> Served<S> {
         sent
     }
 
-    /// Whether the requests in this text (605h) get the answers (585h) that come after each, and no other.
+    /// Whether a dialogue goes so: the requests in this text (605h) get the answers (585h) that come after each, and no other.
+    /// A number is how many bytes are held; `x3` are the segments 1 to 3 of a sub-block, all zeros; `write` sets 2001h to `abc`;
+    /// `ticks` are 10 ms, after which the transfer is given up.
     pub(crate) fn shows(&mut self, rt: &impl Abort, dialogue: &str) -> Result<(), Fail> {
         let mut sent = Outbox::new();
         let mut seen = 0usize;
-        for text in dialogue.split_whitespace() {
-            let frame = frame_of(text)?;
-            if frame.id() == 0x605 {
-                assert_eq!(rt; sent.len(), seen, "answers before {text} in {dialogue}");
-                sent = self.take(&frame);
-                seen = 0;
-            } else {
-                assert_eq!(rt; sent.get(seen), Some(&frame), "{text} in {dialogue}");
+        for word in dialogue.split_whitespace() {
+            if word.starts_with("585#") {
+                let is_sent = sent.get(seen) == Some(&frame_of(word)?);
+                assert!(rt; is_sent, "{word} in {dialogue}");
                 seen = seen.saturating_add(1);
+            } else {
+                assert!(rt; sent.len() == seen, "before {word} in {dialogue}");
+                sent = self.carry_out(rt, word)?;
+                seen = 0;
             }
         }
-        assert_eq!(rt; sent.len(), seen, "answers at the end of {dialogue}");
+        assert!(rt; sent.len() == seen, "at the end of {dialogue}");
         Ok(())
     }
 
-    /// Receives segments of a block with these sequences, each byte `byte`, which none is an answer to.
-    pub(crate) fn segments(&mut self, rt: &impl Abort, last: u8, byte: u8) -> Result<(), Fail> {
-        for sequence in 1..=last {
-            let mut bytes = [byte; 8];
-            bytes[0] = sequence;
-            let sent = self.take(&Frame::new(0x605, &bytes)?);
-            assert!(rt; sent.is_empty(), "at {sequence}");
+    // What is sent on one word of a dialogue.
+    fn carry_out(&mut self, rt: &impl Abort, word: &str) -> Result<Outbox, Fail> {
+        if word.starts_with("605#") {
+            return Ok(self.take(&frame_of(word)?));
         }
-        Ok(())
+        if word == "ticks" {
+            return Ok(self.waits(rt));
+        }
+        if word == "write" {
+            self.write(0x2001, b"abc")?;
+        } else if let Some(last) = word.strip_prefix("x") {
+            return self.segments(last.parse()?);
+        } else {
+            let held: usize = word.parse()?;
+            assert!(rt; self.channel.held() == held, "{word} bytes held");
+        }
+        Ok(Outbox::new())
     }
 
-    /// Waits for so many ticks: the time of the transfer is over after the last alone. Then it is given up with this abort.
-    pub(crate) fn waits(&mut self, rt: &impl Abort, ticks: u16, abort: &str) -> Result<(), Fail> {
-        for tick in 0..ticks {
-            assert!(rt; !self.channel.expired(), "after {tick}");
+    // What is sent on the segments of a sub-block from 1 to this one, all zeros.
+    fn segments(&mut self, last: u8) -> Result<Outbox, Fail> {
+        let mut sent = Outbox::new();
+        for sequence in 1..=last {
+            if sent.is_empty() {
+                sent = self.take(&Frame::new(0x605, &[sequence, 0, 0, 0, 0, 0, 0, 0])?);
+            }
+        }
+        Ok(sent)
+    }
+
+    // Waits for 10 ms: the time of the transfer is over after the last alone. Then it is given up.
+    fn waits(&mut self, rt: &impl Abort) -> Outbox {
+        for _ in 0..10 {
+            assert!(rt; !self.channel.expired());
             self.channel.tick();
         }
         let mut sent = Outbox::new();
         if self.channel.expired() {
             self.channel.time_out(&mut sent);
         }
-        assert_eq!(rt; sent.as_slice(), [frame_of(abort)?].as_slice());
-        assert_eq!(rt; self.channel.held(), 0);
-        Ok(())
+        sent
     }
 
     /// The application writes an entry.

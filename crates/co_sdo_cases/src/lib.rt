@@ -2,22 +2,14 @@
 #![tactic(auto)]
 
 #[cfg(test)]
-mod begins;
-#[cfg(test)]
-mod block_download;
-#[cfg(test)]
 mod block_upload;
 #[cfg(test)]
 mod device;
 #[cfg(test)]
-mod download;
-#[cfg(test)]
-mod large_sheet;
+mod dialogues;
 #[cfg(test)]
 mod reply_table;
 #[cfg(test)]
-mod small_sheet;
+mod sheet;
 #[cfg(test)]
 mod states;
-#[cfg(test)]
-mod upload;

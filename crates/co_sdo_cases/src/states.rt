@@ -1,7 +1,7 @@
 //! A channel in each of its states: what it answers to every value of a frame's first two bytes, and a drop of its
 //! transfer.
 
-use crate::device::{Device, frame_of, small_device};
+use crate::device::{Device, device_of, frame_of};
 use crate::reply_table::{
     Outcome, block_upload_ended, block_upload_initiated, block_upload_sent, full_sub_block, idle,
     last_segment_taken, segmented_download, segmented_upload, sub_block,
@@ -13,7 +13,7 @@ use co_value::Key;
 use std::process::Abort;
 use std::test::Fail;
 
-/// A state of a channel of the small device. What is open is a transfer of 2001h.
+/// A state of a channel. What is open is a transfer of 2001h.
 #[derive(Clone, Copy, Debug, PartialEq, Eq)]
 enum State {
     Idle,
@@ -175,7 +175,7 @@ fn check_all(rt: &impl Abort, device: &mut Device, state: State) -> Result<(), F
 
 #[test]
 fn every_frame(rt: HostRuntime) -> Result<(), Fail> {
-    let mut device = small_device(rt.alloc())?;
+    let mut device = device_of(rt.alloc(), 0, 65535)?;
     for state in STATES {
         check_all(&rt, &mut device, state)?;
     }
@@ -185,7 +185,7 @@ fn every_frame(rt: HostRuntime) -> Result<(), Fail> {
 #[test]
 fn drop_of_a_transfer(rt: HostRuntime) -> Result<(), Fail> {
     for state in STATES {
-        let mut device = small_device(rt.alloc())?;
+        let mut device = device_of(rt.alloc(), 0, 65535)?;
         device.shows(&rt, state.opening())?;
         device.channel.drop_transfer();
         assert_eq!(rt; device.channel.held(), 0, "{state:?}");

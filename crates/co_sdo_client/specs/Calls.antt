@@ -9,7 +9,7 @@ use Rattle.co_frame.specs.declared.sdo_request.SdoRequest.{SdoRequest}
 use Rattle.co_sdo_client.specs.declared.mode.Mode.{Mode}
 
 pub data Job : Type 0 where
-  -- these bytes are written; their number is indicated at the begin, or not
+  -- these bytes are written; their number is indicated at initiate, or not
   Download : List ℕ → Bool → Job
   -- a value is read, of at most so many bytes
   Upload : ℕ → Job

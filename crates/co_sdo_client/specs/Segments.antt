@@ -21,7 +21,7 @@ abbrev pub cap_of : Job → ℕ
 cap_of (Download bytes tells) = 0
 cap_of (Upload cap) = cap
 
--- the size that a begin indicates
+-- the size that initiate indicates
 abbrev pub size_sent : Job → Option ℕ
 size_sent (Download bytes tells) = if tells then Some (length bytes) else None
 size_sent (Upload cap) = None
@@ -49,11 +49,11 @@ initiate_request call BlockDownload = Request (BlockDownloadInitiate call.key (s
 initiate_request call SegmentedUpload = Request (UploadRequest call.key)
 initiate_request call BlockUpload = Request (BlockUploadInitiate call.key segments_per_sub_block 0)
 
--- what a client sends at its begin
+-- the initiate request
 abbrev pub initiate_messages : Call → List Message
 initiate_messages call = initiate_request call (transfer_of call) ∷ []
 
--- how many requests a segmented download of so many bytes needs: the begin, and one for each seven bytes or fewer (in the
+-- how many requests a segmented download of so many bytes needs: initiate, and one for each seven bytes or fewer (in the
 -- plain mode 1 to 4 bytes need one request alone)
 abbrev pub requests_needed : ℕ → ℕ
 requests_needed size = 1 + max 1 ((size + 6) / bytes_per_segment)

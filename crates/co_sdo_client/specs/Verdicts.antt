@@ -83,7 +83,7 @@ bad_sequence sent sequence = (nat_lt sent sequence, invalid_sequence_number)
 
 -- ---- downloads
 
--- the confirmation of a download's begin
+-- the confirmation of initiate SDO download
 abbrev pub download_confirmed : Call → Transfer → Key → Verdict
 download_confirmed call ExpeditedDownload key = unless_fault (other_key call key ∷ []) (Ends [] [])
 download_confirmed call SegmentedDownload key = unless_fault (other_key call key ∷ []) (GoesOn (segment_after 0 (bytes_of call.job) ∷ []))
@@ -93,7 +93,7 @@ download_confirmed call _ key = unexpected
 abbrev pub segment_confirmed : List ℕ → ℕ → Verdict
 segment_confirmed bytes count = if is_last_after count bytes then Ends [] [] else GoesOn (segment_after (count + 1) bytes ∷ [])
 
--- the confirmation of a block download's begin, with the first sub-block's size
+-- the confirmation of initiate SDO block download, with the first sub-block's size
 abbrev pub block_download_confirmed : Call → Transfer → Key → ℕ → Verdict
 block_download_confirmed call InBlocks key block_size =
     unless_fault (other_key call key ∷ bad_block_size block_size ∷ []) (GoesOn (sub_block_sent (bytes_of call.job) 0 block_size))
@@ -117,7 +117,7 @@ abbrev pub upload_expedited : Call → Transfer → Key → List ℕ → Verdict
 upload_expedited call SegmentedUpload key value = unless_fault (other_key call key ∷ no_room call (length value) ∷ []) (Ends [] value)
 upload_expedited call _ key value = unexpected
 
--- the confirmation of an upload's begin: the first segment is asked for
+-- the confirmation of initiate SDO upload: the first segment is asked for
 abbrev pub upload_confirmed : Call → Transfer → Key → Option ℕ → Verdict
 upload_confirmed call SegmentedUpload key size =
     unless_fault (other_key call key ∷ no_room_indicated call size ∷ []) (GoesOn (Request (NextSegment false) ∷ []))
@@ -133,7 +133,7 @@ upload_segment_taken call size expected value toggle last =
     unless_fault (other_toggle toggle expected ∷ no_room call (length value) ∷ [])
     (if last then upload_complete size value else GoesOn (Request (NextSegment (not expected)) ∷ []))
 
--- the confirmation of a block upload's begin: the upload is started
+-- the confirmation of initiate SDO block upload: the upload is started
 abbrev pub block_upload_confirmed : Call → Transfer → Key → Option ℕ → Verdict
 block_upload_confirmed call BlockUpload key size =
     unless_fault (other_key call key ∷ no_room_indicated call size ∷ []) (GoesOn (Request BlockUploadStart ∷ []))

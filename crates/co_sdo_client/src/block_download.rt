@@ -95,7 +95,7 @@ impl<'a> Client<'a> {
         };
     }
 
-    // The confirmation of a block download's begin: initiate SDO block download, scs = 5, ss = 0.
+    // The confirmation of initiate SDO block download, scs = 5, ss = 0.
     pub(crate) fn confirm_block_download(&mut self, key: Key, block_size: u8, outbox: &mut Outbox)
         requires room { HasRoomFor segments_per_sub_block outbox.old }
         ensures few { array_vec_len outbox.new ≤ array_vec_len outbox.old + segments_per_sub_block }

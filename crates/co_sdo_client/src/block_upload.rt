@@ -44,7 +44,7 @@ fn append_next(buffer: &mut Buffer, taken: u8, segment: BlockSegment) -> u8
 }
 
 impl<'a> Client<'a> {
-    // The confirmation of a block upload's begin: initiate SDO block upload, scs = 6, ss = 0.
+    // The confirmation of initiate SDO block upload, scs = 6, ss = 0.
     pub(crate) fn confirm_block_upload(&mut self, key: Key, size: Option<u32>, outbox: &mut Outbox)
         requires room { HasRoomFor 1 outbox.old }
         ensures few { array_vec_len outbox.new ≤ array_vec_len outbox.old + segments_per_sub_block }

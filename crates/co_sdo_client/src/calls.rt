@@ -19,7 +19,7 @@ use arrayvec::ArrayVec;
 use co_frame::{AbortCode, ExpeditedData, Frame, Outbox, SEGMENTS_PER_SUB_BLOCK, SdoRequest};
 
 impl<'a> Client<'a> {
-    // The size that a begin indicates.
+    // The size that initiate indicates.
     fn size_sent(&self) -> Option<u32>
         ensures { result ≡ size_sent self.now.call.job }
     {
@@ -29,7 +29,7 @@ impl<'a> Client<'a> {
         }
     }
 
-    // What is sent at the begin.
+    // The initiate request.
     fn initiate_request(&self) -> SdoRequest
         ensures request { Request result ∷ [] ≡ initiate_messages self.now.call }
         ensures spellable { IsSdoRequest result }

@@ -61,7 +61,7 @@ impl<'a> Model for Client<'a> {
 }
 
 impl<'a> Client<'a> {
-    /// A client that downloads bytes, at most 65,535, to an entry. Their number is indicated at the begin if `tell_size`.
+    /// A client that downloads bytes, at most 65,535, to an entry. Their number is indicated at initiate if `tell_size`.
     /// `time` is how long the server may take for an answer, in ms; 0 is for ever. It asks for no memory.
     pub fn download(
         ids: Ids,

@@ -37,7 +37,7 @@ impl<'a> Client<'a> {
         self.send(segment, outbox);
     }
 
-    // The confirmation of a download's begin: initiate SDO download, scs = 3.
+    // The confirmation of initiate SDO download, scs = 3.
     pub(crate) fn confirm_download(&mut self, key: Key, outbox: &mut Outbox)
         requires room { HasRoomFor 1 outbox.old }
         ensures few { array_vec_len outbox.new ≤ array_vec_len outbox.old + segments_per_sub_block }

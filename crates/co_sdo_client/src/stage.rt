@@ -3,7 +3,7 @@
 /// How far a transfer is at its client, while it waits (CiA 301, 7.2.4.3).
 #[derive(Clone, Copy, Debug, PartialEq, Eq)]
 pub(crate) enum Stage {
-    /// The begin was sent: its confirmation is awaited.
+    /// Initiate was sent: its confirmation is awaited.
     Begun,
     /// A segmented download: so many segments were confirmed, and the next was sent.
     Download {

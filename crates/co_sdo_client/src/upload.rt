@@ -89,7 +89,7 @@ impl<'a> Client<'a> {
         self.state = ClientState::Done;
     }
 
-    // The confirmation of an upload's begin: initiate SDO upload, scs = 2, e = 0.
+    // The confirmation of initiate SDO upload, scs = 2, e = 0.
     pub(crate) fn confirm_upload(&mut self, key: Key, size: Option<u32>, outbox: &mut Outbox)
         requires room { HasRoomFor 1 outbox.old }
         ensures few { array_vec_len outbox.new ≤ array_vec_len outbox.old + segments_per_sub_block }

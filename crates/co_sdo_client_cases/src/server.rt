@@ -93,8 +93,11 @@ impl<S: ObjectStore + Drop> Served<S> {
         Ok(())
     }
 
-    /// The bytes of the entry.
-    pub(crate) fn bytes(&self) -> Option<&[u8]> {
-        self.store.bytes(KEY)
+    /// Whether the entry has these bytes.
+    pub(crate) fn has(&self, bytes: &[u8]) -> bool {
+        match self.store.bytes(KEY) {
+            Some(found) => found == bytes,
+            None => false,
+        }
     }
 }

@@ -5,8 +5,6 @@ use crate::server::{KEY, Served, server};
 use co_dict::ObjectStore;
 use co_frame::Outbox;
 use co_sdo_client::{Client, ClientState, Mode};
-use std::alloc::Global;
-use std::process::Abort;
 use std::test::Fail;
 
 // Hands each request to the server and each of its answers to the client, in their order, until nothing is under way.
@@ -30,15 +28,8 @@ fn runs<S: ObjectStore + Drop>(client: &mut Client, server: &mut Served<S>) {
     }
 }
 
-// Bytes that differ from segment to segment.
-fn value(alloc: Global, length: u16) -> Result<Vec<u8>, Fail> {
-    let mut bytes = Vec::with_capacity(alloc, usize::from(length))?;
-    for place in 0..length {
-        let [low, high] = place.to_le_bytes();
-        bytes.push(low ^ high)?;
-    }
-    Ok(bytes)
-}
+// Bytes that differ from segment to segment, and from sub-block to sub-block: of these as many as are wanted.
+const DIGITS: &[u8; 10] = b"0123456789";
 
 const MODES: [Mode; 3] = [Mode::Plain, Mode::Segmented, Mode::Block];
 
@@ -72,20 +63,20 @@ const UPLOADS: &str = "\
 
 #[test]
 fn downloads(rt: HostRuntime) -> Result<(), Fail> {
+    let all = DIGITS.repeat(rt.alloc(), 6554)?;
     for line in DOWNLOADS.lines() {
         let mut words = line.split_whitespace();
-        let length = words.next().ok_or("no length")?.parse()?;
-        let bytes = value(rt.alloc(), length)?;
-        assert!(rt; bytes.len() <= 65535);
+        let length: u16 = words.next().ok_or("no length")?.parse()?;
+        let bytes = all.get(..usize::from(length)).ok_or("too few")?;
         for mode in MODES {
             let count: u64 = words.next().ok_or("no count")?.parse()?;
             for indicated in [true, false] {
                 let mut server = server(rt.alloc(), 65535)?;
-                let mut client = Client::download(IDS, KEY, bytes.as_slice(), mode, indicated, 1);
+                let mut client = Client::download(IDS, KEY, bytes, mode, indicated, 65535);
                 runs(&mut client, &mut server);
-                assert_eq!(rt; client.state(), ClientState::Done, "{line}");
-                assert_eq!(rt; client.sent(), count, "{line}");
-                assert_eq!(rt; server.bytes(), Some(bytes.as_slice()), "{line}");
+                assert!(rt; client.state() == ClientState::Done, "{line}");
+                assert!(rt; client.sent() == count, "{line}");
+                assert!(rt; server.has(bytes), "{line}");
             }
         }
     }
@@ -94,25 +85,26 @@ fn downloads(rt: HostRuntime) -> Result<(), Fail> {
 
 #[test]
 fn uploads(rt: HostRuntime) -> Result<(), Fail> {
+    let all = DIGITS.repeat(rt.alloc(), 6554)?;
     for line in UPLOADS.lines() {
         let mut words = line.split_whitespace();
-        let length = words.next().ok_or("no length")?.parse()?;
-        let bytes = value(rt.alloc(), length)?;
+        let length: u16 = words.next().ok_or("no length")?.parse()?;
+        let bytes = all.get(..usize::from(length)).ok_or("too few")?;
         for mode in MODES {
             let count: u64 = words.next().ok_or("no count")?.parse()?;
             let mut server = server(rt.alloc(), 65535)?;
-            server.write(bytes.as_slice())?;
+            server.write(bytes)?;
             let mut client = Client::upload(rt.alloc(), IDS, KEY, length, mode, 65535)?;
             runs(&mut client, &mut server);
-            assert_eq!(rt; client.state(), ClientState::Done, "{line}");
-            assert_eq!(rt; client.sent(), count, "{line}");
-            assert_eq!(rt; client.result(), bytes.as_slice(), "{line}");
+            assert!(rt; client.state() == ClientState::Done, "{line}");
+            assert!(rt; client.sent() == count, "{line}");
+            assert!(rt; client.result() == bytes, "{line}");
         }
     }
     Ok(())
 }
 
-// Hands all these requests to the server, and gives the last answer.
+// Hands all these requests to the server, and gives the last answers.
 fn takes<S: ObjectStore + Drop>(server: &mut Served<S>, requests: &Outbox) -> Outbox {
     let mut last = Outbox::new();
     for request in requests.iter() {
@@ -121,43 +113,37 @@ fn takes<S: ObjectStore + Drop>(server: &mut Served<S>, requests: &Outbox) -> Ou
     last
 }
 
+// The answers of the server to a block download of three sub-blocks; after `again` the client hears the last one once more,
+// and what it had sent is lost.
+const LOST: &str = "\
+585#A00021007F000000
+585#A27F7F0000000000
+again
+585#A27F7F0000000000
+585#A100000000000000
+";
+
 #[test]
 fn block_lost_and_acknowledged_twice(rt: HostRuntime) -> Result<(), Fail> {
-    let bytes = value(rt.alloc(), 2667)?;
-    assert!(rt; bytes.len() <= 65535);
+    let all = DIGITS.repeat(rt.alloc(), 267)?;
+    let bytes = all.get(..2667).ok_or("too few")?;
     let mut server = server(rt.alloc(), 2667)?;
-    let mut client = Client::download(IDS, KEY, bytes.as_slice(), Mode::Block, false, 0);
-    let begin = begun(&mut client);
-    let initiated_answer = frame_of("585#A00021007F000000")?;
-    assert_eq!(rt;
-        takes(&mut server, &begin).as_slice(),
-        [initiated_answer].as_slice()
-    );
-    let first = answered(&mut client, &initiated_answer);
-    let acknowledge = frame_of("585#A27F7F0000000000")?;
-    assert_eq!(rt;
-        takes(&mut server, &first).as_slice(),
-        [acknowledge].as_slice()
-    );
-    let lost = answered(&mut client, &acknowledge);
-    assert_eq!(rt; lost.len(), 127);
-    let third = answered(&mut client, &acknowledge);
-    assert_eq!(rt;
-        takes(&mut server, &third).as_slice(),
-        [acknowledge].as_slice()
-    );
-    let end = answered(&mut client, &acknowledge);
-    assert_eq!(rt;
-        end.as_slice(),
-        [frame_of("605#C100000000000000")?].as_slice()
-    );
-    let done = frame_of("585#A100000000000000")?;
-    assert_eq!(rt; takes(&mut server, &end).as_slice(), [done].as_slice());
-    answered(&mut client, &done);
-    assert_eq!(rt; client.state(), ClientState::Done);
-    let found = server.bytes().ok_or("the entry is there")?;
-    assert_eq!(rt; found.len(), 1778);
-    assert_eq!(rt; found.get(..889), bytes.get(..889));
-    assert_eq!(rt; found.get(889..), bytes.get(1778..));
+    let mut client = Client::download(IDS, KEY, bytes, Mode::Block, false, 0);
+    let mut sent = begun(&mut client);
+    let mut heard = Outbox::new();
+    for word in LOST.lines() {
+        if word != "again" {
+            heard = takes(&mut server, &sent);
+            assert!(rt; heard.as_slice() == [frame_of(word)?].as_slice(), "{word}");
+        }
+        for answer in heard.iter() {
+            sent = answered(&mut client, answer);
+        }
+    }
+    assert!(rt; client.state() == ClientState::Done && client.sent() == 383);
+    let mut left = vec![in rt.alloc();]?;
+    left.extend_from_slice(bytes.get(..889).ok_or("too few")?)?;
+    left.extend_from_slice(bytes.get(1778..).ok_or("too few")?)?;
+    assert!(rt; server.has(&left));
     Ok(())
 }

@@ -1,5 +1,5 @@
 pub mod Examples
-mod UndisturbedExamples
+pub mod UndisturbedExamples
 pub mod Client
 pub mod Frames
 pub mod Permits

@@ -1,6 +1,7 @@
 -- What an undisturbed transfer is permitted, and where it ends.
 use Rattle.std.proofs.Common.{◌≡◌, ℕ, ◌<◌, ◌≤◌, Bool, true, false, not, List, [], length, None, refl, arith}
 use Rattle.std.specs.Prelude.{nat_le, ◌&&◌}
+use Rattle.std.proofs.lemmas.Bool.{and_parts, not-true}
 use Rattle.std.proofs.lemmas.Bool.Decides.{nat_tests}
 use Rattle.co_value.specs.declared.key.Key.{Key}
 use Rattle.co_sdo_client.specs.declared.mode.Mode.{Mode}
@@ -39,13 +40,9 @@ setup key mode client_time job time d contents past = record { call = record { k
 
 -- ---- segmented downloads
 
-not_true : (b : Bool) → not b ≡ true → b ≡ false
-not_true true h = cc
-not_true false h = refl
-
 -- which protocol a segmented download is
 in_segments : (mode : Mode) (job : Job) → is_segmented_download mode job ≡ true → transfer_by mode job ≡ transfer_by Segmented (Download [] true)
-in_segments Plain (Download bytes tells) h = rw (not_true (is_short (length bytes)) h) refl
+in_segments Plain (Download bytes tells) h = rw (not-true (is_short (length bytes)) h) refl
 in_segments Segmented (Download bytes tells) h = refl
 in_segments Block (Download bytes tells) h = cc
 in_segments Plain (Upload cap) h = cc
@@ -120,13 +117,8 @@ download_closes s events u t done =
 
 -- ---- expedited downloads
 
-both_true : (a b : Bool) → a && b ≡ true → (a ≡ true) × (b ≡ true)
-both_true true true h = (refl, refl)
-both_true true false h = cc
-both_true false b h = cc
-
 short_bytes : (n : ℕ) → is_short n ≡ true → (1 ≤ n) × (n ≤ 4)
-short_bytes n h = let both = both_true (nat_le 1 n) (nat_le n 4) h in let low = both.0 in let high = both.1 in (grind (arith, nat_tests), grind (arith, nat_tests))
+short_bytes n h = let both = and_parts (nat_le 1 n) (nat_le n 4) h in let low = both.0 in let high = both.1 in (grind (arith, nat_tests), grind (arith, nat_tests))
 
 permitted_expedited : (key : Key) (mode : Mode) (client_time : ℕ) (job : Job) (time : ℕ) (d : Description) (contents : Contents) (past : Log)
     → is_expedited_download mode job ≡ true → IsDictionary d contents → open_transfer past ≡ None → key.index < 65536 → IsPermitted d contents key job

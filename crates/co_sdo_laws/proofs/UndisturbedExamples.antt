@@ -104,6 +104,7 @@ described = record {
   width = λ key held width h. wide key held width (row_at key held h);
   fixed = λ key held t h. fixed key held t (row_at key held h);
   key = λ key held h. keyed key held (row_at key held h);
+  from_1000 = λ key held h. high key held (row_at key held h);
   capacity = λ key held h. small key held (row_at key held h);
   limits = λ key held h. limits key held (row_at key held h);
   dummies = λ index h. cc;
@@ -131,6 +132,10 @@ described = record {
     keyed key held (has_string e f) = rw e (record { index = omega arith; sub = omega arith })
     keyed key held (has_domain e f) = rw e (record { index = omega arith; sub = omega arith })
 
+    high : (key : Key) (held : Row) → Has key held → 0x1000 ≤ key.index
+    high key held (has_string e f) = rw e (omega arith)
+    high key held (has_domain e f) = rw e (omega arith)
+
     small : (key : Key) (held : Row) → Has key held → held.capacity ≤ 65535
     small key held (has_string e f) = rw f (omega arith)
     small key held (has_domain e f) = rw f (omega arith)
@@ -145,7 +150,7 @@ is_dictionary = record { description = described; initially = filled; filled = f
 -- ---- ten bytes to the string, in segments: the client waits 3 ms, the channel 2 ms
 
 -- the begin arrives, each end ticks without its time being over, its answer arrives, and then all the rest; newest first
-abbrev ten_events : List WorldEvent
+abbrev pub ten_events : List WorldEvent
 ten_events = a ∷ r ∷ a ∷ r ∷ a ∷ ChannelTicked ∷ ClientTicked ∷ ClientTicked ∷ r ∷ []
 
 ten_calm : AreCalm ten ten_events
@@ -156,7 +161,7 @@ ten_permitted : IsPermitted dictionary bytes_in string_key ten.call.job
 unfolding reading_refusal initiate_refusal completion_refusal has_object
 ten_permitted = refl
 
-ten_undisturbed : IsUndisturbed ten ten_events
+pub ten_undisturbed : IsUndisturbed ten ten_events
 ten_undisturbed = record { dictionary = is_dictionary; key = omega arith; job = omega arith; permitted = ten_permitted; idle = refl; calm = ten_calm }
 
 ten_done : outcome ten.call (world_after ten ten_events).events ≡ Done
@@ -169,11 +174,11 @@ ten_goes = download_goes ten ten_events ten_undisturbed refl
 
 -- ---- and in blocks: any number of rounds
 
-fourteen_undisturbed : (n : ℕ) → IsUndisturbed fourteen (rounds_after n [])
+pub fourteen_undisturbed : (n : ℕ) → IsUndisturbed fourteen (rounds_after n [])
 unfolding reading_refusal initiate_refusal completion_refusal has_object
 fourteen_undisturbed n = record { dictionary = is_dictionary; key = omega arith; job = omega arith; permitted = refl; idle = refl; calm = rounds_calm fourteen n [] tt }
 
-nine_undisturbed : (n : ℕ) → IsUndisturbed (setup string_key Block (Upload 9)) (rounds_after n [])
+pub nine_undisturbed : (n : ℕ) → IsUndisturbed (setup string_key Block (Upload 9)) (rounds_after n [])
 unfolding reading_refusal initiate_refusal completion_refusal has_object
 nine_undisturbed n = record { dictionary = is_dictionary; key = omega arith; job = omega arith; permitted = refl; idle = refl; calm = rounds_calm (setup string_key Block (Upload 9)) n [] tt }
 

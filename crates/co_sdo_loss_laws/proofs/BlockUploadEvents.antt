@@ -2,7 +2,7 @@
 use Rattle.std.proofs.Common.{◌≡◌, ℕ, zero, suc, ◌+◌, ◌-◌, Bool, true, false, List, [], ◌∷◌, ◌++◌, length, drop, map, Option, Some, None, refl, sym, ap, ◌∙◌, arith, subst, append-nil, inl, inr}
 use Rattle.std.specs.Prelude.{nat_lt, ◌||◌, if◌then◌else◌}
 use Rattle.std.specs.List.{list_any}
-use Rattle.std.proofs.lemmas.Bool.{false≢true}
+use Rattle.std.proofs.lemmas.Bool.{false≢true, or_parts}
 use Rattle.std.proofs.lemmas.Bool.Decides.{nat_tests}
 use Rattle.co_value.specs.Keys.{same_key-refl}
 use Rattle.co_frame.specs.BlockSegments.{is_abort_in_sub_block}
@@ -328,15 +328,11 @@ step s m (Repeated queue) w once h = absurd (false≢true (sym once))
 step s m ClientTicked w once h = client_tick s w _ refl h
 step s m ChannelTicked w once h = carry s w _ (channel_tick s w (is_time_over s.time (Ticked ∷ w.log))) h
 
-neither : (a b : Bool) → a || b ≡ false → (a ≡ false) × (b ≡ false)
-neither true b h = cc
-neither false b h = (refl, h)
-
 always : (s : Setup) → IsUpload s → (events : List WorldEvent) → list_any is_repeat events ≡ false → Stands s (world_after s events)
 always s m [] once = asking (record { waits = refl; first = refl }) (record { requests = rw m.transfer refl; answers = refl })
     (record { serves = serves_first s.description.rows s.past m.alone.idle; lawful = refl })
 always s m (event ∷ older) once =
-    let both = neither (is_repeat event) (list_any is_repeat older) once in
+    let both = or_parts (is_repeat event) (list_any is_repeat older) once in
     step s m event (world_after s older) both.0 (always s m older both.1)
 
 -- ---- what it says of a client that is done

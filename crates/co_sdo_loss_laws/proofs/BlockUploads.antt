@@ -4,7 +4,7 @@
 use Rattle.std.proofs.Common.{◌≡◌, ℕ, zero, suc, ◌+◌, ◌-◌, ◌*◌, ◌<◌, ◌≤◌, Bool, true, false, cond, List, [], ◌∷◌, ◌++◌, length, map, Some, None, refl, sym, ap, ◌∙◌, arith, eqb, subst, ◌⊎◌}
 use Rattle.std.specs.Prelude.{nat_lt, ◌&&◌, if◌then◌else◌, slice_index}
 use Rattle.std.specs.List.{range_with_len}
-use Rattle.std.proofs.lemmas.Bool.{eqb-true}
+use Rattle.std.proofs.lemmas.Bool.{eqb-true, and_parts}
 use Rattle.std.proofs.lemmas.Bool.Decides.{nat_tests}
 use Rattle.co_value.specs.declared.key.Key.{Key}
 use Rattle.co_frame.specs.BlockSegments.{block_segment_in, block_segment_bytes, is_abort_in_sub_block}
@@ -129,15 +129,10 @@ live_segments s a n (suc more) some few =
     rw (no_cut s a n _ refl some (omega arith)) (ap (λ (xs : List (List ℕ)). segment_at s a n ∷ xs) (live_segments s a (n + 1) more (omega arith) (omega arith)))
 
 -- what an abort makes of a client that waits
-pub both_true : (a b : Bool) → a && b ≡ true → (a ≡ true) × (b ≡ true)
-both_true true true h = (refl, refl)
-both_true true false h = cc
-both_true false b h = cc
-
 pub cut_read : (frame : List ℕ) → is_abort_in_sub_block frame ≡ true → is_aborted (response_in frame) ≡ true
 unfolding response_row_in
 cut_read frame h =
-    let both = both_true (eqb (length frame) 8) (eqb (slice_index frame 0) 128) h in
+    let both = and_parts (eqb (length frame) 8) (eqb (slice_index frame 0) 128) h in
     let first : slice_index frame 0 ≡ 128 = eqb-true _ _ both.1 in
     rw (both.0, first) refl
 

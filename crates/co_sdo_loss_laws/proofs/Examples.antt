@@ -1,6 +1,6 @@
 -- Worked transfers that are disturbed, computed from the definitions over the dictionary of two entries: the client waits 3 ms
 -- for an answer, the channel 2 ms for a request. The first event stands first.
-use Rattle.std.proofs.Common.{map, ◌≡◌, ℕ, List, [], ◌∷◌, refl, codes, Some, true, false, reverse}
+use Rattle.std.proofs.Common.{map, ◌≡◌, ℕ, List, [], ◌∷◌, refl, codes, Some, true, false, reverse, arith}
 use Rattle.std.specs.Prelude.{◌+◌, ◌-◌, ◌*◌, nat_lt, if◌then◌else◌}
 use Rattle.co_value.specs.Numbers.{AreBytes}
 use Rattle.co_frame.specs.SdoRequests.{request_row_in}
@@ -15,6 +15,7 @@ use Rattle.co_sdo.specs.Refused.{reading_refusal, initiate_refusal, completion_r
 use Rattle.co_sdo_laws.specs.Undisturbed.{IsUndisturbed}
 use Rattle.co_sdo_laws.specs.World.{Setup, WorldEvent, Requests, Answers, Delivered, Lost, Repeated, ClientTicked, ChannelTicked, world_after}
 use Rattle.co_sdo_laws.proofs.Examples.{string_key, setup, report, r, a, ten, fourteen}
+use Rattle.co_sdo_laws.proofs.UndisturbedExamples.{is_dictionary, ten_events, ten_undisturbed, fourteen_undisturbed, nine_undisturbed}
 use Rattle.co_sdo_loss_laws.specs.Disturbed.{IsAlone, is_plain_download, is_repeat}
 use Rattle.co_sdo_loss_laws.proofs.Laws.{download_sets, upload_gives, block_upload_gives, block_download_sets}
 
@@ -66,6 +67,19 @@ repeated_answer : report ten (r ∷ a ∷ r ∷ Repeated Answers ∷ a ∷ []) �
 unfolding request_row_in response_row_in reading_refusal initiate_refusal completion_refusal has_object
 repeated_answer = refl
 
+-- and where the last segment is lost as well, the repeated answer isn't taken for its answer: the abort arrives, and the entry is
+-- as it was
+repeated_answer_for_lost : report ten (r ∷ a ∷ r ∷ Repeated Answers ∷ Lost Requests ∷ a ∷ r ∷ []) ≡ record {
+  requests = [];
+  answers = [];
+  entry = Some (codes "ABCDEFGHI");
+  state = Failed (record { 0 = 0x05030000 });
+  sent = 4;
+  value = [];
+}
+unfolding request_row_in response_row_in reading_refusal initiate_refusal completion_refusal has_object
+repeated_answer_for_lost = refl
+
 -- the last answer is lost, and the client's time is over: it fails, though the entry is set. So it is of a client that is done
 -- alone that the law can speak.
 lost_answer : report ten (r ∷ a ∷ r ∷ a ∷ r ∷ Lost Answers ∷ ClientTicked ∷ ClientTicked ∷ ClientTicked ∷ []) ≡ record {
@@ -99,9 +113,12 @@ disturbed_is_done : outcome ten.call (world_after ten (reverse disturbed)).event
 unfolding request_row_in response_row_in reading_refusal initiate_refusal completion_refusal has_object
 disturbed_is_done = refl
 
--- so that the law says what the entry has
-disturbed_entry : IsAlone ten → (world_after ten (reverse disturbed)).contents string_key ≡ Some (codes "0123456789")
-disturbed_entry h = download_sets ten (reverse disturbed) h refl disturbed_is_done
+-- it is alone, so that the law says what the entry has
+ten_alone : IsAlone ten
+ten_alone = alone ten ten_events ten_undisturbed (omega arith)
+
+disturbed_entry : (world_after ten (reverse disturbed)).contents string_key ≡ Some (codes "0123456789")
+disturbed_entry = download_sets ten (reverse disturbed) ten_alone refl disturbed_is_done
 
 -- ---- the nine bytes of the string, read in segments
 
@@ -132,8 +149,12 @@ disturbed_is_read : outcome nine.call (world_after nine (reverse disturbed_readi
 unfolding request_row_in response_row_in reading_refusal initiate_refusal completion_refusal has_object
 disturbed_is_read = refl
 
-disturbed_value : IsAlone nine → result nine.call (world_after nine (reverse disturbed_reading)).events ≡ codes "ABCDEFGHI"
-disturbed_value h = upload_gives nine (reverse disturbed_reading) h refl disturbed_is_read
+nine_alone : IsAlone nine
+unfolding reading_refusal initiate_refusal completion_refusal has_object
+nine_alone = alone nine [] (record { dictionary = is_dictionary; key = omega arith; job = omega arith; permitted = refl; idle = refl; calm = tt }) tt
+
+disturbed_value : result nine.call (world_after nine (reverse disturbed_reading)).events ≡ codes "ABCDEFGHI"
+disturbed_value = upload_gives nine (reverse disturbed_reading) nine_alone refl disturbed_is_read
 
 -- ---- the nine bytes of the string, read in blocks
 
@@ -174,8 +195,11 @@ blocks_are_read : outcome nine_in_blocks.call (world_after nine_in_blocks (rever
 unfolding request_row_in response_row_in reading_refusal initiate_refusal completion_refusal has_object
 blocks_are_read = refl
 
-disturbed_blocks_value : IsAlone nine_in_blocks → result nine_in_blocks.call (world_after nine_in_blocks (reverse disturbed_blocks)).events ≡ codes "ABCDEFGHI"
-disturbed_blocks_value h = block_upload_gives nine_in_blocks (reverse disturbed_blocks) h refl refl blocks_are_read
+nine_in_blocks_alone : IsAlone nine_in_blocks
+nine_in_blocks_alone = alone nine_in_blocks [] (nine_undisturbed 0) tt
+
+disturbed_blocks_value : result nine_in_blocks.call (world_after nine_in_blocks (reverse disturbed_blocks)).events ≡ codes "ABCDEFGHI"
+disturbed_blocks_value = block_upload_gives nine_in_blocks (reverse disturbed_blocks) nine_in_blocks_alone refl refl blocks_are_read
 
 -- the last segment is lost: the sub-block doesn't end, and the channel's time is over
 lost_last_segment : report nine_in_blocks (r ∷ a ∷ r ∷ a ∷ Lost Answers ∷ ChannelTicked ∷ ChannelTicked ∷ a ∷ []) ≡ record {
@@ -222,8 +246,11 @@ fourteen_is_done : outcome fourteen.call (world_after fourteen (reverse disturbe
 unfolding request_row_in response_row_in reading_refusal initiate_refusal completion_refusal has_object
 fourteen_is_done = refl
 
-fourteen_entry : IsAlone fourteen → (world_after fourteen (reverse disturbed_fourteen)).contents fourteen.call.key ≡ Some (codes "0123456789ABCD")
-fourteen_entry h = block_download_sets fourteen (reverse disturbed_fourteen) h refl refl fourteen_is_done
+fourteen_alone : IsAlone fourteen
+fourteen_alone = alone fourteen [] (fourteen_undisturbed 0) (omega arith)
+
+fourteen_entry : (world_after fourteen (reverse disturbed_fourteen)).contents fourteen.call.key ≡ Some (codes "0123456789ABCD")
+fourteen_entry = block_download_sets fourteen (reverse disturbed_fourteen) fourteen_alone refl refl fourteen_is_done
 
 -- the channel's time is over before the segments come: it hears them as requests, and none of its answers is awaited
 given_up : report fourteen (r ∷ a ∷ ChannelTicked ∷ ChannelTicked ∷ Lost Answers ∷ r ∷ a ∷ []) ≡ record {

@@ -2,6 +2,7 @@
 use Rattle.std.proofs.Common.{◌≡◌, ℕ, ◌≤◌, Bool, true, false, List, [], ◌∷◌, length, Some, refl, arith, ◌⊎◌, inl, inr}
 use Rattle.std.specs.Prelude.{nat_le, ◌&&◌}
 use Rattle.std.specs.List.{list_any}
+use Rattle.std.proofs.lemmas.Bool.{and_parts}
 use Rattle.std.proofs.lemmas.Bool.Decides.{nat_tests}
 use Rattle.co_sdo_client.specs.declared.mode.Mode.{Mode}
 use Rattle.co_sdo_client.specs.declared.mode.Mode.TheVariants.{Plain, Segmented, Block}
@@ -21,13 +22,8 @@ use Rattle.co_sdo_loss_laws.proofs.UploadsAtOnce as read_at_once
 use Rattle.co_sdo_loss_laws.proofs.BlockUploadEvents as read_in_blocks
 use Rattle.co_sdo_loss_laws.proofs.BlockDownloadEvents as written_in_blocks
 
-both_true : (a b : Bool) → a && b ≡ true → (a ≡ true) × (b ≡ true)
-both_true true true h = (refl, refl)
-both_true true false h = cc
-both_true false b h = cc
-
 short_bytes : (n : ℕ) → is_short n ≡ true → (1 ≤ n) × (n ≤ 4)
-short_bytes n h = let both = both_true (nat_le 1 n) (nat_le n 4) h in let low = both.0 in let high = both.1 in (grind (arith, nat_tests), grind (arith, nat_tests))
+short_bytes n h = let both = and_parts (nat_le 1 n) (nat_le n 4) h in let low = both.0 in let high = both.1 in (grind (arith, nat_tests), grind (arith, nat_tests))
 
 record IsAtOnce (mode : Mode) (job : Job) : Type 0 where
   transfer : transfer_by mode job ≡ transfer_by Plain (Download (0 ∷ []) true)

@@ -1,5 +1,6 @@
 -- In a list whose keys differ, to count the places up to n is to ask whether one of them is missing.
 use Rattle.std.proofs.Common.{◌≡◌, ℕ, zero, suc, ◌+◌, ◌*◌, ◌≤◌, ◌<◌, Bool, true, false, cond, not, ◌&&◌, ◌||◌, List, [], ◌∷◌, refl, sym, ap, ◌∙◌, subst, arith, length, map, fold, eqb, ltb, leb, eqb-true, leb-true, ltb-true}
+use Rattle.std.proofs.lemmas.Bool.{and_parts}
 use Rattle.std.proofs.lemmas.Bool.Decides.{nat_tests}
 use Rattle.std.specs.Str.{str_to_ascii_lowercase}
 use Rattle.std.proofs.lemmas.Slice.Eq.{bytes_eq-Decides}
@@ -62,15 +63,10 @@ more_digits (d ∷ ds) cs n some len h k same =
 abbrev IsPlace : List ℕ → Type 0
 IsPlace cs = is_position cs ≡ true
 
-both : (a b : Bool) → (a && b) ≡ true → (a ≡ true) × (b ≡ true)
-both true true h = (refl, refl)
-both true false h = absurd (cc)
-both false b h = absurd (cc)
-
 are_digits : (cs : List ℕ) → list_all (λ c. is_digit c 10) cs ≡ true → AreDigits cs
 are_digits [] h = tt
 are_digits (c ∷ cs) h =
-    let parts = both (is_digit c 10) (list_all (λ d. is_digit d 10) cs) h in
+    let parts = and_parts (is_digit c 10) (list_all (λ d. is_digit d 10) cs) h in
     (ltb-true (digit_value c) 10 parts.0, are_digits cs parts.1)
 
 denied : (b : Bool) → not b ≡ true → b ≡ false
@@ -80,7 +76,7 @@ denied false h = refl
 -- its first digit isn't 0
 first_digit : (c : ℕ) (cs : List ℕ) → IsPlace (c ∷ cs) → AreDigits (c ∷ cs) × (1 ≤ digit_value c)
 first_digit c cs h =
-    let parts = both (list_all (λ d. is_digit d 10) (c ∷ cs)) (not (eqb c 48)) h in
+    let parts = and_parts (list_all (λ d. is_digit d 10) (c ∷ cs)) (not (eqb c 48)) h in
     let digits = are_digits (c ∷ cs) parts.0 in
     let value = digit_value_digit c (digit_from_value c digits.0) in
     let other = denied (eqb c 48) parts.1 in
@@ -136,7 +132,7 @@ AreWithin low n xs = AllByRecursion (λ x. (low ≤ x) × (x < low + n)) xs
 unlike_cases : (test : Bool) (n : ℕ) (k j : Property) (ks : List Property) → is_place_to n j ≡ test → IsPlace k.name → same_name k.name j.name ≡ false
     → IsLikeNone eqb (number_of k) (map number_of (filter (is_place_to n) ks)) → IsLikeNone eqb (number_of k) (map number_of (cond test (j ∷ filter (is_place_to n) ks) (filter (is_place_to n) ks)))
 unlike_cases true n k j ks is place apart none =
-    (apart_cases (eqb (number_of k) (number_of j)) k.name j.name refl place (both _ _ is).0 apart, none)
+    (apart_cases (eqb (number_of k) (number_of j)) k.name j.name refl place (and_parts _ _ is).0 apart, none)
 unlike_cases false n k j ks is place apart none = none
 
 unlike : (n : ℕ) (k : Property) (ks : List Property) → IsPlace k.name → IsLikeNone same_name k.name (map key_of ks) → IsLikeNone eqb (number_of k) (map number_of (filter (is_place_to n) ks))
@@ -145,7 +141,7 @@ unlike n k (j ∷ ks) place none = unlike_cases (is_place_to n j) n k j ks refl 
 
 differ_cases : (test : Bool) (n : ℕ) (k : Property) (ks : List Property) → is_place_to n k ≡ test → IsLikeNone same_name k.name (map key_of ks) → AllDiffer eqb (map number_of (filter (is_place_to n) ks))
     → AllDiffer eqb (map number_of (cond test (k ∷ filter (is_place_to n) ks) (filter (is_place_to n) ks)))
-differ_cases true n k ks is none differ = (unlike n k ks (both _ _ is).0 none, differ)
+differ_cases true n k ks is none differ = (unlike n k ks (and_parts _ _ is).0 none, differ)
 differ_cases false n k ks is none differ = differ
 
 numbers-differ : (n : ℕ) (ks : List Property) → AllDiffer same_name (map key_of ks) → AllDiffer eqb (map number_of (filter (is_place_to n) ks))
@@ -162,7 +158,7 @@ from_one (c ∷ cs) h =
 within_cases : (test : Bool) (n : ℕ) (k : Property) (ks : List Property) → is_place_to n k ≡ test → AreWithin 1 n (map number_of (filter (is_place_to n) ks))
     → AreWithin 1 n (map number_of (cond test (k ∷ filter (is_place_to n) ks) (filter (is_place_to n) ks)))
 within_cases true n k ks is within =
-    let parts = both (is_position k.name) (leb (number_of k) n) is in
+    let parts = and_parts (is_position k.name) (leb (number_of k) n) is in
     let some = from_one k.name parts.0 in
     let few = leb-true (number_of k) n parts.1 in
     ((some, omega arith), within)

@@ -17,5 +17,6 @@ pub use co_profile::Access;
 pub use co_sheet_rows::{
     EntryRow, FaultKind, Note, NoteKind, Object, ObjectType, Preset, Section, SheetFault,
 };
+pub use co_stream::{LineFault, LineReader, StreamFault, read_text};
 pub use reader::{GREATEST_SIZE, accepted_texts, read};
 pub use sheet::Sheet;

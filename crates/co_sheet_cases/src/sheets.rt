@@ -4,10 +4,9 @@ mod large_sheet;
 mod out_of_memory;
 
 use co_sheet::{
-    Access, EntryRow, FaultKind, GREATEST_SIZE, Note, NoteKind, Object, ObjectType, Preset,
-    SheetFault, read,
+    Access, FaultKind, GREATEST_SIZE, Note, NoteKind, ObjectType, Preset, SheetFault, read,
 };
-use co_value::{DataType, Key};
+use co_value::DataType;
 use std::test::Fail;
 
 /// A small data sheet, with a dummy entry and with an object that no list names.
@@ -42,40 +41,17 @@ Dummy0005=1
 #[test]
 fn small_sheet(rt: HostRuntime) -> Result<(), Fail> {
     let sheet = read(rt.alloc(), SMALL.as_bytes()).ok().ok_or("refused")?;
-    let device_type = Object {
-        index: 0x1000,
-        object_type: ObjectType::Var,
-        name: Some(b"Device type"),
-        line: 6,
-    };
-    assert_eq!(rt; sheet.objects().len(), 3);
-    assert_eq!(rt; sheet.objects().first().copied(), Some(device_type));
-    let entry = EntryRow {
-        key: Key {
-            index: 0x1000,
-            sub: 0,
-        },
-        data_type: DataType::Unsigned32,
-        access: Access::Ro,
-        low: None,
-        high: None,
-        default: Preset::Number(0x191),
-        mappable: false,
-        name: Some(b"Device type"),
-        line: 6,
-    };
-    assert_eq!(rt; sheet.entries().len(), 4);
-    assert_eq!(rt; sheet.entries().first().copied(), Some(entry));
-    assert_eq!(rt; sheet.sections().len(), 8);
-    assert_eq!(rt;
-        sheet.sections().last().map(|s| s.name),
-        Some(b"2000".as_slice())
-    );
-    let unlisted = Note {
-        kind: NoteKind::Unlisted,
-        line: 25,
-    };
-    assert_eq!(rt; sheet.notes(), [unlisted].as_slice());
+    let object = sheet.objects().first().ok_or("no object")?;
+    assert!(rt; object.index == 0x1000 && object.object_type == ObjectType::Var);
+    assert!(rt; object.name == Some(b"Device type".as_slice()) && object.line == 6);
+    let entry = sheet.entries().first().ok_or("no entry")?;
+    assert!(rt; entry.data_type == DataType::Unsigned32 && entry.access == Access::Ro);
+    assert!(rt; entry.default == Preset::Number(0x191) && !entry.mappable);
+    assert!(rt; sheet.objects().len() == 3 && sheet.entries().len() == 4);
+    let section = sheet.sections().last().ok_or("no section")?;
+    assert!(rt; section.name == b"2000".as_slice() && sheet.sections().len() == 8);
+    let note = sheet.notes().first().ok_or("no note")?;
+    assert!(rt; note.kind == NoteKind::Unlisted && note.line == 25 && sheet.notes().len() == 1);
     assert!(rt; sheet.dummy(5) && !sheet.dummy(4));
     Ok(())
 }
@@ -99,11 +75,9 @@ fn printed(rt: HostRuntime) -> Result<(), Fail> {
 fn largest_text(rt: HostRuntime) -> Result<(), Fail> {
     assert_eq!(rt; GREATEST_SIZE, 1_048_576);
     let text = vec![in rt.alloc(); b'\n'; GREATEST_SIZE + 1]?;
-    let kind = read(rt.alloc(), text.as_slice())
-        .err()
-        .map(|fault| fault.kind);
-    assert_eq!(rt; kind, Some(FaultKind::TooLarge));
-    let kind = read(rt.alloc(), &text[1..]).err().map(|fault| fault.kind);
-    assert_eq!(rt; kind, Some(FaultKind::MissingSection));
+    let fault = read(rt.alloc(), text.as_slice()).err().ok_or("accepted")?;
+    assert_eq!(rt; fault.kind, FaultKind::TooLarge);
+    let fault = read(rt.alloc(), &text[1..]).err().ok_or("accepted")?;
+    assert_eq!(rt; fault.kind, FaultKind::MissingSection);
     Ok(())
 }

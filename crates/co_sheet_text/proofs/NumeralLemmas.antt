@@ -1,5 +1,6 @@
 -- A number read digit by digit.
 use Rattle.std.proofs.Common.{◌≡◌, ℕ, suc, ◌+◌, ◌*◌, ◌^◌, ◌<◌, ◌≤◌, Bool, true, false, cond, not, ◌&&◌, List, [], ◌∷◌, length, drop, get_or, Option, Some, None, refl, sym, ap, ◌∙◌, arith, ltb, drop-cons, add-one, eqb, leb, lit<, lit≤}
+use Rattle.std.proofs.lemmas.Bool.{and_parts}
 use Rattle.std.proofs.lemmas.Bool.Decides.{nat_tests}
 use Rattle.std.proofs.Math.Dec.{eqb-suc-zero}
 use Rattle.std.proofs.lemmas.List.{drop_all}
@@ -79,16 +80,11 @@ next_at base n i digit next text inside is small sum invariant =
     read_after-digit base n (get_or text i 0) (drop (suc i) text) is_small ∙ ap (λ m. read_after base m (drop (suc i) text)) is_next in
     rw (add-one i) (sym here ∙ sym (ap (read_after base n) (drop-cons text i 0 inside)) ∙ invariant)
 
-both_of : (a b : Bool) → (a && b) ≡ true → (a ≡ true) × (b ≡ true)
-both_of true true h = (refl, refl)
-both_of true false h = absurd (cc)
-both_of false b h = absurd (cc)
-
 -- digits of base 16 write less than a power of it
 pub fold-bound : (n : ℕ) (text : List ℕ) → list_all (λ c. is_digit c 16) text ≡ true → fold (with_digit 16) n text < (n + 1) * 16 ^ length text
 fold-bound n [] h = omega arith
 fold-bound n (x ∷ text) h =
-    let each = both_of (is_digit x 16) (list_all (λ c. is_digit c 16) text) h in
+    let each = and_parts (is_digit x 16) (list_all (λ c. is_digit c 16) text) h in
     let digit : digit_value x < 16 = grind (arith, nat_tests, each.0) in
     let rest = fold-bound (16 * n + digit_value x) text each.1 in
     let more : (16 * n + digit_value x + 1) * 16 ^ length text ≤ (16 * n + 16) * 16 ^ length text = mul-le-mul_right (16 ^ length text) (omega arith) in
@@ -102,7 +98,7 @@ same_tests false all small short w s = refl
 
 pub hexadecimal_small : (most : ℕ) (text : List ℕ) → length text ≤ most → is_hexadecimal_up_to most text ≡ true → number_in 16 text < 16 ^ most
 hexadecimal_small most text fits h =
-    let bound = fold-bound 0 text (both_of _ (list_all (λ c. is_digit c 16) text) h).1 in
+    let bound = fold-bound 0 text (and_parts _ (list_all (λ c. is_digit c 16) text) h).1 in
     let grows : 16 ^ length text ≤ 16 ^ most = pow-le-pow_right (lit< tt) fits in
     omega (arith, bound, grows)
 
@@ -123,10 +119,6 @@ found false h = absurd (cc)
 
 -- ---- digits that begin with 0
 
-digits-both : (a b : Bool) → (a && b) ≡ true → (a ≡ true) × (b ≡ true)
-digits-both true b h = (refl, h)
-digits-both false b h = absurd (cc)
-
 one_digit : (d : ℕ) → is_digit d 10 ≡ true → ltb 7 (10 * 0 + digit_value d) ≡ not (leb d 55)
 one_digit d h = grind (arith, nat_tests)
 
@@ -146,19 +138,19 @@ more_digits false d next digits is h rest =
 
 below-8 : (digits : List ℕ) → list_all (λ c. is_digit c 10) digits ≡ true → ltb 7 (number_in 10 digits) ≡ not (is_below_8 digits)
 below-8 [] h = refl
-below-8 (d ∷ []) h = one_digit d (digits-both (is_digit d 10) true h).0
+below-8 (d ∷ []) h = one_digit d (and_parts (is_digit d 10) true h).0
 below-8 (d ∷ next ∷ digits) h =
-    let both = digits-both (is_digit d 10) (list_all (λ c. is_digit c 10) (next ∷ digits)) h in
+    let both = and_parts (is_digit d 10) (list_all (λ c. is_digit c 10) (next ∷ digits)) h in
     more_digits (eqb d 48) d next digits refl both.0 (below-8 (next ∷ digits) both.1)
 
 number-digits : (text : List ℕ) → is_number_in 10 text ≡ true → list_all (λ c. is_digit c 10) text ≡ true
-number-digits text h = (digits-both _ _ (digits-both _ _ h).0).1
+number-digits text h = (and_parts _ _ (and_parts _ _ h).0).1
 
 first-zero : (zero_first : Bool) (d : ℕ) (digits : List ℕ) → eqb d 48 ≡ zero_first → list_all (λ c. is_digit c 10) (d ∷ digits) ≡ true
     → (zero_first && ltb 7 (number_in 10 (d ∷ digits))) ≡ (zero_first && not (is_below_8 digits))
 first-zero true d digits is h =
     let zero : digit_value d ≡ 0 = grind (arith, nat_tests) in
-    rw zero (below-8 digits (digits-both (is_digit d 10) (list_all (λ c. is_digit c 10) digits) h).1)
+    rw zero (below-8 digits (and_parts (is_digit d 10) (list_all (λ c. is_digit c 10) digits) h).1)
 first-zero false d digits is h = refl
 
 -- a number that begins with 0 is ambiguous where it is above 7

@@ -1,5 +1,6 @@
 -- Whether a section gives a key: by the keys that are digits alone, and by the others.
 use Rattle.std.proofs.Common.{◌≡◌, ℕ, ◌<◌, Bool, true, false, ◌||◌, ◌&&◌, cond, List, [], ◌∷◌, ◌++◌, map, Option, Some, is_some, Bor, refl, sym, ◌∙◌, ap, arith, eqb}
+use Rattle.std.proofs.lemmas.Bool.{and_parts}
 use Rattle.std.specs.Prelude.{find, filter}
 use Rattle.std.specs.List.{list_any}
 use Rattle.std.specs.Char.{is_digit, to_ascii_lowercase}
@@ -21,10 +22,6 @@ digit_below d h = grind (arith, nat_tests)
 same_as_digit : (k d : ℕ) → d < 58 → eqb (to_ascii_lowercase k) (to_ascii_lowercase d) ≡ eqb d k
 same_as_digit k d h = grind (arith, nat_tests)
 
-both : (a b : Bool) → (a && b) ≡ true → (a ≡ true) × (b ≡ true)
-both true b h = (refl, h)
-both false b h = cc
-
 and_alike : (a b c d : Bool) → a ≡ c → b ≡ d → (a && b) ≡ (c && d)
 and_alike a b c d h k = cc
 
@@ -34,7 +31,7 @@ same_as_digits [] [] h = refl
 same_as_digits [] (c ∷ cs) h = refl
 same_as_digits (d ∷ ds) [] h = refl
 same_as_digits (d ∷ ds) (c ∷ cs) h =
-    let parts = both (is_digit d 10) (all_digits ds) h in
+    let parts = and_parts (is_digit d 10) (all_digits ds) h in
     and_alike _ _ _ _ (same_as_digit c d (digit_below d parts.0)) (same_as_digits ds cs parts.1)
 
 found_or : (b : Bool) (k : Property) (o : Option Property) (r : Bool) → r ≡ is_some o → (b || r) ≡ is_some (cond b (Some k) o)

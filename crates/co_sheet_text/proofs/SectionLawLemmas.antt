@@ -9,7 +9,8 @@ use Rattle.co_sheet_text.specs.declared.section_kind.SectionKind.{SectionKind}
 use Rattle.co_sheet_text.specs.declared.section_kind.SectionKind.TheVariants.{PassedOver}
 use Rattle.co_sheet_text.specs.declared.fault.TextFaultKind.{TextFaultKind}
 use Rattle.co_sheet_text.specs.declared.fault.TextFaultKind.TheVariants.{TooLarge, DuplicateSection, DuplicateKey}
-use Rattle.co_sheet_text.specs.Text.{Line, lines_of, without_mark, same_name, is_blank, trim_front, trim, is_empty}
+use Rattle.co_sheet_text.specs.Text.{Line, lines_of, without_mark, same_name, trim_front, trim, is_empty}
+use Rattle.co_text.specs.Texts.{is_blank}
 use Rattle.std.specs.Str.Lines.{lines}
 use Rattle.co_sheet_text.specs.Names.{kind_of, same_kind, is_read}
 use Rattle.co_sheet_text.specs.Sections.{form_of, section_form, property_form, is_bracket, is_equals, LineForm, skipped, section_line, unclosed, name_value, malformed, is_section_line, is_given, Property, TextSection, property_given, property_at, section_at, body_of, section_begun, sections_of, line_form, fault_at, first_line_fault}

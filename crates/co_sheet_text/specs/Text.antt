@@ -1,12 +1,9 @@
 -- The text of a data sheet: its lines, blanks, names in any case (CiA 306, structure of an EDS).
-use Rattle.std.specs.Prelude.{ℕ, Bool, ◌||◌, ◌==◌, if◌then◌else◌, nat_eq, List, [], ◌∷◌, map, drop, reverse, length}
+use Rattle.std.specs.Prelude.{ℕ, Bool, ◌==◌, if◌then◌else◌, nat_eq, List, [], ◌∷◌, map, drop, reverse, length}
 use Rattle.std.specs.List.{starts_with, enumerate_from}
 use Rattle.std.specs.Str.{str_eq_ignore_ascii_case}
 use Rattle.std.specs.Str.Lines.{lines}
-
--- space and tab
-abbrev pub is_blank : ℕ → Bool
-is_blank b = (b == 32) || (b == 9)
+use Rattle.co_text.specs.Texts.{is_blank}
 
 -- a text without the blanks at its front, and at both ends
 abbrev pub trim_front : List ℕ → List ℕ

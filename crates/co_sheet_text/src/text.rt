@@ -1,14 +1,9 @@
 //! The bytes of a data sheet's text.
 
 ghost use Rattle.std.specs.Prelude.{◌≡◌, ◌≤◌, length};
-ghost use Rattle.co_sheet_text.specs.Text.{is_blank, trim_front, trim, same_name, without_mark};
+ghost use Rattle.co_sheet_text.specs.Text.{trim_front, trim, same_name, without_mark};
 
-/// Whether a byte is a space or a tab.
-fn is_blank(byte: u8) -> bool
-    ensures { result ≡ is_blank byte }
-{
-    byte == b' ' || byte == b'\t'
-}
+use co_text::is_blank;
 
 fn trim_front(text: &[u8]) -> &[u8]
     ensures { result.now ≡ trim_front text.now }

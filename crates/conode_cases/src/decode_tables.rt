@@ -1,12 +1,12 @@
 //! What each line of a trace is decoded to, in tables: a line is one of the trace, and after ` => ` the line that is
 //! written of it, if there is one.
 
+use crate::fakes::expect_lines;
 use co_sheet::{Sheet, read};
 use conode_decode::{decode, decode_files};
 use std::alloc::{AllocError, Global};
 use std::fs;
 use std::process::{Abort, ExitCode};
-use std::rt::Files;
 use std::test::Fail;
 
 /// The trace of a table, and what is written of it, with this at the end of each line.
@@ -32,21 +32,16 @@ fn check(
     node: Option<u8>,
 ) -> Result<(), Fail> {
     let (trace, wanted) = halves(rt.alloc(), table, "")?;
-    let mut written = Vec::new(rt.alloc());
-    let outcome = decode(rt.alloc(), &mut trace.as_bytes(), sheet, node, &mut written);
+    let mut out = Vec::new(rt.alloc());
+    let outcome = decode(rt.alloc(), &mut trace.as_bytes(), sheet, node, &mut out);
     assert_eq!(rt; outcome, Ok(()));
-    assert_eq!(rt; String::from_utf8(written)?.as_str(), wanted.as_str());
-    Ok(())
+    expect_lines(rt, out.as_slice(), wanted.as_str())
 }
 
+/// A session, and the texts that it doesn't have.
 #[test]
-fn session_without_names(rt: HostRuntime) -> Result<(), Fail> {
-    check(&rt, SESSION, None, None)
-}
-
-/// The texts that the session doesn't have.
-#[test]
-fn other_texts(rt: HostRuntime) -> Result<(), Fail> {
+fn texts(rt: HostRuntime) -> Result<(), Fail> {
+    check(&rt, SESSION, None, None)?;
     check(&rt, OTHER, None, None)
 }
 
@@ -68,34 +63,24 @@ fn names(rt: HostRuntime) -> Result<(), Fail> {
 
 const TRACE: &str = "conode-keys.log";
 
-/// Decodes the file of `KEYS` whole; this follows each of its texts.
-fn decode_ends(
-    rt: &(impl Files + AllocGlobal + Abort),
-    sheet: Option<&str>,
-    node: Option<u8>,
-    end: &str,
-) -> Result<(), Fail> {
-    let (_, wanted) = halves(rt.alloc(), KEYS, end)?;
-    let mut out = Vec::new(rt.alloc());
-    let mut err = Vec::new(rt.alloc());
-    let status = decode_files(rt, TRACE, sheet, node, &mut out, &mut err);
-    assert!(rt; status == ExitCode::SUCCESS, "with {sheet:?}");
-    assert!(rt; err.is_empty(), "with {sheet:?}");
-    assert_eq!(rt; String::from_utf8(out)?.as_str(), wanted.as_str());
-    Ok(())
-}
+const NAMES: &str = "conode-keys.eds";
 
+/// The file of `KEYS` is decoded whole; a name follows each of its texts, or nothing where the names are for another
+/// node.
 #[test]
 fn files_with_names(rt: HostRuntime) -> Result<(), Fail> {
-    let sheet = "conode-keys.eds";
-    fs::write(&rt, sheet, SHEET)?;
-    let (trace, _) = halves(rt.alloc(), KEYS, "")?;
-    fs::write(&rt, TRACE, trace.as_str())?;
-    decode_ends(&rt, None, None, "")?;
-    decode_ends(&rt, Some(sheet), None, " \"Vendor-ID\"")?;
-    decode_ends(&rt, Some(sheet), Some(5), " \"Vendor-ID\"")?;
-    decode_ends(&rt, Some(sheet), Some(6), "")?;
-    fs::remove_file(&rt, sheet)?;
+    fs::write(&rt, NAMES, SHEET)?;
+    for (node, end) in [(None, " \"Vendor-ID\""), (Some(6), "")] {
+        let (trace, wanted) = halves(rt.alloc(), KEYS, end)?;
+        fs::write(&rt, TRACE, trace.as_str())?;
+        let mut out = Vec::new(rt.alloc());
+        let mut err = Vec::new(rt.alloc());
+        let status = decode_files(&rt, TRACE, Some(NAMES), node, &mut out, &mut err);
+        assert!(rt; status == ExitCode::SUCCESS);
+        assert!(rt; err.is_empty());
+        expect_lines(&rt, out.as_slice(), wanted.as_str())?;
+    }
+    fs::remove_file(&rt, NAMES)?;
     fs::remove_file(&rt, TRACE)?;
     Ok(())
 }

@@ -1,36 +1,42 @@
-//! Readers and writers that fail.
+//! Texts in which `|` ends a line, and a reader and a writer in memory that fail.
 
-use std::io;
+use std::alloc::{AllocError, Global};
 use std::io::{Read, Write};
+use std::process::Abort;
+use std::test::Fail;
+use std::{io, str};
 
-/// Gives a text in one piece, and then only this error.
-#[derive(Drop)]
-pub struct Failing {
-    pub text: &'static [u8],
-    pub error: io::ErrorKind,
-}
-
-impl Read for Failing {
-    fn read(&mut self, buf: &mut [u8]) -> io::Result<usize> {
-        if self.text.is_empty() {
-            return Err(self.error.into());
-        }
-        let mut text = self.text;
-        let count = text.read(buf)?;
-        self.text = text;
-        Ok(count)
+/// A text with the end of a line in place of each `|`.
+pub fn lines_of(alloc: Global, text: &str) -> Result<String, AllocError> {
+    let mut lines = String::new(alloc);
+    for letter in text.chars() {
+        lines.push(if letter == '|' { '\n' } else { letter })?;
     }
+    Ok(lines)
 }
 
-/// Gives a text ten bytes at a time, in so many calls, and then fails.
+/// Fails unless the bytes are a text in which `|` ends each line.
+pub fn expect_lines(rt: &(impl AllocGlobal + Abort), bytes: &[u8], text: &str) -> Result<(), Fail> {
+    let wanted = lines_of(rt.alloc(), text)?;
+    assert_eq!(rt; str::from_utf8(bytes)?, wanted.as_str());
+    Ok(())
+}
+
+/// Is interrupted by a signal so many times, then gives a text, ten bytes at a time at most. Asked more often than so
+/// many times it fails.
 #[derive(Drop)]
-pub struct Pieces {
+pub struct Source {
     pub text: &'static [u8],
+    pub interruptions: u32,
     pub calls: u32,
 }
 
-impl Read for Pieces {
+impl Read for Source {
     fn read(&mut self, buf: &mut [u8]) -> io::Result<usize> {
+        if self.interruptions > 0 {
+            self.interruptions -= 1;
+            return Err(io::ErrorKind::Interrupted.into());
+        }
         if self.calls == 0 {
             return Err(io::ErrorKind::Other.into());
         }
@@ -38,26 +44,6 @@ impl Read for Pieces {
         let mut piece = &self.text[..self.text.len().min(10)];
         let count = piece.read(buf)?;
         self.text = &self.text[count.min(self.text.len())..];
-        Ok(count)
-    }
-}
-
-/// Is interrupted by a signal so many times, and then gives a text.
-#[derive(Drop)]
-pub struct Interrupted {
-    pub text: &'static [u8],
-    pub times: u32,
-}
-
-impl Read for Interrupted {
-    fn read(&mut self, buf: &mut [u8]) -> io::Result<usize> {
-        if self.times > 0 {
-            self.times -= 1;
-            return Err(io::ErrorKind::Interrupted.into());
-        }
-        let mut text = self.text;
-        let count = text.read(buf)?;
-        self.text = text;
         Ok(count)
     }
 }
@@ -73,9 +59,9 @@ pub struct Narrow {
 }
 
 impl Narrow {
-    pub fn new(rt: &impl AllocGlobal, room: usize) -> Self {
+    pub fn new(alloc: Global, room: usize) -> Self {
         Narrow {
-            text: Vec::new(rt.alloc()),
+            text: Vec::new(alloc),
             room,
             was_interrupted: false,
             flushes: true,

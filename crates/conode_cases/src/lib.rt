@@ -3,13 +3,9 @@
 #![tactic(auto)]
 
 #[cfg(test)]
-mod builds;
-#[cfg(test)]
 mod decode_tables;
 #[cfg(test)]
 mod decodes;
-#[cfg(test)]
-mod edges;
 #[cfg(test)]
 mod fakes;
 #[cfg(test)]

@@ -23,9 +23,7 @@ fn write_notes<W: Write>(line: &mut String, notes: &[Note], writer: &mut W) -> R
     ensures err { IfErr result (λ fault. (fault ≡ CmdFault.Write) ⊎ (fault ≡ CmdFault.Memory)) }
 {
     for note in notes {
-        if set_note_line(line, *note).is_err() {
-            return Err(CmdFault::Memory);
-        }
+        set_note_line(line, *note)?;
         hand_over(line.as_bytes(), writer)?;
     }
     Ok(())
@@ -48,9 +46,7 @@ fn write_build_fault<W: Write>(
     let Some(fault) = fault else {
         return Ok(());
     };
-    if set_build_fault_line(line, fault).is_err() {
-        return Err(CmdFault::Memory);
-    }
+    set_build_fault_line(line, fault)?;
     hand_over(line.as_bytes(), writer)
 }
 
@@ -90,9 +86,7 @@ fn write_sheet<W: Write>(
         WritesSome (W.contents writer.old) (W.contents writer.new) (sheet_lines sheet.now fault) }
     ensures err { IfErr result (λ fault. (fault ≡ CmdFault.Write) ⊎ (fault ≡ CmdFault.Memory)) }
 {
-    if set_summary_line(line, sheet).is_err() {
-        return Err(CmdFault::Memory);
-    }
+    set_summary_line(line, sheet)?;
     hand_over(line.as_bytes(), writer)?;
     write_remarks(line, sheet.notes(), fault, writer)
 }
@@ -110,9 +104,7 @@ fn write_fault<W: Write>(
         Keeps (W.contents writer.old) (W.contents writer.new) }
     ensures err { IfErr result (λ fault. (fault ≡ CmdFault.Write) ⊎ (fault ≡ CmdFault.Memory)) }
 {
-    if set_fault_line(line, fault).is_err() {
-        return Err(CmdFault::Memory);
-    }
+    set_fault_line(line, fault)?;
     hand_over(line.as_bytes(), writer)
 }
 

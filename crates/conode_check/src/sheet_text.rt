@@ -14,7 +14,8 @@ pub(crate) fn set_fault_line(text: &mut String, fault: SheetFault) -> Result<(),
     ensures { OnOk result (string_bytes text.new ≡ fault_line fault) }
 {
     text.clear();
-    writeln!(text, "{fault}")
+    text.push_str(fault.text().as_str())?;
+    text.push('\n')
 }
 
 /// Makes the text the line of a build fault, as `build fault 3 BadCobId 1800:01`. On an `Err` memory ran out, and the
@@ -24,7 +25,8 @@ pub(crate) fn set_build_fault_line(text: &mut String, fault: BuildFault) -> Resu
     ensures { OnOk result (string_bytes text.new ≡ build_fault_line fault) }
 {
     text.clear();
-    writeln!(text, "{fault}")
+    text.push_str(fault.text().as_str())?;
+    text.push('\n')
 }
 
 /// Makes the text the line of a note: its line and its name. On an `Err` memory ran out, and the text holds a part of
@@ -34,7 +36,8 @@ pub(crate) fn set_note_line(text: &mut String, note: Note) -> Result<(), AllocEr
     ensures { OnOk result (string_bytes text.new ≡ note_line note) }
 {
     text.clear();
-    writeln!(text, "{note}")
+    text.push_str(note.text().as_str())?;
+    text.push('\n')
 }
 
 /// Makes the text the first line of a sheet that is accepted: how many objects, entries and notes it has. On an `Err`

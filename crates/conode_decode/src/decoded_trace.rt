@@ -36,9 +36,7 @@ fn write_line<W: Write>(
     let TraceLine::Data { frame, .. } = &timed.said else {
         return Ok(());
     };
-    if set_decoded_line(text, names, timed.number, frame).is_err() {
-        return Err(CmdFault::Memory);
-    }
+    set_decoded_line(text, names, timed.number, frame)?;
     hand_over(text.as_bytes(), writer)
 }
 

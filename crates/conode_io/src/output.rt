@@ -69,7 +69,11 @@ pub fn say<W: Write>(message: Message<'_>, writer: &mut W) -> io::Result<()>
             let text = text.as_str();
             writeln!(writer, "stopped: {text}")?;
         }
-        Message::Fault(fault) => writeln!(writer, "{fault}")?,
+        Message::Fault(fault) => {
+            let text = fault.text();
+            let text = text.as_str();
+            writeln!(writer, "{text}")?;
+        }
         Message::CannotRead(name) => writeln!(writer, "cannot read {name}")?,
     }
     writer.flush()

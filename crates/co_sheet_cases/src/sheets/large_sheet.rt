@@ -1,6 +1,9 @@
-//! A larger data sheet, with PDOs: 22 objects and 46 entries.
+//! A larger data sheet: the mandatory objects, and 20 arrays of two entries.
 
-pub(crate) const LARGE: &str = "\
+use arrayvec::ArrayString;
+use std::fmt::{self, Write};
+
+const MANDATORY: &str = "\
 [MandatoryObjects]
 SupportedObjects=3
 1=0x1000
@@ -9,7 +12,6 @@ SupportedObjects=3
 [1000]
 DataType=7
 AccessType=ro
-DefaultValue=0x191
 [1001]
 DataType=5
 AccessType=ro
@@ -18,210 +20,27 @@ ObjectType=9
 [1018sub0]
 DataType=5
 AccessType=ro
-DefaultValue=1
 [1018sub1]
 DataType=7
 AccessType=ro
-[OptionalObjects]
-SupportedObjects=14
-1=0x1003
-2=0x1005
-3=0x1014
-4=0x1015
-5=0x1016
-6=0x1017
-7=0x1029
-8=0x1201
-9=0x1400
-10=0x1600
-11=0x1800
-12=0x1801
-13=0x1A00
-14=0x1A01
 [ManufacturerObjects]
-SupportedObjects=5
-1=0x2001
-2=0x2002
-3=0x2003
-4=0x2004
-5=0x2100
-[1003]
-ObjectType=8
-[1003sub0]
-DataType=5
-AccessType=rw
-[1003sub1]
-DataType=7
-AccessType=ro
-[1003sub2]
-DataType=7
-AccessType=ro
-[1005]
-DataType=7
-AccessType=rw
-DefaultValue=0x80
-[1014]
-DataType=7
-AccessType=rw
-DefaultValue=$NODEID+0x80
-[1015]
-DataType=6
-AccessType=rw
-[1016]
-ObjectType=8
-[1016sub0]
-DataType=5
-AccessType=ro
-DefaultValue=2
-[1016sub1]
-DataType=7
-AccessType=rw
-[1016sub2]
-DataType=7
-AccessType=rw
-[1017]
-DataType=6
-AccessType=rw
-[1029]
-ObjectType=8
-[1029sub0]
-DataType=5
-AccessType=ro
-DefaultValue=1
-[1029sub1]
-DataType=5
-AccessType=rw
-DefaultValue=0
-[1201]
-ObjectType=9
-[1201sub0]
-DataType=5
-AccessType=ro
-DefaultValue=2
-[1201sub1]
-DataType=7
-AccessType=ro
-DefaultValue=0x680
-[1201sub2]
-DataType=7
-AccessType=ro
-DefaultValue=0x681
-[1400]
-ObjectType=9
-[1400sub0]
-DataType=5
-AccessType=ro
-DefaultValue=2
-[1400sub1]
-DataType=7
-AccessType=rw
-DefaultValue=$NODEID+0x200
-[1400sub2]
-DataType=5
-AccessType=rw
-DefaultValue=255
-[1600]
-ObjectType=9
-[1600sub0]
-DataType=5
-AccessType=rw
-DefaultValue=1
-[1600sub1]
-DataType=7
-AccessType=rw
-DefaultValue=0x20020020
-[1600sub2]
-DataType=7
-AccessType=rw
-DefaultValue=0
-[1800]
-ObjectType=9
-[1800sub0]
-DataType=5
-AccessType=ro
-DefaultValue=5
-[1800sub1]
-DataType=7
-AccessType=rw
-DefaultValue=$NODEID+0x180
-[1800sub2]
-DataType=5
-AccessType=rw
-DefaultValue=255
-[1800sub3]
-DataType=6
-AccessType=rw
-DefaultValue=0
-[1800sub5]
-DataType=6
-AccessType=rw
-DefaultValue=0
-[1801]
-ObjectType=9
-[1801sub0]
-DataType=5
-AccessType=ro
-DefaultValue=5
-[1801sub1]
-DataType=7
-AccessType=rw
-DefaultValue=$NODEID+0x280
-[1801sub2]
-DataType=5
-AccessType=rw
-DefaultValue=255
-[1801sub3]
-DataType=6
-AccessType=rw
-DefaultValue=0
-[1801sub5]
-DataType=6
-AccessType=rw
-DefaultValue=0
-[1A00]
-ObjectType=9
-[1A00sub0]
-DataType=5
-AccessType=rw
-DefaultValue=1
-[1A00sub1]
-DataType=7
-AccessType=rw
-DefaultValue=0x20020020
-[1A00sub2]
-DataType=7
-AccessType=rw
-DefaultValue=0
-[1A01]
-ObjectType=9
-[1A01sub0]
-DataType=5
-AccessType=rw
-DefaultValue=1
-[1A01sub1]
-DataType=7
-AccessType=rw
-DefaultValue=0x20030010
-[1A01sub2]
-DataType=7
-AccessType=rw
-DefaultValue=0
-[2001]
-DataType=9
-AccessType=rw
-[2002]
-DataType=7
-AccessType=rw
-PDOMapping=1
-[2003]
-DataType=6
-AccessType=rw
-PDOMapping=1
-HighLimit=1000
-[2004]
-DataType=6
-AccessType=wo
-[2100]
-DataType=15
-AccessType=rw
+SupportedObjects=20
 ";
+
+const ENTRY: &str = "DataType=5\nAccessType=rw\nDefaultValue=1\n";
+
+/// The text, which asks for no memory: 23 objects, 44 entries, 67 sections.
+pub(crate) fn large_sheet() -> Result<ArrayString<4096>, fmt::Error> {
+    let mut text = ArrayString::new();
+    write!(text, "{MANDATORY}")?;
+    for i in 1..21u16 {
+        let index = 0x2000 + i;
+        write!(text, "{i}=0x{index:X}\n")?;
+    }
+    for i in 1..21u16 {
+        let index = 0x2000 + i;
+        write!(text, "[{index:X}]\nObjectType=8\n")?;
+        write!(text, "[{index:X}sub0]\n{ENTRY}[{index:X}sub1]\n{ENTRY}")?;
+    }
+    Ok(text)
+}

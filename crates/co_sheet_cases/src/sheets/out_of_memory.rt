@@ -1,7 +1,7 @@
 //! Memory that is refused, in reading a large sheet and one at fault. These tests take no memory of their own, so in a
 //! run where an allocation is refused it is one of the reader's.
 
-use super::large_sheet::LARGE;
+use super::large_sheet::large_sheet;
 use co_sheet::{FaultKind, SheetFault, read};
 use std::test::Fail;
 
@@ -26,13 +26,14 @@ const REFUSED: SheetFault = SheetFault {
 
 #[test]
 fn accepted(rt: HostRuntime) -> Result<(), Fail> {
+    let text = large_sheet().ok().ok_or("too long")?;
     let mut is_refused = false;
     for _ in 0..3 {
-        match read(rt.alloc(), LARGE.as_bytes()) {
+        match read(rt.alloc(), text.as_bytes()) {
             Ok(sheet) => {
-                assert_eq!(rt; sheet.objects().len(), 22);
-                assert_eq!(rt; sheet.entries().len(), 46);
-                assert_eq!(rt; sheet.sections().len(), 60);
+                assert_eq!(rt; sheet.objects().len(), 23);
+                assert_eq!(rt; sheet.entries().len(), 44);
+                assert_eq!(rt; sheet.sections().len(), 67);
                 assert!(rt; sheet.notes().is_empty());
             }
             Err(fault) => {

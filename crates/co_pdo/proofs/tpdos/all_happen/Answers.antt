@@ -1,12 +1,12 @@
-use Rattle.std.proofs.Common.{◌≡◌, cond, [], ◌∷◌, ◌++◌, set, get_or, ap, ◌∙◌, arith}
-use Rattle.co_pdo.proofs.Lists.{Took, appended_true, appended_false, few_more, rest_set, numbers_set, done_set, due_more, due_to_the_end, done_to_the_end}
+use Rattle.std.proofs.Common.{◌≡◌, cond, [], ◌∷◌, ◌++◌, set, ap, ◌∙◌, arith}
+use Rattle.co_pdo.specs.Schedules.{with_occasion}
+use Rattle.co_pdo.proofs.Lists.{appended_true, appended_false, few_more, rest_set, numbers_set, happened, done_set, due_more, due_to_the_end, done_to_the_end}
 use Rattle.co_pdo.proofs.tpdos.all_happen.Goals as goal
 use Rattle.co_pdo.proofs.tpdos.all_happen.Goals.{then-happens, else-happens}
 
 pub loop-tpdo-preserved : goal.loop-tpdo-preserved
 loop-tpdo-preserved g c =
-    let took : Took (g.S.ObjectStore.contents c.args.store.now) c.args.occasion (get_or c.loop-tpdo.tpdos c.loop-tpdo.tpdo-index _) c.happens.new.self c.happens.result =
-    record { number = c.happens.ensures.number; due = c.happens.ensures.due; after = c.happens.ensures.after } in
+    let i = c.loop-tpdo.invariant in
     let answered : c.if-happens.due.items ≡ c.loop-tpdo.due.items ++ cond c.happens.result (c.happens.new.self.number ∷ []) [] = elim c.if-happens.branch [
       | then-happens w ↦ appended_true _ _ _ _ _ w.if-happens.true w.push.ensures.items (ap (λ v. v.items) w.due-is)
       | else-happens w ↦ appended_false _ _ _ _ w.if-happens.false (ap (λ v. v.items) w.due-is)
@@ -15,13 +15,16 @@ loop-tpdo-preserved g c =
       | then-happens w ↦ w.tpdos-is
       | else-happens w ↦ w.tpdos-is
     ] in
-    let i = c.loop-tpdo.invariant in
     rw changed (record {
       few = few_more _ _ _ _ _ i.few answered;
       numbers = numbers_set c.loop-tpdo.tpdos c.loop-tpdo.tpdo-index c.happens.new.self _ c.happens.ensures.number ∙ i.numbers;
       rest = rest_set c.args.tpdos.now c.loop-tpdo.tpdos _ _ i.rest;
-      due = λ logs all current. due_more _ _ c.args.tpdos.now c.loop-tpdo.tpdos _ _ _ _ c.loop-tpdo-test.true c.loop-tpdo.auto.tpdos i.rest took c.requires.small logs all current _ _ (i.due logs all current) answered;
-      done = λ logs all current. done_set _ _ c.args.tpdos.now c.loop-tpdo.tpdos _ _ _ _ c.loop-tpdo-test.true c.loop-tpdo.auto.tpdos i.rest took c.requires.small logs all current (i.done logs all current);
+      due = λ logs all current. due_more c.args.tpdos.now c.loop-tpdo.tpdos c.loop-tpdo.tpdo-index _ c.loop-tpdo-test.true i.rest _ _ c.happens.new.self c.happens.result c.loop-tpdo.auto.tpdos
+          (happened c.args.tpdos.now c.loop-tpdo.tpdos c.loop-tpdo.tpdo-index _ c.loop-tpdo-test.true i.rest (g.S.ObjectStore.contents c.args.store.now) logs c.happens.new.self c.happens.ensures.number all c.happens.result c.requires.small current c.args.occasion c.happens.ensures.due c.happens.ensures.after)
+          _ _ (i.due logs all current) answered;
+      done = λ logs all current. done_set c.args.tpdos.now c.loop-tpdo.tpdos c.loop-tpdo.tpdo-index _ c.loop-tpdo-test.true i.rest _ _ c.happens.new.self c.happens.result c.loop-tpdo.auto.tpdos
+          (happened c.args.tpdos.now c.loop-tpdo.tpdos c.loop-tpdo.tpdo-index _ c.loop-tpdo-test.true i.rest (g.S.ObjectStore.contents c.args.store.now) logs c.happens.new.self c.happens.ensures.number all c.happens.result c.requires.small current c.args.occasion c.happens.ensures.due c.happens.ensures.after)
+          (i.done logs all current);
     })
 
 pub returns-clause-due : goal.returns-clause-due
@@ -29,4 +32,4 @@ returns-clause-due g c = λ logs all current. due_to_the_end _ c.args.tpdos.now 
 
 pub returns-clause-after : goal.returns-clause-after
 returns-clause-after g c = λ logs all current.
-    done_to_the_end (g.S.ObjectStore.contents c.args.store.now) c.args.occasion c.args.tpdos.now c.loop-tpdo.tpdos c.loop-tpdo.tpdo-index logs c.loop-tpdo.auto.tpdos (omega arith) c.loop-tpdo.invariant.numbers (c.loop-tpdo.invariant.done logs all current)
+    done_to_the_end c.args.tpdos.now c.loop-tpdo.tpdos c.loop-tpdo.tpdo-index (with_occasion (g.S.ObjectStore.contents c.args.store.now) c.args.occasion logs) c.loop-tpdo.auto.tpdos (omega arith) c.loop-tpdo.invariant.numbers (c.loop-tpdo.invariant.done logs all current)

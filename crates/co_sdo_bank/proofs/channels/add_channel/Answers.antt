@@ -17,7 +17,7 @@ returns-in_ok-push g c = λ stands.
     let settings : settings_of new ≡ made =
     ap (λ (channel : Standing). settings_of (record { number = c.args.number; channel = channel })) c.in_ok-channel.ensures.given ∙ rw (c.in-Some.ensures.request, c.in-Some.ensures.answer) refl in
     subst (λ (channels : List ChannelSettings). BankStands d channels c.push.new.self.items (λ n. [])) (sym (channels_with c.args.number d k c.args.greatest c.args.time (sym c.in-Some.ensures.exists)))
-    (subst (λ (bank : List NumberedChannel). BankStands d (before ++ made ∷ []) bank (λ n. [])) (sym c.in_ok-push.ensures.items)
+    (subst (λ (bank : List NumberedChannel). BankStands d (before ++ made ∷ []) bank (λ n. [])) (sym {A = List NumberedChannel} c.in_ok-push.ensures.items)
     (subst (λ (s : ChannelSettings). BankStands d (before ++ s ∷ []) (c.args.bank.now.items ++ new ∷ []) (λ n. [])) settings (pushed d before c.args.bank.now.items new stands (c.in_ok-channel.ensures.stands d))))
 
 pub returns-in_default : goal.returns-in_default

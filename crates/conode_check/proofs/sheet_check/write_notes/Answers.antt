@@ -6,8 +6,8 @@ use Rattle.conode_io.specs.Written.{AppendsFront}
 use Rattle.conode_io.proofs.WriteLemmas.{some_lines, front_of_lines}
 use Rattle.conode_check.proofs.sheet_check.write_notes.Goals as goal
 
-pub returns-then-is_err-clause-memory : goal.returns-then-is_err-clause-memory
-returns-then-is_err-clause-memory g c said =
+pub returns-in_err-set_note_line-clause-memory : goal.returns-in_err-set_note_line-clause-memory
+returns-in_err-set_note_line-clause-memory g c said =
     some_lines (g.W.Write.contents c.args.writer.now) (g.W.Write.contents c.loop-note.writer) note_line c.args.notes.now c.loop-note.note-index (search rules) c.loop-note.invariant
 
 pub returns-in_err-hand_over-clause-write : goal.returns-in_err-hand_over-clause-write

@@ -1,14 +1,28 @@
-use Rattle.std.proofs.Common.{◌≡◌, Some, None, eqb, sym, ap, ◌∙◌}
+use Rattle.std.proofs.Common.{◌≡◌, Some, None, eqb, get_or, sym, ap, ◌∙◌, arith}
 use Rattle.std.specs.Prelude.{position}
+use Rattle.co_sdo_bank.specs.Banks.{all_settings}
 use Rattle.co_sdo_bank.proofs.Outcomes.{number_found, number_none}
+use Rattle.co_sdo_bank.proofs.Places.{place_at, table_length}
+use Rattle.co_sdo_bank.proofs.Searches.{place_within}
 use Rattle.co_sdo_bank.proofs.bank.Bank.channel_for.Goals as goal
+
+pub index-requires : goal.index-requires
+index-requires c = omega (arith, table_length c.self.inside.places.items.items 2048 (all_settings c.self.inside.channels.items.items) c.self.invariant.places, c.from.ensures, c.requires)
+
+pub index-requires-in-Some : goal.index-requires-in-Some
+index-requires-in-Some c =
+    let at : position (λ e. eqb e.channel.request c.args.id) c.self.inside.channels.items.items ≡ Some c.from-in-Some.result =
+    place_at c.self.inside.places.items.items 2048 c.self.inside.channels.items.items c.args.id c.index.result.now c.self.invariant.places c.requires (c.index.ensures ∙ ap (λ n. get_or c.self.inside.places.items.items n c.index.result.now) c.from.ensures) ∙ c.in-Some.is ∙ ap (λ n. Some n) (sym c.from-in-Some.ensures) in
+    omega (arith, place_within (λ e. eqb e.channel.request c.args.id) c.self.inside.channels.items.items c.from-in-Some.result at)
 
 pub returns-in-Some : goal.returns-in-Some
 returns-in-Some c = λ d channels logs all.
-    let at : position (λ e. eqb e.channel.request c.args.id) c.self.inside.channels.items.items ≡ Some c.in-Some.place = ap (position (λ e. eqb e.channel.request c.args.id)) (sym c.deref.ensures.value) ∙ sym c.in-Some.ensures in
-    number_found d channels c.args.self.now c.self.inside.channels.items.items c.self.view_is logs all c.args.id c.in-Some.place c.index.result.now at c.index.ensures
+    let at : position (λ e. eqb e.channel.request c.args.id) c.self.inside.channels.items.items ≡ Some c.from-in-Some.result =
+    place_at c.self.inside.places.items.items 2048 c.self.inside.channels.items.items c.args.id c.index.result.now c.self.invariant.places c.requires (c.index.ensures ∙ ap (λ n. get_or c.self.inside.places.items.items n c.index.result.now) c.from.ensures) ∙ c.in-Some.is ∙ ap (λ n. Some n) (sym c.from-in-Some.ensures) in
+    number_found d channels c.args.self.now c.self.inside.channels.items.items c.self.view_is logs all c.args.id c.from-in-Some.result c.index-in-Some.result.now at c.index-in-Some.ensures
 
 pub returns-in-None : goal.returns-in-None
 returns-in-None c = λ d channels logs all.
-    let at : position (λ e. eqb e.channel.request c.args.id) c.self.inside.channels.items.items ≡ None = ap (position (λ e. eqb e.channel.request c.args.id)) (sym c.deref.ensures.value) ∙ sym c.in-None.ensures in
+    let at : position (λ e. eqb e.channel.request c.args.id) c.self.inside.channels.items.items ≡ None =
+    place_at c.self.inside.places.items.items 2048 c.self.inside.channels.items.items c.args.id c.index.result.now c.self.invariant.places c.requires (c.index.ensures ∙ ap (λ n. get_or c.self.inside.places.items.items n c.index.result.now) c.from.ensures) ∙ c.in-None.is in
     number_none d channels c.args.self.now c.self.inside.channels.items.items c.self.view_is logs all c.args.id at

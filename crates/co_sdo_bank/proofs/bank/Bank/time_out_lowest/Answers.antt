@@ -2,7 +2,7 @@ use Rattle.std.proofs.Common.{◌≡◌, Some, None, sym, ap, ◌∙◌}
 use Rattle.std.specs.Prelude.{position}
 use Rattle.co_sdo.specs.Standing.{Standing, is_expired}
 use Rattle.co_sdo_bank.specs.Banks.{settings_of}
-use Rattle.co_sdo_bank.proofs.Places.{order_kept, passes, settings_kept}
+use Rattle.co_sdo_bank.proofs.Places.{bank_kept, passes, settings_kept}
 use Rattle.co_sdo_bank.proofs.Outcomes.{which_found, abort_found, gave_up_found, which_none, abort_none, gave_up_none}
 use Rattle.co_sdo_bank.proofs.bank.Bank.time_out_lowest.Goals as goal
 
@@ -12,7 +12,7 @@ time_out-requires-clause-expired c =
     passes (λ e. is_expired e.channel) c.self.inside.channels.items.items c.in-Some.place c.index_mut-expired.result.now at c.index_mut-expired.ensures.value
 
 pub invariant_of-self : goal.invariant_of-self
-invariant_of-self c = order_kept c.self.inside.channels.items.items c.in-Some.place c.index_mut-expired.result.now _ c.index_mut-expired.ensures.value (ap (λ (ch : Standing). settings_of (record { number = c.index_mut-expired.result.now.number; channel = ch })) c.time_out.ensures.same) c.self.invariant
+invariant_of-self c = bank_kept c.self.inside.places.items.items c.self.inside.channels.items.items c.in-Some.place c.index_mut-expired.result.now _ c.index_mut-expired.ensures.value (ap (λ (ch : Standing). settings_of (record { number = c.index_mut-expired.result.now.number; channel = ch })) c.time_out.ensures.same) c.self.invariant
 
 pub returns-in-Some-clause-settings : goal.returns-in-Some-clause-settings
 returns-in-Some-clause-settings c = settings_kept c.args.self.now c.self.inside.channels.items.items c.in-Some.place c.index_mut-expired.result.now _ c.self.view_is c.index_mut-expired.ensures.value (ap (λ (ch : Standing). settings_of (record { number = c.index_mut-expired.result.now.number; channel = ch })) c.time_out.ensures.same)
@@ -30,7 +30,7 @@ returns-in-Some-clause-responses c = λ d channels logs all.
 pub returns-in-Some-clause-stands : goal.returns-in-Some-clause-stands
 returns-in-Some-clause-stands c = λ d channels logs all.
     let at : position (λ e. is_expired e.channel) c.self.inside.channels.items.items ≡ Some c.in-Some.place = ap (position (λ e. is_expired e.channel)) (sym c.deref.ensures.value) ∙ sym c.in-Some.ensures in
-    gave_up_found d channels c.args.self.now c.self.inside.channels.items.items c.self.view_is logs all c.in-Some.place c.index_mut-expired.result.now at c.index_mut-expired.ensures.value (record { number = c.index_mut-expired.result.now.number; channel = c.time_out.new.self }) c.self.invariant
+    gave_up_found d channels c.args.self.now c.self.inside.channels.items.items c.self.view_is logs all c.in-Some.place c.index_mut-expired.result.now at c.index_mut-expired.ensures.value (record { number = c.index_mut-expired.result.now.number; channel = c.time_out.new.self }) c.self.invariant.order
     (ap (λ (ch : Standing). settings_of (record { number = c.index_mut-expired.result.now.number; channel = ch })) c.time_out.ensures.same) (c.time_out.ensures.stands d)
 
 pub returns-in-None-clause-which : goal.returns-in-None-clause-which

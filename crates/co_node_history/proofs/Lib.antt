@@ -1,0 +1,10 @@
+pub mod ExampleNode
+mod StateExamples
+mod LossExamples
+mod ErrorExamples
+mod TpdoExamples
+mod RpdoExamples
+mod EventExamples
+pub mod Answers
+pub mod Resets
+pub mod BootUps

@@ -1,0 +1,96 @@
+//! The SDO channels of a device and its dictionary, with frames in text.
+
+ghost use Rattle.co_sdo_bank.specs.Channels.{HaveRoom};
+ghost use Rattle.co_sdo_bank.specs.Banks.{all_settings};
+
+use crate::sheet::TWO_CHANNELS;
+use co_dict::{ObjectStore, capacity_law};
+use co_dict_list::{Limits, ListStore};
+use co_frame::{Frame, Outbox};
+use co_sdo_bank::Bank;
+use co_sheet::read;
+use co_value::Key;
+use std::alloc::{AllocError, Global};
+use std::process::Abort;
+use std::test::Fail;
+
+// The frame that a text spells: its identifier, `#`, and its eight data bytes, all in hexadecimal digits.
+fn frame_of(text: &str) -> Result<Frame, Fail> {
+    let (id, digits) = text.split_once('#').ok_or("no data")?;
+    let id = u16::from_str_radix(id, 16)?;
+    let number = u64::from_str_radix(digits, 16)?;
+    Ok(Frame::new(id, &number.to_be_bytes())?)
+}
+
+/// SDO channels over a dictionary, each with room for every entry.
+#[derive(Drop)]
+pub(crate) struct Served<S: ObjectStore> {
+    pub(crate) bank: Bank,
+    pub(crate) store: S,
+    ghost room: { HaveRoom (S.description store).rows (all_settings bank) },
+}
+
+/// The sheet with two channels at node-ID 5, with room for strings of 16 bytes; `time` is that of a transfer.
+pub(crate) fn two_channels(alloc: Global, time: u16) -> Result<Served<ListStore>, Fail> {
+    let sheet = read(alloc, TWO_CHANNELS.as_bytes())?;
+    let limits = Limits {
+        strings: 16,
+        domains: 0,
+        own: &[],
+    };
+    let store = ListStore::build(alloc, &sheet, 5, &limits)?;
+    Ok(Served::over(alloc, store, time)?)
+}
+
+impl<S: ObjectStore + Drop> Served<S> {
+    fn over(alloc: Global, store: S, time: u16) -> Result<Served<S>, AllocError> {
+        capacity_law(&store);
+        let bank = Bank::new(alloc, &store, 65535, time)?;
+        Ok(Served { bank, store })
+    }
+
+    // The frames that are sent at a word: `+` is a tick, any other a frame that comes.
+    fn sent_at(&mut self, word: &str) -> Result<Outbox, Fail> {
+        let mut sent = Outbox::new();
+        if word == "+" {
+            self.bank.tick(&mut sent);
+        } else {
+            let frame = frame_of(word)?;
+            self.bank.take(&mut self.store, &frame, &mut sent);
+        }
+        Ok(sent)
+    }
+
+    /// Whether in each line of a text the first word is answered by the frames after it, and no other.
+    pub(crate) fn shows(&mut self, rt: &impl Abort, dialogue: &str) -> Result<(), Fail> {
+        for line in dialogue.lines() {
+            let mut words = line.split_whitespace();
+            if let Some(word) = words.next() {
+                let sent = self.sent_at(word)?;
+                let mut count = 0usize;
+                for text in words {
+                    assert_eq!(rt; sent.get(count), Some(&frame_of(text)?), "{line}");
+                    count = count.saturating_add(1);
+                }
+                assert_eq!(rt; sent.len(), count, "{line}");
+            }
+        }
+        Ok(())
+    }
+
+    /// How many bytes channels 0, 1 and 2 hold.
+    pub(crate) fn held(&self) -> [usize; 3] {
+        [self.bank.held(0), self.bank.held(1), self.bank.held(2)]
+    }
+
+    /// Whether the string at 2001h has these bytes.
+    pub(crate) fn has(&self, bytes: &[u8]) -> bool {
+        match self.store.bytes(Key {
+            index: 0x2001,
+            sub: 0,
+        }) {
+            Some(found) => found == bytes,
+            None => false,
+        }
+    }
+}
