@@ -1,10 +1,10 @@
 -- What asking for the next line leaves of a line reader.
-use Rattle.std.specs.Prelude.{◌≡◌, ℕ, ◌≤◌, List, [], false, Option, Some, None, Result, IfOk, IfErr, IfSome, IfNone}
+use Rattle.std.specs.Prelude.{◌≡◌, ℕ, ◌<◌, ◌≤◌, List, [], false, Option, Some, None, Result, IfOk, IfErr, IfSome, IfNone}
 use Rattle.std.specs.Io.KnownBytes.{IsAtEnd}
 use Rattle.co_stream.specs.declared.fault.LineFault.{LineFault}
 use Rattle.co_stream.specs.declared.fault.LineFault.TheVariants.{NeverEnds}
 use Rattle.co_stream.specs.Lines.{GivesLine}
-use Rattle.co_stream.specs.Readings.{Reading, to_come}
+use Rattle.co_stream.specs.Readings.{Reading, to_come, most_bytes}
 use denote.Ref.{Bor}
 
 -- nothing was read yet
@@ -21,4 +21,6 @@ pub record IsNext (old new : Reading) (before after : Option (List ℕ)) (result
   pub fault : IfErr result (λ fault. new.fault ≡ Some fault)
   pub no_fault : IfOk result (λ _. new.fault ≡ None)
   pub asked : new.asks ≤ old.asks
+  -- a line takes one of the bytes that can still come, or more
+  pub fewer : IfOk result (λ next. IfSome next (λ _. most_bytes new.asks new.rest < most_bytes old.asks old.rest))
   pub never_ends : IfErr result (λ fault. fault ≡ NeverEnds → old.fault ≡ None → new.asks ≡ 0)

@@ -1,5 +1,5 @@
 -- How far a line reader is.
-use Rattle.std.specs.Prelude.{◌≡◌, ℕ, Bool, true, false, List, Option, Some}
+use Rattle.std.specs.Prelude.{◌≡◌, ℕ, ◌+◌, ◌*◌, length, Bool, true, false, List, Option, Some}
 use Rattle.std.specs.Io.KnownBytes.{prepend_known, Consumes}
 use Rattle.co_stream.specs.declared.fault.LineFault.{LineFault}
 use Rattle.co_stream.specs.Lines.{has_line_feed}
@@ -8,6 +8,10 @@ use Rattle.co_stream.specs.Lines.{has_line_feed}
 abbrev pub known_bytes : Bool → List ℕ → Option (List ℕ) → Option (List ℕ)
 known_bytes true given remaining = Some given
 known_bytes false given remaining = prepend_known given remaining
+
+-- how many bytes can still come at most: a reader gives 512 bytes at once at most
+abbrev pub most_bytes : ℕ → List ℕ → ℕ
+most_bytes asks given = 512 * asks + length given
 
 -- a line reader, as its contracts see it
 pub record Reading : Type 0 where

@@ -6,7 +6,7 @@ ghost use Rattle.std.specs.Str.Lines.{strip_carriage_return};
 ghost use Rattle.co_stream.specs.declared.fault.LineFault.TheVariants.{TooLong, NeverEnds};
 ghost use Rattle.co_stream.specs.declared.fault.AskFault.TheVariants as ask;
 ghost use Rattle.co_stream.specs.Lines.{has_line_feed, IsTooLong, GivesLine};
-ghost use Rattle.co_stream.specs.Readings.{known_bytes, LosesPartOfLine};
+ghost use Rattle.co_stream.specs.Readings.{known_bytes, most_bytes, LosesPartOfLine};
 
 use crate::asks::Asks;
 use crate::fault::{AskFault, LineFault};
@@ -65,6 +65,8 @@ impl LineCutter {
         ensures ended { self.old.ended ≡ true → (reader.new ≡ reader.old) × (self.new.ended ≡ true) }
         ensures asked { self.new.asks ≤ self.old.asks }
         ensures counted { result ≡ Ok true → self.new.asks < self.old.asks }
+        ensures few { OnOk result (most_bytes self.new.asks self.new.piece
+            ≤ most_bytes self.old.asks self.old.piece) }
         ensures never_ends { IfErr result (λ fault. fault ≡ ask.NeverEnds → self.new.asks ≡ 0) }
     {
         if self.ended {
@@ -92,6 +94,8 @@ impl LineCutter {
         ensures held { has_line_feed self.old.piece ≡ true → reader.new ≡ reader.old }
         ensures ended { self.old.ended ≡ true → (reader.new ≡ reader.old) × (self.new.ended ≡ true) }
         ensures asked { self.new.asks ≤ self.old.asks }
+        ensures fewer { result ≡ Ok true → most_bytes self.new.asks self.new.piece
+            < most_bytes self.old.asks self.old.piece }
         ensures never_ends { IfErr result (λ fault. fault ≡ LineFault.NeverEnds → self.new.asks ≡ 0) }
     {
         self.line.clear();

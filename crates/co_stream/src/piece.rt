@@ -6,6 +6,7 @@ ghost use Rattle.std.specs.Str.Lines.{strip_carriage_return};
 ghost use Rattle.co_stream.specs.declared.fault.LineFault.TheVariants.{TooLong};
 ghost use Rattle.co_stream.specs.declared.fault.AskFault.TheVariants.{NeverEnds};
 ghost use Rattle.co_stream.specs.Lines.{has_line_feed, BeginsTooLong};
+ghost use Rattle.co_stream.specs.Readings.{most_bytes};
 
 use crate::asks::{Asks, ask};
 use crate::fault::{AskFault, LineFault};
@@ -74,6 +75,7 @@ impl Piece {
         ensures err { OnErr result (Keeps (R.remaining reader.old) (R.remaining reader.new)) }
         ensures asked { asks.new ≤ asks.old }
         ensures counted { OnOk result (asks.new < asks.old) }
+        ensures few { OnOk result (most_bytes asks.new self.new ≤ most_bytes asks.old []) }
         ensures never_ends { IfErr result (λ fault. fault ≡ AskFault.NeverEnds → asks.new ≡ 0) }
     {
         self.start = 0;

@@ -4,6 +4,7 @@ use crate::fakes::{Narrow, Source, expect_lines, lines_of};
 use conode_decode::{decode, decode_files, decode_input};
 use conode_io::{CmdFault, Ending};
 use std::fs;
+use std::io::{Input, Read};
 use std::process::{Abort, ExitCode};
 use std::rt::Files;
 use std::test::Fail;
@@ -43,7 +44,7 @@ const TWO_FRAMES: &[u8; 46] = b"(0.000000) can0 705#00\n(0.000000) can0 185#01\n
 
 const TWO_TEXTS: &[u8; 46] = b"1 705#00 boot-up node 5\n2 185#01 TPDO1 node 5\n";
 
-/// Ten bytes at a time, five reads and one at the end: each of them fails in turn.
+/// Ten bytes at a time, five reads and one at the end: each of them fails in turn. The lines before it are written.
 #[test]
 fn reader_fails(rt: HostRuntime) -> Result<(), Fail> {
     for calls in 0..7 {
@@ -56,11 +57,64 @@ fn reader_fails(rt: HostRuntime) -> Result<(), Fail> {
         let outcome = decode(rt.alloc(), &mut reader, None, None, &mut written);
         if calls < 6 {
             assert_eq!(rt; outcome, Err(CmdFault::Read), "at {calls}");
-            assert!(rt; written.is_empty(), "at {calls}");
+            let whole = match calls {
+                0..=2 => 0,
+                3..=4 => 24,
+                _ => 46,
+            };
+            assert_eq!(rt; written.as_slice(), &TWO_TEXTS[..whole], "at {calls}");
         } else {
             assert_eq!(rt; outcome, Ok(()));
             assert_eq!(rt; written.as_slice(), TWO_TEXTS.as_slice());
         }
+    }
+    Ok(())
+}
+
+/// The input comes in two pieces, cut at each byte.
+#[test]
+fn each_cut(rt: HostRuntime) -> Result<(), Fail> {
+    for cut in 0..47 {
+        let (front, rest) = TWO_FRAMES.split_at(cut);
+        let mut written = Vec::new(rt.alloc());
+        let mut input = front.chain(rest);
+        let outcome = decode(rt.alloc(), &mut input, None, None, &mut written);
+        assert_eq!(rt; outcome, Ok(()));
+        assert_eq!(rt; written.as_slice(), TWO_TEXTS.as_slice(), "at {cut}");
+    }
+    Ok(())
+}
+
+/// The first line came whole with the last of all reads.
+#[test]
+fn never_ends(rt: HostRuntime) -> Result<(), Fail> {
+    let mut reader = Source {
+        text: TWO_FRAMES,
+        interruptions: 16_777_213,
+        calls: u32::MAX,
+    };
+    let mut written = Vec::new(rt.alloc());
+    let outcome = decode(rt.alloc(), &mut reader, None, None, &mut written);
+    assert_eq!(rt; outcome, Err(CmdFault::NeverEnds));
+    assert_eq!(rt; written.as_slice(), &TWO_TEXTS[..24]);
+    Ok(())
+}
+
+/// A comment of 512 bytes is a line; one of 513 is none.
+#[test]
+fn longest_line(rt: HostRuntime) -> Result<(), Fail> {
+    for (size, wanted) in [(512, Ok(())), (513, Err(CmdFault::BadLine(1)))] {
+        let mut trace = vec![in rt.alloc(); b';'; size]?;
+        trace.extend_from_slice(b"\r\n")?;
+        let mut written = Vec::new(rt.alloc());
+        let outcome = decode(
+            rt.alloc(),
+            &mut trace.as_slice(),
+            None,
+            None,
+            &mut written,
+        );
+        assert_eq!(rt; outcome, wanted);
     }
     Ok(())
 }
@@ -89,7 +143,7 @@ const NAMES: &str = "conode-names.eds";
 
 /// What is said on both sides of the file, decoded with a sheet or without one; the status is 1.
 fn decode_stops(
-    rt: &(impl Files + AllocGlobal + Abort),
+    rt: &(impl Files + AllocGlobal + Input + Abort),
     sheet: Option<&str>,
     on_out: &str,
     on_err: &str,

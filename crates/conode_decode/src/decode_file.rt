@@ -3,7 +3,7 @@
 ghost use Rattle.std.specs.Prelude.{◌≡◌, ◌⊎◌, ℕ, [], IfSome, Some, None};
 ghost use Rattle.std.specs.Option.{option_copied};
 ghost use Rattle.std.specs.Process.{exit_status};
-ghost use Rattle.conode_decode.specs.DecodedTraces.{names_in, trace_in, trace_lines};
+ghost use Rattle.conode_decode.specs.DecodedTraces.{lines_of, names_in, trace_in, trace_lines, FailsWithinLine};
 ghost use Rattle.conode_io.specs.Endings.{SomeStopped, WritesStopped};
 ghost use Rattle.conode_io.specs.Written.{WritesFrontOrLines, WritesLines};
 
@@ -12,9 +12,12 @@ use co_sheet::{Sheet, read};
 use conode_io::{CmdFault, Ending, Message, file_text, flushed, out_of_memory, say, stopped};
 use std::alloc::Global;
 use std::fs;
-use std::io::{Read, Write};
+use std::io::{Input, Read, Write};
 use std::process::ExitCode;
 use std::rt::Files;
+
+/// The path that stands for standard input.
+const STANDARD_INPUT: &str = "-";
 
 /// Decodes an input, a trace, on `out`, and says why it stopped where it did: on `out`, after what was decoded before, or
 /// where that can't be written on `err`.
@@ -43,15 +46,16 @@ pub fn decode_input<R: Read, O: Write, E: Write>(
 
     // Memory ran out: some of these lines are written, never all, and then that it ran out.
     ensures memory { result ≡ Ending.Said CmdFault.Memory →
-        WritesStopped (O.contents out.old) (O.contents out.new) [] CmdFault.Memory
-        ⊎ IfSome (R.remaining input.old) (λ text.
+        IfSome (R.remaining input.old) (λ text.
         SomeStopped (O.contents out.old) (O.contents out.new)
         (trace_lines (names_in (option_copied sheet.entry) node) text) CmdFault.Memory) }
 
-    // The input is not read to its end: only this is written.
+    // The input fails within a line; the lines of the frames before it are written, and then the fault.
     ensures unread { (fault : CmdFault) → (fault ≡ CmdFault.Read) ⊎ (fault ≡ CmdFault.NeverEnds) →
         result ≡ Ending.Said fault →
-        WritesStopped (O.contents out.old) (O.contents out.new) [] fault }
+        FailsWithinLine (R.remaining input.old) (R.remaining input.new) (λ taken.
+        WritesStopped (O.contents out.old) (O.contents out.new)
+        (lines_of (names_in (option_copied sheet.entry) node) taken) fault) }
 
     // Some or all of these lines are written, perhaps a part of the next, and `err` has why.
     ensures write { result ≡ Ending.Said CmdFault.Write →
@@ -76,8 +80,8 @@ fn cannot_read<E: Write>(path: &str, err: &mut E) -> ExitCode
     ExitCode::FAILURE
 }
 
-// decodes the trace of a path
-fn decode_trace<R: Files + AllocGlobal, O: Write, E: Write>(
+// decodes the trace of a path, or where that is `-` standard input
+fn decode_trace<R: Files + AllocGlobal + Input, O: Write, E: Write>(
     rt: &R,
     path: &str,
     sheet: Option<&Sheet<'_>>,
@@ -87,6 +91,9 @@ fn decode_trace<R: Files + AllocGlobal, O: Write, E: Write>(
 ) -> ExitCode
     ensures { (exit_status result ≡ 0) ⊎ (exit_status result ≡ 1) }
 {
+    if path == STANDARD_INPUT {
+        return decode_input(rt.alloc(), &mut rt.reader(), sheet, node, out, err).status();
+    }
     match fs::open(rt, path) {
         Ok(mut file) => decode_input(rt.alloc(), &mut file, sheet, node, out, err).status(),
         Err(_) => cannot_read(path, err),
@@ -94,7 +101,7 @@ fn decode_trace<R: Files + AllocGlobal, O: Write, E: Write>(
 }
 
 // decodes the trace of a path with the names of a sheet, if the text is one
-fn decode_named<R: Files + AllocGlobal, O: Write, E: Write>(
+fn decode_named<R: Files + AllocGlobal + Input, O: Write, E: Write>(
     rt: &R,
     path: &str,
     text: &[u8],
@@ -113,9 +120,9 @@ fn decode_named<R: Files + AllocGlobal, O: Write, E: Write>(
     }
 }
 
-/// Decodes the trace of a path, with the names of the data sheet of another path, as `decode_input` does. The sheet is read
-/// first: its fault goes to `out`. A file that can't be read is named on `err`. The status is then 1.
-pub fn decode_files<R: Files + AllocGlobal, O: Write, E: Write>(
+/// Decodes the trace of a path, or of standard input where that is `-`, with the names of the data sheet of another path, as
+/// `decode_input` does. The sheet is read first: its fault goes to `out`. A file that can't be read is named on `err`. The status is then 1.
+pub fn decode_files<R: Files + AllocGlobal + Input, O: Write, E: Write>(
     rt: &R,
     trace: &str,
     sheet: Option<&str>,

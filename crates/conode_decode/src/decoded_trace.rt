@@ -1,17 +1,18 @@
 //! A trace decoded: each frame with what it says.
 
-ghost use Rattle.std.specs.Prelude.{◌≡◌, ◌⊎◌, ◌≢◌, ℕ, OnOk, IfErr, IfSome, Err, Some, None};
+ghost use Rattle.std.specs.Prelude.{◌≡◌, ◌⊎◌, ℕ, OnOk, ◌+◌, ◌<◌, ◌^◌, IfErr, IfSome, Err, Some, None};
 ghost use Rattle.std.specs.Option.{option_copied};
 ghost use Rattle.std.specs.Io.KnownBytes.{Keeps};
 ghost use Rattle.conode_decode.specs.Names.{names_view};
-ghost use Rattle.conode_decode.specs.DecodedTraces.{names_in, said_lines, trace_in, trace_lines};
-ghost use Rattle.conode_io.specs.Written.{WritesFront, WritesLines, WritesSome};
+ghost use Rattle.conode_decode.specs.DecodedTraces.{names_in, said_lines, trace_in, trace_lines, lines_of, Decoded, FailsWithinLine, NamesLongLine};
+ghost use Rattle.conode_io.specs.Written.{WritesFront, WritesFrontOrLines, WritesLines, WritesSome};
 
 use crate::line::set_decoded_line;
 use crate::names::Names;
 use co_sheet::Sheet;
-use conode_io::{Asks, CmdFault, hand_over, read_all};
-use conode_trace::{BadLine, TimedLine, TraceLine, TraceReader};
+use co_stream::{LineFault, LineReader};
+use conode_io::{CmdFault, flushed, hand_over};
+use conode_trace::{BadLine, TimedLine, TraceLine, TraceProgress};
 use std::alloc::Global;
 use std::io::{Read, Write};
 
@@ -40,51 +41,73 @@ fn write_line<W: Write>(
     hand_over(text.as_bytes(), writer)
 }
 
-// writes the lines of a text's frames, up to its first bad line
-fn write_trace<W: Write>(
+// why a trace isn't decoded to its end where no line comes
+fn line_fault(fault: LineFault, progress: &TraceProgress) -> CmdFault
+    requires { progress.now.number + 1 < 2 ^ 64 }
+    ensures read { fault ≡ LineFault.Read → result ≡ CmdFault.Read }
+    ensures never_ends { fault ≡ LineFault.NeverEnds → result ≡ CmdFault.NeverEnds }
+    ensures too_long { fault ≡ LineFault.TooLong → NamesLongLine progress.now result }
+{
+    match fault {
+        LineFault::Read => CmdFault::Read,
+        LineFault::NeverEnds => CmdFault::NeverEnds,
+        LineFault::TooLong => {
+            let BadLine(number) = progress.too_long();
+            CmdFault::BadLine(number)
+        }
+    }
+}
+
+// lets out what was decoded, before a read that could wait
+fn let_out<W: Write>(lines: &LineReader, writer: &mut W) -> Result<(), CmdFault>
+    ensures text { Keeps (W.contents writer.old) (W.contents writer.new) }
+    ensures err { IfErr result (λ fault. fault ≡ CmdFault.Write) }
+{
+    if lines.has_line() {
+        return Ok(());
+    }
+    flushed(writer, Ok(()))
+}
+
+// decodes line by line
+fn decode_lines<R: Read, W: Write>(
     alloc: Global,
-    text: &[u8],
+    reader: &mut R,
     names: Names<'_, '_>,
     writer: &mut W,
 ) -> Result<(), CmdFault>
-    ensures ok { OnOk result ((trace_in text.now).bad ≡ None) }
-    ensures text { OnOk result (WritesLines (W.contents writer.old) (W.contents writer.new)
-        (trace_lines (names_view names.entry) text.now)) }
-    ensures bad_line { (number : ℕ) → result ≡ Err (CmdFault.BadLine number) →
-        (trace_in text.now).bad ≡ Some number }
-    ensures before { (number : ℕ) → result ≡ Err (CmdFault.BadLine number) →
-        WritesLines (W.contents writer.old) (W.contents writer.new)
-        (trace_lines (names_view names.entry) text.now) }
-    ensures write { result ≡ Err CmdFault.Write →
-        WritesFront (W.contents writer.old) (W.contents writer.new)
-        (trace_lines (names_view names.entry) text.now) }
-    ensures memory { result ≡ Err CmdFault.Memory →
-        WritesSome (W.contents writer.old) (W.contents writer.new)
-        (trace_lines (names_view names.entry) text.now) }
-    ensures others { IfErr result (λ fault.
-        (fault ≢ CmdFault.Read) × (fault ≢ CmdFault.NeverEnds)) }
+    ensures { Decoded (names_view names.entry) (R.remaining reader.old) (R.remaining reader.new)
+        (W.contents writer.old) (W.contents writer.new) result }
 {
-    let mut reader = TraceReader::new(text);
-    let mut line = String::new(alloc);
-    while let Some(read) = reader.next() {
-        match read {
-            Ok(timed) => write_line(&mut line, names, &timed, writer)?,
-            Err(BadLine(number)) => return Err(CmdFault::BadLine(number)),
+    let mut text = String::new(alloc);
+    let mut lines = LineReader::new();
+    let mut progress = TraceProgress::new();
+    'trace: loop {
+        let_out(&lines, writer)?;
+        match lines.next(reader) {
+            Ok(Some(line)) => match progress.read(line) {
+                Ok(timed) => write_line(&mut text, names, &timed, writer)?,
+                Err(BadLine(number)) => return Err(CmdFault::BadLine(number)),
+            },
+            Ok(None) => return Ok(()),
+            Err(fault) => return Err(line_fault(fault, &progress)),
         }
     }
-    Ok(())
 }
 
-/// Decodes a trace as `candump -L` writes it: the whole input is read first, then for each frame a line is
+/// Decodes a trace as `candump -L` writes it, line by line and in constant memory: for each frame a line is
 /// written, with the number of its line in the trace, the frame and what it says (CiA 301, 7.2), as
 /// `1 605#2B171000E8030000 SDO request node 5 download 1017:00 expedited E803`. With a data sheet (CiA 306) the
 /// ParameterName of an entry follows; with a node-ID too, for this node alone. Event lines and frames that
 /// are passed over are checked and write nothing.
 ///
-/// `Read` and `NeverEnds` come before anything is written. `BadLine` is the first line that is no line of a
-/// trace, or whose stamp is more than a day past the clock; what comes before it has been written. After
-/// `Write` a part of the text has been written, and after `Memory` some of its lines, never all; or `Memory`
-/// came before anything was written.
+/// The writer is flushed before each read that could wait, and not while a whole line is held: so a writer with a buffer
+/// passes on what was decoded of a piece in one go, and never later than the next read.
+///
+/// `BadLine` is the first line that is no line of a trace, that has more than 512 bytes, or whose stamp is more than a
+/// day past the clock. Before `BadLine`, `Read` and `NeverEnds` all lines before it have been written; what the reader gave
+/// after them before `Read` or `NeverEnds` is a part of a line. After `Write` a part of the text has been written, or all
+/// of it where the flush failed; after `Memory` some of its lines, never all.
 pub fn decode<R: Read, W: Write>(
     alloc: Global,
     reader: &mut R,
@@ -107,22 +130,22 @@ pub fn decode<R: Read, W: Write>(
         WritesLines (W.contents writer.old) (W.contents writer.new)
         (trace_lines (names_in (option_copied sheet.entry) node) text)) }
 
-    // A part of these lines is written.
+    // A part of these lines is written, or all of them.
     ensures write { result ≡ Err CmdFault.Write →
         IfSome (R.remaining reader.old) (λ text.
-        WritesFront (W.contents writer.old) (W.contents writer.new)
+        WritesFrontOrLines (W.contents writer.old) (W.contents writer.new)
         (trace_lines (names_in (option_copied sheet.entry) node) text)) }
     ensures memory { result ≡ Err CmdFault.Memory →
-        Keeps (W.contents writer.old) (W.contents writer.new)
-        ⊎ IfSome (R.remaining reader.old) (λ text.
+        IfSome (R.remaining reader.old) (λ text.
         WritesSome (W.contents writer.old) (W.contents writer.new)
         (trace_lines (names_in (option_copied sheet.entry) node) text)) }
 
-    // The input is not read to its end.
+    // The reader fails within a line, and the lines of the frames before it are written.
     ensures unread { IfErr result (λ fault. (fault ≡ CmdFault.Read) ⊎ (fault ≡ CmdFault.NeverEnds) →
-        Keeps (W.contents writer.old) (W.contents writer.new)) }
+        FailsWithinLine (R.remaining reader.old) (R.remaining reader.new) (λ taken.
+        WritesLines (W.contents writer.old) (W.contents writer.new)
+        (lines_of (names_in (option_copied sheet.entry) node) taken))) }
 {
-    let text = read_all(alloc, reader, &mut Asks::new())?;
     let names = Names { sheet, only: node };
-    write_trace(alloc, text.as_slice(), names, writer)
+    decode_lines(alloc, reader, names, writer)
 }

@@ -4,29 +4,30 @@ ghost use Rattle.std.specs.Prelude.{◌≡◌, ◌⊎◌, IfErr};
 ghost use Rattle.std.specs.Process.{exit_status};
 
 use crate::fault::CmdFault;
-use crate::input::{Asks, read_all};
 use crate::message::Message;
 use crate::output::say;
-use co_sheet::{FaultKind, GREATEST_SIZE, SheetFault};
+use co_sheet::{FaultKind, SheetFault, StreamFault, read_text};
 use std::fs;
-use std::io::{Read, Write};
+use std::io::Write;
 use std::process::ExitCode;
 use std::rt::Files;
 
 /// As much of a file as a data sheet may have, and a byte more where there is one, so that it is seen to be too large.
-/// `Read` where the file can't be opened or read; else as `read_all`.
+/// `Read` where the file can't be opened or read; `Memory` and `NeverEnds` as `read_text` answers them.
 pub fn file_text<R: Files + AllocGlobal>(rt: &R, path: &str) -> Result<Vec<u8>, CmdFault>
     ensures { IfErr result (λ fault. (fault ≡ CmdFault.Read) ⊎ (fault ≡ CmdFault.Memory)
         ⊎ (fault ≡ CmdFault.NeverEnds)) }
 {
-    let Ok(file) = fs::open(rt, path) else {
+    let Ok(mut file) = fs::open(rt, path) else {
         return Err(CmdFault::Read);
     };
-    read_all(
-        rt.alloc(),
-        &mut file.take(GREATEST_SIZE as u64 + 1),
-        &mut Asks::new(),
-    )
+    let mut text = Vec::new(rt.alloc());
+    match read_text(&mut file, &mut text) {
+        Ok(()) => Ok(text),
+        Err(StreamFault::Read) => Err(CmdFault::Read),
+        Err(StreamFault::NeverEnds) => Err(CmdFault::NeverEnds),
+        Err(StreamFault::Memory) => Err(CmdFault::Memory),
+    }
 }
 
 /// Says that memory ran out while a data sheet was read. The status is 1.

@@ -8,6 +8,7 @@ pub mod GrammarFields
 pub mod GrammarLines
 pub mod GrammarRuns
 pub mod Numbers
+pub mod ProgressLemmas
 pub mod Reading
 pub mod TraceExamples
 pub mod Words

@@ -78,6 +78,15 @@ trace_of lines = trace_from 1 clock_at_start lines
 
 -- ---- a trace that is read line by line
 
+-- the number of lines read, and the clock after them
+pub record Progress : Type 0 where
+  pub number : ℕ
+  pub clock : ClockState
+
+-- the trace of the lines that come next
+unfoldable pub trace_next : Progress → List (List ℕ) → Trace
+trace_next progress lines = trace_from (progress.number + 1) progress.clock lines
+
 -- the lines that are left, the number of lines read, and the clock after them
 pub record ReaderState : Type 0 where
   pub lines : List (List ℕ)

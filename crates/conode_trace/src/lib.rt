@@ -8,6 +8,7 @@ mod frame_fields;
 mod frame_text;
 mod timed_line;
 mod trace_line;
+mod trace_progress;
 mod trace_reader;
 
 pub use clock::Clock;
@@ -15,4 +16,5 @@ pub use event_line::{AppLine, EventLine};
 pub use frame_text::{push_frame, set_frame_line};
 pub use timed_line::TimedLine;
 pub use trace_line::TraceLine;
+pub use trace_progress::TraceProgress;
 pub use trace_reader::{BadLine, TraceReader};

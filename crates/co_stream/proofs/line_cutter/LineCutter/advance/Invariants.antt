@@ -1,7 +1,7 @@
-use Rattle.std.proofs.Common.{◌≡◌, ◌≤◌, true, false}
+use Rattle.std.proofs.Common.{◌≡◌, ◌+◌, ◌≤◌, length, true, false}
 use Rattle.std.specs.Io.KnownBytes.{Consumes}
 use Rattle.co_stream.specs.Lines.{has_line_feed}
-use Rattle.co_stream.specs.Readings.{known_bytes}
+use Rattle.co_stream.specs.Readings.{known_bytes, most_bytes}
 use Rattle.co_stream.proofs.line_cutter.LineCutter.advance.Given as goal
 
 abbrev pub invariant-loop-self : goal.invariant-loop-self
@@ -13,6 +13,7 @@ invariant-loop-self g l =
       held : has_line_feed l.fn.self.piece ≡ true → (l.reader ≡ l.fn.reader) × (l.self.piece ≡ l.fn.self.piece);
       ended : l.fn.self.ended ≡ true → (l.reader ≡ l.fn.reader) × (l.self.ended ≡ true);
       asked : l.self.asks ≤ l.fn.self.asks;
+      few : length l.self.line + most_bytes l.self.asks l.self.piece ≤ most_bytes l.fn.self.asks l.fn.self.piece;
     }
 
 abbrev pub decreases-loop-self : goal.decreases-loop-self
