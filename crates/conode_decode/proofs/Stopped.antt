@@ -1,9 +1,9 @@
 -- What a writer holds where decoding stopped and said why.
-use Rattle.std.proofs.Common.{◌≡◌, ℕ, List, Option, None, Some, IfSome, Result, Ok, Err, refl, inl, inr, ap, sym, subst}
+use Rattle.std.proofs.Common.{◌≡◌, ℕ, List, Option, None, Some, IfSome, Result, Ok, Err, inl, inr, ap, subst}
 use Rattle.std.specs.Prelude.{◌⊎◌, IfErr, OnOk}
 use Rattle.std.specs.List.{flat_map}
 use Rattle.std.specs.Io.KnownBytes.{Appends, Keeps}
-use Rattle.std.proofs.KnownBytes.{Appends-kept, Keeps-trans}
+use Rattle.std.proofs.KnownBytes.{Appends-kept}
 use Rattle.conode_io.specs.declared.fault.CmdFault.{CmdFault}
 use Rattle.conode_io.specs.declared.fault.CmdFault.TheVariants.{Read, Write, NeverEnds}
 use Rattle.conode_io.specs.Endings.{stopped_line, SomeStopped, WritesStopped}

@@ -1,13 +1,12 @@
-use Rattle.std.proofs.Common.{◌≡◌, ◌≢◌, ◌+◌, ◌≤◌, List, ℕ, Result, Some, None, Ok, Err, refl, sym, ap, subst, ◌∙◌, arith, rules}
+use Rattle.std.proofs.Common.{◌≡◌, Some, None, Ok, Err, sym, ap, subst, ◌∙◌, arith, rules}
 use Rattle.std.specs.Prelude.{IsNone}
 use Rattle.std.proofs.lemmas.Result.{err_from_is_err_and}
-use Rattle.co_stream.specs.declared.fault.LineFault.TheVariants.{TooLong}
-use Rattle.co_stream.specs.Readings.{to_come, LosesPartOfLine}
+use Rattle.co_stream.specs.Readings.{to_come}
 use Rattle.conode_io.specs.declared.fault.CmdFault.{CmdFault}
-use Rattle.conode_io.specs.declared.fault.CmdFault.TheVariants.{Write, Memory}
+use Rattle.conode_io.specs.declared.fault.CmdFault.TheVariants.{Write}
 use Rattle.conode_decode.specs.Names.{names_view}
 use Rattle.conode_decode.specs.DecodedTraces.{Decoded}
-use Rattle.conode_decode.proofs.Decoding.{decoded_none, decoded_flushed, decoded_more, ends, ends_at_bad_line, ends_at_fault, fails_to_flush, fails_in_line, next_line, next_fewer, next_no_fault, next_end}
+use Rattle.conode_decode.proofs.Decoding.{decoded_none, decoded_flushed, decoded_more, ends, ends_at_fault, fails_to_flush, fails_in_line, next_line, next_fewer, next_no_fault, next_end}
 use Rattle.conode_decode.proofs.decoded_trace.decode_lines.Goals as goal
 
 pub trace-init : goal.trace-init
