@@ -107,13 +107,7 @@ fn longest_line(rt: HostRuntime) -> Result<(), Fail> {
         let mut trace = vec![in rt.alloc(); b';'; size]?;
         trace.extend_from_slice(b"\r\n")?;
         let mut written = Vec::new(rt.alloc());
-        let outcome = decode(
-            rt.alloc(),
-            &mut trace.as_slice(),
-            None,
-            None,
-            &mut written,
-        );
+        let outcome = decode(rt.alloc(), &mut trace.as_slice(), None, None, &mut written);
         assert_eq!(rt; outcome, wanted);
     }
     Ok(())
