@@ -17,10 +17,10 @@ best_of_five() {
 mkdir -p "$folder/crates/channel_time/src"
 cp "$root/HANDLES" "$folder"
 {
-    grep -E '^co_(value|frame|lines|text|sheet|dict|build|sdo):' "$root/crates.txt"
+    "$root/bench/below.sh" co_sdo co_dict_list
     echo 'channel_time: co_value co_frame co_sheet co_dict co_dict_list co_sdo arrayvec anyhow'
 } > "$folder/crates.txt"
-for crate in co_value co_frame co_text co_sheet_text co_sheet co_dict co_dict_list co_sdo; do cp -R "$root/crates/$crate" "$folder/crates"; done
+"$root/bench/below.sh" co_sdo co_dict_list | cut -d: -f1 | while read -r crate; do cp -R "$root/crates/$crate" "$folder/crates"; done
 cat > "$folder/crates/channel_time/src/main.rt" << 'END'
 //! Downloads 65,535 bytes into the domain 2000h of the data sheet on standard input, segmented and by blocks, and copies
 //! the same frames into a list. Prints how many nanoseconds each took, and how many segments that were.

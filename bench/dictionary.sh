@@ -41,10 +41,10 @@ best_of_five() {
 mkdir -p "$folder/crates/dict_time/src"
 cp "$root/HANDLES" "$folder"
 {
-    grep -E '^co_(value|frame|lines|text|sheet|dict|build):' "$root/crates.txt"
+    "$root/bench/below.sh" co_dict_list
     echo 'dict_time: co_value co_sheet co_dict co_dict_list anyhow'
 } > "$folder/crates.txt"
-for crate in co_value co_frame co_text co_sheet_text co_sheet co_dict co_dict_list; do cp -R "$root/crates/$crate" "$folder/crates"; done
+"$root/bench/below.sh" co_dict_list | cut -d: -f1 | while read -r crate; do cp -R "$root/crates/$crate" "$folder/crates"; done
 cat > "$folder/crates/dict_time/src/main.rt" << 'END'
 //! Builds the dictionary of the data sheet on standard input, calls it for each of its numbers that may be written, many
 //! times in a mixed order, and prints how many nanoseconds each part took.

@@ -11,8 +11,8 @@ trap 'rm -rf "$folder"' EXIT
 
 mkdir -p "$folder/crates/refused/src"
 cp "$root/HANDLES" "$folder"
-{ grep -E '^co_(value|frame|lines|text|sheet|dict|sdo):' "$root/crates.txt"; echo 'refused: co_sheet co_sdo'; } > "$folder/crates.txt"
-for crate in co_value co_frame co_text co_sheet_text co_sheet co_dict co_sdo; do cp -R "$root/crates/$crate" "$folder/crates"; done
+{ "$root/bench/below.sh" co_sheet co_sdo; echo 'refused: co_sheet co_sdo'; } > "$folder/crates.txt"
+"$root/bench/below.sh" co_sheet co_sdo | cut -d: -f1 | while read -r crate; do cp -R "$root/crates/$crate" "$folder/crates"; done
 {
     cat << 'END'
 //! Reads two data sheets and makes a channel, three times each. The status is 0 where all are right, 2 where one was
@@ -25,9 +25,10 @@ use std::alloc::Global;
 use std::process::ExitCode;
 
 END
-    for sheet in large_sheet:LARGE out_of_memory:LATE; do
-        sed -n "/const ${sheet#*:}: /,/^\";\$/p" "$root/crates/cases/src/sheets/${sheet%:*}.rt" | sed 's/^pub(crate) //'
-    done
+    printf 'const LARGE: &str = "\\\n'
+    cat "$root/bench/pdo-device.eds"
+    printf '";\n'
+    sed -n '/const LATE: /,/^";$/p' "$root/crates/co_sheet_cases/src/sheets/out_of_memory.rt" | sed 's/^pub(crate) //'
     cat << 'END'
 
 #[derive(Clone, Copy)]
