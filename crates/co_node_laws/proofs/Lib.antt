@@ -1,0 +1,7 @@
+pub mod Below
+pub mod SameTpdos
+pub mod Writes
+pub mod Calls
+pub mod Changes
+pub mod Schedules
+mod Examples

@@ -1,0 +1,13 @@
+-- At which turns the schedule of TPDOs is asked which of them are due.
+use Rattle.std.specs.Prelude.{Bool, true, false}
+use Rattle.co_node_inputs.specs.declared.turn.Turn.{Turn}
+use Rattle.co_node_inputs.specs.declared.turn.Turn.TheVariants.{Quiet, StartAll, Start, Sync, Asked, Tick}
+
+-- a SYNC, events of the application, or a tick
+abbrev pub is_asked : Turn → Bool
+is_asked Quiet = false
+is_asked StartAll = false
+is_asked (Start n part) = false
+is_asked (Sync counter) = true
+is_asked (Asked asked) = true
+is_asked Tick = true

@@ -1,0 +1,6 @@
+//! What follows for every device and all its inputs from the definitions of a device: laws alone, no device.
+#![tactic(auto)]
+
+mod schedule;
+
+pub use schedule::{schedule_current, schedule_ready};

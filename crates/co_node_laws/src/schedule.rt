@@ -1,0 +1,40 @@
+//! The condition of the schedule of TPDOs, over all inputs. Each is a law: a call of it changes nothing.
+
+ghost use Rattle.std.specs.Prelude.{◌≡◌, ◌∷◌, true};
+ghost use Rattle.co_node_inputs.specs.Inputs.{InputView, Inputs};
+ghost use Rattle.co_node_parts.specs.declared.nmt_state.NodeState.TheVariants.{Operational};
+ghost use Rattle.co_pdo.specs.Schedules.{AllCurrent};
+ghost use Rattle.co_node_history.specs.Moments.{Constants};
+ghost use Rattle.co_node_history.specs.Logs.{schedule_log, turn_at};
+ghost use Rattle.co_node_history.specs.Phases.{moment};
+ghost use Rattle.co_node_history.specs.Histories.{moments, state_of, contents_of};
+ghost use Rattle.co_node_laws.specs.Calls.{is_asked};
+
+use co_dict::{invalid_pdo_law, own_rule_law};
+use co_pdo::written_from_2000;
+use co_sdo_bank::Bank;
+
+/// In operational, after whatever inputs, the schedule was started with what the entries of each TPDO are now: its COB-ID,
+/// transmission type, inhibit time and event timer (CiA 301, 7.2.2.2 to 7.2.2.4 and 7.5.2.37).
+pub fn schedule_current()
+    ensures { (k : Constants) (inputs : Inputs) → state_of k inputs ≡ Operational →
+        AllCurrent (contents_of k inputs) (schedule_log k (moments k inputs)) }
+{
+    own_rule_law();
+    invalid_pdo_law();
+    written_from_2000();
+    Bank::set_is_permitted();
+}
+
+/// And it is so as the schedule is asked at one more input, with the entries at the end of this input: so a device may ask
+/// which TPDOs are due, at a SYNC, events of the application, or a tick.
+pub fn schedule_ready()
+    ensures { (k : Constants) (inputs : Inputs) (input : InputView) →
+        is_asked (turn_at (moment k (moments k inputs) input) (moments k inputs)) ≡ true →
+        AllCurrent (contents_of k (input ∷ inputs)) (schedule_log k (moments k inputs)) }
+{
+    own_rule_law();
+    invalid_pdo_law();
+    written_from_2000();
+    Bank::set_is_permitted();
+}
