@@ -2,7 +2,7 @@
 use Rattle.std.proofs.Common.{◌≡◌, ℕ, zero, suc, ◌+◌, ◌<◌, ◌≤◌, Bool, true, false, Some, None, refl, ap, ◌∙◌, arith, inl, inr}
 use Rattle.std.proofs.lemmas.Bool.{or_left, or_right}
 use Rattle.std.proofs.Math.Nat.{eq-or-lt_of_le}
-use Rattle.std.specs.Prelude.{◌||◌, is_some, is_none, not}
+use Rattle.std.specs.Prelude.{is_some, is_none, not}
 use Rattle.std.specs.List.{list_any, range_with_len}
 use Rattle.co_value.specs.declared.key.Key.{Key}
 use Rattle.co_dict.specs.declared.row.Row.{Row}

@@ -1,5 +1,5 @@
 -- The COB-ID words of the emergency and of PDOs have the type UNSIGNED32.
-use Rattle.std.proofs.Common.{◌≡◌, Bool, true, Some, arith, inl, inr}
+use Rattle.std.proofs.Common.{◌≡◌, true, Some, arith, inl, inr}
 use Rattle.std.proofs.lemmas.Bool.{and_parts, or_cases}
 use Rattle.std.proofs.lemmas.Bool.Decides.{nat_tests}
 use Rattle.std.specs.Prelude.{◌==◌, ◌&&◌}

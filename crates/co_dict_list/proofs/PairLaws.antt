@@ -1,7 +1,7 @@
 -- A dictionary that was built has the COB-ID of each PDO communication parameter.
-use Rattle.std.proofs.Common.{◌≡◌, ℕ, ◌+◌, Bool, true, false, cond, List, [], ◌∷◌, Option, Some, None, refl, sym, ap, ◌∙◌, subst, map}
+use Rattle.std.proofs.Common.{◌≡◌, ℕ, ◌+◌, Bool, true, false, cond, List, [], ◌∷◌, Option, Some, None, refl, sym, ap, ◌∙◌, map}
 use Rattle.std.proofs.lemmas.Bool.{true≢false}
-use Rattle.std.specs.Prelude.{◌&&◌, ◌||◌, not, find, is_some, option_map}
+use Rattle.std.specs.Prelude.{◌&&◌, ◌||◌, not, find, option_map}
 use Rattle.std.specs.Option.{option_or}
 use Rattle.std.specs.List.{list_any, range_with_len}
 use Rattle.co_value.specs.declared.key.Key.{Key}

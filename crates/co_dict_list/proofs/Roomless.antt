@@ -14,7 +14,7 @@ use Rattle.co_dict.specs.Rows.{Rows, Contents, number_at}
 use Rattle.co_dict.specs.Stores.{Description}
 use Rattle.co_dict.specs.Refusals.{refused_if, first_refusal}
 use Rattle.co_dict.specs.Objects.{has_sub, has_object, subs_present}
-use Rattle.co_dict.specs.MappingWords.{mapped_key, mapped_bits, usable_dummy, may_be_mapped, entry_width, mapping_width, word_width}
+use Rattle.co_dict.specs.MappingWords.{mapped_key, mapped_bits, usable_dummy, may_be_mapped, word_width}
 use Rattle.co_dict.specs.MappingCounts.{is_mapping_index, counted_words, count_refusal}
 use Rattle.co_dict_list.specs.declared.build_fault.BuildFault.{BuildFault}
 use Rattle.co_dict_list.specs.declared.build_fault.BuildFault.TheVariants.{BadCobId, PdoPair, BadMapping}

@@ -6,7 +6,7 @@ use Rattle.co_dict.specs.Rows.{Contents}
 use Rattle.co_frame.specs.declared.nmt.NmtService.TheVariants.{Start, Stop, EnterPreOperational, ResetNode, ResetCommunication}
 use Rattle.co_frame.specs.declared.heartbeat.Heartbeat.TheVariants as heartbeat
 use Rattle.co_node_parts.specs.declared.nmt_state.NodeState.TheVariants.{PreOperational, Operational, Stopped}
-use Rattle.co_node_parts.specs.declared.rpdo_slots.SlotEvent.TheVariants.{Empty, Quiet}
+use Rattle.co_node_parts.specs.declared.rpdo_slots.SlotEvent.TheVariants.{Empty}
 use Rattle.co_pdo.specs.declared.tpdo.Part.TheVariants.{Whole, Timer}
 use Rattle.co_node_inputs.specs.Addresses.{is_error_control, is_sync_id, rpdo_with, address_of}
 use Rattle.co_node_inputs.specs.declared.address.Address.TheVariants.{Nmt, Sync, Channel, Rpdo, ErrorControl, Nobody}

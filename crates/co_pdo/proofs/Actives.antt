@@ -1,11 +1,10 @@
 -- A PDO that is active is there.
-use Rattle.std.proofs.Common.{◌≡◌, ℕ, Bool, true, false, List, [], Option, Some, None, refl, sym, ap, ◌∙◌}
-use Rattle.std.specs.Prelude.{◌&&◌, is_some}
-use Rattle.co_value.specs.declared.key.Key.{Key}
+use Rattle.std.proofs.Common.{◌≡◌, ℕ, Bool, true, false, Option, Some, None, refl, sym, ◌∙◌}
+use Rattle.std.specs.Prelude.{is_some}
 use Rattle.co_dict.specs.declared.side.Side.{Side}
-use Rattle.co_dict.specs.Rows.{Rows, Contents}
+use Rattle.co_dict.specs.Rows.{Contents}
 use Rattle.co_dict.specs.Stores.{Description, IsDictionary}
-use Rattle.co_pdo.specs.Mappings.{communication_of, has_pdo}
+use Rattle.co_pdo.specs.Mappings.{has_pdo}
 use Rattle.co_pdo.specs.Pdos.{communication_key, is_pdo_active}
 
 no_bytes : {X Y : Type 0} (o : Option X) (r : Option Y) → is_some o ≡ is_some r → is_some r ≡ false → o ≡ None

@@ -1,5 +1,5 @@
 -- What the data of an RPDO may write: entries from 2000h on.
-use Rattle.std.proofs.Common.{◌≡◌, ◌≢◌, ℕ, ◌<◌, Bool, true, false, cond, List, [], ◌∷◌, ◌++◌, Option, Some, None, refl, sym, ap, ◌∙◌, subst, arith}
+use Rattle.std.proofs.Common.{◌≡◌, ℕ, ◌<◌, Bool, true, false, cond, List, [], ◌∷◌, Option, Some, None, refl, ap, ◌∙◌, arith}
 use Rattle.std.specs.Prelude.{◌&&◌, ◌||◌, ◌==◌, ◌*◌, nat_le, nat_lt, length, is_some, option_map, option_and_then}
 use Rattle.std.specs.List.{filter_map, list_all}
 use Rattle.std.proofs.lemmas.Bool.{and_parts, and_from}
@@ -8,16 +8,15 @@ use Rattle.co_value.specs.declared.key.Key.{Key}
 use Rattle.co_value.specs.Keys.{same_key}
 use Rattle.co_value.specs.Types.{width_of}
 use Rattle.co_dict.specs.declared.row.Row.{Row}
-use Rattle.co_dict.specs.declared.side.Side.{Side}
 use Rattle.co_dict.specs.declared.side.Side.TheVariants.{Rpdo}
-use Rattle.co_dict.specs.Rows.{Rows, Contents, number_at, written}
-use Rattle.co_dict.specs.Stores.{Description, IsDictionary}
+use Rattle.co_dict.specs.Rows.{Contents, written}
+use Rattle.co_dict.specs.Stores.{Description}
 use Rattle.co_dict.specs.MappingWords.{mapped_key, mapped_bits, usable_dummy, is_mapped_access, may_be_mapped, entry_width, mapping_width, word_width}
 use Rattle.co_dict.specs.MappingCounts.{counted_words}
 use Rattle.co_pdo.specs.declared.mapping.Mapped.{Mapped}
 use Rattle.co_pdo.specs.declared.mapping.Mapped.TheVariants.{Entry, Dummy}
 use Rattle.co_pdo.specs.Mappings.{mapped_by, has_pdo, is_good_count, mapping_index, count_of, total_of, mapping_of}
-use Rattle.co_pdo.specs.Images.{parts_of, with_parts, written_in_order, any_outside, contents_after}
+use Rattle.co_pdo.specs.Images.{with_parts, written_in_order, any_outside, contents_after}
 
 -- what is mapped is a dummy entry, or an entry from 2000h on
 abbrev is_high : Mapped → Bool

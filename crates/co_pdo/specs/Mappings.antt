@@ -1,5 +1,5 @@
 -- What is mapped into a PDO: the words of 1600h to 17FFh and 1A00h to 1BFFh that count (CiA 301, 7.5.2.36 and 7.5.2.38).
-use Rattle.std.specs.Prelude.{ℕ, ◌+◌, ◌==◌, ◌&&◌, Bool, true, false, is_some, is_none, Option, option_map, List, [], sum_by, if◌then◌else◌}
+use Rattle.std.specs.Prelude.{ℕ, ◌==◌, ◌&&◌, Bool, true, false, is_some, is_none, Option, option_map, List, [], sum_by, if◌then◌else◌}
 use Rattle.std.specs.Option.{option_map_or}
 use Rattle.std.specs.List.{filter_map, list_all}
 use Rattle.co_value.specs.Types.{width_of}

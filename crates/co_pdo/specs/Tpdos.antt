@@ -1,5 +1,5 @@
 -- What an object dictionary says of one TPDO: 1800h + k and 1A00h + k (CiA 301, 7.5.2.37 and 7.5.2.38).
-use Rattle.std.specs.Prelude.{ℕ, ◌+◌, Bool, is_some, List}
+use Rattle.std.specs.Prelude.{ℕ, Bool, is_some, List}
 use Rattle.std.specs.List.{filter, range_with_len}
 use Rattle.co_value.specs.declared.key.Key.{Key}
 use Rattle.co_profile.specs.Indices.{nth, sync_counter_overflow, tpdo_communication, tpdo_mapping}

@@ -1,5 +1,5 @@
 -- Answers, evaluated.
-use Rattle.std.proofs.Common.{◌≡◌, ℕ, List, [], ◌∷◌, ◌++◌, Option, Some, None, refl, true, false}
+use Rattle.std.proofs.Common.{◌≡◌, ℕ, List, [], ◌∷◌, Option, Some, None, refl, true, false}
 use Rattle.std.specs.Prelude.{codes}
 use Rattle.co_value.specs.declared.key.Key.{Key}
 use Rattle.co_frame.specs.declared.sdo_request.ExpeditedData.{ExpeditedData}

@@ -7,7 +7,7 @@ use Rattle.std.proofs.KnownBytes.{Appends-kept}
 use Rattle.conode_io.specs.declared.ending.Ending.{Ending}
 use Rattle.conode_io.specs.declared.ending.Ending.TheVariants.{Said, Unsaid}
 use Rattle.conode_io.specs.declared.fault.CmdFault.{CmdFault}
-use Rattle.conode_io.specs.declared.fault.CmdFault.TheVariants.{Read, Write, BadLine, Memory, NeverEnds}
+use Rattle.conode_io.specs.declared.fault.CmdFault.TheVariants.{Write, BadLine, Memory}
 use Rattle.conode_io.specs.Endings.{stopped_line, SomeStopped, WritesStopped}
 use Rattle.conode_io.specs.Written.{WritesLines, WritesSome}
 use Rattle.conode_io.proofs.WriteLemmas.{appends_nothing, line_alone, lines_after}

@@ -1,5 +1,5 @@
 -- The faults of the parameters don't depend on the limits.
-use Rattle.std.proofs.Common.{◌≡◌, [], map, ap, ◌∙◌}
+use Rattle.std.proofs.Common.{[], map, ap, ◌∙◌}
 use Rattle.co_sheet.specs.SheetViews.{row_view}
 use Rattle.co_dict.specs.Stores.{Description}
 use Rattle.co_dict_list.specs.Capacities.{Limits, limits_view}
