@@ -115,7 +115,7 @@ one_after_another : all_frames losing_with_heartbeat [] (heard ∷ ticks 2)
 unfolding searches
 one_after_another = refl
 
--- and after other inputs: of a node that was stopped, and heard node 7 before
+-- and after other inputs: of a node that was stopped, and then heard node 7
 after_other_inputs : all_frames losing_with_heartbeat (heard ∷ stop ∷ []) (Ticked ∷ enter_pre_operational ∷ Ticked ∷ [])
     ≡ frame 0x705 1 4 ∷ emcy 0x3081_1100_0000_0000 ∷ frame 0x705 1 0x7F ∷ []
 unfolding searches
