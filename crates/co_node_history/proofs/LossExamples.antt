@@ -63,9 +63,9 @@ heard_pre_operational : first_answered (monitoring 0) (came 0x707 1 0x7F ∷ tic
 unfolding searches
 heard_pre_operational = refl
 
--- a write of 1016:02 begins that entry: lost at the second tick
-second_entry : first_answered device (request 0x2316_1002_0200_0700 ∷ heard ∷ ticks 2)
-    ≡ (response 0x6016_1002_0000_0000 ∷ []) ∷ [] ∷ [] ∷ (emcy 0x3081_1100_0000_0000 ∷ []) ∷ []
+-- a write of 1016:02 begins that entry alone: node 8, which 1016:01 monitors, is lost a tick after node 7
+second_entry : first_answered (device_with (u32 Rw 0x1016 1 0x0008_0003 ∷ [])) (came 0x708 1 5 ∷ request 0x2316_1002_0200_0700 ∷ heard ∷ ticks 3)
+    ≡ [] ∷ (response 0x6016_1002_0000_0000 ∷ []) ∷ [] ∷ [] ∷ (emcy 0x3081_1100_0000_0000 ∷ []) ∷ (emcy 0x3081_1100_0000_0000 ∷ []) ∷ []
 unfolding searches
 second_entry = refl
 
