@@ -80,6 +80,13 @@ inhibit_as_sent : first_answered inhibited (raise 0x1001 ∷ raise 0x1002 ∷ re
 unfolding searches
 inhibit_as_sent = refl
 
+-- also where it was written by the input that sends: the second goes with the response, the third 1 ms later
+inhibit_written : first_answered device
+    (stop ∷ raise 0x1001 ∷ raise 0x1002 ∷ raise 0x1003 ∷ start ∷ request 0x2B15_1000_0A00_0000 ∷ came 0x123 0 0 ∷ Ticked ∷ [])
+    ≡ [] ∷ [] ∷ [] ∷ [] ∷ (emcy 0x0110_0100_0000_0000 ∷ []) ∷ (response 0x6015_1000_0000_0000 ∷ emcy 0x0210_0100_0000_0000 ∷ []) ∷ [] ∷ (emcy 0x0310_0100_0000_0000 ∷ []) ∷ []
+unfolding searches
+inhibit_written = refl
+
 -- and a reset ends it
 inhibit_after_reset : first_answered inhibited (raise 0x1001 ∷ raise 0x1002 ∷ reset_communication ∷ raise 0x1003 ∷ [])
     ≡ (emcy 0x0110_0100_0000_0000 ∷ []) ∷ [] ∷ (frame 0x705 1 0 ∷ []) ∷ (emcy 0x0310_0100_0000_0000 ∷ []) ∷ []

@@ -4,7 +4,8 @@ use Rattle.co_node_parts.specs.declared.nmt_state.NodeState.TheVariants.{PreOper
 use Rattle.co_node_inputs.specs.Inputs.{InputView, Ticked}
 use Rattle.co_profile.specs.declared.access.Access.TheVariants.{Rw}
 use Rattle.co_node_history.specs.Moments.{Constants}
-use Rattle.co_node_history.proofs.ExampleNode.{device, device_with, u8, u16, u32, frame, came, request, response, emcy, start, stop, enter_pre_operational, ticks, first_answered, number_after, state_after, searches}
+use Rattle.co_node_history.specs.Histories.{all_frames}
+use Rattle.co_node_history.proofs.ExampleNode.{device, device_with, u8, u16, u32, frame, came, request, response, emcy, start, stop, enter_pre_operational, reset_communication, ticks, first_answered, number_after, state_after, searches}
 
 -- 1016:01 monitors node 7 with a time of 3 ms
 abbrev monitoring : ℕ → Constants
@@ -56,6 +57,24 @@ never_heard : first_answered (monitoring 0) (came 0x707 1 0 ∷ came 0x707 2 0x0
 unfolding searches
 never_heard = refl
 
+-- in pre-operational too it is one
+heard_pre_operational : first_answered (monitoring 0) (came 0x707 1 0x7F ∷ ticks 3)
+    ≡ [] ∷ [] ∷ [] ∷ (emcy 0x3081_1100_0000_0000 ∷ []) ∷ []
+unfolding searches
+heard_pre_operational = refl
+
+-- a write of 1016:02 begins that entry alone: node 8, which 1016:01 monitors, is lost a tick after node 7
+second_entry : first_answered (device_with (u32 Rw 0x1016 1 0x0008_0003 ∷ [])) (came 0x708 1 5 ∷ request 0x2316_1002_0200_0700 ∷ heard ∷ ticks 3)
+    ≡ [] ∷ (response 0x6016_1002_0000_0000 ∷ []) ∷ [] ∷ [] ∷ (emcy 0x3081_1100_0000_0000 ∷ []) ∷ (emcy 0x3081_1100_0000_0000 ∷ []) ∷ []
+unfolding searches
+second_entry = refl
+
+-- a reset begins each anew: nothing is lost before the next heartbeat
+begun_by_reset : first_answered (monitoring 0) (heard ∷ Ticked ∷ reset_communication ∷ ticks 3)
+    ≡ [] ∷ [] ∷ (frame 0x705 1 0 ∷ []) ∷ [] ∷ [] ∷ [] ∷ []
+unfolding searches
+begun_by_reset = refl
+
 -- a write of the same word begins anew: the time that ran is forgotten
 written_again : first_answered (monitoring 0) (heard ∷ Ticked ∷ request 0x2316_1001_0300_0700 ∷ ticks 3)
     ≡ [] ∷ [] ∷ (response 0x6016_1001_0000_0000 ∷ []) ∷ [] ∷ [] ∷ [] ∷ []
@@ -79,6 +98,28 @@ two_losses = refl
 two_errors : number_after (device_with (u32 Rw 0x1016 1 0x0007_0001 ∷ u32 Rw 0x1016 2 0x0008_0001 ∷ [])) (heard ∷ came 0x708 1 4 ∷ Ticked ∷ []) 0x1003 0 ≡ 2
 unfolding searches
 two_errors = refl
+
+-- ---- an emergency goes before a heartbeat in the same tick
+
+abbrev losing_with_heartbeat : Constants
+losing_with_heartbeat = device_with (u32 Rw 0x1016 1 0x0007_0001 ∷ u16 Rw 0x1017 0 1 ∷ [])
+
+emergency_before_heartbeat : first_answered losing_with_heartbeat (heard ∷ Ticked ∷ [])
+    ≡ [] ∷ (emcy 0x3081_1100_0000_0000 ∷ frame 0x705 1 0x7F ∷ []) ∷ []
+unfolding searches
+emergency_before_heartbeat = refl
+
+-- the frames of all inputs, one after another
+one_after_another : all_frames losing_with_heartbeat [] (heard ∷ ticks 2)
+    ≡ emcy 0x3081_1100_0000_0000 ∷ frame 0x705 1 0x7F ∷ frame 0x705 1 0x7F ∷ []
+unfolding searches
+one_after_another = refl
+
+-- and after other inputs: of a node that was stopped, and then heard node 7
+after_other_inputs : all_frames losing_with_heartbeat (heard ∷ stop ∷ []) (Ticked ∷ enter_pre_operational ∷ Ticked ∷ [])
+    ≡ frame 0x705 1 4 ∷ emcy 0x3081_1100_0000_0000 ∷ frame 0x705 1 0x7F ∷ []
+unfolding searches
+after_other_inputs = refl
 
 -- ---- stopped nodes listen, lose, and fill 1003h; no emergency goes before they leave stopped
 

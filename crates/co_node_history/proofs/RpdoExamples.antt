@@ -114,6 +114,19 @@ long_at_the_sync : first_answered (rpdo 1) (start ∷ came 0x205 5 0x0102_0304_0
 unfolding searches
 long_at_the_sync = refl
 
+-- ---- two RPDOs at a SYNC: by number, whichever came first; here both map 2002:00
+
+abbrev two_rpdos : Constants
+two_rpdos = device_with (u8 Rw 0x1400 2 1 ∷ u32 Rw 0x1401 1 0x305 ∷ u8 Rw 0x1401 2 1 ∷ u8 Rw 0x1601 0 1 ∷ u32 Rw 0x1601 1 0x2002_0020 ∷ [])
+
+higher_came_first : number_after two_rpdos (start ∷ came 0x305 4 0x0700_0000 ∷ came 0x205 4 0x0500_0000 ∷ sync ∷ []) 0x2002 0 ≡ 7
+unfolding searches
+higher_came_first = refl
+
+lower_came_first : number_after two_rpdos (start ∷ came 0x205 4 0x0500_0000 ∷ came 0x305 4 0x0700_0000 ∷ sync ∷ []) 0x2002 0 ≡ 7
+unfolding searches
+lower_came_first = refl
+
 -- ---- what drops a frame that waits: leaving operational, a reset, a write of COB-ID or type, also of the same
 
 dropped_by_state : number_after (rpdo 1) (start ∷ came 0x205 4 0x0500_0000 ∷ enter_pre_operational ∷ start ∷ sync ∷ []) 0x2002 0 ≡ 0
@@ -127,6 +140,18 @@ dropped_by_type = refl
 dropped_by_cob_id : number_after (rpdo 1) (start ∷ came 0x205 4 0x0500_0000 ∷ request 0x2300_1401_0502_0000 ∷ sync ∷ []) 0x2002 0 ≡ 0
 unfolding searches
 dropped_by_cob_id = refl
+
+-- so does a lost heartbeat that leaves operational, and not one that leaves the state as it is
+abbrev monitoring : ℕ → Constants
+monitoring reaction = device_with (u8 Rw 0x1400 2 1 ∷ u32 Rw 0x1016 1 0x0007_0001 ∷ u8 Rw 0x1029 1 reaction ∷ [])
+
+dropped_by_loss : number_after (monitoring 0) (start ∷ came 0x205 4 0x0500_0000 ∷ came 0x707 1 5 ∷ Ticked ∷ start ∷ sync ∷ []) 0x2002 0 ≡ 0
+unfolding searches
+dropped_by_loss = refl
+
+kept_by_loss : number_after (monitoring 1) (start ∷ came 0x205 4 0x0500_0000 ∷ came 0x707 1 5 ∷ Ticked ∷ start ∷ sync ∷ []) 0x2002 0 ≡ 5
+unfolding searches
+kept_by_loss = refl
 
 -- a refused write doesn't
 kept_by_refused_write : number_after (rpdo 1) (start ∷ came 0x205 4 0x0500_0000 ∷ request 0x2F00_1402_FC00_0000 ∷ sync ∷ []) 0x2002 0 ≡ 5

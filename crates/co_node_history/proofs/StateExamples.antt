@@ -2,7 +2,7 @@
 use Rattle.std.proofs.Common.{◌≡◌, Some, [], ◌∷◌, ◌++◌, refl}
 use Rattle.co_node_parts.specs.declared.nmt_state.NodeState.TheVariants.{PreOperational, Operational}
 use Rattle.co_node_inputs.specs.Inputs.{Ticked}
-use Rattle.co_node_history.specs.Histories.{held_of, after_all}
+use Rattle.co_node_history.specs.Histories.{held_of, room_of, after_all}
 use Rattle.co_node_history.proofs.ExampleNode.{device, device_with, u16, frame, came, request, response, start, stop, enter_pre_operational, reset_node, reset_communication, ticks, first_answered, number_after, value_after, state_after, searches}
 use Rattle.co_profile.specs.declared.access.Access.TheVariants.{Rw}
 
@@ -74,6 +74,19 @@ held_on_1 = refl
 no_channel_2 : held_of device (after_all [] (request 0x2101_2000_0A00_0000 ∷ [])) 2 ≡ 0
 unfolding searches
 no_channel_2 = refl
+
+-- room for the capacity of the entry, here 16, and a sub-block; none on the other channel, and none without a transfer
+room_on_0 : room_of device (after_all [] (request 0x2101_2000_0A00_0000 ∷ [])) 0 ≡ 905
+unfolding searches
+room_on_0 = refl
+
+room_on_1 : room_of device (after_all [] (request 0x2101_2000_0A00_0000 ∷ [])) 1 ≡ 0
+unfolding searches
+room_on_1 = refl
+
+no_room : room_of device (after_all [] (request 0x4001_1000_0000_0000 ∷ [])) 0 ≡ 0
+unfolding searches
+no_room = refl
 
 -- a reset drops the transfer
 dropped_by_reset : first_answered device (request 0x2101_2000_0A00_0000 ∷ reset_communication ∷ request 0x0030_3132_3334_3536 ∷ [])

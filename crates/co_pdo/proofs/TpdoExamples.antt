@@ -1,5 +1,5 @@
 -- When one TPDO is due, computed from the definitions: both sides of each edge.
-use Rattle.std.proofs.Common.{◌≡◌, ℕ, Bool, true, false, List, [], ◌∷◌, Some, None, map, refl}
+use Rattle.std.proofs.Common.{◌≡◌, ℕ, Bool, true, false, List, [], ◌∷◌, ◌++◌, Some, None, map, replicate, refl}
 use Rattle.co_frame.specs.InhibitTimes.{in_ms}
 use Rattle.co_pdo.specs.declared.settings.Settings.{Settings}
 use Rattle.co_pdo.specs.declared.tpdo.Occasion.{Occasion}
@@ -53,6 +53,19 @@ third_of_four = refl
 
 sixth_of_six : from_start (active 3 0 0) (sync ∷ sync ∷ sync ∷ sync ∷ sync ∷ sync ∷ []) ≡ false ∷ false ∷ true ∷ false ∷ false ∷ true ∷ []
 sixth_of_six = refl
+
+-- type 240 is due at the 240th SYNC, and not at those next to it
+abbrev after_syncs : ℕ → Log
+after_syncs count = replicate count (Happened sync (active 240 0 0) false) ++ Started Whole (active 240 0 0) ∷ []
+
+at_240 : is_due (active 240 0 0) (after_syncs 239) sync ≡ true
+at_240 = refl
+
+not_at_239 : is_due (active 240 0 0) (after_syncs 238) sync ≡ false
+not_at_239 = refl
+
+not_at_241 : is_due (active 240 0 0) (after_syncs 240) sync ≡ false
+not_at_241 = refl
 
 -- events, ticks and the inhibit time make no difference
 sync_alone : from_start (active 2 100 1) (sync ∷ Event ∷ Tick ∷ sync ∷ Tick ∷ sync ∷ sync ∷ []) ≡ false ∷ false ∷ false ∷ true ∷ false ∷ false ∷ true ∷ []
@@ -203,6 +216,13 @@ whole_start_ends_the_inhibit_time = refl
 timer_start_leaves_the_inhibit_time : is_due (active 255 25 0) (Started Timer (active 255 25 0) ∷ Happened Event (active 255 25 0) true ∷ Started Whole (active 255 25 0) ∷ []) Event ≡ false
 timer_start_leaves_the_inhibit_time = refl
 
+-- a SYNC is no event, and leaves one that waits: it is sent as the inhibit time of 2 ms ends
+sync_is_no_event : from_start (active 255 0 0) (sync ∷ Tick ∷ []) ≡ false ∷ false ∷ []
+sync_is_no_event = refl
+
+sync_leaves_an_event : from_start (active 254 20 0) (Event ∷ Event ∷ sync ∷ Tick ∷ Tick ∷ []) ≡ true ∷ false ∷ false ∷ false ∷ true ∷ []
+sync_leaves_an_event = refl
+
 -- SYNCs don't send it
 no_sync : from_start (active 255 0 0) (sync ∷ Event ∷ sync ∷ []) ≡ false ∷ true ∷ false ∷ []
 no_sync = refl
@@ -215,6 +235,14 @@ timer_again = refl
 
 each_tick : from_start (active 255 0 1) (Tick ∷ Tick ∷ []) ≡ true ∷ true ∷ []
 each_tick = refl
+
+-- a SYNC leaves the time that ran: the third tick sends
+sync_leaves_the_timer : from_start (active 254 0 3) (Tick ∷ sync ∷ Tick ∷ sync ∷ Tick ∷ []) ≡ false ∷ false ∷ false ∷ false ∷ true ∷ []
+sync_leaves_the_timer = refl
+
+-- a whole start begins the timer anew
+whole_start_begins_the_timer : sent_at (active 254 0 2) (Started Whole (active 254 0 2) ∷ Happened Tick (active 254 0 2) false ∷ Started Whole (active 254 0 2) ∷ []) (Tick ∷ Tick ∷ []) ≡ false ∷ true ∷ []
+whole_start_begins_the_timer = refl
 
 -- 2 ms inside an inhibit time of 3 ms: its one event waits, and the timer begins anew with the sending
 timer_inside_inhibit_time : from_start (active 254 30 2) (Event ∷ Tick ∷ Tick ∷ Tick ∷ Tick ∷ Tick ∷ Tick ∷ []) ≡ true ∷ false ∷ false ∷ true ∷ false ∷ false ∷ true ∷ []

@@ -1,5 +1,5 @@
 -- Lines at the edges, evaluated.
-use Rattle.std.proofs.Common.{◌≡◌, true, false, [], ◌∷◌, ◌++◌, Some, replicate, refl, arith}
+use Rattle.std.proofs.Common.{◌≡◌, ℕ, true, false, List, [], ◌∷◌, ◌++◌, length, Some, None, replicate, refl, ap, arith}
 use Rattle.std.specs.Prelude.{codes}
 use Rattle.std.specs.Str.Lines.{lines}
 use Rattle.co_stream.specs.Lines.{IsTooLong, GivesLine}
@@ -31,3 +31,19 @@ too_long_line = (replicate 513 59, [], refl, omega arith)
 
 too_long_last_line : IsTooLong (replicate 512 59 ++ 13 ∷ [])
 too_long_last_line = (replicate 512 59 ++ 13 ∷ [], [], refl, omega arith)
+
+-- how many bytes the first of some lines has
+abbrev first_length : List (List ℕ) → ℕ
+first_length [] = 0
+first_length (line ∷ more) = length line
+
+-- 512 bytes are not too long, with a line feed alone and without one
+longest_with_feed : IsTooLong (replicate 512 59 ++ 10 ∷ []) → ⊥
+longest_with_feed (line, more, first, long) = let count : 512 ≡ length line = ap first_length first in omega (arith, count)
+
+longest_last_line : IsTooLong (replicate 512 59) → ⊥
+longest_last_line (line, more, first, long) = let count : 512 ≡ length line = ap first_length first in omega (arith, count)
+
+-- bytes that were known don't become unknown by a line
+none_forgotten : GivesLine (Some (codes "a" ++ 10 ∷ [])) None (codes "a") → ⊥
+none_forgotten h = h
