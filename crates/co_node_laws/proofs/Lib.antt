@@ -5,3 +5,4 @@ pub mod Calls
 pub mod Changes
 pub mod Schedules
 mod Examples
+pub mod Counts

@@ -1,0 +1,18 @@
+//! How many frames an input prescribes. Each is a law: a call of it changes nothing.
+
+ghost use Rattle.std.specs.Prelude.{◌≡◌, ◌≤◌, length, true};
+ghost use Rattle.co_frame.specs.FrameContent.{FrameContent};
+ghost use Rattle.co_node_inputs.specs.Inputs.{Inputs, Framed};
+ghost use Rattle.co_node_history.specs.Moments.{Constants};
+ghost use Rattle.co_node_history.specs.Received.{address_at};
+ghost use Rattle.co_node_history.specs.Histories.{moments, prescribed, frame_bound};
+ghost use Rattle.co_node_laws.specs.Kinds.{is_unanswered};
+
+/// A frame that neither an SDO channel nor SYNC takes gives no more frames than its bound, which is 1: an emergency, or
+/// the boot-up (CiA 301, 7.2.7 and 7.2.8.3.3).
+#[tactic(auto, using(crate::proofs::Counts::few_unanswered))]
+pub fn few_unanswered()
+    ensures { (k : Constants) (inputs : Inputs) (frame : FrameContent) →
+        is_unanswered (address_at k (moments k inputs) frame.id) ≡ true →
+        length (prescribed k inputs (Framed frame)) ≤ frame_bound k inputs (Framed frame) }
+{}
