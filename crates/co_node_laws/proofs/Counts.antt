@@ -63,33 +63,33 @@ no_turn d marks c log false false set ticked sync asked = rw (set, ticked, sync,
 
 -- ---- an emergency or a life sign
 
-none_after_reset : (may : Bool) (marks : Marks) (log : EmergencyLog) → is_reset marks ≡ true → emergency_due may (Noted (emergency_event marks) ∷ log) ≡ None
+pub none_after_reset : (may : Bool) (marks : Marks) (log : EmergencyLog) → is_reset marks ≡ true → emergency_due may (Noted (emergency_event marks) ∷ log) ≡ None
 none_after_reset true marks log is = rw is refl
 none_after_reset false marks log is = refl
 
-no_heartbeat_by : (begins : Bool) (marks : Marks) (c : Contents) (log : ProducerLog) → is_reset marks || is_set marks.set producer_key ≡ begins → marks.ticked ≡ false → is_heartbeat_due (producer_event marks c) log ≡ false
+pub no_heartbeat_by : (begins : Bool) (marks : Marks) (c : Contents) (log : ProducerLog) → is_reset marks || is_set marks.set producer_key ≡ begins → marks.ticked ≡ false → is_heartbeat_due (producer_event marks c) log ≡ false
 no_heartbeat_by true marks c log is ticked = rw is refl
 no_heartbeat_by false marks c log is ticked = rw (is, ticked) refl
 
-emergency_alone : (node : ℕ) (c : Contents) (emergency : Option Emergency) (life : Option Heartbeat) → life ≡ None → length (emergency_frames c emergency) + length (life_frames node life) ≤ 1
+pub emergency_alone : (node : ℕ) (c : Contents) (emergency : Option Emergency) (life : Option Heartbeat) → life ≡ None → length (emergency_frames c emergency) + length (life_frames node life) ≤ 1
 emergency_alone node c None life is = rw is (omega arith)
 emergency_alone node c (Some emergency) life is = rw is (omega arith)
 
 no_life : (marks : Marks) (after : NodeState) (due : Bool) → is_reset marks ≡ false → due ≡ false → life_of marks after due ≡ None
 no_life marks after due is off = rw (is, off) refl
 
-one_by : (node : ℕ) (c : Contents) (marks : Marks) (may due : Bool) (after : NodeState) (log : EmergencyLog) (reset : Bool) → is_reset marks ≡ reset → due ≡ false
+pub one_by : (node : ℕ) (c : Contents) (marks : Marks) (may due : Bool) (after : NodeState) (log : EmergencyLog) (reset : Bool) → is_reset marks ≡ reset → due ≡ false
     → length (emergency_frames c (emergency_due may (Noted (emergency_event marks) ∷ log))) + length (life_frames node (life_of marks after due)) ≤ 1
 one_by node c marks may due after log true is off = rw (none_after_reset may marks log is, is) (omega arith)
 one_by node c marks may due after log false is off = emergency_alone node c (emergency_due may (Noted (emergency_event marks) ∷ log)) (life_of marks after due) (no_life marks after due is off)
 
 -- ---- together
 
-joined : {X : Type 0} (xs ys : List X) → length (xs ++ ys) ≡ length xs + length ys
+pub joined : {X : Type 0} (xs ys : List X) → length (xs ++ ys) ≡ length xs + length ys
 joined [] ys = omega arith
 joined (x ∷ xs) ys = omega (arith, joined xs ys)
 
-joined_twice : {X : Type 0} (xs ys zs : List X) → length (xs ++ ys ++ zs) ≡ length xs + length ys + length zs
+pub joined_twice : {X : Type 0} (xs ys zs : List X) → length (xs ++ ys ++ zs) ≡ length xs + length ys + length zs
 joined_twice xs ys zs = omega (arith, joined (xs ++ ys) zs, joined xs ys)
 
 at_most_one : {X : Type 0} (xs ys : List X) → length xs + length ys ≤ 1 → length (xs ++ ys ++ []) ≤ 1

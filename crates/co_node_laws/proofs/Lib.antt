@@ -6,3 +6,4 @@ pub mod Changes
 pub mod Schedules
 mod Examples
 pub mod Counts
+pub mod Bounds
