@@ -1,6 +1,6 @@
 -- No input gives more frames than its bound.
 use Rattle.std.proofs.Common.{◌≡◌, ℕ, ◌+◌, ◌-◌, ◌≤◌, Bool, true, false, cond, List, [], ◌∷◌, ◌++◌, length, Option, Some, None, refl, ap, arith}
-use Rattle.std.specs.Prelude.{◌&&◌, ◌||◌, not, is_some, map, option_map, if◌then◌else◌}
+use Rattle.std.specs.Prelude.{max, ◌&&◌, ◌||◌, not, is_some, map, option_map, if◌then◌else◌}
 use Rattle.std.specs.List.{filter}
 use Rattle.std.proofs.lemmas.List.{length-map}
 use Rattle.co_value.specs.declared.key.Key.{Key}
@@ -277,3 +277,18 @@ few k inputs (Applied event) parts =
     without_answers (frames_at m.exchange) (length (frames k m)) (length m.due) (tpdo_count k.description.rows) (ap frames_at (no_exchange_event k.description event refusal (Applied event) (contents_at k history)))
     (by_moment k history (Applied event) (record { ticked = p.ticked; timed_out = p.timed_out }))
     (few_due k.description m.contents _ (schedule_log k history) parts.dictionary)
+
+-- ---- whatever the input
+
+bound_within : (address : Address) (tpdos : ℕ) → bound_at address tpdos ≤ max 127 tpdos + 2
+bound_within Nmt tpdos = omega arith
+bound_within Sync tpdos = omega arith
+bound_within (Channel j) tpdos = omega arith
+bound_within (Rpdo n) tpdos = omega arith
+bound_within (ErrorControl node) tpdos = omega arith
+bound_within Nobody tpdos = omega arith
+
+pub greatest : (k : Constants) (inputs : Inputs) (input : InputView) → frame_bound k inputs input ≤ max 127 (tpdo_count k.description.rows) + 2
+greatest k inputs (Framed frame) = bound_within (address_at k (moments k inputs) frame.id) (tpdo_count k.description.rows)
+greatest k inputs Ticked = omega arith
+greatest k inputs (Applied event) = omega arith

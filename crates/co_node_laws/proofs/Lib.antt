@@ -7,3 +7,4 @@ pub mod Schedules
 mod Examples
 pub mod Counts
 pub mod Bounds
+mod PartsExamples

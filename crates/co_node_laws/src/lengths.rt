@@ -1,11 +1,11 @@
 //! How many frames an input prescribes. Each is a law: a call of it changes nothing.
 
-ghost use Rattle.std.specs.Prelude.{◌≡◌, ◌≤◌, length, true};
+ghost use Rattle.std.specs.Prelude.{◌≡◌, ◌≤◌, ◌+◌, length, max, true};
 ghost use Rattle.co_frame.specs.FrameContent.{FrameContent};
 ghost use Rattle.co_node_inputs.specs.Inputs.{InputView, Inputs, Framed};
 ghost use Rattle.co_node_history.specs.Moments.{Constants};
 ghost use Rattle.co_node_history.specs.Received.{address_at};
-ghost use Rattle.co_node_history.specs.Histories.{moments, prescribed, frame_bound};
+ghost use Rattle.co_node_history.specs.Histories.{moments, prescribed, frame_bound, tpdo_count};
 ghost use Rattle.co_node_laws.specs.Kinds.{is_unanswered};
 ghost use Rattle.co_node_laws.specs.Lengths.{HasParts};
 
@@ -26,4 +26,11 @@ pub fn few_unanswered()
 pub fn few()
     ensures { (k : Constants) (inputs : Inputs) (input : InputView) → HasParts k inputs input →
         length (prescribed k inputs input) ≤ frame_bound k inputs input }
+{}
+
+/// No bound is above 127, or the number of TPDOs where that is more, and 2.
+#[tactic(auto, using(crate::proofs::Bounds::greatest))]
+pub fn greatest_bound()
+    ensures { (k : Constants) (inputs : Inputs) (input : InputView) →
+        frame_bound k inputs input ≤ max 127 (tpdo_count k.description.rows) + 2 }
 {}

@@ -4,5 +4,5 @@
 mod lengths;
 mod schedule;
 
-pub use lengths::{few, few_unanswered};
+pub use lengths::{few, few_unanswered, greatest_bound};
 pub use schedule::{schedule_current, schedule_ready};
