@@ -5,3 +5,6 @@ pub mod Calls
 pub mod Changes
 pub mod Schedules
 mod Examples
+pub mod Counts
+pub mod Bounds
+mod PartsExamples

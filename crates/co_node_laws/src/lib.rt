@@ -1,6 +1,8 @@
 //! What follows for every device and all its inputs from the definitions of a device: laws alone, no device.
 #![tactic(auto)]
 
+mod lengths;
 mod schedule;
 
+pub use lengths::{few, few_unanswered, greatest_bound};
 pub use schedule::{schedule_current, schedule_ready};

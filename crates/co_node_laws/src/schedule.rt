@@ -14,8 +14,9 @@ use co_dict::{invalid_pdo_law, own_rule_law};
 use co_pdo::written_from_2000;
 use co_sdo_bank::Bank;
 
-/// In operational, after whatever inputs, the schedule was started with what the entries of each TPDO are now: its COB-ID,
-/// transmission type, inhibit time and event timer (CiA 301, 7.2.2.2 to 7.2.2.4 and 7.5.2.37).
+/// In operational, after whatever inputs, each TPDO that is active had a whole start with the transmission type and the
+/// inhibit time that its entries have now, and its event timer was started with the time that it has now (CiA 301, 7.2.2.2
+/// to 7.2.2.4 and 7.5.2.37).
 pub fn schedule_current()
     ensures { (k : Constants) (inputs : Inputs) → state_of k inputs ≡ Operational →
         AllCurrent (contents_of k inputs) (schedule_log k (moments k inputs)) }

@@ -1,0 +1,13 @@
+-- Kinds of inputs.
+use Rattle.std.specs.Prelude.{Bool, true, false}
+use Rattle.co_node_inputs.specs.declared.address.Address.{Address}
+use Rattle.co_node_inputs.specs.declared.address.Address.TheVariants.{Nmt, Sync, Channel, Rpdo, ErrorControl, Nobody}
+
+-- a frame that neither an SDO channel nor SYNC takes: an NMT command, an RPDO, error control, or one that nobody takes
+abbrev pub is_unanswered : Address → Bool
+is_unanswered Nmt = true
+is_unanswered Sync = false
+is_unanswered (Channel j) = false
+is_unanswered (Rpdo n) = true
+is_unanswered (ErrorControl node) = true
+is_unanswered Nobody = true

@@ -1,0 +1,36 @@
+//! How many frames an input prescribes. Each is a law: a call of it changes nothing.
+
+ghost use Rattle.std.specs.Prelude.{◌≡◌, ◌≤◌, ◌+◌, length, max, true};
+ghost use Rattle.co_frame.specs.FrameContent.{FrameContent};
+ghost use Rattle.co_node_inputs.specs.Inputs.{InputView, Inputs, Framed};
+ghost use Rattle.co_node_history.specs.Moments.{Constants};
+ghost use Rattle.co_node_history.specs.Received.{address_at};
+ghost use Rattle.co_node_history.specs.Histories.{moments, prescribed, frame_bound, tpdo_count};
+ghost use Rattle.co_node_laws.specs.Kinds.{is_unanswered};
+ghost use Rattle.co_node_laws.specs.Lengths.{HasParts};
+
+/// A frame that neither an SDO channel nor SYNC takes gives no more frames than its bound, which is 1: an emergency, or
+/// the boot-up (CiA 301, 7.2.7 and 7.2.8.3.3).
+#[tactic(auto, using(crate::proofs::Counts::few_unanswered))]
+pub fn few_unanswered()
+    ensures { (k : Constants) (inputs : Inputs) (frame : FrameContent) →
+        is_unanswered (address_at k (moments k inputs) frame.id) ≡ true →
+        length (prescribed k inputs (Framed frame)) ≤ frame_bound k inputs (Framed frame) }
+{}
+
+/// No input gives more frames than its bound: an NMT command 1, a request to an SDO channel 128, SYNC and an application
+/// event one more than there are TPDOs, a tick two more, all others 1. What has to be known of the device's parts: its
+/// entries are those of a dictionary, which each store gives, and a channel answers with at most 127 frames, which
+/// `Channel::take` gives.
+#[tactic(auto, using(crate::proofs::Bounds::few))]
+pub fn few()
+    ensures { (k : Constants) (inputs : Inputs) (input : InputView) → HasParts k inputs input →
+        length (prescribed k inputs input) ≤ frame_bound k inputs input }
+{}
+
+/// No bound is above 127, or the number of TPDOs where that is more, and 2.
+#[tactic(auto, using(crate::proofs::Bounds::greatest))]
+pub fn greatest_bound()
+    ensures { (k : Constants) (inputs : Inputs) (input : InputView) →
+        frame_bound k inputs input ≤ max 127 (tpdo_count k.description.rows) + 2 }
+{}
