@@ -1,6 +1,6 @@
 -- After an input that is no tick, no SYNC and no RPDO was received, nothing else changes the entries.
-use Rattle.std.proofs.Common.{◌≡◌, ℕ, Bool, true, false, cond, eqb, List, [], ◌∷◌, Option, Some, None, refl, ap, ◌∙◌}
-use Rattle.std.specs.Prelude.{◌||◌, is_none}
+use Rattle.std.proofs.Common.{◌≡◌, ℕ, Bool, true, false, cond, eqb, List, [], ◌∷◌, Option, Some, None, refl, ap, ◌∙◌, subst, sym}
+use Rattle.std.specs.Prelude.{◌||◌, is_none, if◌then◌else◌}
 use Rattle.std.specs.List.{filter}
 use Rattle.co_value.specs.declared.key.Key.{Key}
 use Rattle.co_dict.specs.Rows.{Contents, number_at}
@@ -9,23 +9,28 @@ use Rattle.co_node_parts.specs.declared.heartbeat_consumers.ConsumersEvent.{Cons
 use Rattle.co_node_parts.specs.declared.heartbeat_consumers.ConsumersEvent.TheVariants as consumers
 use Rattle.co_node_parts.specs.declared.heartbeat_consumer.ConsumerEvent.TheVariants as one
 use Rattle.co_node_parts.specs.declared.nmt_state.Transition.{Transition}
-use Rattle.co_node_parts.specs.declared.nmt_state.NodeState.TheVariants.{Operational}
-use Rattle.co_node_parts.specs.NmtStates.{leaves}
+use Rattle.co_node_parts.specs.declared.nmt_state.NodeState.TheVariants.{Operational, Stopped}
+use Rattle.co_node_parts.specs.NmtStates.{leaves, is_state}
 use Rattle.co_node_parts.specs.RpdoSlots.{SlotLog, taken_at}
 use Rattle.co_node_parts.specs.ConsumerTables.{ConsumersLog, Noted, event_of, entry_log, entry_subs}
 use Rattle.co_node_parts.specs.Consumers.{ConsumerLog, is_lost}
+use Rattle.co_frame.specs.FrameContent.{FrameContent}
+use Rattle.co_sdo.specs.Completed.{contents_with}
+use Rattle.co_sdo_bank.specs.Events.{set_of}
+use Rattle.co_node_inputs.specs.declared.address.Address.{Address}
+use Rattle.co_node_inputs.specs.declared.address.Address.TheVariants.{Channel}
 use Rattle.co_node_inputs.specs.declared.marks.Marks.{Marks}
-use Rattle.co_node_inputs.specs.Inputs.{InputView, Inputs, AppView, Applied, Written, EventOn, ChangedAt, Raised, Cleared}
+use Rattle.co_node_inputs.specs.Inputs.{InputView, Inputs, AppView, Applied, Written, EventOn, ChangedAt, Raised, Cleared, Framed}
 use Rattle.co_node_inputs.specs.AppAnswers.{event_refusal}
 use Rattle.co_node_inputs.specs.Slots.{slot_event, emptied_by, empties_slot}
 use Rattle.co_node_inputs.specs.Words.{is_reset, is_consumer_key, begin_event, heard_event, consumers_call}
 use Rattle.co_node_effects.specs.Errors.{all_raised}
 use Rattle.co_node_effects.specs.RpdoData.{after_all_data}
-use Rattle.co_node_history.specs.Moments.{Constants, Moment, History}
-use Rattle.co_node_history.specs.Logs.{consumers_log, slot_log, transition_of}
-use Rattle.co_node_history.specs.Received.{nothing_of, with_app_event, app_contents}
+use Rattle.co_node_history.specs.Moments.{Constants, Moment, History, channels}
+use Rattle.co_node_history.specs.Logs.{consumers_log, slot_log, transition_of, state_at, channel_logs}
+use Rattle.co_node_history.specs.Received.{nothing_of, with_app_event, with_frame, address_at, app_contents}
 use Rattle.co_node_history.specs.Phases.{lost_by, loss_errors, moment, arrival_errors, effective}
-use Rattle.co_node_history.specs.Histories.{moments, contents_of}
+use Rattle.co_node_history.specs.Histories.{moments, contents_of, state_of}
 
 -- ---- no heartbeat is lost
 
@@ -122,3 +127,32 @@ pub event_refused : (k : Constants) (inputs : Inputs) (event : AppView) (code : 
 event_refused k inputs event code refused =
     after_event k inputs event
     ∙ ap (λ refusal. (with_app_event k.description event refusal (nothing_of (Applied event) (contents_of k inputs))).received) refused
+
+-- ---- a frame that an SDO channel takes
+
+silent_either : (b : Bool) (x y : Moment) → IsSilent x → IsSilent y → IsSilent (if b then x else y)
+silent_either true x y p q = p
+silent_either false x y p q = q
+
+silent_request : (k : Constants) (history : History) (address : Address) (j : ℕ) (frame : FrameContent) (input : InputView) (c : Contents) → address ≡ Channel j → IsSilent (with_frame k history address frame (nothing_of input c))
+silent_request k history address j frame input c is =
+    subst (λ (a : Address). IsSilent (with_frame k history a frame (nothing_of input c))) (sym is)
+    (silent_either (is_state Stopped (state_at history)) _ _ (record { ticked = refl; sync = refl; rpdo = refl }) (record { ticked = refl; sync = refl; rpdo = refl }))
+
+after_request : (k : Constants) (inputs : Inputs) (frame : FrameContent) (j : ℕ) → address_at k (moments k inputs) frame.id ≡ Channel j
+    → contents_of k (Framed frame ∷ inputs) ≡ (with_frame k (moments k inputs) (Channel j) frame (nothing_of (Framed frame) (contents_of k inputs))).received
+after_request k inputs frame j is =
+    let p = silent_request k (moments k inputs) (address_at k (moments k inputs) frame.id) j frame (Framed frame) (contents_of k inputs) is in
+    kept k (moments k inputs) (Framed frame) (record { ticked = p.ticked; sync = p.sync; rpdo = p.rpdo })
+    ∙ ap (λ a. (with_frame k (moments k inputs) a frame (nothing_of (Framed frame) (contents_of k inputs))).received) is
+
+by_stopped : (stopped b : Bool) (x y : Moment) → stopped ≡ b → (if stopped then x else y).received ≡ (if b then x else y).received
+by_stopped stopped b x y is = rw is refl
+
+pub request_running : (k : Constants) (inputs : Inputs) (frame : FrameContent) (j : ℕ) → address_at k (moments k inputs) frame.id ≡ Channel j → is_state Stopped (state_of k inputs) ≡ false
+    → contents_of k (Framed frame ∷ inputs) ≡ contents_with (contents_of k inputs) (set_of (channels k) k.description (contents_of k inputs) (channel_logs (moments k inputs)) frame)
+request_running k inputs frame j is running = after_request k inputs frame j is ∙ by_stopped (is_state Stopped (state_of k inputs)) false _ _ running
+
+pub request_stopped : (k : Constants) (inputs : Inputs) (frame : FrameContent) (j : ℕ) → address_at k (moments k inputs) frame.id ≡ Channel j → is_state Stopped (state_of k inputs) ≡ true
+    → contents_of k (Framed frame ∷ inputs) ≡ contents_of k inputs
+request_stopped k inputs frame j is stopped = after_request k inputs frame j is ∙ by_stopped (is_state Stopped (state_of k inputs)) true _ _ stopped

@@ -5,6 +5,6 @@ mod changes;
 mod lengths;
 mod schedule;
 
-pub use changes::changes_by_event;
+pub use changes::{changes_by_event, changes_by_request};
 pub use lengths::{few, few_unanswered, greatest_bound};
 pub use schedule::{schedule_current, schedule_ready};
