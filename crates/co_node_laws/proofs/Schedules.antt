@@ -28,7 +28,7 @@ use Rattle.co_node_history.specs.Histories.{moments, state_of, contents_of}
 use Rattle.co_node_laws.specs.Calls.{is_asked}
 use Rattle.co_node_laws.proofs.Below.{Below}
 use Rattle.co_node_laws.proofs.Calls.{current_started, current_happened}
-use Rattle.co_node_laws.proofs.Changes.{MayBecome, changed}
+use Rattle.co_node_laws.proofs.Received.{MayBecome, changed}
 use Rattle.co_node_laws.proofs.Writes.{current_kept, current_written}
 
 -- ---- a reset never ends in operational

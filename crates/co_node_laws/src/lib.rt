@@ -1,8 +1,10 @@
 //! What follows for every device and all its inputs from the definitions of a device: laws alone, no device.
 #![tactic(auto)]
 
+mod changes;
 mod lengths;
 mod schedule;
 
+pub use changes::{changes_by_event, changes_by_request};
 pub use lengths::{few, few_unanswered, greatest_bound};
 pub use schedule::{schedule_current, schedule_ready};

@@ -1,0 +1,42 @@
+//! What an input changes of the entries. Each is a law: a call of it changes nothing.
+
+ghost use Rattle.std.specs.Prelude.{◌≡◌, ◌∷◌, ℕ, Some, None, true, false};
+ghost use Rattle.co_frame.specs.FrameContent.{FrameContent};
+ghost use Rattle.co_sdo.specs.Completed.{contents_with};
+ghost use Rattle.co_sdo_bank.specs.Events.{set_of};
+ghost use Rattle.co_node_parts.specs.NmtStates.{is_state};
+ghost use Rattle.co_node_parts.specs.declared.nmt_state.NodeState.TheVariants.{Stopped};
+ghost use Rattle.co_node_inputs.specs.declared.address.Address.TheVariants.{Channel};
+ghost use Rattle.co_node_inputs.specs.AppAnswers.{event_refusal};
+ghost use Rattle.co_node_inputs.specs.Inputs.{Inputs, AppView, Framed, Applied};
+ghost use Rattle.co_node_history.specs.Moments.{Constants, channels};
+ghost use Rattle.co_node_history.specs.Received.{address_at, app_contents};
+ghost use Rattle.co_node_history.specs.Logs.{channel_logs};
+ghost use Rattle.co_node_history.specs.Histories.{moments, state_of, contents_of};
+
+/// An application event that is refused changes no entry; any other changes what it says and nothing else: a write its
+/// entry, an error the error register and the pre-defined error field, a clear the error register, an event or a change
+/// nothing.
+pub fn changes_by_event()
+    ensures done { (k : Constants) (inputs : Inputs) (event : AppView) →
+        event_refusal k.description (contents_of k inputs) event ≡ None →
+        contents_of k (Applied event ∷ inputs) ≡
+        app_contents k.description event (contents_of k inputs) }
+    ensures refused { (k : Constants) (inputs : Inputs) (event : AppView) (code : ℕ) →
+        event_refusal k.description (contents_of k inputs) event ≡ Some code →
+        contents_of k (Applied event ∷ inputs) ≡ contents_of k inputs }
+{}
+
+/// A frame that an SDO channel takes sets at most the one entry whose whole download it completes, where that is
+/// permitted; while the device is stopped it sets none (CiA 301, 7.2.4.3).
+pub fn changes_by_request()
+    ensures running { (k : Constants) (inputs : Inputs) (frame : FrameContent) (j : ℕ) →
+        address_at k (moments k inputs) frame.id ≡ Channel j →
+        is_state Stopped (state_of k inputs) ≡ false →
+        contents_of k (Framed frame ∷ inputs) ≡ contents_with (contents_of k inputs)
+        (set_of (channels k) k.description (contents_of k inputs) (channel_logs (moments k inputs)) frame) }
+    ensures stopped { (k : Constants) (inputs : Inputs) (frame : FrameContent) (j : ℕ) →
+        address_at k (moments k inputs) frame.id ≡ Channel j →
+        is_state Stopped (state_of k inputs) ≡ true →
+        contents_of k (Framed frame ∷ inputs) ≡ contents_of k inputs }
+{}
