@@ -1,6 +1,6 @@
 #!/bin/sh
-# Refuses one allocation after the other while two data sheets are read, one accepted and one at fault, and SDO channels
-# are made. Each is done three times: it has to be right or to answer that it is out of memory, and only one of them all
+# Refuses one allocation after the other while two data sheets are read, one accepted and one at fault, dictionaries are
+# built of the first, and SDO channels are made. Each is done three times: it has to be right or to answer that it is out of memory, and only one of them all
 # may answer that.
 # An argument, if there is one, is the number of the last allocation that is refused: without it, each is refused in turn.
 set -eu
@@ -11,14 +11,15 @@ trap 'rm -rf "$folder"' EXIT
 
 mkdir -p "$folder/crates/refused/src"
 cp "$root/HANDLES" "$folder"
-{ "$root/bench/below.sh" co_sheet co_sdo; echo 'refused: co_sheet co_sdo'; } > "$folder/crates.txt"
-"$root/bench/below.sh" co_sheet co_sdo | cut -d: -f1 | while read -r crate; do cp -R "$root/crates/$crate" "$folder/crates"; done
+{ "$root/bench/below.sh" co_dict_list co_sdo; echo 'refused: co_sheet co_dict_list co_sdo'; } > "$folder/crates.txt"
+"$root/bench/below.sh" co_dict_list co_sdo | cut -d: -f1 | while read -r crate; do cp -R "$root/crates/$crate" "$folder/crates"; done
 {
     cat << 'END'
-//! Reads two data sheets and makes a channel, three times each. The status is 0 where all are right, 2 where one was
+//! Reads two data sheets, builds a dictionary and makes a channel, three times each. The status is 0 where all are right, 2 where one was
 //! refused memory.
 #![tactic(auto)]
 
+use co_dict_list::{BuildFault, Limits, ListStore};
 use co_sdo::{Channel, Ids};
 use co_sheet::{FaultKind, SheetFault, read};
 use std::alloc::Global;
@@ -66,6 +67,20 @@ fn at_fault(alloc: Global) -> Outcome {
     }
 }
 
+fn dictionary(alloc: Global) -> Outcome {
+    let limits = Limits { strings: 16, domains: 889, own: &[] };
+    match read(alloc, LARGE.as_bytes()) {
+        Ok(sheet) => match ListStore::build(alloc, &sheet, 5, &limits) {
+            Ok(store) => {
+                if store.greatest_capacity() == 889 { Outcome::Right } else { Outcome::Wrong }
+            }
+            Err(BuildFault::Memory) => Outcome::Refused,
+            Err(_) => Outcome::Wrong,
+        },
+        Err(fault) => of_fault(fault, None),
+    }
+}
+
 fn channel(alloc: Global) -> Outcome {
     let ids = Ids { request: 0x605, answer: 0x585 };
     match Channel::new(alloc, ids, 65535, 0) {
@@ -84,6 +99,9 @@ fn main(rt: HostRuntime) -> ExitCode {
         at_fault(rt.alloc()),
         at_fault(rt.alloc()),
         at_fault(rt.alloc()),
+        dictionary(rt.alloc()),
+        dictionary(rt.alloc()),
+        dictionary(rt.alloc()),
         channel(rt.alloc()),
         channel(rt.alloc()),
         channel(rt.alloc()),
