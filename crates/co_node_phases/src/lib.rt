@@ -1,0 +1,9 @@
+//! What a CANopen device does at an input after it was received: heartbeats of others that are lost, and the data of SYNC
+//! and RPDOs that take effect.
+#![tactic(auto)]
+
+mod rpdos;
+mod watch;
+
+pub use rpdos::take_pdos;
+pub use watch::watch;

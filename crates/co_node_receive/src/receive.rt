@@ -1,0 +1,90 @@
+//! Receiving an input.
+
+ghost use Rattle.std.specs.Prelude.{◌≡◌, ◌<◌, ◌≤◌, ◌++◌, IfSome};
+ghost use Rattle.co_frame.specs.Outboxes.{HasRoomFor};
+ghost use Rattle.co_frame.specs.SegmentSizes.{segments_per_sub_block};
+ghost use Rattle.co_sdo_bank.specs.Banks.{BankStands, all_settings};
+ghost use Rattle.co_sdo_bank.specs.Channels.{HaveRoom};
+ghost use Rattle.co_sdo_bank.specs.Events.{frames_at};
+ghost use Rattle.co_node_parts.specs.EmergencyQueues.{EmergencyLog, EmergenciesStand, with_queued};
+ghost use Rattle.co_node_history.specs.Moments.{Constants, History, channels};
+ghost use Rattle.co_node_history.specs.Received.{received_at};
+ghost use Rattle.co_node_receive.specs.Given.{given_view};
+ghost use Rattle.co_node_receive.specs.Befores.{IsBefore, logs_received};
+
+use crate::app_events::{change, clear_errors, event, raise, write};
+use crate::frames::{take_frame, take_tick};
+use crate::given::Given;
+use co_dict::ObjectStore;
+use co_frame::{Frame, Outbox};
+use co_node_inputs::{AppAnswer, Marks};
+use co_node_parts::{Emergencies, NodeState};
+use co_sdo_bank::Bank;
+
+/// What an input was, and what it is answered where it is an application event.
+#[derive(Clone, Copy, Debug)]
+pub struct Received {
+    /// What it was to the parts of the device.
+    pub marks: Marks,
+    /// The answer to an application event.
+    pub app: AppAnswer,
+}
+
+/// Receives an input in an NMT state: a frame goes to the one that takes it, a tick to all SDO channels, an application
+/// event to the entries, the register of errors or nobody. The frames of SDO channels are put into the outbox, at most
+/// 127; the emergencies that the application raises are queued.
+pub fn receive<S: ObjectStore>(
+    store: &mut S,
+    bank: &mut Bank,
+    emergencies: &mut Emergencies,
+    state: NodeState,
+    given: Given<'_>,
+    frame: &Frame,
+    outbox: &mut Outbox,
+) -> Received
+    requires outbox { HasRoomFor segments_per_sub_block outbox.old }
+    requires room { HaveRoom (S.description store.old).rows (all_settings bank.old) }
+    ensures number { IfSome result.marks.rpdo (λ rpdo. rpdo.number < 512) }
+    ensures settings { all_settings bank.new ≡ all_settings bank.old }
+    ensures description { S.description store.new ≡ S.description store.old }
+    ensures marks { (k : Constants) (history : History) →
+        IsBefore k history (S.description store.old) (S.contents store.old) bank.old state →
+        result.marks ≡ (received_at k history (given_view given.entry frame.now)).marks }
+    ensures app { (k : Constants) (history : History) →
+        IsBefore k history (S.description store.old) (S.contents store.old) bank.old state →
+        result.app ≡ (received_at k history (given_view given.entry frame.now)).app }
+    ensures contents { (k : Constants) (history : History) →
+        IsBefore k history (S.description store.old) (S.contents store.old) bank.old state →
+        S.contents store.new ≡ (received_at k history (given_view given.entry frame.now)).received }
+    ensures frames { (k : Constants) (history : History) →
+        IsBefore k history (S.description store.old) (S.contents store.old) bank.old state →
+        outbox.new.items ≡ outbox.old.items
+        ++ (frames_at (received_at k history (given_view given.entry frame.now)).exchange
+        ++ frames_at (received_at k history (given_view given.entry frame.now)).timed_out) }
+    ensures channels { (k : Constants) (history : History) →
+        IsBefore k history (S.description store.old) (S.contents store.old) bank.old state →
+        BankStands (S.description store.old) (channels k) bank.new
+        (logs_received (received_at k history (given_view given.entry frame.now)) history) }
+    ensures emergencies { (k : Constants) (history : History) (log : EmergencyLog) →
+        IsBefore k history (S.description store.old) (S.contents store.old) bank.old state →
+        EmergenciesStand emergencies.old log → EmergenciesStand emergencies.new (with_queued
+        (received_at k history (given_view given.entry frame.now)).raised_by_app log) }
+{
+    match given {
+        Given::Frame => Received {
+            marks: take_frame(store, bank, state, frame, outbox),
+            app: AppAnswer::None,
+        },
+        Given::Tick => Received {
+            marks: take_tick(bank, outbox),
+            app: AppAnswer::None,
+        },
+        Given::Write(key, bytes) => write(store, key, bytes),
+        Given::Event(number) => event(store, number),
+        Given::Changed(key) => change(store, key),
+        Given::Raise(code, bits, manufacturer) => {
+            raise(store, emergencies, code, bits, manufacturer)
+        }
+        Given::Clear(bits) => clear_errors(store, emergencies, bits),
+    }
+}

@@ -1,0 +1,2 @@
+pub mod NodeStanding
+pub mod Built

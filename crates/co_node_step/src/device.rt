@@ -1,0 +1,138 @@
+//! A device over a dictionary.
+
+ghost use Rattle.std.specs.Prelude.{◌≡◌, ◌≤◌, ◌∷◌, length};
+ghost use Rattle.co_sdo_bank.specs.Banks.{all_settings};
+ghost use Rattle.co_sdo_bank.specs.Channels.{HaveRoom};
+ghost use Rattle.co_node_inputs.specs.Inputs.{Inputs, input_view};
+ghost use Rattle.co_node_history.specs.Moments.{Constants};
+ghost use Rattle.co_node_history.specs.Histories.{prescribed, contents_of, frame_bound};
+ghost use Rattle.co_node_receive.specs.Given.{given_view};
+ghost use Rattle.co_node_step.specs.NodeStanding.{NodeStands};
+
+use crate::parts::Parts;
+use crate::sending::{send_emergency, send_life};
+use co_dict::{ObjectStore, number_u16};
+use co_frame::{Frame, Outbox};
+use co_node_inputs::{AppEvent, Input, Marks};
+use co_node_parts::{NodeState, Transition};
+use co_node_phases::{take_pdos, watch};
+use co_node_receive::{Given, receive};
+use co_node_turns::{send_tpdos, take_turn};
+use co_profile::EMERGENCY_INHIBIT_TIME;
+use co_value::Key;
+
+/// The inhibit time of EMCY (CiA 301, 7.5.2.18).
+const EMERGENCY_INHIBIT: Key = Key {
+    index: EMERGENCY_INHIBIT_TIME,
+    sub: 0,
+};
+
+// A reset, and entering stopped, drop the transfers of all SDO channels.
+fn drop_transfers(bank: &mut Bank, marks: &Marks, transition: Transition)
+    ensures settings { all_settings bank.new ≡ all_settings bank.old }
+    ensures { (d : Description) (channels : List ChannelSettings) (logs : ℕ → Log) →
+        BankStands d channels bank.old logs → BankStands d channels bank.new
+        (with_drop (is_reset marks.now || enters Stopped transition) logs) }
+{
+    if marks.is_reset() || transition.enters(NodeState::Stopped) {
+        bank.drop_transfers();
+    }
+}
+
+/// A device over a dictionary: each SDO channel has room for every entry.
+#[derive(Drop)]
+pub struct Device<S: ObjectStore> {
+    pub(crate) store: S,
+    pub(crate) parts: Parts,
+    ghost fits: { HaveRoom (S.description store).rows (all_settings parts.bank) },
+}
+
+impl<S: ObjectStore> Device<S> {
+    /// One input: the outbox then holds the frames that it prescribes, and nothing else.
+    pub fn step(&mut self, input: Input<'_>, outbox: &mut Outbox)
+        ensures frames { (k : Constants) (inputs : Inputs) →
+            NodeStands k (S.description self.old.store) (S.contents self.old.store) self.old.parts
+            inputs → outbox.new.items ≡ prescribed k inputs (input_view input.entry) }
+        ensures stands { (k : Constants) (inputs : Inputs) →
+            NodeStands k (S.description self.old.store) (S.contents self.old.store) self.old.parts
+            inputs → NodeStands k (S.description self.new.store) (S.contents self.new.store)
+            self.new.parts (input_view input.entry ∷ inputs) }
+        ensures contents { (k : Constants) (inputs : Inputs) →
+            NodeStands k (S.description self.old.store) (S.contents self.old.store) self.old.parts
+            inputs → S.contents self.new.store ≡ contents_of k (input_view input.entry ∷ inputs) }
+        ensures few { (k : Constants) (inputs : Inputs) →
+            NodeStands k (S.description self.old.store) (S.contents self.old.store) self.old.parts
+            inputs → length outbox.new.items ≤ frame_bound k inputs (input_view input.entry) }
+    {
+        let frame = match input {
+            Input::Frame(frame) => frame,
+            _ => Frame::default(),
+        };
+        let given = match input {
+            Input::Frame(_) => Given::Frame,
+            Input::Tick => Given::Tick,
+            Input::App(AppEvent::Write(key, bytes)) => Given::Write(key, bytes),
+            Input::App(AppEvent::Event(number)) => Given::Event(number),
+            Input::App(AppEvent::Changed(key)) => Given::Changed(key),
+            Input::App(AppEvent::Raise(code, bits, manufacturer)) => {
+                Given::Raise(code, bits, manufacturer)
+            }
+            Input::App(AppEvent::Clear(bits)) => Given::Clear(bits),
+        };
+        self.take(given, &frame, outbox);
+    }
+
+    // One input, whose frame goes beside it.
+    fn take(&mut self, given: Given<'_>, frame: &Frame, outbox: &mut Outbox)
+        ensures frames { (k : Constants) (inputs : Inputs) →
+            NodeStands k (S.description self.old.store) (S.contents self.old.store) self.old.parts
+            inputs → outbox.new.items ≡ prescribed k inputs (given_view given.entry frame.now) }
+        ensures stands { (k : Constants) (inputs : Inputs) →
+            NodeStands k (S.description self.old.store) (S.contents self.old.store) self.old.parts
+            inputs → NodeStands k (S.description self.new.store) (S.contents self.new.store)
+            self.new.parts (given_view given.entry frame.now ∷ inputs) }
+    {
+        outbox.clear();
+        let before = self.parts.state.get();
+        let received = receive(
+            &mut self.store,
+            &mut self.parts.bank,
+            &mut self.parts.emergencies,
+            before,
+            given,
+            frame,
+            outbox,
+        );
+        let marks = &received.marks;
+        self.parts.last_app = received.app;
+        let loss = watch(
+            &mut self.store,
+            &mut self.parts.consumers,
+            &mut self.parts.emergencies,
+            marks,
+        );
+        self.parts.state.note(marks.state_event());
+        let changed = self.parts.state.note(loss);
+        let transition = Transition {
+            before,
+            after: changed.after,
+        };
+        drop_transfers(&mut self.parts.bank, marks, transition);
+        take_pdos(
+            &mut self.store,
+            &mut self.parts.slots,
+            &mut self.parts.emergencies,
+            marks,
+            transition,
+        );
+        self.parts.emergencies.note(marks.emergency_event());
+        let may = marks.may_send(&self.store, transition.after);
+        let inhibit = number_u16(&self.store, EMERGENCY_INHIBIT);
+        let emergency = self.parts.emergencies.send(may, inhibit);
+        send_emergency(&self.store, emergency, outbox);
+        let is_due = self.parts.producer.note(marks.producer_event(&self.store));
+        send_life(&self.store, marks.life(transition.after, is_due), outbox);
+        let due = take_turn(&mut self.parts.schedule, &self.store, marks.turn(transition));
+        send_tpdos(&self.store, &due, outbox);
+    }
+}

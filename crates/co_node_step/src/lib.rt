@@ -1,0 +1,10 @@
+//! A CANopen device over a dictionary: one input after another.
+#![tactic(auto)]
+
+mod building;
+mod device;
+mod parts;
+mod sending;
+
+pub use device::Device;
+pub use parts::Parts;

@@ -1,0 +1,27 @@
+//! The parts of a device besides its dictionary.
+
+use co_node_inputs::AppAnswer;
+use co_node_parts::{Emergencies, HeartbeatConsumers, HeartbeatProducer, NmtState, RpdoSlots};
+use co_pdo::Schedule;
+use co_sdo_bank::Bank;
+
+/// The parts of a device besides its dictionary: each is told once an input what the input was to it.
+#[derive(Drop)]
+pub struct Parts {
+    /// The NMT state.
+    pub state: NmtState,
+    /// All SDO channels.
+    pub bank: Bank,
+    /// The monitoring of other nodes' heartbeats.
+    pub consumers: HeartbeatConsumers,
+    /// The emergencies that wait.
+    pub emergencies: Emergencies,
+    /// The frames of RPDOs that wait for a SYNC.
+    pub slots: RpdoSlots,
+    /// The device's own heartbeat.
+    pub producer: HeartbeatProducer,
+    /// When TPDOs are due.
+    pub schedule: Schedule,
+    /// The answer to the last input, where that was an application event.
+    pub last_app: AppAnswer,
+}
