@@ -1,6 +1,6 @@
 //! Application events as they are received.
 
-use crate::receive::Received;
+use crate::receiving::Received;
 use co_dict::{ObjectStore, Side, app_store, entry_row};
 use co_frame::AbortCode;
 use co_node_effects::{DeviceError, clear};
