@@ -1,6 +1,7 @@
 //! Receiving an input.
 
-ghost use Rattle.std.specs.Prelude.{◌≡◌, ◌<◌, ◌≤◌, ◌++◌, IfSome};
+ghost use Rattle.std.specs.Prelude.{◌≡◌, ◌+◌, ◌<◌, ◌≤◌, ◌++◌, IfSome};
+ghost use Rattle.arrayvec.specs.ArrayVec.{array_vec_len};
 ghost use Rattle.co_frame.specs.Outboxes.{HasRoomFor};
 ghost use Rattle.co_frame.specs.SegmentSizes.{segments_per_sub_block};
 ghost use Rattle.co_sdo_bank.specs.Banks.{BankStands, all_settings};
@@ -44,6 +45,8 @@ pub fn receive<S: ObjectStore>(
 ) -> Received
     requires outbox { HasRoomFor segments_per_sub_block outbox.old }
     requires room { HaveRoom (S.description store.old).rows (all_settings bank.old) }
+    ensures few { array_vec_len outbox.new ≤ array_vec_len outbox.old + segments_per_sub_block }
+    ensures tick { given.entry ≡ Given.Tick → array_vec_len outbox.new ≤ array_vec_len outbox.old + 1 }
     ensures number { IfSome result.marks.rpdo (λ rpdo. rpdo.number < 512) }
     ensures settings { all_settings bank.new ≡ all_settings bank.old }
     ensures description { S.description store.new ≡ S.description store.old }
