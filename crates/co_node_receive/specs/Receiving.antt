@@ -1,5 +1,5 @@
 -- What receiving a frame, a tick and an application event comes to, as far as each goes.
-use Rattle.std.specs.Prelude.{◌≡◌, is_some, Bool, true, List, [], ◌++◌, Option, Some}
+use Rattle.std.specs.Prelude.{◌≡◌, is_some, true, List, [], ◌++◌, Option}
 use Rattle.co_frame.specs.FrameContent.{FrameContent}
 use Rattle.co_frame.specs.declared.nmt.NmtService.{NmtService}
 use Rattle.co_dict.specs.Rows.{Contents}
@@ -19,9 +19,9 @@ use Rattle.co_node_history.specs.Received.{nothing_of, with_frame, with_app_even
 use Rattle.co_node_receive.specs.Befores.{logs_received}
 
 -- marks, entries, frames in the outbox and SDO channels are those of a moment, at which nothing came of the application
-pub record IsFrameReceived (d : Description) (k : Constants) (history : History) (m : Moment) (marks : Marks) (contents : Contents) (before after : List FrameContent) (bank : List NumberedChannel) : Type 0 where
-  pub marks : marks ≡ m.marks
-  pub contents : contents ≡ m.received
+pub record IsFrameReceived (d : Description) (k : Constants) (history : History) (m : Moment) (marked : Marks) (entries : Contents) (before after : List FrameContent) (bank : List NumberedChannel) : Type 0 where
+  pub marks : marked ≡ m.marks
+  pub contents : entries ≡ m.received
   pub frames : after ≡ before ++ (frames_at m.exchange ++ frames_at m.timed_out)
   pub channels : BankStands d (channels k) bank (logs_received m history)
   pub app : m.app ≡ answer.None

@@ -47,6 +47,7 @@ pub(crate) fn write<S: ObjectStore>(store: &mut S, key: Key, bytes: &[u8]) -> Re
     ensures contents { S.contents store.new ≡ (app_moment (S.description store.old)
         (S.contents store.old) (Written key bytes.now)).received }
     ensures description { S.description store.new ≡ S.description store.old }
+    ensures rpdo { result.marks.rpdo ≡ None }
 {
     match app_store(store, key, bytes) {
         Ok(()) => {
