@@ -36,13 +36,20 @@ const EMERGENCY_INHIBIT: Key = Key {
 };
 
 // A reset, and entering stopped, drop the transfers of all SDO channels.
-fn drop_transfers(bank: &mut Bank, marks: &Marks, transition: Transition)
+fn drops(marks: &Marks, transition: Transition) -> bool
+    ensures { result ≡ is_reset marks.now || enters Stopped transition }
+{
+    marks.is_reset() || transition.enters(NodeState::Stopped)
+}
+
+// Drops the transfers of all SDO channels, or doesn't.
+fn drop_if(bank: &mut Bank, drops: bool)
     ensures settings { all_settings bank.new ≡ all_settings bank.old }
     ensures stands { (d : Description) (channels : List ChannelSettings) (logs : ℕ → Log) →
-        BankStands d channels bank.old logs → BankStands d channels bank.new
-        (with_drop (is_reset marks.now || enters Stopped transition) logs) }
+        BankStands d channels bank.old logs →
+        BankStands d channels bank.new (with_drop drops logs) }
 {
-    if marks.is_reset() || transition.enters(NodeState::Stopped) {
+    if drops {
         bank.drop_transfers();
     }
 }
@@ -125,7 +132,7 @@ impl<S: ObjectStore> Device<S> {
             before,
             after: changed.after,
         };
-        drop_transfers(&mut self.parts.bank, marks, transition);
+        drop_if(&mut self.parts.bank, drops(marks, transition));
         take_pdos(
             &mut self.store,
             &mut self.parts.slots,

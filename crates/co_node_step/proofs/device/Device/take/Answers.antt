@@ -11,9 +11,9 @@ use Rattle.co_node_parts.specs.declared.nmt_state.Transition.{Transition}
 use Rattle.co_node_parts.specs.EmergencyQueues.{EmergenciesStand, with_queued}
 use Rattle.co_node_inputs.specs.Inputs.{Inputs, InputView}
 use Rattle.co_node_receive.specs.Given.{given_view}
-use Rattle.co_node_receive.specs.Befores.{IsBefore}
+use Rattle.co_node_receive.specs.Befores.{IsBefore, logs_received}
 use Rattle.co_node_history.specs.Moments.{Constants, Moment, History, channels}
-use Rattle.co_node_history.specs.Logs.{channel_logs, unsent_log, turn_at, consumers_log, emergency_log, producer_log, schedule_log, slot_log, state_at, state_log, transition_of}
+use Rattle.co_node_history.specs.Logs.{with_drop, channel_logs, unsent_log, turn_at, consumers_log, emergency_log, producer_log, schedule_log, slot_log, state_at, state_log, transition_of}
 use Rattle.co_node_history.specs.Phases.{moment}
 use Rattle.co_node_history.specs.Histories.{moments, prescribed, emergency_frames, life_frames, tpdo_frame}
 use Rattle.co_node_laws.specs.Calls.{is_asked}
@@ -23,16 +23,17 @@ use Rattle.co_node_step.proofs.Steps.{IsMoment, moment_is}
 use Rattle.co_node_step.proofs.Sent.{all_sent}
 use Rattle.co_node_step.proofs.device.Device.take.Given as given
 use Rattle.co_node_step.proofs.device.Device.take.Goals as goal
+use Rattle.co_node_step.proofs.device.Device.take.Goals.{After-store_laws}
 
-module _ (g : given.Over) (c : goal.After-greatest_bound g) (k : Constants) (inputs : Inputs) (ns : NodeStands k (g.S.ObjectStore.description c.args.self.now.store) (g.S.ObjectStore.contents c.args.self.now.store) c.args.self.now.parts inputs) where
+module _ (g : given.Over) (c : After-store_laws g) (k : Constants) (inputs : Inputs) (ns : NodeStands k (g.S.ObjectStore.description c.args.self.now.store) (g.S.ObjectStore.contents c.args.self.now.store) c.args.self.now.parts inputs) where
   abbrev h : History
   h = moments k inputs
 
   abbrev m : Moment
-  m = moment k h (given_view c.args.given.entry c.args.frame.now)
+  m = moment k h (given_view c.args.given c.args.frame.now)
 
   is : IsMoment k h m
-  is = moment_is k h (given_view c.args.given.entry c.args.frame.now)
+  is = moment_is k h (given_view c.args.given c.args.frame.now)
 
   state_before : c.get-before.result ≡ state_at h
   state_before = c.get-before.ensures ∙ ns.state
@@ -78,8 +79,8 @@ module _ (g : given.Over) (c : goal.After-greatest_bound g) (k : Constants) (inp
   consumers : ConsumersStand c.watch-loss.new.consumers (consumers_log k (m ∷ h))
   consumers = steps.consumers k h m is _ _ _ d1 marks received _ (c.watch-loss.ensures.consumers (consumers_log k h) ns.consumers)
 
-  channels_stand : BankStands (g.S.ObjectStore.description c.receive-received.new.store) (channels k) c.drop_transfers.new.bank (channel_logs (m ∷ h))
-  channels_stand = steps.dropped k h m is _ _ _ _ marks transition (c.drop_transfers.ensures.stands _ _ _ (c.receive-received.ensures.channels k h before))
+  channels_stand : BankStands (g.S.ObjectStore.description c.receive-received.new.store) (channels k) c.drop_if.new.bank (channel_logs (m ∷ h))
+  channels_stand = steps.dropped k h m is _ _ _ _ marks transition (subst (λ b. BankStands _ _ c.drop_if.new.bank (with_drop b (logs_received m h))) c.drops.ensures (c.drop_if.ensures.stands _ _ _ (c.receive-received.ensures.channels k h before)))
 
   slots : SlotsStand 512 c.take_pdos.new.slots (slot_log k (m ∷ h))
   slots = steps.slots k h m is _ _ _ _ d2 marks watched transition _ (c.take_pdos.ensures.slots (slot_log k h) ns.slots)
@@ -109,16 +110,40 @@ module _ (g : given.Over) (c : goal.After-greatest_bound g) (k : Constants) (inp
   producer = steps.producer k h m is _ _ marks contents _ _ c.producer_event.ensures (c.note-is_due.ensures.stands (producer_log k h) ns.producer)
 
   turn : c.turn-turn.result ≡ turn_at m h
-  turn = steps.turn k h m is _ _ marks contents _ _ transition c.turn-turn.ensures
+  turn = steps.turned k h m is _ _ marks contents _ _ transition c.turn-turn.ensures
 
   schedule_before : IsScheduleAfter (g.S.ObjectStore.description c.take_pdos.new.store) c.args.self.now.parts.schedule (schedule_log k h)
   schedule_before = subst (λ d. IsScheduleAfter d c.args.self.now.parts.schedule (schedule_log k h)) (ns.description ∙ sym d3) ns.schedule
 
   current : is_asked c.turn-turn.result ≡ true → AllCurrent (g.S.ObjectStore.contents c.take_pdos.new.store) (schedule_log k h)
-  current asked = subst (λ contents. AllCurrent contents (schedule_log k h)) (sym contents) (c.schedule_ready.ensures k inputs (given_view c.args.given.entry c.args.frame.now) (ap is_asked (sym turn) ∙ asked))
+  current asked = subst (λ contents. AllCurrent contents (schedule_log k h)) (sym contents) (c.schedule_ready.ensures k inputs (given_view c.args.given c.args.frame.now) (ap is_asked (sym turn) ∙ asked))
 
   due : c.take_turn-due.result.items ≡ m.due
   due = steps.due k h m is _ _ marks contents _ _ transition c.turn-turn.ensures _ _ d3 (c.take_turn-due.ensures.due (schedule_log k h) schedule_before current)
 
   schedule : IsScheduleAfter (g.S.ObjectStore.description c.take_pdos.new.store) c.take_turn-due.new.schedule (schedule_log k (m ∷ h))
   schedule = steps.schedule k h m is _ _ marks contents _ _ transition c.turn-turn.ensures _ _ _ d3 due (c.take_turn-due.ensures.after (schedule_log k h) schedule_before current)
+
+  -- the frames
+  room : length (prescribed k inputs (given_view c.args.given c.args.frame.now)) ≤ 514
+  room = ?
+
+  first_sent : c.receive-received.new.outbox.items ≡ frames_at m.exchange ++ frames_at m.timed_out
+  first_sent = c.receive-received.ensures.frames k h before ∙ ap (λ o. o ++ (frames_at m.exchange ++ frames_at m.timed_out)) c.clear.ensures
+
+pub returns-clause-stands : goal.returns-clause-stands
+returns-clause-stands g c = λ k inputs ns. record {
+  description = d3 g c k inputs ns;
+  contents = contents g c k inputs ns;
+  state = state_after_all g c k inputs ns;
+  channels = subst (λ d. BankStands d (channels k) c.drop_if.new.bank (channel_logs (m g c k inputs ns ∷ h g c k inputs ns))) (d1 g c k inputs ns ∙ sym (d3 g c k inputs ns)) (channels_stand g c k inputs ns);
+  consumers = consumers g c k inputs ns;
+  emergencies = emergencies g c k inputs ns;
+  slots = slots g c k inputs ns;
+  producer = producer g c k inputs ns;
+  schedule = schedule g c k inputs ns;
+  app = c.receive-received.ensures.app k (h g c k inputs ns) (before g c k inputs ns);
+}
+
+pub returns-clause-frames : goal.returns-clause-frames
+returns-clause-frames g c = λ k inputs ns. ?
