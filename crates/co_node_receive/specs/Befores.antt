@@ -11,7 +11,8 @@ use Rattle.co_node_history.specs.Moments.{Constants, Moment, History, channels}
 use Rattle.co_node_history.specs.Logs.{contents_at, state_at, channel_logs, with_tick}
 
 -- its description, entries, SDO channels and NMT state are those after a history
-pub record IsBefore (k : Constants) (history : History) (d : Description) (entries : Contents) (bank : List NumberedChannel) (now : NodeState) : Type 0 where
+pub record IsBefore (k : Constants) (history : History)
+    (d : Description) (entries : Contents) (bank : List NumberedChannel) (now : NodeState) : Type 0 where
   pub description : d ≡ k.description
   pub contents : entries ≡ contents_at k history
   pub channels : BankStands d (channels k) bank (channel_logs history)
@@ -19,4 +20,5 @@ pub record IsBefore (k : Constants) (history : History) (d : Description) (entri
 
 -- the log of each SDO channel as an input was received, before transfers are dropped
 abbrev pub logs_received : Moment → History → ℕ → Log
-logs_received m history = logs_after m.timed_out (with_tick m.marks.ticked (logs_after m.exchange (channel_logs history)))
+logs_received m history =
+    logs_after m.timed_out (with_tick m.marks.ticked (logs_after m.exchange (channel_logs history)))

@@ -19,7 +19,8 @@ use Rattle.co_node_history.specs.Received.{nothing_of, with_frame, with_app_even
 use Rattle.co_node_receive.specs.Befores.{logs_received}
 
 -- marks, entries, frames in the outbox and SDO channels are those of a moment, at which nothing came of the application
-pub record IsFrameReceived (d : Description) (k : Constants) (history : History) (m : Moment) (marked : Marks) (entries : Contents) (before after : List FrameContent) (bank : List NumberedChannel) : Type 0 where
+pub record IsFrameReceived (d : Description) (k : Constants) (history : History) (m : Moment)
+    (marked : Marks) (entries : Contents) (before after : List FrameContent) (bank : List NumberedChannel) : Type 0 where
   pub marks : marked ≡ m.marks
   pub contents : entries ≡ m.received
   pub frames : after ≡ before ++ (frames_at m.exchange ++ frames_at m.timed_out)
@@ -29,7 +30,8 @@ pub record IsFrameReceived (d : Description) (k : Constants) (history : History)
 
 -- a frame, as the one with an address takes it
 abbrev pub frame_moment : Constants → History → Address → FrameContent → Moment
-frame_moment k history address frame = with_frame k history address frame (nothing_of (Framed frame) (contents_at k history))
+frame_moment k history address frame =
+    with_frame k history address frame (nothing_of (Framed frame) (contents_at k history))
 
 -- the marks of an NMT service
 abbrev pub command_marks : Option NmtService → Marks
@@ -41,4 +43,5 @@ tick_marks timed_out = record quiet { ticked = true; timed_out = is_some timed_o
 
 -- an application event, with these entries
 abbrev pub app_moment : Description → Contents → AppView → Moment
-app_moment d contents event = with_app_event d event (event_refusal d contents event) (nothing_of (Applied event) contents)
+app_moment d contents event =
+    with_app_event d event (event_refusal d contents event) (nothing_of (Applied event) contents)

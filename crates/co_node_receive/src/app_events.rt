@@ -67,8 +67,8 @@ pub(crate) fn event<S: ObjectStore>(store: &S, number: u16) -> Received
         (EventOn number)).marks }
     ensures app { result.app ≡ (app_moment (S.description store.now) (S.contents store.now)
         (EventOn number)).app }
-    ensures contents { S.contents store.now ≡ (app_moment (S.description store.now) (S.contents store.now)
-        (EventOn number)).received }
+    ensures contents { S.contents store.now ≡ (app_moment (S.description store.now)
+        (S.contents store.now) (EventOn number)).received }
 {
     if number >= 512 || !has_pdo(store, Side::Tpdo, number) {
         return refused(AbortCode::OBJECT_MISSING);
@@ -85,8 +85,8 @@ pub(crate) fn change<S: ObjectStore>(store: &S, key: Key) -> Received
         (ChangedAt key)).marks }
     ensures app { result.app ≡ (app_moment (S.description store.now) (S.contents store.now)
         (ChangedAt key)).app }
-    ensures contents { S.contents store.now ≡ (app_moment (S.description store.now) (S.contents store.now)
-        (ChangedAt key)).received }
+    ensures contents { S.contents store.now ≡ (app_moment (S.description store.now)
+        (S.contents store.now) (ChangedAt key)).received }
 {
     match entry_row(store, key) {
         Ok(_) => done(Marks {

@@ -9,6 +9,8 @@ use Rattle.co_node_receive.proofs.frames.take_tick.Goals as goal
 
 pub returns-clause-marks : goal.returns-clause-marks
 returns-clause-marks c = λ d channels logs all.
-    let gone : c.is_some.result ≡ is_some (time_out_of channels (with_each Ticked logs)) = c.is_some.ensures ∙ ap is_some (c.tick-timed_out.ensures.which d channels logs all) ∙ is_some_number (time_out_of channels (with_each Ticked logs)) in
+    let gone : c.is_some.result ≡ is_some (time_out_of channels (with_each Ticked logs)) =
+    c.is_some.ensures ∙ ap is_some (c.tick-timed_out.ensures.which d channels logs all)
+    ∙ is_some_number (time_out_of channels (with_each Ticked logs)) in
     ap (λ (m : Marks). record m { ticked = true; timed_out = c.is_some.result }) c.quiet.ensures
     ∙ ap (λ (b : Bool). record quiet { ticked = true; timed_out = b }) gone
