@@ -38,11 +38,12 @@ same_address o p c n i j channels contents ids =
     ap (λ q. address_of q c i) channels ∙ ap (λ m. address_of p m i) contents ∙ ap (λ id. address_of p n id) ids
 
 -- received at one address, and so at its equal
-pub at_address : {d : Description} {k : Constants} {history : History} {frame : FrameContent} {marked : Marks}
-    {entries : Contents} {before after : List FrameContent} {bank : List NumberedChannel} (a b : Address) → a ≡ b
+pub at_address : {d : Description} {k : Constants} {history : History} {marked : Marks}
+    {entries : Contents} {before after : List FrameContent} {bank : List NumberedChannel}
+    (frame : FrameContent) (a b : Address) → a ≡ b
     → IsFrameReceived d k history (frame_moment k history a frame) marked entries before after bank
     → IsFrameReceived d k history (frame_moment k history b frame) marked entries before after bank
-at_address {d} {k} {history} {frame} {marked} {entries} {before} {after} {bank} a b same received = subst
+at_address {d} {k} {history} {marked} {entries} {before} {after} {bank} frame a b same received = subst
     (λ (c : Address). IsFrameReceived d k history (frame_moment k history c frame) marked entries before after bank)
     same received
 

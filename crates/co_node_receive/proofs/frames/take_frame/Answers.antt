@@ -13,5 +13,5 @@ returns-clause-received g c = λ k history before.
     ∙ ap (λ id. number_for (channels k) id) c.id.ensures.id in
     let who : c.of-address.result ≡ address_at k history c.args.frame.now.id =
     c.of-address.ensures.address ∙ same_address _ _ _ _ _ _ number before.contents c.id-2.ensures.id in
-    at_address {frame = c.args.frame.now} c.of-address.result (address_at k history c.args.frame.now.id) who
+    at_address c.args.frame.now c.of-address.result (address_at k history c.args.frame.now.id) who
     (c.take_at.ensures.received k history before)
