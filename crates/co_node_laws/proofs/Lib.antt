@@ -9,3 +9,4 @@ pub mod Counts
 pub mod Bounds
 mod PartsExamples
 pub mod Kept
+pub mod Changed
