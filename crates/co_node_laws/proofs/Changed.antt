@@ -149,7 +149,7 @@ request_received k c logs frame input j Operational e = ap (λ set. contents_wit
 
 -- ---- a frame
 
-by_address : (k : Constants) (inputs : Inputs) (frame : FrameContent) (address : Address) → address_at k (moments k inputs) frame.id ≡ address
+pub by_address : (k : Constants) (inputs : Inputs) (frame : FrameContent) (address : Address) → address_at k (moments k inputs) frame.id ≡ address
     → contents_of k (Framed frame ∷ inputs) ≡ changed_by_frame k inputs address frame
 by_address k inputs frame Nmt is = after_silent k inputs frame Nmt is (record { ticked = refl; sync = refl; rpdo = refl })
 by_address k inputs frame Sync is =

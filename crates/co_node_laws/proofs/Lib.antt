@@ -10,3 +10,5 @@ pub mod Bounds
 mod PartsExamples
 pub mod Kept
 pub mod Changed
+pub mod Resets
+pub mod SetExactly

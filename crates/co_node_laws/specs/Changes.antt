@@ -1,5 +1,5 @@
 -- What an input changes of the entries, by its kind, and a frame by who takes it.
-use Rattle.std.specs.Prelude.{◌==◌, ◌||◌, ℕ, [], ◌∷◌, List, Option, Some, None, length, if◌then◌else◌}
+use Rattle.std.specs.Prelude.{◌==◌, ◌||◌, ℕ, Bool, List, Option, Some, None, length, if◌then◌else◌}
 use Rattle.co_frame.specs.FrameContent.{FrameContent}
 use Rattle.co_frame.specs.Nmt.{nmt_command_in, nmt_command_bytes}
 use Rattle.co_frame.specs.declared.nmt.NmtService.{NmtService}
@@ -38,6 +38,10 @@ reset_service Communication = ResetCommunication
 -- the NMT command that resets an area of the node with a node-ID, of all nodes where this is 0 (CiA 301, 7.2.8.3.1)
 abbrev pub reset_to : ℕ → Area → InputView
 reset_to node area = Framed (record { id = 0; bytes = nmt_command_bytes (record { service = reset_service area; node = node }) })
+
+-- an NMT command with a node-ID is for this device: for all nodes, or for its own node-ID
+abbrev pub is_for : Constants → ℕ → Bool
+is_for k node = node == 0 || node == k.description.node
 
 -- these errors of length are raised, then the data of these frames take effect, in order
 abbrev pub after_errors_and_data : Description → List DeviceError → List KeptFrame → Contents → Contents
