@@ -2,8 +2,8 @@
 //! and RPDOs that take effect.
 #![tactic(auto)]
 
+mod losses;
 mod rpdos;
-mod watch;
 
+pub use losses::watch;
 pub use rpdos::take_pdos;
-pub use watch::watch;
