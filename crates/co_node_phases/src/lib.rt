@@ -3,7 +3,7 @@
 #![tactic(auto)]
 
 mod rpdos;
-mod watch;
+mod losses;
 
 pub use rpdos::take_pdos;
-pub use watch::watch;
+pub use losses::watch;

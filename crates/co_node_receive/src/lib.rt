@@ -4,7 +4,7 @@
 mod app_events;
 mod frames;
 mod given;
-mod receive;
+mod receiving;
 
 pub use given::Given;
-pub use receive::{Received, receive};
+pub use receiving::{Received, receive};

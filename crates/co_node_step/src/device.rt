@@ -1,8 +1,14 @@
 //! A device over a dictionary.
 
-ghost use Rattle.std.specs.Prelude.{◌≡◌, ◌≤◌, ◌∷◌, length};
-ghost use Rattle.co_sdo_bank.specs.Banks.{all_settings};
-ghost use Rattle.co_sdo_bank.specs.Channels.{HaveRoom};
+ghost use Rattle.std.specs.Prelude.{◌≡◌, ℕ, ◌≤◌, ◌∷◌, ◌||◌, List, length};
+ghost use Rattle.co_dict.specs.Stores.{Description};
+ghost use Rattle.co_sdo.specs.Log.{Log};
+ghost use Rattle.co_sdo_bank.specs.Banks.{BankStands, all_settings};
+ghost use Rattle.co_sdo_bank.specs.Channels.{ChannelSettings, HaveRoom};
+ghost use Rattle.co_node_parts.specs.NmtStates.{enters};
+ghost use Rattle.co_node_parts.specs.declared.nmt_state.NodeState.TheVariants.{Stopped};
+ghost use Rattle.co_node_inputs.specs.Words.{is_reset};
+ghost use Rattle.co_node_history.specs.Logs.{with_drop};
 ghost use Rattle.co_node_inputs.specs.Inputs.{Inputs, input_view};
 ghost use Rattle.co_node_history.specs.Moments.{Constants};
 ghost use Rattle.co_node_history.specs.Histories.{prescribed, contents_of, frame_bound};
@@ -11,14 +17,16 @@ ghost use Rattle.co_node_step.specs.NodeStanding.{NodeStands};
 
 use crate::parts::Parts;
 use crate::sending::{send_emergency, send_life};
-use co_dict::{ObjectStore, number_u16};
+use co_dict::{ObjectStore, number_u16, store_laws};
 use co_frame::{Frame, Outbox};
 use co_node_inputs::{AppEvent, Input, Marks};
+use co_node_laws::{few, greatest_bound, schedule_ready};
 use co_node_parts::{NodeState, Transition};
 use co_node_phases::{take_pdos, watch};
 use co_node_receive::{Given, receive};
 use co_node_turns::{send_tpdos, take_turn};
 use co_profile::EMERGENCY_INHIBIT_TIME;
+use co_sdo_bank::Bank;
 use co_value::Key;
 
 /// The inhibit time of EMCY (CiA 301, 7.5.2.18).
@@ -28,13 +36,20 @@ const EMERGENCY_INHIBIT: Key = Key {
 };
 
 // A reset, and entering stopped, drop the transfers of all SDO channels.
-fn drop_transfers(bank: &mut Bank, marks: &Marks, transition: Transition)
-    ensures settings { all_settings bank.new ≡ all_settings bank.old }
-    ensures { (d : Description) (channels : List ChannelSettings) (logs : ℕ → Log) →
-        BankStands d channels bank.old logs → BankStands d channels bank.new
-        (with_drop (is_reset marks.now || enters Stopped transition) logs) }
+fn drops(marks: &Marks, transition: Transition) -> bool
+    ensures { result ≡ is_reset marks.now || enters Stopped transition }
 {
-    if marks.is_reset() || transition.enters(NodeState::Stopped) {
+    marks.is_reset() || transition.enters(NodeState::Stopped)
+}
+
+// Drops the transfers of all SDO channels, or doesn't.
+fn drop_if(bank: &mut Bank, drops: bool)
+    ensures settings { all_settings bank.new ≡ all_settings bank.old }
+    ensures stands { (d : Description) (channels : List ChannelSettings) (logs : ℕ → Log) →
+        BankStands d channels bank.old logs →
+        BankStands d channels bank.new (with_drop drops logs) }
+{
+    if drops {
         bank.drop_transfers();
     }
 }
@@ -117,7 +132,7 @@ impl<S: ObjectStore> Device<S> {
             before,
             after: changed.after,
         };
-        drop_transfers(&mut self.parts.bank, marks, transition);
+        drop_if(&mut self.parts.bank, drops(marks, transition));
         take_pdos(
             &mut self.store,
             &mut self.parts.slots,
@@ -131,8 +146,15 @@ impl<S: ObjectStore> Device<S> {
         let emergency = self.parts.emergencies.send(may, inhibit);
         send_emergency(&self.store, emergency, outbox);
         let is_due = self.parts.producer.note(marks.producer_event(&self.store));
-        send_life(&self.store, marks.life(transition.after, is_due), outbox);
-        let due = take_turn(&mut self.parts.schedule, &self.store, marks.turn(transition));
+        let life = marks.life(transition.after, is_due);
+        send_life(&self.store, life, outbox);
+        let turn = marks.turn(transition);
+        let due = take_turn(&mut self.parts.schedule, &self.store, turn);
         send_tpdos(&self.store, &due, outbox);
+        // what follows holds of every device, and does nothing
+        schedule_ready();
+        few();
+        greatest_bound();
+        store_laws(&self.store);
     }
 }

@@ -9,7 +9,7 @@ ghost use Rattle.co_node_turns.specs.Turns.{HasTpdoNumber};
 use arrayvec::ArrayVec;
 use co_dict::{ObjectStore, Side};
 use co_node_inputs::{Asked, Turn};
-use co_pdo::{Due, Mapping, Schedule, is_active};
+use co_pdo::{Due, Mapped, Mapping, Schedule, is_active};
 use co_value::Key;
 
 /// The numbers of the TPDOs that are due at a turn, increasing; they count as sent. What the dictionary says of each TPDO
@@ -51,7 +51,10 @@ fn is_mapped_into<S: ObjectStore>(store: &S, key: Key, number: u16) -> bool {
         return false;
     }
     let mapping = Mapping::read(store, Side::Tpdo, number);
-    mapping.entries().iter().any(|mapped| mapped.is_entry(key))
+    mapping
+        .entries()
+        .iter()
+        .any(|mapped| matches!(*mapped, Mapped::Entry(entry, _) if entry == key))
 }
 
 // The numbers of the TPDOs that the application gave an event on.

@@ -1,0 +1,149 @@
+use Rattle.std.proofs.Common.{◌≡◌, true, ◌≤◌, List, ◌∷◌, ◌++◌, length, refl, sym, ap, ◌∙◌, subst, arith}
+use Rattle.std.proofs.lemmas.List.{length-map}
+use Rattle.co_frame.specs.FrameContent.{FrameContent}
+use Rattle.co_sdo_bank.specs.Banks.{BankStands}
+use Rattle.co_sdo_bank.specs.Events.{frames_at}
+use Rattle.co_pdo.specs.Schedules.{AllCurrent, IsScheduleAfter}
+use Rattle.co_node_parts.specs.ConsumerTables.{ConsumersStand}
+use Rattle.co_node_parts.specs.Producers.{ProducerStands}
+use Rattle.co_node_parts.specs.RpdoSlots.{SlotsStand}
+use Rattle.co_node_parts.specs.declared.nmt_state.Transition.{Transition}
+use Rattle.co_node_parts.specs.EmergencyQueues.{EmergenciesStand, with_queued}
+use Rattle.co_node_inputs.specs.Inputs.{Inputs, InputView}
+use Rattle.co_node_receive.specs.Given.{given_view}
+use Rattle.co_node_receive.specs.Befores.{IsBefore, logs_received}
+use Rattle.co_node_history.specs.Moments.{Constants, Moment, History, channels}
+use Rattle.co_node_history.specs.Logs.{with_drop, channel_logs, unsent_log, turn_at, consumers_log, emergency_log, producer_log, schedule_log, slot_log, state_at, state_log, transition_of}
+use Rattle.co_node_history.specs.Phases.{moment}
+use Rattle.co_node_history.specs.Histories.{moments, prescribed, emergency_frames, life_frames, tpdo_frame}
+use Rattle.co_node_laws.specs.Calls.{is_asked}
+use Rattle.co_node_step.specs.NodeStanding.{NodeStands}
+use Rattle.co_node_step.proofs.Steps as steps
+use Rattle.co_node_step.proofs.Steps.{IsMoment, moment_is}
+use Rattle.co_node_step.proofs.Sent.{all_sent}
+use Rattle.co_node_step.proofs.device.Device.take.Given as given
+use Rattle.co_node_step.proofs.device.Device.take.Goals as goal
+use Rattle.co_node_step.proofs.device.Device.take.Goals.{After-store_laws}
+
+module _ (g : given.Over) (c : After-store_laws g) (k : Constants) (inputs : Inputs) (ns : NodeStands k (g.S.ObjectStore.description c.args.self.now.store) (g.S.ObjectStore.contents c.args.self.now.store) c.args.self.now.parts inputs) where
+  abbrev h : History
+  h = moments k inputs
+
+  abbrev m : Moment
+  m = moment k h (given_view c.args.given c.args.frame.now)
+
+  is : IsMoment k h m
+  is = moment_is k h (given_view c.args.given c.args.frame.now)
+
+  state_before : c.get-before.result ≡ state_at h
+  state_before = c.get-before.ensures ∙ ns.state
+
+  before : IsBefore k h (g.S.ObjectStore.description c.args.self.now.store) (g.S.ObjectStore.contents c.args.self.now.store) c.args.self.now.parts.bank c.get-before.result
+  before = record { description = ns.description; contents = ns.contents; channels = ns.channels; state = state_before }
+
+  -- the phases
+  d1 : g.S.ObjectStore.description c.receive-received.new.store ≡ k.description
+  d1 = c.receive-received.ensures.description ∙ ns.description
+
+  d2 : g.S.ObjectStore.description c.watch-loss.new.store ≡ k.description
+  d2 = c.watch-loss.ensures.description ∙ d1
+
+  d3 : g.S.ObjectStore.description c.take_pdos.new.store ≡ k.description
+  d3 = c.take_pdos.ensures.description ∙ d2
+
+  marks : c.receive-received.result.marks ≡ m.marks
+  marks = c.receive-received.ensures.marks k h before
+
+  received : g.S.ObjectStore.contents c.receive-received.new.store ≡ m.received
+  received = c.receive-received.ensures.contents k h before
+
+  watched : g.S.ObjectStore.contents c.watch-loss.new.store ≡ m.watched
+  watched = steps.watched k h m is _ _ _ d1 marks received _ (c.watch-loss.ensures.contents (consumers_log k h) ns.consumers)
+
+  loss : c.watch-loss.result ≡ m.loss
+  loss = steps.loss k h m is _ _ _ d1 marks received _ (c.watch-loss.ensures.loss (consumers_log k h) ns.consumers)
+
+  state_after_all : c.note-changed.new.self ≡ state_at (m ∷ h)
+  state_after_all = steps.state k h m is _ marks _ state_before _ _ c.state_event.ensures loss _ (c.note-changed.ensures.stands (c.state_event.result ∷ state_log h) (c.note.ensures.stands (state_log h) ns.state))
+
+  after : c.note-changed.result.after ≡ state_at (m ∷ h)
+  after = steps.state k h m is _ marks _ state_before _ _ c.state_event.ensures loss _ (ap (λ (t : Transition). t.after) (c.note-changed.ensures.transition (c.state_event.result ∷ state_log h) (c.note.ensures.stands (state_log h) ns.state)))
+
+  transition : record { before = c.get-before.result; after = c.note-changed.result.after } ≡ transition_of m h
+  transition = steps.transition k h m is _ marks _ state_before _ _ c.state_event.ensures loss _ (ap (λ (t : Transition). t.after) (c.note-changed.ensures.transition (c.state_event.result ∷ state_log h) (c.note.ensures.stands (state_log h) ns.state)))
+
+  contents : g.S.ObjectStore.contents c.take_pdos.new.store ≡ m.contents
+  contents = steps.contents k h m is _ _ _ _ d2 marks watched transition _ (c.take_pdos.ensures.contents (slot_log k h) ns.slots)
+
+  -- the parts
+  consumers : ConsumersStand c.watch-loss.new.consumers (consumers_log k (m ∷ h))
+  consumers = steps.consumers k h m is _ _ _ d1 marks received _ (c.watch-loss.ensures.consumers (consumers_log k h) ns.consumers)
+
+  channels_stand : BankStands (g.S.ObjectStore.description c.receive-received.new.store) (channels k) c.drop_if.new.bank (channel_logs (m ∷ h))
+  channels_stand = steps.dropped k h m is _ _ _ _ marks transition (subst (λ b. BankStands _ _ c.drop_if.new.bank (with_drop b (logs_received m h))) c.drops.ensures (c.drop_if.ensures.stands _ _ _ (c.receive-received.ensures.channels k h before)))
+
+  slots : SlotsStand 512 c.take_pdos.new.slots (slot_log k (m ∷ h))
+  slots = steps.slots k h m is _ _ _ _ d2 marks watched transition _ (c.take_pdos.ensures.slots (slot_log k h) ns.slots)
+
+  queued_by_app : EmergenciesStand c.receive-received.new.emergencies (with_queued m.raised_by_app (emergency_log h))
+  queued_by_app = c.receive-received.ensures.emergencies k h (emergency_log h) before ns.emergencies
+
+  queued_by_loss : EmergenciesStand c.watch-loss.new.emergencies (with_queued m.raised_by_loss (with_queued m.raised_by_app (emergency_log h)))
+  queued_by_loss = steps.lost_queued k h m is _ _ _ d1 marks received _ _ (c.watch-loss.ensures.emergencies (consumers_log k h) _ ns.consumers queued_by_app)
+
+  queued_by_pdo : EmergenciesStand c.take_pdos.new.emergencies (with_queued m.raised_by_pdo (with_queued m.raised_by_loss (with_queued m.raised_by_app (emergency_log h))))
+  queued_by_pdo = steps.pdo_queued k h m is _ _ _ _ d2 marks watched transition _ _ (c.take_pdos.ensures.emergencies (slot_log k h) _ ns.slots queued_by_loss)
+
+  unsent : EmergenciesStand c.note-2.new.self (unsent_log m (emergency_log h))
+  unsent = steps.unsent k h m is _ _ marks contents _ _ c.emergency_event.ensures (c.note-2.ensures _ queued_by_pdo)
+
+  emergency : c.send-emergency.result ≡ m.emergency
+  emergency = steps.emergency k h m is _ _ marks contents _ _ _ after c.may_send-may.ensures (c.send-emergency.ensures.due _ unsent)
+
+  emergencies : EmergenciesStand c.send-emergency.new.self (emergency_log (m ∷ h))
+  emergencies = steps.emergencies k h m is _ _ marks contents _ _ _ emergency c.number_u16-inhibit.ensures (c.send-emergency.ensures.stands _ unsent)
+
+  life : c.life-life.result ≡ m.life
+  life = steps.life k h m is _ _ marks contents _ _ _ _ after c.producer_event.ensures (c.note-is_due.ensures.due (producer_log k h) ns.producer) c.life-life.ensures
+
+  producer : ProducerStands c.note-is_due.new.self (producer_log k (m ∷ h))
+  producer = steps.producer k h m is _ _ marks contents _ _ c.producer_event.ensures (c.note-is_due.ensures.stands (producer_log k h) ns.producer)
+
+  turn : c.turn-turn.result ≡ turn_at m h
+  turn = steps.turned k h m is _ _ marks contents _ _ transition c.turn-turn.ensures
+
+  schedule_before : IsScheduleAfter (g.S.ObjectStore.description c.take_pdos.new.store) c.args.self.now.parts.schedule (schedule_log k h)
+  schedule_before = subst (λ d. IsScheduleAfter d c.args.self.now.parts.schedule (schedule_log k h)) (ns.description ∙ sym d3) ns.schedule
+
+  current : is_asked c.turn-turn.result ≡ true → AllCurrent (g.S.ObjectStore.contents c.take_pdos.new.store) (schedule_log k h)
+  current asked = subst (λ contents. AllCurrent contents (schedule_log k h)) (sym contents) (c.schedule_ready.ensures k inputs (given_view c.args.given c.args.frame.now) (ap is_asked (sym turn) ∙ asked))
+
+  due : c.take_turn-due.result.items ≡ m.due
+  due = steps.due k h m is _ _ marks contents _ _ transition c.turn-turn.ensures _ _ d3 (c.take_turn-due.ensures.due (schedule_log k h) schedule_before current)
+
+  schedule : IsScheduleAfter (g.S.ObjectStore.description c.take_pdos.new.store) c.take_turn-due.new.schedule (schedule_log k (m ∷ h))
+  schedule = steps.schedule k h m is _ _ marks contents _ _ transition c.turn-turn.ensures _ _ _ d3 due (c.take_turn-due.ensures.after (schedule_log k h) schedule_before current)
+
+  -- the frames
+  room : length (prescribed k inputs (given_view c.args.given c.args.frame.now)) ≤ 514
+  room = ?
+
+  first_sent : c.receive-received.new.outbox.items ≡ frames_at m.exchange ++ frames_at m.timed_out
+  first_sent = c.receive-received.ensures.frames k h before ∙ ap (λ o. o ++ (frames_at m.exchange ++ frames_at m.timed_out)) c.clear.ensures
+
+pub returns-clause-stands : goal.returns-clause-stands
+returns-clause-stands g c = λ k inputs ns. record {
+  description = d3 g c k inputs ns;
+  contents = contents g c k inputs ns;
+  state = state_after_all g c k inputs ns;
+  channels = subst (λ d. BankStands d (channels k) c.drop_if.new.bank (channel_logs (m g c k inputs ns ∷ h g c k inputs ns))) (d1 g c k inputs ns ∙ sym (d3 g c k inputs ns)) (channels_stand g c k inputs ns);
+  consumers = consumers g c k inputs ns;
+  emergencies = emergencies g c k inputs ns;
+  slots = slots g c k inputs ns;
+  producer = producer g c k inputs ns;
+  schedule = schedule g c k inputs ns;
+  app = c.receive-received.ensures.app k (h g c k inputs ns) (before g c k inputs ns);
+}
+
+pub returns-clause-frames : goal.returns-clause-frames
+returns-clause-frames g c = λ k inputs ns. ?
