@@ -16,7 +16,6 @@ ghost use Rattle.co_node_receive.specs.Given.{given_view};
 ghost use Rattle.co_node_step.specs.NodeStanding.{NodeStands};
 
 use crate::parts::Parts;
-use crate::sending::{send_emergency, send_life};
 use co_dict::{ObjectStore, number_u16, store_laws};
 use co_frame::{Frame, Outbox};
 use co_node_inputs::{AppEvent, Input, Marks};
@@ -24,7 +23,7 @@ use co_node_laws::{few, greatest_bound, schedule_ready};
 use co_node_parts::{NodeState, Transition};
 use co_node_phases::{take_pdos, watch};
 use co_node_receive::{Given, receive};
-use co_node_turns::{send_tpdos, take_turn};
+use co_node_turns::{send_emergency, send_life, send_tpdos, take_turn};
 use co_profile::EMERGENCY_INHIBIT_TIME;
 use co_sdo_bank::Bank;
 use co_value::Key;
