@@ -9,6 +9,9 @@ pub mod Counts
 pub mod FewAnswers
 pub mod FewExchanged
 pub mod Bounds
+pub mod HeartbeatDistances
+pub mod EmergencyDistances
+pub mod LossDistances
 mod PartsExamples
 pub mod Kept
 pub mod Changed
