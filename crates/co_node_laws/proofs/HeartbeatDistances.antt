@@ -12,6 +12,8 @@ use Rattle.co_node_inputs.specs.Words.{is_reset, life_of, producer_event}
 use Rattle.co_node_history.specs.Moments.{Constants}
 use Rattle.co_node_history.specs.Logs.{producer_log}
 use Rattle.co_node_history.specs.Histories.{moments, state_of}
+use Rattle.co_node_laws.specs.Kinds.{is_tick}
+use Rattle.co_node_laws.proofs.Ticks.{ticked_is}
 use Rattle.co_node_laws.specs.Distances.{moment_at, begins_heartbeat, heartbeat_period, heartbeat_ticks, heartbeat_at_tick}
 
 period_by : (begins ticked : Bool) (n : ℕ) (log : ProducerLog) → period_of (cond begins (producer.Begin n) (cond ticked producer.Tick producer.Quiet) ∷ log) ≡ cond begins n (period_of log)
@@ -47,9 +49,10 @@ none_by : (begins : Bool) (n : ℕ) (log : ProducerLog) → is_heartbeat_due (co
 none_by true n log = refl
 none_by false n log = refl
 
-pub elsewhere : (k : Constants) (inputs : Inputs) (input : InputView) → (moment_at k inputs input).marks.ticked ≡ false → is_reset (moment_at k inputs input).marks ≡ false → (moment_at k inputs input).life ≡ None
-elsewhere k inputs input ticked reset =
+pub elsewhere : (k : Constants) (inputs : Inputs) (input : InputView) → is_tick input ≡ false → is_reset (moment_at k inputs input).marks ≡ false → (moment_at k inputs input).life ≡ None
+elsewhere k inputs input off reset =
     let m = moment_at k inputs input in
+    let ticked : m.marks.ticked ≡ false = ticked_is k inputs input ∙ off in
     let event = λ (t : Bool). cond (begins_heartbeat m.marks) (producer.Begin (number_at m.contents producer_key)) (cond t producer.Tick producer.Quiet) in
     ap (λ t. life_of m.marks (state_of k (input ∷ inputs)) (is_heartbeat_due (event t) (producer_log k (moments k inputs)))) ticked
     ∙ ap (λ due. life_of m.marks (state_of k (input ∷ inputs)) due) (none_by (begins_heartbeat m.marks) (number_at m.contents producer_key) (producer_log k (moments k inputs)))

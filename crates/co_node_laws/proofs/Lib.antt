@@ -9,9 +9,12 @@ pub mod Counts
 pub mod FewAnswers
 pub mod FewExchanged
 pub mod Bounds
+pub mod Ticks
 pub mod HeartbeatDistances
 pub mod EmergencyDistances
 pub mod LossDistances
+pub mod TpdoDistances
+pub mod RpdoWaits
 mod PartsExamples
 pub mod Kept
 pub mod Changed

@@ -31,6 +31,8 @@ use Rattle.co_node_history.specs.Moments.{Constants, Moment, History}
 use Rattle.co_node_history.specs.Logs.{contents_at, state_at, consumers_log}
 use Rattle.co_node_history.specs.Received.{nothing_of, with_frame, with_app_event, with_input, address_at, is_heartbeat}
 use Rattle.co_node_history.specs.Histories.{moments}
+use Rattle.co_node_laws.specs.Kinds.{is_tick}
+use Rattle.co_node_laws.proofs.Ticks.{ticked_is}
 use Rattle.co_node_laws.specs.Distances.{moment_at, begins_entry, heard_after, silence_after, monitored, ticks_silent, is_time_passed}
 use Rattle.co_node_laws.proofs.Kept.{by_reset}
 
@@ -148,14 +150,14 @@ silence_is k sub (input ∷ inputs) low high =
 
 -- ---- which are lost
 
-same : (a b : ℕ) → (a == b) ≡ true → a ≡ b
+pub same : (a b : ℕ) → (a == b) ≡ true → a ≡ b
 same a b e = grind (arith, nat_tests)
 
 among_next : (a sub : ℕ) (rest b : Bool) → (a == sub) ≡ b → ((a == sub) ≡ false → rest ≡ true) → b || rest ≡ true
 among_next a sub rest true e next = refl
 among_next a sub rest false e next = next e
 
-among_range : (a n sub : ℕ) → a ≤ sub → sub < a + n → list_any (λ m. m == sub) (range_with_len a n) ≡ true
+pub among_range : (a n sub : ℕ) → a ≤ sub → sub < a + n → list_any (λ m. m == sub) (range_with_len a n) ≡ true
 among_range a zero sub low high = absurd (omega (arith, low, high))
 among_range a (suc n) sub low high = among_next a sub (list_any (λ m. m == sub) (range_with_len (a + 1) n)) (a == sub) refl (λ e. among_range (a + 1) n sub (grind (arith, nat_tests)) (omega (arith, high)))
 
@@ -180,7 +182,8 @@ at_tick k inputs sub low high =
     ∙ ap (λ o. is_over_after o (monitored_after (entry_log sub log))) (silence_is k sub inputs low high)
     ∙ ap (λ o. is_over_after (ticks_silent k sub inputs) o) (monitored_is k sub inputs low high)
 
-pub elsewhere : (k : Constants) (inputs : Inputs) (input : InputView) → (moment_at k inputs input).marks.ticked ≡ false → (moment_at k inputs input).lost ≡ []
-elsewhere k inputs input ticked =
+pub elsewhere : (k : Constants) (inputs : Inputs) (input : InputView) → is_tick input ≡ false → (moment_at k inputs input).lost ≡ []
+elsewhere k inputs input off =
     let m = moment_at k inputs input in
+    let ticked : m.marks.ticked ≡ false = ticked_is k inputs input ∙ off in
     by_reset m.marks m.received (consumers_log k (moments k inputs)) (is_reset m.marks) refl ticked

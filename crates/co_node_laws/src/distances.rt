@@ -6,6 +6,7 @@ ghost use Rattle.co_pdo.specs.Schedules.{is_among};
 ghost use Rattle.co_node_inputs.specs.Inputs.{InputView, Inputs, Ticked};
 ghost use Rattle.co_node_inputs.specs.Words.{is_reset};
 ghost use Rattle.co_node_history.specs.Moments.{Constants};
+ghost use Rattle.co_node_laws.specs.Kinds.{is_tick};
 ghost use Rattle.co_node_laws.specs.Distances.{moment_at, heartbeat_at_tick, is_time_passed, emergency_by};
 
 /// A heartbeat is sent at a tick exactly where the number of ticks since the last reset or write of 1017:00, or since the
@@ -18,7 +19,7 @@ pub fn heartbeat_due()
         is_reset (moment_at k inputs input).marks ≡ true →
         (moment_at k inputs input).life ≡ Some BootUp }
     ensures elsewhere { (k : Constants) (inputs : Inputs) (input : InputView) →
-        (moment_at k inputs input).marks.ticked ≡ false →
+        is_tick input ≡ false →
         is_reset (moment_at k inputs input).marks ≡ false →
         (moment_at k inputs input).life ≡ None }
 {}
@@ -30,7 +31,7 @@ pub fn heartbeat_lost()
     ensures at_tick { (k : Constants) (inputs : Inputs) (sub : ℕ) → 1 ≤ sub → sub ≤ 127 →
         is_among sub (moment_at k inputs Ticked).lost ≡ is_time_passed k sub inputs }
     ensures elsewhere { (k : Constants) (inputs : Inputs) (input : InputView) →
-        (moment_at k inputs input).marks.ticked ≡ false →
+        is_tick input ≡ false →
         (moment_at k inputs input).lost ≡ [] }
 {}
 
