@@ -15,6 +15,8 @@ pub mod EmergencyDistances
 pub mod LossDistances
 pub mod TpdoDistances
 pub mod RpdoWaits
+mod ChangesExamples
+mod DistanceExamples
 mod PartsExamples
 pub mod Kept
 pub mod Changed
