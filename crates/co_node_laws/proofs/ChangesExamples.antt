@@ -1,9 +1,8 @@
 -- That the premises of the laws on changes can be met, each by inputs of a small device.
-use Rattle.std.proofs.Common.{◌≡◌, ℕ, true, false, [], ◌∷◌, Some, None, refl}
+use Rattle.std.proofs.Common.{◌≡◌, true, false, [], ◌∷◌, Some, None, refl}
 use Rattle.std.specs.Prelude.{length}
 use Rattle.co_frame.specs.Nmt.{nmt_command_in}
 use Rattle.co_dict.proofs.ExampleDevice.{at}
-use Rattle.co_dict.specs.declared.area.Area.TheVariants.{Communication}
 use Rattle.co_sdo.specs.Completed.{completed_by}
 use Rattle.co_sdo.specs.OpenTransfers.{open_transfer}
 use Rattle.co_sdo.specs.Refused.{completion_refusal}
@@ -16,7 +15,7 @@ use Rattle.co_node_inputs.specs.declared.address.Address.TheVariants.{Channel}
 use Rattle.co_node_history.specs.Logs.{channel_logs}
 use Rattle.co_node_history.specs.Received.{address_at, service_for}
 use Rattle.co_node_history.specs.Histories.{contents_of, moments, state_of}
-use Rattle.co_node_history.proofs.ExampleNode.{device, frame, hex, start, stop, searches}
+use Rattle.co_node_history.proofs.ExampleNode.{device, frame, hex, stop, searches}
 use Rattle.co_node_laws.specs.Changes.{is_for}
 
 -- ---- application events

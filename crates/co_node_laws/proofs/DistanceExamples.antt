@@ -1,6 +1,5 @@
 -- What the laws by distances say of a small device, computed from the definitions.
-use Rattle.std.proofs.Common.{◌≡◌, ℕ, ◌++◌, true, false, [], ◌∷◌, Some, None, refl}
-use Rattle.std.specs.Prelude.{reverse}
+use Rattle.std.proofs.Common.{◌≡◌, true, false, [], ◌∷◌, Some, None, refl}
 use Rattle.co_frame.specs.declared.heartbeat.Heartbeat.TheVariants.{PreOperational}
 use Rattle.co_profile.specs.declared.access.Access.TheVariants.{Rw}
 use Rattle.co_pdo.specs.Due.{event_waits}
@@ -13,7 +12,7 @@ use Rattle.co_node_history.specs.Moments.{Constants}
 use Rattle.co_node_history.specs.Received.{address_at}
 use Rattle.co_node_history.specs.Histories.{contents_of, moments}
 use Rattle.co_node_history.proofs.ExampleNode.{device_with, u8, u16, u32, came, frame, raise, start, searches}
-use Rattle.co_node_laws.specs.Distances.{moment_at, heartbeat_at_tick, is_time_passed, emergencies_sent, emergency_by}
+use Rattle.co_node_laws.specs.Distances.{heartbeat_at_tick, is_time_passed, emergency_by}
 use Rattle.co_node_laws.specs.RpdoWaits.{waiting_frame, all_keep_waiting}
 use Rattle.co_node_laws.specs.TpdoDistances.{is_sent, ticks_of_timer, tpdo_log, turn_of_input}
 

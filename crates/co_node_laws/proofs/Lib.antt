@@ -9,6 +9,7 @@ pub mod Counts
 pub mod FewAnswers
 pub mod FewExchanged
 pub mod Bounds
+pub mod HeldBytes
 pub mod Ticks
 pub mod HeartbeatDistances
 pub mod EmergencyDistances
