@@ -1,20 +1,172 @@
 //! A device as it is built, and what is read of it.
 
-ghost use Rattle.std.specs.Prelude.{◌≡◌, ◌≤◌, ℕ, [], IfOk, option_map};
+ghost use Rattle.std.specs.Prelude.{◌≡◌, ◌≤◌, ◌+◌, ℕ, [], ◌∷◌, IfOk, max, option_map};
 ghost use Rattle.co_value.specs.declared.key.Key.{Key};
-ghost use Rattle.co_dict.specs.Rows.{capacity_at};
+ghost use Rattle.co_dict.specs.Rows.{capacity_at, number_at};
+ghost use Rattle.co_node_parts.specs.ConsumerTables.{AllBegun, ConsumersStand};
+ghost use Rattle.co_node_parts.specs.Producers.{ProducerStands};
+ghost use Rattle.co_node_inputs.specs.Inputs.{Inputs};
+ghost use Rattle.co_node_inputs.specs.Keys.{producer_key};
+ghost use Rattle.co_node_inputs.specs.Words.{consumer_words};
+ghost use Rattle.co_node_history.specs.Moments.{Constants};
+ghost use Rattle.co_node_history.specs.Laws.{boot_up};
+ghost use Rattle.co_node_history.specs.Histories.{app_after, contents_of, held_of, room_of, state_of, tpdo_count};
 ghost use Rattle.co_node_step.specs.NodeStanding.{NodeStands};
 ghost use Rattle.co_node_step.specs.Built.{constants_of};
 
 use crate::device::Device;
 use crate::parts::Parts;
-use co_dict::{ObjectStore, number_u32};
+use crate::sending::send_life;
+use arrayvec::ArrayVec;
+use co_dict::{ObjectStore, heartbeat_consumer, number_u16};
 use co_frame::{Heartbeat, Outbox};
 use co_node_inputs::AppAnswer;
-use co_node_parts::{Emergencies, HeartbeatConsumers, HeartbeatProducer, NmtState, NodeState, RpdoSlots};
+use co_node_parts::{
+    Emergencies, HeartbeatConsumers, HeartbeatProducer, NmtState, NodeState, ProducerEvent,
+    RpdoSlots,
+};
 use co_pdo::Schedule;
+use co_profile::PRODUCER_HEARTBEAT;
 use co_sdo_bank::Bank;
 use co_value::Key;
 use std::alloc::{AllocError, Global};
 
-// to be written: Device::new, boot, value, node_id, state, held, last_app
+/// The producer heartbeat time (CiA 301, 7.5.2.20).
+const PRODUCER_HEARTBEAT_TIME: Key = Key {
+    index: PRODUCER_HEARTBEAT,
+    sub: 0,
+};
+
+// The words of 1016h, sub-indices 1 to 127.
+fn consumer_words<S: ObjectStore>(store: &S) -> ArrayVec<u32, 127>
+    ensures { result.items ≡ consumer_words (S.contents store.now) }
+{
+    let mut words = ArrayVec::new();
+    for sub in 1..128u8 {
+        words.push(heartbeat_consumer(store, sub).0);
+    }
+    words
+}
+
+// The consumers of heartbeats, each begun with its word.
+fn begun_consumers<S: ObjectStore>(store: &S) -> HeartbeatConsumers
+    ensures { ConsumersStand result (AllBegun (consumer_words (S.contents store.now)) ∷ []) }
+{
+    let mut consumers = HeartbeatConsumers::new();
+    consumers.begin_all(&consumer_words(store));
+    consumers
+}
+
+// The heartbeat producer, begun with its time.
+fn begun_producer<S: ObjectStore>(store: &S) -> HeartbeatProducer
+    ensures { ProducerStands result
+        (ProducerEvent.Begin (number_at (S.contents store.now) producer_key) ∷ []) }
+{
+    let mut producer = HeartbeatProducer::new();
+    let time = number_u16(store, PRODUCER_HEARTBEAT_TIME);
+    producer.note(ProducerEvent::Begin(time));
+    producer
+}
+
+impl<S: ObjectStore + Drop> Device<S> {
+    /// A device over a dictionary, in NMT state pre-operational and with nothing received. `greatest` is at least the
+    /// capacity of each entry, in bytes; `time` the SDO timeout between two requests, in ms, where 0 disables it.
+    /// `AllocError` where there is no memory; the device asks for none after that.
+    pub fn new(alloc: Global, store: S, greatest: u32, time: u16) -> Result<Device<S>, AllocError>
+        requires greatest { (key : Key) → capacity_at (S.description store).rows key ≤ greatest }
+        ensures stands { IfOk result (λ device. NodeStands (constants_of (S.description store)
+            (S.contents store) greatest time) (S.description device.store)
+            (S.contents device.store) device.parts []) }
+        ensures description { IfOk result (λ device.
+            S.description device.store ≡ S.description store) }
+        ensures contents { IfOk result (λ device. S.contents device.store ≡ S.contents store) }
+    {
+        let bank = Bank::new(alloc, &store, greatest, time)?;
+        let emergencies = Emergencies::new(alloc)?;
+        let slots = RpdoSlots::new(alloc, 512)?;
+        let schedule = Schedule::new(alloc, &store)?;
+        let parts = Parts {
+            state: NmtState::new(),
+            bank,
+            consumers: begun_consumers(&store),
+            emergencies,
+            slots,
+            producer: begun_producer(&store),
+            schedule,
+            last_app: AppAnswer::None,
+        };
+        Ok(Device { store, parts })
+    }
+}
+
+impl<S: ObjectStore> Device<S> {
+    /// The boot-up, as the device enters pre-operational after power-on: the outbox then holds it and nothing else (CiA
+    /// 301, 7.2.8.3.3).
+    pub fn boot(&self, outbox: &mut Outbox)
+        ensures { (k : Constants) (inputs : Inputs) →
+            NodeStands k (S.description self.now.store) (S.contents self.now.store) self.now.parts
+            inputs → outbox.new.items ≡ boot_up k ∷ [] }
+    {
+        outbox.clear();
+        send_life(&self.store, Some(Heartbeat::BootUp), outbox);
+    }
+
+    /// The bytes of an entry; `None` where there is no entry.
+    pub fn value(&self, key: Key) -> Option<&[u8]>
+        ensures { (k : Constants) (inputs : Inputs) →
+            NodeStands k (S.description self.now.store) (S.contents self.now.store) self.now.parts
+            inputs → option_map (λ bytes. bytes.now) result ≡ contents_of k inputs key }
+    {
+        self.store.bytes(key)
+    }
+
+    /// The node-ID, 1 to 127.
+    pub fn node_id(&self) -> u8
+        ensures { (k : Constants) (inputs : Inputs) →
+            NodeStands k (S.description self.now.store) (S.contents self.now.store) self.now.parts
+            inputs → result ≡ k.description.node }
+    {
+        self.store.node_id()
+    }
+
+    /// The NMT state (CiA 301, 7.3.2).
+    pub fn state(&self) -> NodeState
+        ensures { (k : Constants) (inputs : Inputs) →
+            NodeStands k (S.description self.now.store) (S.contents self.now.store) self.now.parts
+            inputs → result ≡ state_of k inputs }
+    {
+        self.parts.state.get()
+    }
+
+    /// How many bytes are held for the transfer of an SDO channel; 0 where there is no such channel.
+    pub fn held(&self, channel: u8) -> usize
+        ensures held { (k : Constants) (inputs : Inputs) →
+            NodeStands k (S.description self.now.store) (S.contents self.now.store) self.now.parts
+            inputs → result ≡ held_of k inputs channel }
+        ensures room { (k : Constants) (inputs : Inputs) →
+            NodeStands k (S.description self.now.store) (S.contents self.now.store) self.now.parts
+            inputs → result ≤ room_of k inputs channel }
+    {
+        self.parts.bank.held(channel)
+    }
+
+    /// The answer to the last input, where that was an application event.
+    pub fn last_app(&self) -> AppAnswer
+        ensures { (k : Constants) (inputs : Inputs) →
+            NodeStands k (S.description self.now.store) (S.contents self.now.store) self.now.parts
+            inputs → result ≡ app_after k inputs }
+    {
+        self.parts.last_app
+    }
+
+    /// How many frames one input gives at most: 127, or as many as there are TPDOs where those are more, and 2; so at most
+    /// 514.
+    pub fn most_frames(&self) -> usize
+        ensures most { (k : Constants) (inputs : Inputs) →
+            NodeStands k (S.description self.now.store) (S.contents self.now.store) self.now.parts
+            inputs → result ≡ max 127 (tpdo_count k.description.rows) + 2 }
+        ensures few { result ≤ 514 }
+    {
+        self.parts.schedule.tpdo_count().max(127) + 2
+    }
+}

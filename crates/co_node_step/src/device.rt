@@ -101,6 +101,10 @@ impl<S: ObjectStore> Device<S> {
         ensures frames { (k : Constants) (inputs : Inputs) →
             NodeStands k (S.description self.old.store) (S.contents self.old.store) self.old.parts
             inputs → outbox.new.items ≡ prescribed k inputs (given_view given.entry frame.now) }
+        ensures few { (k : Constants) (inputs : Inputs) →
+            NodeStands k (S.description self.old.store) (S.contents self.old.store) self.old.parts
+            inputs → length outbox.new.items ≤
+            frame_bound k inputs (given_view given.entry frame.now) }
         ensures stands { (k : Constants) (inputs : Inputs) →
             NodeStands k (S.description self.old.store) (S.contents self.old.store) self.old.parts
             inputs → NodeStands k (S.description self.new.store) (S.contents self.new.store)

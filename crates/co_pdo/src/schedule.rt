@@ -47,6 +47,14 @@ impl Schedule {
         Ok(Schedule { tpdos })
     }
 
+    /// How many TPDOs the dictionary has, at most 512.
+    pub fn tpdo_count(&self) -> usize
+        ensures count { result ≡ length self.now }
+        ensures few { result ≤ 512 }
+    {
+        self.tpdos.len()
+    }
+
     /// Starts TPDO k, 0 to 511: the whole TPDO, as it enters NMT state operational and after a write of its COB-ID or
     /// transmission type, or its event timer alone, after a write of that. Nothing happens where there is no such TPDO.
     pub fn start<S: ObjectStore>(&mut self, store: &S, k: u16, part: Part)

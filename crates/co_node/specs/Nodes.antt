@@ -1,0 +1,36 @@
+-- A device made from a data sheet.
+use Rattle.std.specs.Prelude.{ℕ}
+use Rattle.co_dict.specs.Rows.{Contents}
+use Rattle.co_dict.specs.Stores.{Description}
+use Rattle.co_sheet.specs.Content.{SheetContent}
+use Rattle.co_dict_list.specs.declared.list_store.ListStore.{ListStore}
+use Rattle.co_dict_list.specs.Built.{Plan, plan_of, built_description, built_contents}
+use Rattle.co_dict_list.specs.Capacities.{limits_view}
+use Rattle.co_dict_list.specs.ListedEntries.{description_in, contents_in}
+use Rattle.co_dict_list.specs.StoredEntries.{entry_views}
+use Rattle.co_node_inputs.specs.Inputs.{Inputs}
+use Rattle.co_node_history.specs.Moments.{Constants}
+use Rattle.co_node_step.specs.Built.{constants_of}
+use Rattle.co_node_step.specs.NodeStanding.{NodeStands}
+use Rattle.co_node.specs.declared.config.Config.{Config}
+use Rattle.co_node.specs.declared.node.Node.{Node}
+
+-- what a data sheet, a node-ID and a configuration say of a dictionary
+abbrev pub planned : SheetContent → ℕ → Config → Plan
+planned sheet node config = plan_of node (limits_view config.limits) sheet
+
+-- what never changes of the device that is made, where this is the greatest capacity of its entries
+abbrev pub node_constants : Plan → ℕ → ℕ → Constants
+node_constants plan greatest time = constants_of (built_description plan) (built_contents plan) greatest time
+
+-- the description and the contents of its dictionary
+abbrev pub description_of : ListStore → Description
+description_of store = description_in store.node_id store.dummies (entry_views store.entries.items)
+
+abbrev pub entries_of : ListStore → Contents
+entries_of store = contents_in (entry_views store.entries.items)
+
+-- this device stands after these inputs, the newest first
+abbrev pub Stands : Constants → Node → Inputs → Type 0
+Stands k node inputs =
+    NodeStands k (description_of node.device.store) (entries_of node.device.store) node.device.parts inputs

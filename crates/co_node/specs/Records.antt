@@ -1,0 +1,29 @@
+-- The frames that many inputs gave, and where those of each end.
+use Rattle.std.specs.Prelude.{ℕ, ◌+◌, ◌<◌, ◌≤◌, List, [], ◌∷◌, ◌++◌, length}
+use Rattle.co_frame.specs.FrameContent.{FrameContent}
+
+-- what is recorded, and how much may be
+pub record Recorded : Type 0 where
+  pub frames : List FrameContent
+  pub ends : List ℕ
+  pub frame_room : ℕ
+  pub input_room : ℕ
+
+-- no more is recorded than there was to be room for, which there is
+pub record IsRecord (frame_capacity input_capacity : ℕ) (r : Recorded) : Type 0 where
+  pub frames : length r.frames ≤ r.frame_room
+  pub ends : length r.ends ≤ r.input_room
+  pub frames_reserved : r.frame_room ≤ frame_capacity
+  pub ends_reserved : r.input_room ≤ input_capacity
+
+-- there is room for one more input with so many frames
+pub record HasRoom (frames : ℕ) (r : Recorded) : Type 0 where
+  pub input : length r.ends < r.input_room
+  pub sent : length r.frames + frames ≤ r.frame_room
+
+-- one more input with these frames
+abbrev pub with_input : List FrameContent → Recorded → Recorded
+with_input frames r = record r {
+  frames = r.frames ++ frames;
+  ends = r.ends ++ (length r.frames + length frames) ∷ [];
+}

@@ -1,0 +1,151 @@
+//! A device made from a data sheet.
+
+ghost use Rattle.std.specs.Prelude.{◌≡◌, ℕ, ◌≤◌, ◌<◌, ◌++◌, [], ◌∷◌, ⊥, None, IfOk, IfErr, length, map, take, option_map};
+ghost use Rattle.co_dict.specs.Stores.{IsGreatestCapacity};
+ghost use Rattle.co_dict_list.specs.Built.{built_description};
+ghost use Rattle.co_dict_list.specs.BuildFaults.{IsBuildFault, build_fault};
+ghost use Rattle.co_node_inputs.specs.Inputs.{Inputs, input_view};
+ghost use Rattle.co_node_history.specs.Moments.{Constants};
+ghost use Rattle.co_node_history.specs.Laws.{boot_up};
+ghost use Rattle.co_node_history.specs.Histories.{after_all, all_frames, app_after, contents_of, frame_bound, held_of, prescribed, room_of, state_of};
+ghost use Rattle.co_node.specs.Nodes.{Stands, node_constants, planned};
+ghost use Rattle.co_node.specs.Records.{HasRoom};
+ghost use Rattle.co_node.specs.Runs.{all_ends, most_frames};
+
+use crate::config::Config;
+use crate::record::Record;
+use co_dict_list::{BuildFault, ListStore};
+use co_frame::Outbox;
+use co_node_inputs::{AppAnswer, Input};
+use co_node_parts::NodeState;
+use co_node_step::Device;
+use co_sheet::Sheet;
+use co_value::Key;
+use std::alloc::Global;
+
+/// A CANopen device made from a data sheet. It asks for no memory after `build`.
+#[derive(Drop)]
+pub struct Node {
+    device: Device<ListStore>,
+}
+
+impl Node {
+    /// The device of a data sheet at a node-ID, in NMT state pre-operational and with nothing received. The faults are those
+    /// of `ListStore::build`; `Memory` also where there is none for the device.
+    pub fn build(
+        alloc: Global,
+        sheet: &Sheet<'_>,
+        node_id: u8,
+        config: &Config<'_>,
+    ) -> Result<Node, BuildFault>
+        ensures stands { IfOk result (λ node. (greatest : ℕ) → IsGreatestCapacity
+            (built_description (planned sheet.now node_id config.now)).rows greatest → Stands
+            (node_constants (planned sheet.now node_id config.now) greatest config.now.time)
+            node []) }
+        ensures ok { IfOk result (λ _. build_fault (planned sheet.now node_id config.now) ≡ None) }
+        ensures err { IfErr result (IsBuildFault (planned sheet.now node_id config.now)) }
+    {
+        let store = ListStore::build(alloc, sheet, node_id, &config.limits)?;
+        let greatest = u32::from(store.greatest_capacity());
+        match Device::new(alloc, store, greatest, config.time) {
+            Ok(device) => Ok(Node { device }),
+            Err(_) => Err(BuildFault::Memory),
+        }
+    }
+
+    /// The boot-up, as the device enters pre-operational after power-on: the outbox then holds it and nothing else (CiA
+    /// 301, 7.2.8.3.3).
+    pub fn boot(&self, outbox: &mut Outbox)
+        ensures { (k : Constants) (before : Inputs) → Stands k self.now before →
+            outbox.new.items ≡ boot_up k ∷ [] }
+    {
+        self.device.boot(outbox);
+    }
+
+    /// One input: the outbox then holds the frames that it prescribes, and nothing else.
+    pub fn step(&mut self, input: Input<'_>, outbox: &mut Outbox)
+        ensures frames { (k : Constants) (before : Inputs) → Stands k self.old before →
+            outbox.new.items ≡ prescribed k before (input_view input.entry) }
+        ensures stands { (k : Constants) (before : Inputs) → Stands k self.old before →
+            Stands k self.new (input_view input.entry ∷ before) }
+        ensures few { (k : Constants) (before : Inputs) → Stands k self.old before →
+            length outbox.new.items ≤ frame_bound k before (input_view input.entry) }
+    {
+        self.device.step(input, outbox);
+    }
+
+    /// The bytes of an entry; `None` where there is no entry.
+    pub fn value(&self, key: Key) -> Option<&[u8]>
+        ensures { (k : Constants) (before : Inputs) → Stands k self.now before →
+            option_map (λ bytes. bytes.now) result ≡ contents_of k before key }
+    {
+        self.device.value(key)
+    }
+
+    /// The node-ID, 1 to 127.
+    pub fn node_id(&self) -> u8
+        ensures { (k : Constants) (before : Inputs) → Stands k self.now before →
+            result ≡ k.description.node }
+    {
+        self.device.node_id()
+    }
+
+    /// The NMT state (CiA 301, 7.3.2).
+    pub fn state(&self) -> NodeState
+        ensures { (k : Constants) (before : Inputs) → Stands k self.now before →
+            result ≡ state_of k before }
+    {
+        self.device.state()
+    }
+
+    /// How many bytes are held for the transfer of an SDO channel; 0 where there is no such channel. They are at most 889
+    /// more than the entry that is transferred has room for.
+    pub fn held(&self, channel: u8) -> usize
+        ensures held { (k : Constants) (before : Inputs) → Stands k self.now before →
+            result ≡ held_of k before channel }
+        ensures room { (k : Constants) (before : Inputs) → Stands k self.now before →
+            result ≤ room_of k before channel }
+    {
+        self.device.held(channel)
+    }
+
+    /// The answer to the last input, where that was an application event.
+    pub fn last_app(&self) -> AppAnswer
+        ensures { (k : Constants) (before : Inputs) → Stands k self.now before →
+            result ≡ app_after k before }
+    {
+        self.device.last_app()
+    }
+
+    /// Takes inputs in order, and appends to the record the frames of each and where they end. It takes one only where the
+    /// record has room for one more input and for as many frames as an input gives at most: 127, or as many as there are
+    /// TPDOs where those are more, and 2. It gives how many it took.
+    pub fn run(&mut self, inputs: &[Input<'_>], record: &mut Record) -> usize
+        ensures within { result ≤ length inputs.now }
+        ensures frames { (k : Constants) (before : Inputs) → Stands k self.old before →
+            record.new.frames ≡ record.old.frames
+            ++ all_frames k before (take result (map input_view inputs.now)) }
+        ensures ends { (k : Constants) (before : Inputs) → Stands k self.old before →
+            record.new.ends ≡ record.old.ends ++ all_ends k before (length record.old.frames)
+            (take result (map input_view inputs.now)) }
+        ensures stands { (k : Constants) (before : Inputs) → Stands k self.old before →
+            Stands k self.new (after_all before (take result (map input_view inputs.now))) }
+        ensures early { (k : Constants) (before : Inputs) → Stands k self.old before →
+            result < length inputs.now → HasRoom (most_frames k) record.new → ⊥ }
+        ensures frame_room { record.new.frame_room ≡ record.old.frame_room }
+        ensures input_room { record.new.input_room ≡ record.old.input_room }
+    {
+        let most = self.device.most_frames();
+        let mut sent = Outbox::new();
+        let mut taken = 0;
+        for input in inputs.iter().copied() {
+            if !record.has_room(most) {
+                return taken;
+            }
+            self.device.step(input, &mut sent);
+            record.add(&sent);
+            taken += 1;
+        }
+        taken
+    }
+}
