@@ -1,1 +1,2 @@
+mod Data
 mod Examples

@@ -1,11 +1,13 @@
 //! Errors of the device.
 
-ghost use Rattle.std.specs.Prelude.{◌≡◌};
+ghost use Rattle.std.specs.Prelude.{◌≡◌, ◌∷◌};
+ghost use Rattle.co_node_parts.specs.EmergencyQueues.{EmergencyLog, EmergenciesStand, Noted};
 ghost use Rattle.co_node_effects.specs.Errors as errors;
 
 use crate::register::{error_register, set_register};
 use co_dict::{ObjectStore, push_error};
 use co_frame::Emergency;
+use co_node_parts::{Emergencies, EmergencyEvent};
 
 /// An error that the device raises (CiA 301, 7.2.7.1).
 #[derive(Clone, Copy, Debug, PartialEq, Eq, Hash)]
@@ -78,5 +80,18 @@ impl DeviceError {
             register,
             manufacturer,
         }
+    }
+
+    /// Raises the error, and queues its emergency.
+    pub fn raise_and_queue<S: ObjectStore>(self, store: &mut S, emergencies: &mut Emergencies)
+        ensures description { S.description store.new ≡ S.description store.old }
+        ensures contents { S.contents store.new
+            ≡ errors.raised (S.description store.old).rows self (S.contents store.old) }
+        ensures emergencies { (log : EmergencyLog) → EmergenciesStand emergencies.old log →
+            EmergenciesStand emergencies.new
+            (Noted (EmergencyEvent.Queue (errors.emergency_of self (S.contents store.old))) ∷ log) }
+    {
+        let emergency = self.raise(store);
+        emergencies.note(EmergencyEvent::Queue(emergency));
     }
 }

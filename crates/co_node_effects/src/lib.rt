@@ -3,7 +3,11 @@
 #![tactic(auto)]
 
 mod device_error;
+mod lengths;
 mod register;
+mod rpdo_data;
 
 pub use device_error::DeviceError;
+pub use lengths::{rpdo_error, sync_error};
 pub use register::clear;
+pub use rpdo_data::{immediate, take_data};

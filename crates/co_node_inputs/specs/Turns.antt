@@ -1,5 +1,5 @@
 -- What an input was to the schedule of TPDOs, by its marks (CiA 301, 7.2.2.2 to 7.2.2.4 and 7.5.2.37).
-use Rattle.std.specs.Prelude.{ℕ, ◌-◌, ◌==◌, ◌||◌, not, is_some, Option, Some, None, option_and_then, if◌then◌else◌}
+use Rattle.std.specs.Prelude.{ℕ, ◌<◌, ◌-◌, ◌==◌, ◌||◌, not, is_some, Option, Some, None, option_and_then, if◌then◌else◌}
 use Rattle.co_value.specs.declared.key.Key.{Key}
 use Rattle.co_frame.specs.FrameContent.{FrameContent}
 use Rattle.co_frame.specs.Syncs.{sync_in}
@@ -53,3 +53,12 @@ abbrev pub turn_of : Marks → Transition → Turn
 turn_of marks t =
     if not (is_state Operational t.after) then turn.Quiet
     else (if not (is_state Operational t.before) then turn.StartAll else turn_with marks.set marks)
+
+-- a TPDO that starts has a number below 512
+abbrev pub HasTpdoNumber : Turn → Type 0
+HasTpdoNumber turn.Quiet = Unit {0}
+HasTpdoNumber turn.StartAll = Unit {0}
+HasTpdoNumber (turn.Start k part) = k < 512
+HasTpdoNumber (turn.Sync counter) = Unit {0}
+HasTpdoNumber (turn.Asked asked) = Unit {0}
+HasTpdoNumber turn.Tick = Unit {0}

@@ -11,8 +11,8 @@ use co_pdo::Mapping;
 use co_profile::{IndexRange, PDO_COB_ID, TRANSMISSION_TYPE};
 use co_value::Key;
 
-/// The transmission type of RPDO k.
-fn rpdo_type<S: ObjectStore>(store: &S, k: u16) -> u8
+/// The transmission type of RPDO k, 0 to 511; 0 where there is none (CiA 301, 7.5.2.35).
+pub fn rpdo_type<S: ObjectStore>(store: &S, k: u16) -> u8
     requires { k < 512 }
     ensures { result ≡ rpdo_type (S.contents store.now) k }
 {
@@ -27,7 +27,7 @@ fn rpdo_type<S: ObjectStore>(store: &S, k: u16) -> u8
 }
 
 /// Whether a frame of an RPDO has fewer bytes than are mapped.
-fn is_short<S: ObjectStore>(store: &S, rpdo: &KeptFrame) -> bool
+pub fn is_short<S: ObjectStore>(store: &S, rpdo: &KeptFrame) -> bool
     requires { rpdo.now.number < 512 }
     ensures { result ≡ is_short (S.description store.now) (S.contents store.now) rpdo.now }
 {

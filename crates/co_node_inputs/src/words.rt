@@ -2,7 +2,7 @@
 
 ghost use Rattle.std.specs.Prelude.{◌≡◌};
 ghost use Rattle.co_node_inputs.specs.Words.{quiet, is_reset, state_event, consumers_event, emergency_event, may_send, producer_event, life_of};
-ghost use Rattle.co_node_inputs.specs.Turns.{turn_of, turn_by_write, counter_in};
+ghost use Rattle.co_node_inputs.specs.Turns.{turn_of, turn_by_write, counter_in, HasTpdoNumber};
 ghost use Rattle.co_node_inputs.specs.Keys.{is_set};
 
 use crate::keys::{EMERGENCY_COB_ID, PRODUCER_HEARTBEAT_TIME};
@@ -133,7 +133,8 @@ impl Marks {
 
     /// What the input was to the schedule of TPDOs, by the states before and after it.
     pub fn turn(&self, transition: Transition) -> Turn
-        ensures { result ≡ turn_of self.now transition }
+        ensures turn { result ≡ turn_of self.now transition }
+        ensures number { HasTpdoNumber result }
     {
         if transition.after != NodeState::Operational {
             return Turn::Quiet;
@@ -170,7 +171,8 @@ fn counter_in(frame: &Frame) -> Option<u8>
 impl Turn {
     /// The turn of a write to an entry.
     fn by_write(key: Key) -> Turn
-        ensures { result ≡ turn_by_write key }
+        ensures turn { result ≡ turn_by_write key }
+        ensures number { HasTpdoNumber result }
     {
         if !IndexRange::TPDO_COMMUNICATION.contains(key.index) {
             return Turn::Quiet;

@@ -46,6 +46,7 @@ use Rattle.co_node_history.specs.Phases.{moment}
 use Rattle.co_node_history.specs.Histories.{frames, emergency_frames, life_frames, tpdo_frame, moments, prescribed, frame_bound, bound_at, tpdo_count}
 use Rattle.co_node_laws.specs.Kinds.{is_unanswered}
 use Rattle.co_node_laws.specs.Lengths.{HasParts}
+use Rattle.co_node_laws.proofs.FewExchanged.{few_exchanged}
 use Rattle.co_node_laws.proofs.Counts.{few_unanswered, one_by, joined, joined_twice, no_heartbeat_by}
 
 -- ---- the TPDOs that are due are at most all that there are
@@ -258,7 +259,7 @@ by_address k inputs frame (Channel j) is parts =
     let p = request_frame k history (address_at k history frame.id) frame (Framed frame) (contents_at k history) (ap is_channel is) in
     rw (ap (λ a. bound_at a (tpdo_count k.description.rows)) is)
     (without_due (length (frames_at m.exchange)) (length (frames k m)) m.due (no_turn k.description m.marks m.contents (schedule_log k history) _ _ m.marks.set p.ticked p.sync p.asked)
-    (by_moment k history (Framed frame) (unticked_input k history frame)) parts.answers)
+    (by_moment k history (Framed frame) (unticked_input k history frame)) (few_exchanged k inputs (Framed frame)))
 
 two_more : (total due tpdos : ℕ) → total ≤ due + 2 → due ≤ tpdos → total ≤ tpdos + 2
 two_more total due tpdos few most = omega (arith, few, most)

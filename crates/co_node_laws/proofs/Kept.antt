@@ -64,7 +64,7 @@ no_tick : (c : Contents) (heard : Option ℕ) (set : Option Key) → is_tick (co
 no_tick c None set = begins_no_tick c set
 no_tick c (Some node) set = refl
 
-by_reset : (marks : Marks) (c : Contents) (log : ConsumersLog) (reset : Bool) → is_reset marks ≡ reset → marks.ticked ≡ false → lost_by (consumers_call marks c) log ≡ []
+pub by_reset : (marks : Marks) (c : Contents) (log : ConsumersLog) (reset : Bool) → is_reset marks ≡ reset → marks.ticked ≡ false → lost_by (consumers_call marks c) log ≡ []
 by_reset marks c log true is ticked = rw is refl
 by_reset marks c log false is ticked =
     rw (is, ticked) (none_pass (λ sub. is_lost (event_of sub (Noted (cond (is_none marks.heard) (begin_event c marks.set) (heard_event marks.heard)))) (entry_log sub log))
@@ -80,19 +80,19 @@ by_emptied (Some key) log = by (empties_slot key) refl
     by true is = rw is refl
     by false is = rw is refl
 
-none_taken : (d : Description) (c : Contents) (marks : Marks) (t : Transition) (log : SlotLog) (drops : Bool) (set : Option Key) → is_reset marks || leaves Operational t ≡ drops → marks.set ≡ set → marks.sync ≡ None → marks.rpdo ≡ None → taken_at 512 (slot_event d c marks t) log ≡ []
+pub none_taken : (d : Description) (c : Contents) (marks : Marks) (t : Transition) (log : SlotLog) (drops : Bool) (set : Option Key) → is_reset marks || leaves Operational t ≡ drops → marks.set ≡ set → marks.sync ≡ None → marks.rpdo ≡ None → taken_at 512 (slot_event d c marks t) log ≡ []
 none_taken d c marks t log true set is e sync rpdo = rw is refl
 none_taken d c marks t log false None is e sync rpdo = rw (is, sync, e, rpdo) refl
 none_taken d c marks t log false (Some key) is e sync rpdo = rw (is, sync, e) (by_emptied (Some key) log)
 
 -- ---- together
 
-record IsSilent (m : Moment) : Type 0 where
-  ticked : m.marks.ticked ≡ false
-  sync : m.marks.sync ≡ None
-  rpdo : m.marks.rpdo ≡ None
+pub record IsSilent (m : Moment) : Type 0 where
+  pub ticked : m.marks.ticked ≡ false
+  pub sync : m.marks.sync ≡ None
+  pub rpdo : m.marks.rpdo ≡ None
 
-kept : (k : Constants) (history : History) (input : InputView) → IsSilent (moment k history input) → (moment k history input).contents ≡ (moment k history input).received
+pub kept : (k : Constants) (history : History) (input : InputView) → IsSilent (moment k history input) → (moment k history input).contents ≡ (moment k history input).received
 kept k history input s =
     let m = moment k history input in
     let d = k.description in
@@ -130,7 +130,7 @@ event_refused k inputs event code refused =
 
 -- ---- a frame that an SDO channel takes
 
-silent_either : (b : Bool) (x y : Moment) → IsSilent x → IsSilent y → IsSilent (if b then x else y)
+pub silent_either : (b : Bool) (x y : Moment) → IsSilent x → IsSilent y → IsSilent (if b then x else y)
 silent_either true x y p q = p
 silent_either false x y p q = q
 

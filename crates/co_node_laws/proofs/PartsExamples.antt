@@ -33,8 +33,8 @@ is_description = record {
 
 at_tick : HasParts empty [] Ticked
 unfolding searches
-at_tick = record { dictionary = record { description = is_description; initially = is_filled; filled = is_filled }; answers = omega arith }
+at_tick = record { dictionary = record { description = is_description; initially = is_filled; filled = is_filled } }
 
 at_start : HasParts empty [] start
 unfolding searches
-at_start = record { dictionary = record { description = is_description; initially = is_filled; filled = is_filled }; answers = omega arith }
+at_start = record { dictionary = record { description = is_description; initially = is_filled; filled = is_filled } }

@@ -3,7 +3,9 @@
 ghost use Rattle.std.specs.Prelude.{◌≡◌, ◌≤◌, ◌+◌, length, max, true};
 ghost use Rattle.co_frame.specs.FrameContent.{FrameContent};
 ghost use Rattle.co_node_inputs.specs.Inputs.{InputView, Inputs, Framed};
+ghost use Rattle.co_sdo_bank.specs.Events.{frames_at};
 ghost use Rattle.co_node_history.specs.Moments.{Constants};
+ghost use Rattle.co_node_history.specs.Phases.{moment};
 ghost use Rattle.co_node_history.specs.Received.{address_at};
 ghost use Rattle.co_node_history.specs.Histories.{moments, prescribed, frame_bound, tpdo_count};
 ghost use Rattle.co_node_laws.specs.Kinds.{is_unanswered};
@@ -18,10 +20,17 @@ pub fn few_unanswered()
         length (prescribed k inputs (Framed frame)) ≤ frame_bound k inputs (Framed frame) }
 {}
 
+/// An SDO channel answers a frame with at most 127 frames, after whatever inputs: an upload's sub-block has no more
+/// segments, since a greater block size is refused (7.2.4.3.13 to 7.2.4.3.15).
+#[tactic(auto, using(crate::proofs::FewExchanged::few_exchanged))]
+pub fn few_responses()
+    ensures { (k : Constants) (inputs : Inputs) (input : InputView) →
+        length (frames_at (moment k (moments k inputs) input).exchange) ≤ 127 }
+{}
+
 /// No input gives more frames than its bound: an NMT command 1, a request to an SDO channel 128, SYNC and an application
-/// event one more than there are TPDOs, a tick two more, all others 1. What has to be known of the device's parts: its
-/// entries are those of a dictionary, which each store gives, and a channel answers with at most 127 frames, which
-/// `Channel::take` gives.
+/// event one more than there are TPDOs, a tick two more, all others 1. What has to be known of the device: its entries are
+/// those of a dictionary, which each store gives.
 #[tactic(auto, using(crate::proofs::Bounds::few))]
 pub fn few()
     ensures { (k : Constants) (inputs : Inputs) (input : InputView) → HasParts k inputs input →

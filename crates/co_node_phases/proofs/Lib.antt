@@ -1,0 +1,3 @@
+mod Raised
+mod Taken
+mod Words

@@ -2,8 +2,8 @@
 //! and RPDOs that take effect.
 #![tactic(auto)]
 
-mod rpdos;
 mod losses;
+mod rpdos;
 
-pub use rpdos::take_pdos;
 pub use losses::watch;
+pub use rpdos::take_pdos;

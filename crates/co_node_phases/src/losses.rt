@@ -3,7 +3,7 @@
 ghost use Rattle.std.specs.Prelude.{◌≡◌, ◌∷◌};
 ghost use Rattle.co_node_parts.specs.ConsumerTables.{ConsumersLog, ConsumersStand};
 ghost use Rattle.co_node_parts.specs.EmergencyQueues.{EmergencyLog, EmergenciesStand, with_queued};
-ghost use Rattle.co_node_inputs.specs.Words.{consumers_call};
+ghost use Rattle.co_node_inputs.specs.Words.{consumers_call, consumer_words};
 ghost use Rattle.co_node_effects.specs.Errors.{all_raised, emergencies_of};
 ghost use Rattle.co_node_history.specs.Phases.{loss_errors, loss_event};
 ghost use Rattle.co_node_phases.specs.Losses.{lost_now};
@@ -12,7 +12,7 @@ use arrayvec::ArrayVec;
 use co_dict::{ObjectStore, number_u8, number_u32};
 use co_node_effects::DeviceError;
 use co_node_inputs::Marks;
-use co_node_parts::{Emergencies, EmergencyEvent, HeartbeatConsumers, LossReaction, StateEvent};
+use co_node_parts::{Emergencies, HeartbeatConsumers, LossReaction, StateEvent};
 use co_profile::{CONSUMER_HEARTBEAT, ERROR_BEHAVIOUR};
 use co_value::Key;
 
@@ -22,8 +22,11 @@ const COMMUNICATION_ERROR: Key = Key {
     sub: 1,
 };
 
-// The words of 1016h, sub-indices 1 to 127.
-fn consumer_words<S: ObjectStore>(store: &S) -> ArrayVec<u32, 127> {
+/// The words of 1016h, sub-indices 1 to 127.
+#[tactic(auto, unfolding(co_node_inputs::specs::Words::consumer_words))]
+fn consumer_words<S: ObjectStore>(store: &S) -> ArrayVec<u32, 127>
+    ensures { result.items ≡ consumer_words (S.contents store.now) }
+{
     let mut words = ArrayVec::new();
     for sub in 1..128u8 {
         words.push(number_u32(
@@ -37,11 +40,18 @@ fn consumer_words<S: ObjectStore>(store: &S) -> ArrayVec<u32, 127> {
     words
 }
 
-// Raises the loss of a heartbeat so many times.
-fn raise_losses<S: ObjectStore>(store: &mut S, emergencies: &mut Emergencies, lost: &[u8]) {
+/// Raises an error for each heartbeat that is lost, and queues its emergency.
+fn raise_losses<S: ObjectStore>(store: &mut S, emergencies: &mut Emergencies, lost: &[u8])
+    ensures description { S.description store.new ≡ S.description store.old }
+    ensures contents { S.contents store.new ≡
+        all_raised (S.description store.old).rows (loss_errors lost.now) (S.contents store.old) }
+    ensures emergencies { (queued : EmergencyLog) → EmergenciesStand emergencies.old queued →
+        EmergenciesStand emergencies.new (with_queued (emergencies_of
+        (S.description store.old).rows (loss_errors lost.now) (S.contents store.old)) queued) }
+{
+    DeviceError::codes();
     for _ in lost {
-        let emergency = DeviceError::HEARTBEAT_LOST.raise(store);
-        emergencies.note(EmergencyEvent::Queue(emergency));
+        DeviceError::HEARTBEAT_LOST.raise_and_queue(store, emergencies);
     }
 }
 

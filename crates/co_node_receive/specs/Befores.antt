@@ -11,12 +11,14 @@ use Rattle.co_node_history.specs.Moments.{Constants, Moment, History, channels}
 use Rattle.co_node_history.specs.Logs.{contents_at, state_at, channel_logs, with_tick}
 
 -- its description, entries, SDO channels and NMT state are those after a history
-pub record IsBefore (k : Constants) (history : History) (d : Description) (contents : Contents) (bank : List NumberedChannel) (state : NodeState) : Type 0 where
+pub record IsBefore (k : Constants) (history : History)
+    (d : Description) (entries : Contents) (bank : List NumberedChannel) (now : NodeState) : Type 0 where
   pub description : d ≡ k.description
-  pub contents : contents ≡ contents_at k history
+  pub contents : entries ≡ contents_at k history
   pub channels : BankStands d (channels k) bank (channel_logs history)
-  pub state : state ≡ state_at history
+  pub state : now ≡ state_at history
 
 -- the log of each SDO channel as an input was received, before transfers are dropped
 abbrev pub logs_received : Moment → History → ℕ → Log
-logs_received m history = logs_after m.timed_out (with_tick m.marks.ticked (logs_after m.exchange (channel_logs history)))
+logs_received m history =
+    logs_after m.timed_out (with_tick m.marks.ticked (logs_after m.exchange (channel_logs history)))

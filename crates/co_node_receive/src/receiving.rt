@@ -1,6 +1,7 @@
 //! Receiving an input.
 
-ghost use Rattle.std.specs.Prelude.{◌≡◌, ◌<◌, ◌≤◌, ◌++◌, IfSome};
+ghost use Rattle.std.specs.Prelude.{◌≡◌, ◌+◌, ◌<◌, ◌≤◌, ◌++◌, IfSome};
+ghost use Rattle.arrayvec.specs.ArrayVec.{array_vec_len};
 ghost use Rattle.co_frame.specs.Outboxes.{HasRoomFor};
 ghost use Rattle.co_frame.specs.SegmentSizes.{segments_per_sub_block};
 ghost use Rattle.co_sdo_bank.specs.Banks.{BankStands, all_settings};
@@ -30,9 +31,10 @@ pub struct Received {
     pub app: AppAnswer,
 }
 
-/// Receives an input in an NMT state: a frame goes to the one that takes it, a tick to all SDO channels, an application
-/// event to the entries, the register of errors or nobody. The frames of SDO channels are put into the outbox, at most
-/// 127; the emergencies that the application raises are queued.
+/// Receives an input in an NMT state: a frame goes to the one that takes it, a tick to all SDO
+/// channels, an application event to the entries, the register of errors or nobody. The frames of SDO
+/// channels are put into the outbox, at most 127, and at a tick at most 1; the emergencies that the
+/// application raises are queued.
 pub fn receive<S: ObjectStore>(
     store: &mut S,
     bank: &mut Bank,
@@ -44,6 +46,9 @@ pub fn receive<S: ObjectStore>(
 ) -> Received
     requires outbox { HasRoomFor segments_per_sub_block outbox.old }
     requires room { HaveRoom (S.description store.old).rows (all_settings bank.old) }
+    ensures few { array_vec_len outbox.new ≤ array_vec_len outbox.old + segments_per_sub_block }
+    ensures tick { given.entry ≡ Given.Tick →
+        array_vec_len outbox.new ≤ array_vec_len outbox.old + 1 }
     ensures number { IfSome result.marks.rpdo (λ rpdo. rpdo.number < 512) }
     ensures settings { all_settings bank.new ≡ all_settings bank.old }
     ensures description { S.description store.new ≡ S.description store.old }

@@ -1,5 +1,5 @@
 -- What one more moment of a device is, phase by phase, and how each part is carried on by it.
-use Rattle.std.proofs.Common.{◌≡◌, Bool, List, ◌∷◌, ◌++◌, refl, sym, ap, ◌∙◌, true}
+use Rattle.std.proofs.Common.{◌≡◌, Bool, List, ◌∷◌, ◌++◌, refl, sym, ap, ◌∙◌, subst}
 use Rattle.std.specs.Prelude.{ℕ, ◌||◌, Option}
 use Rattle.co_frame.specs.declared.emergency.Emergency.{Emergency}
 use Rattle.co_frame.specs.declared.heartbeat.Heartbeat.{Heartbeat}
@@ -8,7 +8,7 @@ use Rattle.co_dict.specs.Stores.{Description}
 use Rattle.co_sdo_bank.specs.declared.channels.NumberedChannel.{NumberedChannel}
 use Rattle.co_sdo_bank.specs.Banks.{BankStands}
 use Rattle.co_pdo.specs.declared.tpdo.Tpdo.{Tpdo}
-use Rattle.co_pdo.specs.Schedules.{IsScheduleAfter}
+use Rattle.co_pdo.specs.Schedules.{History as Schedule, IsScheduleAfter}
 use Rattle.co_node_parts.specs.declared.nmt_state.NodeState.{NodeState}
 use Rattle.co_node_parts.specs.declared.nmt_state.NodeState.TheVariants.{Stopped}
 use Rattle.co_node_parts.specs.declared.nmt_state.StateEvent.{StateEvent}
@@ -21,6 +21,7 @@ use Rattle.co_node_parts.specs.ConsumerTables.{ConsumersStand}
 use Rattle.co_node_parts.specs.EmergencyQueues.{Pending, EmergencyLog, EmergenciesStand, Noted, emergency_due, with_queued, with_sending}
 use Rattle.co_node_parts.specs.Producers.{Producer, ProducerStands, is_heartbeat_due}
 use Rattle.co_node_parts.specs.RpdoSlots.{SlotContent, SlotsStand}
+use Rattle.co_node_parts.specs.declared.rpdo_slots.SlotEvent.{SlotEvent}
 use Rattle.co_node_inputs.specs.Inputs.{InputView}
 use Rattle.co_node_inputs.specs.Keys.{emergency_inhibit_key}
 use Rattle.co_node_inputs.specs.Slots.{slot_event}
@@ -86,7 +87,9 @@ module _ (k : Constants) (h : History) (m : Moment) (is : IsMoment k h m) where
   -- ---- SDO channels
   pub dropped : (d : Description) (bank : List NumberedChannel) (marks : Marks) (t : Transition) → marks ≡ m.marks → t ≡ transition_of m h
       → BankStands d (channels k) bank (with_drop (is_reset marks || enters Stopped t) (logs_received m h)) → BankStands d (channels k) bank (channel_logs (m ∷ h))
-  dropped d bank marks t em et s = rw (sym em, sym et) s
+  dropped d bank marks t em et s =
+      subst (λ (u : Transition). BankStands d (channels k) bank (with_drop (is_reset m.marks || enters Stopped u) (logs_received m h))) et
+      (subst (λ (n : Marks). BankStands d (channels k) bank (with_drop (is_reset n || enters Stopped t) (logs_received m h))) em s)
 
   -- ---- SYNC and RPDOs
   module _ (d : Description) (marks : Marks) (watched : Contents) (t : Transition) (dk : d ≡ k.description) (em : marks ≡ m.marks) (ew : watched ≡ m.watched) (et : t ≡ transition_of m h) where
@@ -94,10 +97,18 @@ module _ (k : Constants) (h : History) (m : Moment) (is : IsMoment k h m) where
     contents c e = e ∙ rw (dk, em, ew, et) (sym is.contents)
 
     pub slots : (content : SlotContent) → SlotsStand 512 content (slot_event d watched marks t ∷ slot_log k h) → SlotsStand 512 content (slot_log k (m ∷ h))
-    slots content s = rw (sym em, sym et, sym ew, sym dk) s
+    slots content s =
+        subst (λ (e : SlotEvent). SlotsStand 512 content (e ∷ slot_log k h)) noted s
+      where
+        noted : slot_event d watched marks t ≡ slot_event k.description m.watched m.marks (transition_of m h)
+        noted = rw (dk, em, ew, et) refl
 
     pub pdo_queued : (pending : Pending) (log : EmergencyLog) → EmergenciesStand pending (with_queued (effect_emergencies d watched marks t (slot_log k h)) log) → EmergenciesStand pending (with_queued m.raised_by_pdo log)
-    pdo_queued pending log s = rw (is.raised_by_pdo, sym em, sym et, sym ew, sym dk) s
+    pdo_queued pending log s =
+        subst (λ (es : List Emergency). EmergenciesStand pending (with_queued es log)) queued s
+      where
+        queued : effect_emergencies d watched marks t (slot_log k h) ≡ m.raised_by_pdo
+        queued = rw (dk, em, ew, et) (sym is.raised_by_pdo)
 
   -- ---- what is sent
   module _ (marks : Marks) (contents : Contents) (em : marks ≡ m.marks) (ec : contents ≡ m.contents) where
@@ -112,18 +123,21 @@ module _ (k : Constants) (h : History) (m : Moment) (is : IsMoment k h m) where
         → EmergenciesStand pending (with_sending e inhibit (unsent_log m (emergency_log h))) → EmergenciesStand pending (emergency_log (m ∷ h))
     emergencies pending e inhibit ee ei s = rw (sym ee, sym ec, sym ei) s
 
-    pub life : (after : NodeState) (event : ProducerEvent) (due : Bool) (life : Option Heartbeat) → after ≡ state_at (m ∷ h) → event ≡ producer_event marks contents → due ≡ is_heartbeat_due event (producer_log k h) → life ≡ life_of marks after due → life ≡ m.life
-    life after event due life ea ee ed el = el ∙ rw (ed, ee, ea, em, ec) (sym is.life)
+    pub life : (after : NodeState) (event : ProducerEvent) (due : Bool) (l : Option Heartbeat) → after ≡ state_at (m ∷ h) → event ≡ producer_event marks contents → due ≡ is_heartbeat_due event (producer_log k h) → l ≡ life_of marks after due → l ≡ m.life
+    life after event due l ea ee ed el = el ∙ rw (ed, ee, ea, em, ec) (sym is.life)
 
     pub producer : (p : Producer) (event : ProducerEvent) → event ≡ producer_event marks contents → ProducerStands p (event ∷ producer_log k h) → ProducerStands p (producer_log k (m ∷ h))
     producer p event e s = rw (sym em, sym ec, sym e) s
 
     module _ (t : Transition) (turn : Turn) (et : t ≡ transition_of m h) (ev : turn ≡ turn_of marks t) where
-      pub turn : turn ≡ turn_at m h
-      turn = ev ∙ rw (em, et) refl
+      pub turned : turn ≡ turn_at m h
+      turned = ev ∙ rw (em, et) refl
 
       pub due : (d : Description) (numbers : List ℕ) → d ≡ k.description → numbers ≡ due_at d turn contents (schedule_log k h) → numbers ≡ m.due
-      due d numbers dk e = e ∙ rw (dk, turn, ec) (sym is.due)
+      due d numbers dk e = e ∙ rw (dk, turned, ec) (sym is.due)
 
       pub schedule : (d : Description) (tpdos : List Tpdo) (numbers : List ℕ) → d ≡ k.description → numbers ≡ m.due → IsScheduleAfter d tpdos (with_turn d turn contents numbers (schedule_log k h)) → IsScheduleAfter d tpdos (schedule_log k (m ∷ h))
-      schedule d tpdos numbers dk en s = rw (sym dk, sym turn, sym ec, sym en) s
+      schedule d tpdos numbers dk en s = subst (λ (log : Schedule). IsScheduleAfter d tpdos log) logged s
+        where
+          logged : with_turn d turn contents numbers (schedule_log k h) ≡ schedule_log k (m ∷ h)
+          logged = rw (dk, turned, ec, en) refl

@@ -15,9 +15,9 @@ use Rattle.co_node_history.specs.Histories.{moments, state_of, contents_of, app_
 use Rattle.co_node_step.specs.declared.parts.Parts.{Parts}
 
 -- this device stands after these inputs, the newest first
-pub record NodeStands (k : Constants) (d : Description) (contents : Contents) (parts : Parts) (inputs : Inputs) : Type 0 where
+pub record NodeStands (k : Constants) (d : Description) (entries : Contents) (parts : Parts) (inputs : Inputs) : Type 0 where
   pub description : d ≡ k.description
-  pub contents : contents ≡ contents_of k inputs
+  pub contents : entries ≡ contents_of k inputs
   pub state : parts.state ≡ state_of k inputs
   pub channels : BankStands d (channels k) parts.bank (channel_logs (moments k inputs))
   pub consumers : ConsumersStand parts.consumers (consumers_log k (moments k inputs))

@@ -16,7 +16,6 @@ ghost use Rattle.co_node_receive.specs.Given.{given_view};
 ghost use Rattle.co_node_step.specs.NodeStanding.{NodeStands};
 
 use crate::parts::Parts;
-use crate::sending::{send_emergency, send_life};
 use co_dict::{ObjectStore, number_u16, store_laws};
 use co_frame::{Frame, Outbox};
 use co_node_inputs::{AppEvent, Input, Marks};
@@ -24,7 +23,7 @@ use co_node_laws::{few, greatest_bound, schedule_ready};
 use co_node_parts::{NodeState, Transition};
 use co_node_phases::{take_pdos, watch};
 use co_node_receive::{Given, receive};
-use co_node_turns::{send_tpdos, take_turn};
+use co_node_turns::{send_emergency, send_life, send_tpdos, take_turn};
 use co_profile::EMERGENCY_INHIBIT_TIME;
 use co_sdo_bank::Bank;
 use co_value::Key;
@@ -36,13 +35,20 @@ const EMERGENCY_INHIBIT: Key = Key {
 };
 
 // A reset, and entering stopped, drop the transfers of all SDO channels.
-fn drop_transfers(bank: &mut Bank, marks: &Marks, transition: Transition)
+fn drops(marks: &Marks, transition: Transition) -> bool
+    ensures { result ≡ is_reset marks.now || enters Stopped transition }
+{
+    marks.is_reset() || transition.enters(NodeState::Stopped)
+}
+
+// Drops the transfers of all SDO channels, or doesn't.
+fn drop_if(bank: &mut Bank, drops: bool)
     ensures settings { all_settings bank.new ≡ all_settings bank.old }
     ensures stands { (d : Description) (channels : List ChannelSettings) (logs : ℕ → Log) →
-        BankStands d channels bank.old logs → BankStands d channels bank.new
-        (with_drop (is_reset marks.now || enters Stopped transition) logs) }
+        BankStands d channels bank.old logs →
+        BankStands d channels bank.new (with_drop drops logs) }
 {
-    if marks.is_reset() || transition.enters(NodeState::Stopped) {
+    if drops {
         bank.drop_transfers();
     }
 }
@@ -95,6 +101,10 @@ impl<S: ObjectStore> Device<S> {
         ensures frames { (k : Constants) (inputs : Inputs) →
             NodeStands k (S.description self.old.store) (S.contents self.old.store) self.old.parts
             inputs → outbox.new.items ≡ prescribed k inputs (given_view given.entry frame.now) }
+        ensures few { (k : Constants) (inputs : Inputs) →
+            NodeStands k (S.description self.old.store) (S.contents self.old.store) self.old.parts
+            inputs → length outbox.new.items ≤
+            frame_bound k inputs (given_view given.entry frame.now) }
         ensures stands { (k : Constants) (inputs : Inputs) →
             NodeStands k (S.description self.old.store) (S.contents self.old.store) self.old.parts
             inputs → NodeStands k (S.description self.new.store) (S.contents self.new.store)
@@ -125,7 +135,7 @@ impl<S: ObjectStore> Device<S> {
             before,
             after: changed.after,
         };
-        drop_transfers(&mut self.parts.bank, marks, transition);
+        drop_if(&mut self.parts.bank, drops(marks, transition));
         take_pdos(
             &mut self.store,
             &mut self.parts.slots,

@@ -4,7 +4,6 @@
 mod building;
 mod device;
 mod parts;
-mod sending;
 
 pub use device::Device;
 pub use parts::Parts;

@@ -1,8 +1,12 @@
-//! TPDOs of a CANopen device: what its schedule is asked at an input, and the frames of those that are due.
+//! What a CANopen device sends at the end of an input besides the answers of SDO: its schedule of TPDOs is asked which are
+//! due, and the frames of emergencies, of its own heartbeat and of TPDOs are put into the outbox.
 #![tactic(auto)]
 
-mod frames;
+mod asked;
+mod laws;
+mod sending;
 mod turn;
 
-pub use frames::send_tpdos;
+pub use laws::{schedule_is_few, tpdos_are_few};
+pub use sending::{send_emergency, send_life, send_tpdos};
 pub use turn::take_turn;

@@ -3,6 +3,7 @@ mod Logs
 mod Lists
 mod Built
 mod Numbers
+mod Small
 mod Histories
 mod Words
 mod Parts

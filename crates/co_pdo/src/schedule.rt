@@ -1,6 +1,7 @@
 //! Which TPDOs are due.
 
 ghost use Rattle.std.specs.Prelude.{◌≡◌, ℕ, ◌<◌, ◌≤◌, ◌==◌, false, [], length, IfOk};
+ghost use Rattle.std.specs.List.{slice_index_or};
 ghost use Rattle.co_pdo.specs.declared.settings.Settings.{Settings};
 ghost use Rattle.co_pdo.specs.Tpdos.{settings_of};
 ghost use Rattle.co_pdo.specs.Countdowns.{IsCurrent, IsAsStarted};
@@ -112,6 +113,8 @@ impl Schedule {
             IsCurrent s
             (log_of j (with_sync counter (S.contents store.now) result.items history)) }
         ensures few { length result.items ≤ length self.old }
+        ensures small { (i e : ℕ) → i < length result.items →
+            slice_index_or result.items i e < 512 }
         ensures size { length self.new ≡ length self.old }
     {
         let sync = Occasion::Sync(counter_overflow(store), counter);
@@ -157,6 +160,8 @@ impl Schedule {
             IsCurrent s (log_of j history) → IsCurrent s
             (log_of j (with_events numbers.now (S.contents store.now) result.items history)) }
         ensures few { length result.items ≤ length self.old }
+        ensures small { (i e : ℕ) → i < length result.items →
+            slice_index_or result.items i e < 512 }
         ensures size { length self.new ≡ length self.old }
     {
         all_happen_among(&mut self.tpdos, numbers, store)
@@ -177,6 +182,8 @@ impl Schedule {
             IsCurrent s (log_of j history) →
             IsCurrent s (log_of j (with_tick (S.contents store.now) result.items history)) }
         ensures few { length result.items ≤ length self.old }
+        ensures small { (i e : ℕ) → i < length result.items →
+            slice_index_or result.items i e < 512 }
         ensures size { length self.new ≡ length self.old }
     {
         all_happen(&mut self.tpdos, Occasion::Tick, store)

@@ -1,7 +1,7 @@
 //! All TPDOs of a dictionary.
 
-ghost use Rattle.std.specs.Prelude.{◌≡◌, ℕ, ◌≤◌, ◌==◌, ◌&&◌, [], length, map, position, IfOk};
-ghost use Rattle.std.specs.List.{filter};
+ghost use Rattle.std.specs.Prelude.{◌≡◌, ℕ, ◌<◌, ◌≤◌, ◌==◌, ◌&&◌, [], length, map, position, IfOk};
+ghost use Rattle.std.specs.List.{filter, slice_index_or};
 ghost use Rattle.co_pdo.specs.Tpdos.{settings_of, tpdos_of};
 ghost use Rattle.co_pdo.specs.Log.{Log};
 ghost use Rattle.co_pdo.specs.Due.{is_due};
@@ -45,6 +45,7 @@ pub(crate) fn all_happen<S: ObjectStore>(tpdos: &mut [Tpdo], occasion: Occasion,
         AllCurrentAfter (S.contents store.now) logs →
         AllAfter tpdos.new (with_occasion (S.contents store.now) occasion logs) }
     ensures few { length result.items ≤ length tpdos.old }
+    ensures small { (i e : ℕ) → i < length result.items → slice_index_or result.items i e < 512 }
 {
     let mut due = Due::new();
     for tpdo in tpdos.iter_mut() {
@@ -72,6 +73,7 @@ pub(crate) fn all_happen_among<S: ObjectStore>(
         AllCurrentAfter (S.contents store.now) logs →
         AllAfter tpdos.new (with_events_among numbers.now (S.contents store.now) logs) }
     ensures few { length result.items ≤ length tpdos.old }
+    ensures small { (i e : ℕ) → i < length result.items → slice_index_or result.items i e < 512 }
 {
     let mut due = Due::new();
     for tpdo in tpdos.iter_mut() {

@@ -1,6 +1,6 @@
 //! All SDO channels of a device as one part.
 
-ghost use Rattle.std.specs.Prelude.{◌≡◌, ℕ, ◌+◌, ◌<◌, ◌≤◌, ◌++◌, [], IfOk, List, MatchOption};
+ghost use Rattle.std.specs.Prelude.{◌≡◌, ℕ, ◌+◌, ◌<◌, ◌≤◌, ◌++◌, [], IfOk, IfSome, List, MatchOption};
 ghost use Rattle.arrayvec.specs.ArrayVec.{array_vec_len};
 ghost use Rattle.co_value.specs.declared.key.Key.{Key};
 ghost use Rattle.co_frame.specs.Outboxes.{HasRoomFor};
@@ -75,8 +75,9 @@ impl Bank {
     /// The number of the channel whose requests have an identifier, 0 to 7FFh; the lowest, if several have it.
     pub fn channel_for(&self, id: u16) -> Option<u8>
         requires { id < 2048 }
-        ensures { (d : Description) (channels : List ChannelSettings) (logs : ℕ → Log) →
+        ensures number { (d : Description) (channels : List ChannelSettings) (logs : ℕ → Log) →
             BankStands d channels self.now logs → result ≡ number_for channels id }
+        ensures below { IfSome result (λ number. number < 128) }
     {
         match self.places[usize::from(id)] {
             Some(place) => Some(self.channels[usize::from(place)].number),

@@ -15,6 +15,7 @@ use Rattle.co_pdo.proofs.tpdos.all_happen_among.Given as goal
 abbrev pub invariant-loop-tpdo : goal.invariant-loop-tpdo
 invariant-loop-tpdo g l = record {
   few : length l.due.items ≤ l.tpdo-index;
+  small : (j e : ℕ) → j < length l.due.items → get_or l.due.items j e < 512;
   numbers : map (λ t. t.number) l.tpdos ≡ map (λ t. t.number) l.fn.tpdos;
   rest : (j : ℕ) (d : Tpdo) → l.tpdo-index ≤ j → get_or l.tpdos j d ≡ get_or l.fn.tpdos j d;
   due : (logs : ℕ → Log) → AllAfter l.fn.tpdos logs → AllCurrentAfter (g.S.ObjectStore.contents l.fn.store) logs

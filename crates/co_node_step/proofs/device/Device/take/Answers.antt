@@ -1,6 +1,7 @@
-use Rattle.std.proofs.Common.{◌≡◌, true, ◌≤◌, List, ◌∷◌, ◌++◌, length, refl, sym, ap, ◌∙◌, subst, arith}
+use Rattle.std.proofs.Common.{◌≡◌, ◌+◌, true, ◌≤◌, List, ◌∷◌, ◌++◌, length, refl, sym, ap, ◌∙◌, subst, arith}
 use Rattle.std.proofs.lemmas.List.{length-map}
-use Rattle.co_frame.specs.FrameContent.{FrameContent}
+use Rattle.std.specs.Prelude.{ℕ, ◌<◌, map}
+use Rattle.std.specs.List.{slice_index_or}
 use Rattle.co_sdo_bank.specs.Banks.{BankStands}
 use Rattle.co_sdo_bank.specs.Events.{frames_at}
 use Rattle.co_pdo.specs.Schedules.{AllCurrent, IsScheduleAfter}
@@ -11,28 +12,31 @@ use Rattle.co_node_parts.specs.declared.nmt_state.Transition.{Transition}
 use Rattle.co_node_parts.specs.EmergencyQueues.{EmergenciesStand, with_queued}
 use Rattle.co_node_inputs.specs.Inputs.{Inputs, InputView}
 use Rattle.co_node_receive.specs.Given.{given_view}
-use Rattle.co_node_receive.specs.Befores.{IsBefore}
+use Rattle.co_node_receive.specs.Befores.{IsBefore, logs_received}
 use Rattle.co_node_history.specs.Moments.{Constants, Moment, History, channels}
-use Rattle.co_node_history.specs.Logs.{channel_logs, unsent_log, turn_at, consumers_log, emergency_log, producer_log, schedule_log, slot_log, state_at, state_log, transition_of}
+use Rattle.co_node_history.specs.Logs.{with_drop, channel_logs, unsent_log, turn_at, consumers_log, emergency_log, producer_log, schedule_log, slot_log, state_at, state_log, transition_of}
 use Rattle.co_node_history.specs.Phases.{moment}
-use Rattle.co_node_history.specs.Histories.{moments, prescribed, emergency_frames, life_frames, tpdo_frame}
+use Rattle.co_node_history.specs.Histories.{moments, prescribed, frames, frame_bound, emergency_frames, life_frames, tpdo_frame}
 use Rattle.co_node_laws.specs.Calls.{is_asked}
+use Rattle.co_node_laws.specs.Lengths.{HasParts}
+use Rattle.co_dict.specs.Stores.{Description, IsDictionary}
 use Rattle.co_node_step.specs.NodeStanding.{NodeStands}
 use Rattle.co_node_step.proofs.Steps as steps
 use Rattle.co_node_step.proofs.Steps.{IsMoment, moment_is}
-use Rattle.co_node_step.proofs.Sent.{all_sent}
+use Rattle.co_node_step.proofs.Sent.{moment_sent, tpdos_within}
 use Rattle.co_node_step.proofs.device.Device.take.Given as given
 use Rattle.co_node_step.proofs.device.Device.take.Goals as goal
+use Rattle.co_node_step.proofs.device.Device.take.Goals.{After-self-5-1}
 
-module _ (g : given.Over) (c : goal.After-greatest_bound g) (k : Constants) (inputs : Inputs) (ns : NodeStands k (g.S.ObjectStore.description c.args.self.now.store) (g.S.ObjectStore.contents c.args.self.now.store) c.args.self.now.parts inputs) where
+module _ (g : given.Over) (c : After-self-5-1 g) (k : Constants) (inputs : Inputs) (ns : NodeStands k (g.S.ObjectStore.description c.args.self.now.store) (g.S.ObjectStore.contents c.args.self.now.store) c.args.self.now.parts inputs) where
   abbrev h : History
   h = moments k inputs
 
   abbrev m : Moment
-  m = moment k h (given_view c.args.given.entry c.args.frame.now)
+  m = moment k h (given_view c.args.given c.args.frame.now)
 
   is : IsMoment k h m
-  is = moment_is k h (given_view c.args.given.entry c.args.frame.now)
+  is = moment_is k h (given_view c.args.given c.args.frame.now)
 
   state_before : c.get-before.result ≡ state_at h
   state_before = c.get-before.ensures ∙ ns.state
@@ -78,8 +82,8 @@ module _ (g : given.Over) (c : goal.After-greatest_bound g) (k : Constants) (inp
   consumers : ConsumersStand c.watch-loss.new.consumers (consumers_log k (m ∷ h))
   consumers = steps.consumers k h m is _ _ _ d1 marks received _ (c.watch-loss.ensures.consumers (consumers_log k h) ns.consumers)
 
-  channels_stand : BankStands (g.S.ObjectStore.description c.receive-received.new.store) (channels k) c.drop_transfers.new.bank (channel_logs (m ∷ h))
-  channels_stand = steps.dropped k h m is _ _ _ _ marks transition (c.drop_transfers.ensures.stands _ _ _ (c.receive-received.ensures.channels k h before))
+  channels_stand : BankStands (g.S.ObjectStore.description c.args.self.now.store) (channels k) c.drop_if.new.bank (channel_logs (m ∷ h))
+  channels_stand = steps.dropped k h m is _ _ _ _ marks transition (subst (λ b. BankStands (g.S.ObjectStore.description c.args.self.now.store) (channels k) c.drop_if.new.bank (with_drop b (logs_received m h))) c.drops.ensures (c.drop_if.ensures.stands _ _ _ (c.receive-received.ensures.channels k h before)))
 
   slots : SlotsStand 512 c.take_pdos.new.slots (slot_log k (m ∷ h))
   slots = steps.slots k h m is _ _ _ _ d2 marks watched transition _ (c.take_pdos.ensures.slots (slot_log k h) ns.slots)
@@ -109,16 +113,79 @@ module _ (g : given.Over) (c : goal.After-greatest_bound g) (k : Constants) (inp
   producer = steps.producer k h m is _ _ marks contents _ _ c.producer_event.ensures (c.note-is_due.ensures.stands (producer_log k h) ns.producer)
 
   turn : c.turn-turn.result ≡ turn_at m h
-  turn = steps.turn k h m is _ _ marks contents _ _ transition c.turn-turn.ensures
+  turn = steps.turned k h m is _ _ marks contents _ _ transition c.turn-turn.ensures.turn
 
   schedule_before : IsScheduleAfter (g.S.ObjectStore.description c.take_pdos.new.store) c.args.self.now.parts.schedule (schedule_log k h)
   schedule_before = subst (λ d. IsScheduleAfter d c.args.self.now.parts.schedule (schedule_log k h)) (ns.description ∙ sym d3) ns.schedule
 
   current : is_asked c.turn-turn.result ≡ true → AllCurrent (g.S.ObjectStore.contents c.take_pdos.new.store) (schedule_log k h)
-  current asked = subst (λ contents. AllCurrent contents (schedule_log k h)) (sym contents) (c.schedule_ready.ensures k inputs (given_view c.args.given.entry c.args.frame.now) (ap is_asked (sym turn) ∙ asked))
+  current asked = subst (λ contents. AllCurrent contents (schedule_log k h)) (sym contents) (c.schedule_ready.ensures k inputs (given_view c.args.given c.args.frame.now) (ap is_asked (sym turn) ∙ asked))
 
   due : c.take_turn-due.result.items ≡ m.due
-  due = steps.due k h m is _ _ marks contents _ _ transition c.turn-turn.ensures _ _ d3 (c.take_turn-due.ensures.due (schedule_log k h) schedule_before current)
+  due = steps.due k h m is _ _ marks contents _ _ transition c.turn-turn.ensures.turn _ _ d3 (c.take_turn-due.ensures.due (schedule_log k h) schedule_before current)
 
   schedule : IsScheduleAfter (g.S.ObjectStore.description c.take_pdos.new.store) c.take_turn-due.new.schedule (schedule_log k (m ∷ h))
-  schedule = steps.schedule k h m is _ _ marks contents _ _ transition c.turn-turn.ensures _ _ _ d3 due (c.take_turn-due.ensures.after (schedule_log k h) schedule_before current)
+  schedule = steps.schedule k h m is _ _ marks contents _ _ transition c.turn-turn.ensures.turn _ _ _ d3 due (c.take_turn-due.ensures.after (schedule_log k h) schedule_before current)
+
+  -- the frames
+  first_sent : c.receive-received.new.outbox.items ≡ frames_at m.exchange ++ frames_at m.timed_out
+  first_sent = c.receive-received.ensures.frames k h before ∙ ap (λ o. o ++ (frames_at m.exchange ++ frames_at m.timed_out)) c.clear.ensures
+
+  parts : HasParts k inputs (given_view c.args.given c.args.frame.now)
+  parts = record { dictionary = dictionary }
+    where
+      dictionary : IsDictionary k.description m.contents
+      dictionary = subst (λ d. IsDictionary d m.contents) d3 (subst (λ entries. IsDictionary (g.S.ObjectStore.description c.take_pdos.new.store) entries) contents c.store_laws.ensures)
+
+  room : length (prescribed k inputs (given_view c.args.given c.args.frame.now)) ≤ 514
+  room = omega (arith, c.few.ensures k inputs (given_view c.args.given c.args.frame.now) parts, c.greatest_bound.ensures k inputs (given_view c.args.given c.args.frame.now), tpdos_within k.description.rows)
+
+  emergency_sent : length c.receive-received.new.outbox.items + length (emergency_frames m.contents m.emergency) ≤ 514
+      → c.send_emergency.new.outbox.items ≡ c.receive-received.new.outbox.items ++ emergency_frames m.contents m.emergency
+  emergency_sent = subst (λ fs. length c.receive-received.new.outbox.items + length fs ≤ 514 → c.send_emergency.new.outbox.items ≡ c.receive-received.new.outbox.items ++ fs) same c.send_emergency.ensures
+    where
+      same : emergency_frames (g.S.ObjectStore.contents c.take_pdos.new.store) c.send-emergency.result ≡ emergency_frames m.contents m.emergency
+      same = ap (λ contents. emergency_frames contents c.send-emergency.result) contents ∙ ap (emergency_frames m.contents) emergency
+
+  life_sent : length c.send_emergency.new.outbox.items + length (life_frames k.description.node m.life) ≤ 514
+      → c.send_life.new.outbox.items ≡ c.send_emergency.new.outbox.items ++ life_frames k.description.node m.life
+  life_sent = subst (λ fs. length c.send_emergency.new.outbox.items + length fs ≤ 514 → c.send_life.new.outbox.items ≡ c.send_emergency.new.outbox.items ++ fs) same c.send_life.ensures
+    where
+      same : life_frames (g.S.ObjectStore.description c.take_pdos.new.store).node c.life-life.result ≡ life_frames k.description.node m.life
+      same = ap (λ (d : Description). life_frames d.node c.life-life.result) d3 ∙ ap (life_frames k.description.node) life
+
+  tpdos_sent : length c.send_life.new.outbox.items + length (map (tpdo_frame k.description m.contents) m.due) ≤ 514
+      → c.send_tpdos.new.outbox.items ≡ c.send_life.new.outbox.items ++ map (tpdo_frame k.description m.contents) m.due
+  tpdos_sent = subst (λ fs. length c.send_life.new.outbox.items + length fs ≤ 514 → c.send_tpdos.new.outbox.items ≡ c.send_life.new.outbox.items ++ fs) same
+      (λ le. c.send_tpdos.ensures (subst (λ n. length c.send_life.new.outbox.items + n ≤ 514) (length-map c.deref.result.now _) le))
+    where
+      same : map (tpdo_frame (g.S.ObjectStore.description c.take_pdos.new.store) (g.S.ObjectStore.contents c.take_pdos.new.store)) c.deref.result.now ≡ map (tpdo_frame k.description m.contents) m.due
+      same = ap (λ d. map (tpdo_frame d (g.S.ObjectStore.contents c.take_pdos.new.store)) c.deref.result.now) d3 ∙ ap (λ contents. map (tpdo_frame k.description contents) c.deref.result.now) contents ∙ ap (map (tpdo_frame k.description m.contents)) (c.deref.ensures.0 ∙ due)
+
+  sent : c.send_tpdos.new.outbox.items ≡ frames k m
+  sent = moment_sent k m c.receive-received.new.outbox.items c.send_emergency.new.outbox.items c.send_life.new.outbox.items c.send_tpdos.new.outbox.items first_sent emergency_sent life_sent tpdos_sent room
+
+pub returns-clause-stands : goal.returns-clause-stands
+returns-clause-stands g c = λ k inputs ns. record {
+  description = d3 g c k inputs ns;
+  contents = contents g c k inputs ns;
+  state = state_after_all g c k inputs ns;
+  channels = subst (λ d. BankStands d (channels k) c.drop_if.new.bank (channel_logs (m g c k inputs ns ∷ h g c k inputs ns))) (ns.description ∙ sym (d3 g c k inputs ns)) (channels_stand g c k inputs ns);
+  consumers = consumers g c k inputs ns;
+  emergencies = emergencies g c k inputs ns;
+  slots = slots g c k inputs ns;
+  producer = producer g c k inputs ns;
+  schedule = schedule g c k inputs ns;
+  app = c.receive-received.ensures.app k (h g c k inputs ns) (before g c k inputs ns);
+}
+
+pub returns-clause-frames : goal.returns-clause-frames
+returns-clause-frames g c = λ k inputs ns. sent g c k inputs ns
+
+pub returns-clause-few : goal.returns-clause-few
+returns-clause-few g c = λ k inputs ns.
+    subst (λ os. length os ≤ frame_bound k inputs (given_view c.args.given c.args.frame.now)) (sym (sent g c k inputs ns)) (c.few.ensures k inputs (given_view c.args.given c.args.frame.now) (parts g c k inputs ns))
+
+pub send_tpdos-requires : goal.send_tpdos-requires
+send_tpdos-requires g c = λ i e lt.
+    subst (λ (ns : List ℕ). slice_index_or ns i e < 512) (sym c.deref.ensures.0) (c.take_turn-due.ensures.small i e (subst (λ (ns : List ℕ). i < length ns) c.deref.ensures.0 lt))

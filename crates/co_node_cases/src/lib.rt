@@ -1,0 +1,17 @@
+//! Tests of a whole device through the public calls of its crate, so that that is proved once.
+#![tactic(auto)]
+
+#[cfg(test)]
+mod bounds;
+#[cfg(test)]
+mod device;
+#[cfg(test)]
+mod large;
+#[cfg(test)]
+mod pdo;
+#[cfg(test)]
+mod sdo;
+#[cfg(test)]
+mod sheet;
+#[cfg(test)]
+mod states;

@@ -1,0 +1,66 @@
+//! Errors of the lengths of SYNCs and of the frames of RPDOs.
+
+ghost use Rattle.std.specs.Prelude.{◌≡◌, ◌<◌, [], IfSome};
+ghost use Rattle.std.specs.List.{cons_option};
+ghost use Rattle.co_node_effects.specs.RpdoData.{sync_length, sync_errors, rpdo_errors};
+
+use crate::device_error::DeviceError;
+use co_dict::{ObjectStore, Side, number_u8};
+use co_frame::Frame;
+use co_node_parts::KeptFrame;
+use co_pdo::Mapping;
+use co_profile::SYNC_COUNTER_OVERFLOW;
+use co_value::Key;
+
+/// The overflow value of the SYNC counter (CiA 301, 7.5.2.22).
+const COUNTER_OVERFLOW: Key = Key {
+    index: SYNC_COUNTER_OVERFLOW,
+    sub: 0,
+};
+
+/// How many bytes a SYNC has: none, or the counter alone where 1019h is not 0.
+fn sync_length<S: ObjectStore>(store: &S) -> usize
+    ensures { result ≡ sync_length (S.contents store.now) }
+{
+    if number_u8(store, COUNTER_OVERFLOW) == 0 {
+        0
+    } else {
+        1
+    }
+}
+
+/// The error of the length of a SYNC, if one came and has it: 8240h where it isn't the one of 1019h
+/// (CiA 301, 7.2.5).
+pub fn sync_error<S: ObjectStore>(store: &S, sync: &Option<Frame>) -> Option<DeviceError>
+    ensures { cons_option result [] ≡ sync_errors (S.contents store.now) sync.now }
+{
+    let Some(frame) = *sync else {
+        return None;
+    };
+    if frame.bytes().len() == sync_length(store) {
+        None
+    } else {
+        Some(DeviceError::UNEXPECTED_SYNC_LENGTH)
+    }
+}
+
+/// The error of the length of an RPDO's frame, if one came and has it: 8210h where it has fewer bytes than
+/// are mapped, 8220h where it has more; whatever the transmission type (CiA 301, 7.2.2.5).
+pub fn rpdo_error<S: ObjectStore>(store: &S, rpdo: &Option<KeptFrame>) -> Option<DeviceError>
+    requires { IfSome rpdo.now (λ rpdo. rpdo.number < 512) }
+    ensures { cons_option result [] ≡
+        rpdo_errors (S.description store.now) (S.contents store.now) rpdo.now }
+{
+    let Some(rpdo) = *rpdo else {
+        return None;
+    };
+    let mapped = Mapping::read(store, Side::Rpdo, rpdo.number).width();
+    let count = rpdo.frame.bytes().len();
+    if count < mapped {
+        Some(DeviceError::PDO_TOO_SHORT)
+    } else if mapped < count {
+        Some(DeviceError::PDO_TOO_LONG)
+    } else {
+        None
+    }
+}
