@@ -13,9 +13,12 @@ program=$folder/crates/node_time/out/node_time
 best_of_five() {
     for _ in 1 2 3 4 5; do
         "$1" < "$2" > "$folder/printed"
-        grep -v '^;' "$folder/printed"
-    done | awk '{ if (!($1 in best) || $2 < best[$1]) best[$1] = $2 } END { for (name in best) print name, best[name] }' > "$3"
-    grep '^;' "$folder/printed" > "$3.frames"
+        sed '/^;/d' "$folder/printed"
+    done | awk '
+        !($1 in best) { name[++count] = $1 }
+        !($1 in best) || $2 < best[$1] { best[$1] = $2 }
+        END { for (i = 1; i <= count; i++) print name[i], best[name[i]] }' > "$3"
+    sed -n '/^;/p' "$folder/printed" > "$3.frames"
 }
 
 # the I/O module with two more TPDOs: each TPDO is sent at each SYNC, RPDO 2 has eight bytes, and another node is monitored
