@@ -13,14 +13,23 @@ use Rattle.co_pdo.specs.Schedules.{History, IsScheduleAfter}
 
 -- those that pass a test are at most all
 filtered_few : {X : Type 0} (p : X → Bool) (xs : List X) → length (filter p xs) ≤ length xs
-filtered_few p xs = let both : length (filter p xs) + length (filter (λ x. not (p x)) xs) ≡ length xs = length-filter_both p (λ x. not (p x)) (λ x. refl) xs in omega arith
+filtered_few p xs =
+    let both : length (filter p xs) + length (filter (λ x. not (p x)) xs) ≡ length xs =
+    length-filter_both p (λ x. not (p x)) (λ x. refl) xs in
+    omega arith
 
 pub few_tpdos : (rows : Rows) → length (tpdos_of rows) ≤ 512
 unfolding tpdo_numbers
-few_tpdos rows = let all : length (range_with_len 0 512) ≡ 512 = length-range_with_len 0 512 in let some : length (filter (has_tpdo rows) (range_with_len 0 512)) ≤ length (range_with_len 0 512) = filtered_few (has_tpdo rows) (range_with_len 0 512) in omega arith
+few_tpdos rows =
+    let all : length (range_with_len 0 512) ≡ 512 = length-range_with_len 0 512 in
+    let some : length (filter (has_tpdo rows) (range_with_len 0 512)) ≤ length (range_with_len 0 512) =
+    filtered_few (has_tpdo rows) (range_with_len 0 512) in
+    omega arith
 
-pub few_scheduled : (d : Description) (tpdos : List Tpdo) (history : History) → IsScheduleAfter d tpdos history → length tpdos ≤ 512
+pub few_scheduled : (d : Description) (tpdos : List Tpdo) (history : History)
+    → IsScheduleAfter d tpdos history → length tpdos ≤ 512
 few_scheduled d tpdos history is =
-    let as_many : length tpdos ≡ length (tpdos_of d.rows) = sym (length-map tpdos (λ (t : Tpdo). t.number)) ∙ ap length is.numbers in
+    let as_many : length tpdos ≡ length (tpdos_of d.rows) =
+    sym (length-map tpdos (λ (t : Tpdo). t.number)) ∙ ap length is.numbers in
     let few : length (tpdos_of d.rows) ≤ 512 = few_tpdos d.rows in
     omega arith

@@ -7,17 +7,23 @@ use Rattle.co_node_turns.proofs.asked.numbers_with.Goals.{then-is_mapped_into, e
 pub loop-number-preserved : goal.loop-number-preserved
 loop-number-preserved g c =
     let i = c.loop-number.invariant in
-    let p = is_mapped_into (g.S.ObjectStore.description c.args.store.now) (g.S.ObjectStore.contents c.args.store.now) c.args.key in
+    let d = g.S.ObjectStore.description c.args.store.now in
+    let p = is_mapped_into d (g.S.ObjectStore.contents c.args.store.now) c.args.key in
     elim c.if-is_mapped_into.branch [
       | then-is_mapped_into w ↦ rw w.numbers-is (record {
         few = few_pushed c.loop-number.numbers.items _ _ _ w.push.ensures.items i.few;
-        numbers = one_more p c.loop-number.number c.loop-number.numbers.items _ w.push.ensures.items (sym c.is_mapped_into.ensures ∙ w.if-is_mapped_into.true) i.numbers;
+        numbers = one_more p c.loop-number.number c.loop-number.numbers.items _ w.push.ensures.items
+            (sym c.is_mapped_into.ensures ∙ w.if-is_mapped_into.true) i.numbers;
       })
       | else-is_mapped_into w ↦ rw w.numbers-is (record {
         few = omega arith;
-        numbers = no_more p c.loop-number.number c.loop-number.numbers.items (sym c.is_mapped_into.ensures ∙ w.if-is_mapped_into.false) i.numbers;
+        numbers = no_more p c.loop-number.number c.loop-number.numbers.items
+            (sym c.is_mapped_into.ensures ∙ w.if-is_mapped_into.false) i.numbers;
       })
     ]
 
 pub returns : goal.returns
-returns g c = all_numbers (is_mapped_into (g.S.ObjectStore.description c.args.store.now) (g.S.ObjectStore.contents c.args.store.now) c.args.key) c.loop-number.numbers.items c.loop-number.number (omega arith) c.loop-number.invariant.numbers
+returns g c =
+    let d = g.S.ObjectStore.description c.args.store.now in
+    let p = is_mapped_into d (g.S.ObjectStore.contents c.args.store.now) c.args.key in
+    all_numbers p c.loop-number.numbers.items c.loop-number.number (omega arith) c.loop-number.invariant.numbers

@@ -7,5 +7,6 @@ use Rattle.co_node_turns.proofs.asked.numbers_with.Given as goal
 abbrev pub invariant-loop-number : goal.invariant-loop-number
 invariant-loop-number g l = record {
   few : length l.numbers.items ≤ l.number;
-  numbers : l.numbers.items ≡ filter (is_mapped_into (g.S.ObjectStore.description l.store) (g.S.ObjectStore.contents l.store) l.key) (range_with_len 0 l.number);
+  numbers : l.numbers.items ≡ filter (is_mapped_into (g.S.ObjectStore.description l.store)
+      (g.S.ObjectStore.contents l.store) l.key) (range_with_len 0 l.number);
 }

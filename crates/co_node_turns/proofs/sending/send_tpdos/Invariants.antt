@@ -7,5 +7,6 @@ use Rattle.co_node_turns.proofs.sending.send_tpdos.Given as goal
 abbrev pub invariant-loop-number : goal.invariant-loop-number
 invariant-loop-number g l = record {
   sent : length l.fn.outbox.items + length l.fn.numbers ≤ outbox_room →
-      l.outbox.items ≡ l.fn.outbox.items ++ map (tpdo_frame (g.S.ObjectStore.description l.fn.store) (g.S.ObjectStore.contents l.fn.store)) (take l.number-index l.fn.numbers);
+      l.outbox.items ≡ l.fn.outbox.items ++ map (tpdo_frame (g.S.ObjectStore.description l.fn.store)
+      (g.S.ObjectStore.contents l.fn.store)) (take l.number-index l.fn.numbers);
 }

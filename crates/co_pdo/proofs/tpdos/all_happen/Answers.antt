@@ -18,7 +18,9 @@ loop-tpdo-preserved g c =
     ] in
     rw changed (record {
       few = few_more _ _ _ _ _ i.few answered;
-      small = small_more _ _ _ _ answered (small_here c.args.tpdos.now c.loop-tpdo.tpdos c.loop-tpdo.tpdo-index _ c.happens.new.self c.loop-tpdo-test.true i.rest c.happens.ensures.number c.requires.small) i.small;
+      small = small_more _ _ _ _ answered
+          (small_here c.args.tpdos.now c.loop-tpdo.tpdos c.loop-tpdo.tpdo-index _ c.happens.new.self c.loop-tpdo-test.true i.rest
+          c.happens.ensures.number c.requires.small) i.small;
       numbers = numbers_set c.loop-tpdo.tpdos c.loop-tpdo.tpdo-index c.happens.new.self _ c.happens.ensures.number ∙ i.numbers;
       rest = rest_set c.args.tpdos.now c.loop-tpdo.tpdos _ _ i.rest;
       due = λ logs all current. due_more c.args.tpdos.now c.loop-tpdo.tpdos c.loop-tpdo.tpdo-index _ c.loop-tpdo-test.true i.rest _ _ c.happens.new.self c.happens.result c.loop-tpdo.auto.tpdos
