@@ -6,6 +6,7 @@ mod StoreExamples
 pub mod CountLemmas
 pub mod ExampleDevice
 pub mod ObjectLemmas
+pub mod PlaceLemmas
 pub mod StoreLemmas
 mod WriteLemmas
 pub mod PushLemmas

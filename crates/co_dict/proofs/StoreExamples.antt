@@ -1,5 +1,5 @@
 -- What fits an entry, and what a write and a reset change, computed from the definitions.
-use Rattle.std.proofs.Common.{◌≡◌, ℕ, true, false, List, [], ◌∷◌, Option, Some, refl}
+use Rattle.std.proofs.Common.{◌≡◌, ℕ, true, false, List, [], ◌∷◌, Option, Some, None, refl}
 use Rattle.std.specs.Prelude.{pos, find, option_map}
 use Rattle.co_value.specs.declared.key.Key.{Key}
 use Rattle.co_value.specs.declared.data_type.DataType.TheVariants.{Unsigned16, VisibleString}
@@ -7,6 +7,8 @@ use Rattle.co_value.specs.Keys.{same_key}
 use Rattle.co_profile.specs.declared.access.Access.TheVariants.{Rw}
 use Rattle.co_dict.specs.declared.row.Row.{Row}
 use Rattle.co_dict.specs.declared.area.Area.TheVariants.{Communication, All}
+use Rattle.co_dict.specs.Stores.{Description}
+use Rattle.co_dict.specs.Places.{place_of, key_at, bytes_at, takes_at, written_at}
 use Rattle.co_dict.specs.Rows.{Rows, Contents, fits, takes, written, is_in_area, restored}
 
 abbrev at : ℕ → ℕ → Key
@@ -99,3 +101,41 @@ leaves_the_manufacturer = refl
 
 restores_all : restored All initial contents (at 0x2000 2) ≡ Some []
 restores_all = refl
+
+-- ---- places
+
+abbrev device : Description
+device = record { node = 5; rows = rows; initial = initial; dummies = λ index. false; keys = at 0x1017 0 ∷ at 0x2000 1 ∷ at 0x2000 2 ∷ [] }
+
+place_of_last : place_of device (at 0x2000 2) ≡ Some 2
+place_of_last = refl
+
+place_of_none : place_of device (at 0x2000 3) ≡ None
+place_of_none = refl
+
+key_at_last : key_at device 2 ≡ Some (at 0x2000 2)
+key_at_last = refl
+
+key_past_last : key_at device 3 ≡ None
+key_past_last = refl
+
+bytes_at_place : bytes_at device contents 2 ≡ Some (66 ∷ 67 ∷ [])
+bytes_at_place = refl
+
+bytes_at_none : bytes_at device contents 3 ≡ None
+bytes_at_none = refl
+
+takes_at_place : takes_at device 0 2 ≡ true
+takes_at_place = refl
+
+takes_too_short_at_place : takes_at device 0 1 ≡ false
+takes_too_short_at_place = refl
+
+takes_nothing_at_none : takes_at device 3 0 ≡ false
+takes_nothing_at_none = refl
+
+writes_at_place : written_at device contents 1 (68 ∷ []) (at 0x2000 1) ≡ Some (68 ∷ [])
+writes_at_place = refl
+
+writes_no_neighbour : written_at device contents 1 (68 ∷ []) (at 0x2000 2) ≡ Some (66 ∷ 67 ∷ [])
+writes_no_neighbour = refl

@@ -1,5 +1,6 @@
 pub mod Rows
 pub mod Stores
+pub mod Places
 pub mod Refusals
 pub mod Objects
 pub mod CobIds

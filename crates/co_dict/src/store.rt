@@ -1,9 +1,10 @@
 //! The trait of stores.
 
-ghost use Rattle.std.specs.Prelude.{◌≡◌, ◌≤◌, ℕ, Bool, true, length};
+ghost use Rattle.std.specs.Prelude.{◌≡◌, ◌≤◌, ℕ, Bool, true, length, List, Some, is_some};
 ghost use Rattle.std.specs.Option.{option_map};
 ghost use Rattle.co_dict.specs.Rows.{Contents, takes, capacity_at, written, restored};
 ghost use Rattle.co_dict.specs.Stores.{Description, IsDictionary};
+ghost use Rattle.co_dict.specs.Places.{place_of, key_at, bytes_at, takes_at, written_at};
 ghost use Rattle.co_value.specs.declared.key.Key.{Key};
 
 use crate::area::Area;
@@ -43,6 +44,23 @@ pub trait ObjectStore {
         ensures contents { contents self.new ≡ written (contents self.old) key bytes.now }
         ensures description { description self.new ≡ description self.old };
 
+    /// The place of an entry, its number in the list of the keys; `None` where there is no entry. No call changes a
+    /// place, so that who looks it up once may use it from then on.
+    fn place(&self, key: Key) -> Option<u32>
+        ensures { result ≡ place_of (description self.now) key };
+
+    /// The bytes of the entry at a place; `None` where there is no entry.
+    fn bytes_at(&self, place: u32) -> Option<&[u8]>
+        ensures { option_map (λ bytes. bytes.now) result
+            ≡ bytes_at (description self.now) (contents self.now) place };
+
+    /// Sets the bytes of the entry at a place, which have to fit it.
+    fn set_at(&mut self, place: u32, bytes: &[u8])
+        requires { takes_at (description self.old) place (length bytes.now) ≡ true }
+        ensures contents { contents self.new
+            ≡ written_at (description self.old) (contents self.old) place bytes.now }
+        ensures description { description self.new ≡ description self.old };
+
     /// Restores the entries of an area to their initial bytes.
     fn reset(&mut self, area: Area)
         ensures contents { contents self.new ≡ restored area (description self.old).initial (contents self.old) }
@@ -62,6 +80,29 @@ pub fn store_laws<S: ObjectStore>(store: &S)
 #[tactic(auto, using(crate::proofs::StoreLemmas::room_at))]
 pub fn capacity_law<S: ObjectStore>(store: &S)
     ensures { (key : Key) → capacity_at (S.description store.now).rows key ≤ 65535 }
+{
+    store_laws(store);
+}
+
+/// What holds of the places of each store: exactly the entries have places, different entries different ones; and by its
+/// place an entry is what it is by its key, for `bytes` and for `set`. This is a law: a call of it changes nothing.
+pub fn place_laws<S: ObjectStore>(store: &S)
+    ensures present { (key : Key) → is_some (place_of (S.description store.now) key)
+        ≡ is_some ((S.description store.now).rows key) }
+    ensures different { (a b : Key) (place : ℕ) → place_of (S.description store.now) a ≡ Some place
+        → place_of (S.description store.now) b ≡ Some place → a ≡ b }
+    ensures key { (key : Key) (place : ℕ) → place_of (S.description store.now) key ≡ Some place
+        → key_at (S.description store.now) place ≡ Some key }
+    ensures bytes { (key : Key) (place : ℕ) → place_of (S.description store.now) key ≡ Some place
+        → bytes_at (S.description store.now) (S.contents store.now) place ≡ S.contents store.now key }
+    ensures takes { (key : Key) (place size : ℕ)
+        → place_of (S.description store.now) key ≡ Some place
+        → takes_at (S.description store.now) place size
+        ≡ takes (S.description store.now).rows key size }
+    ensures written { (key : Key) (place : ℕ) (bytes : List ℕ)
+        → place_of (S.description store.now) key ≡ Some place
+        → written_at (S.description store.now) (S.contents store.now) place bytes
+        ≡ written (S.contents store.now) key bytes }
 {
     store_laws(store);
 }

@@ -8,6 +8,7 @@ mod InitialLemmas
 mod Roomless
 mod ListExamples
 mod PairLaws
+pub mod Numbering
 mod Pairs
 mod Places
 mod Plans

@@ -50,7 +50,7 @@ equal_compares : (a b : Key) → key_cmp a b ≡ Equal → a ≡ b
 unfolding by_tests
 equal_compares a b h = equal_keys a b (equal_by_tests (ltb a.index b.index) (eqb a.index b.index) (ltb a.sub b.sub) (eqb a.sub b.sub) h)
 
-before_compares : (a b : Key) → is_key_before a b ≡ true → key_cmp a b ≡ Less
+pub before_compares : (a b : Key) → is_key_before a b ≡ true → key_cmp a b ≡ Less
 unfolding by_tests
 before_compares a b h = less_by_tests (ltb a.index b.index) (eqb a.index b.index) (ltb a.sub b.sub) (eqb a.sub b.sub) h
 
@@ -77,7 +77,7 @@ module _ {X : Type 0} (key_of : X → Key) where
   all_after key (x ∷ xs) (suc k) d h lt = all_after key xs k d (and_parts (is_key_before key (key_of x)) (list_all (is_key_before key) (map key_of xs)) h).1 (omega arith)
 
   -- an element is before all that come after it
-  before_later : (xs : List X) (i j : ℕ) (d : X) → are_increasing (map key_of xs) ≡ true → i < j → j < length xs → is_key_before (key_of (get_or xs i d)) (key_of (get_or xs j d)) ≡ true
+  pub before_later : (xs : List X) (i j : ℕ) (d : X) → are_increasing (map key_of xs) ≡ true → i < j → j < length xs → is_key_before (key_of (get_or xs i d)) (key_of (get_or xs j d)) ≡ true
   before_later [] i j d h lt within = absurd (omega arith)
   before_later (x ∷ xs) i zero d h lt within = absurd (omega arith)
   before_later (x ∷ xs) zero (suc j) d h lt within = all_after (key_of x) xs j d (and_parts (list_all (is_key_before (key_of x)) (map key_of xs)) (are_increasing (map key_of xs)) h).0 (omega arith)
@@ -89,7 +89,7 @@ module _ {X : Type 0} (key_of : X → Key) (xs : List X) (increasing : are_incre
       (λ k d low high. ap is_lt (after_compares (key_of (get_or xs k d)) (key_of (get_or xs (k + 1) d)) (before_later key_of xs k (k + 1) d increasing (omega arith) high)))
 
   -- where each of the elements before a place has another key, and the one at it, if there is one, has the key
-  position_is : (at : ℕ) (d : X) → at ≤ length xs → ((k : ℕ) → k < at → same_key key (key_of (get_or xs k d)) ≡ false) → (at < length xs → same_key key (key_of (get_or xs at d)) ≡ true)
+  pub position_is : (at : ℕ) (d : X) → at ≤ length xs → ((k : ℕ) → k < at → same_key key (key_of (get_or xs k d)) ≡ false) → (at < length xs → same_key key (key_of (get_or xs at d)) ≡ true)
       → position (λ x. same_key key (key_of x)) xs ≡ cond (nat_lt at (length xs)) (Some at) None
   position_is at d le before here = ap (λ i. cond (nat_lt i (length xs)) (Some i) None) (position_or_len_is (λ x. same_key key (key_of x)) xs at d le before here)
 

@@ -26,6 +26,7 @@ use co_dict::ObjectStore;
 use co_sheet::{EntryRow, Sheet};
 use cob_ids::bad_cob_id;
 use entries::entries;
+pub use entries::entry_of_row;
 use mappings::bad_mapping;
 use pdo_pairs::unpaired;
 use room::is_too_many;
@@ -86,6 +87,40 @@ fn store_of(
     Ok(ListStore::new(node_id, dummies, entries))
 }
 
+/// A store that can be made of the rows of a data sheet: `build_store` makes any of them.
+pub trait FromRows: ObjectStore {
+    /// The dictionary of these rows, in increasing key, with their initial bytes. `AllocError` where there is no memory.
+    fn from_rows(
+        alloc: Global,
+        node_id: u8,
+        limits: &Limits<'_>,
+        rows: &[EntryRow<'_>],
+        dummies: [bool; 6],
+    ) -> Result<Self, AllocError>
+    where
+        Self: Sized,
+        requires first_node { 1 ≤ node_id }
+        requires last_node { node_id ≤ 127 }
+        requires ready { All (λ row. IsReady node_id (row_view row)) rows.now }
+        requires increase { AllPairs (λ e f. is_key_before e.key f.key ≡ true) rows.now }
+        ensures description { IfOk result (λ store. Self.description store
+            ≡ built_description (plan_in node_id limits.now rows.now dummies)) }
+        ensures contents { IfOk result (λ store. Self.contents store
+            ≡ built_contents (plan_in node_id limits.now rows.now dummies)) };
+}
+
+impl FromRows for ListStore {
+    fn from_rows(
+        alloc: Global,
+        node_id: u8,
+        limits: &Limits<'_>,
+        rows: &[EntryRow<'_>],
+        dummies: [bool; 6],
+    ) -> Result<ListStore, AllocError> {
+        store_of(alloc, node_id, limits, rows, dummies)
+    }
+}
+
 // The first fault of the parameters, whatever the limits are: found in a dictionary whose strings and domains have no
 // room besides that of their defaults, since none of these faults looks at the room.
 fn parameter_fault_of(
@@ -113,22 +148,22 @@ fn parameter_fault_of(
 
 // The dictionary of rows of a sheet, or its first fault. Nothing asks for memory before a node-ID or a sum was at fault,
 // nor for the room of strings and domains before it is known that there is not too much of it.
-fn build_rows(
+fn build_rows<S: FromRows + Drop>(
     alloc: Global,
     node_id: u8,
     limits: &Limits<'_>,
     rows: &[EntryRow<'_>],
     dummies: [bool; 6],
-) -> Result<ListStore, BuildFault>
+) -> Result<S, BuildFault>
     requires sheet { All (λ row. IsSheetRow (row_view row)) rows.now }
     requires increase { AllPairs (λ e f. is_key_before e.key f.key ≡ true) rows.now }
     ensures ok { IfOk result (λ _. build_fault (plan_in node_id limits.now rows.now dummies) ≡ None) }
-    ensures description { IfOk result (λ store. ⟦<ListStore as ObjectStore>⟧.description store
+    ensures description { IfOk result (λ store. S.description store
         ≡ built_description (plan_in node_id limits.now rows.now dummies)) }
-    ensures contents { IfOk result (λ store. ⟦<ListStore as ObjectStore>⟧.contents store
+    ensures contents { IfOk result (λ store. S.contents store
         ≡ built_contents (plan_in node_id limits.now rows.now dummies)) }
-    ensures initial { IfOk result (λ store. (key : Key) → ⟦<ListStore as ObjectStore>⟧.contents store key
-        ≡ (⟦<ListStore as ObjectStore>⟧.description store).initial key) }
+    ensures initial { IfOk result (λ store. (key : Key) → S.contents store key
+        ≡ (S.description store).initial key) }
     ensures err { IfErr result (IsBuildFault (plan_in node_id limits.now rows.now dummies)) }
 {
     if node_id < 1 || node_id > 127 {
@@ -143,7 +178,7 @@ fn build_rows(
             Err(_) => Err(BuildFault::Memory),
         };
     }
-    match store_of(alloc, node_id, limits, rows, dummies) {
+    match S::from_rows(alloc, node_id, limits, rows, dummies) {
         Ok(store) => match parameter_fault(&store, rows) {
             Some(fault) => Err(fault),
             None => Ok(store),
@@ -164,6 +199,36 @@ fn usable_dummies(sheet: &Sheet<'_>) -> [bool; 6]
         sheet.dummy(6),
         sheet.dummy(7),
     ]
+}
+
+/// The dictionary that a data sheet makes for a node-ID and limits, with its initial bytes (CiA 301, 7.4; CiA 306), as a
+/// store of any kind: each row of the sheet becomes an entry, `$NODEID` the node-ID.
+///
+/// Of the faults that apply the one with the smallest number is answered, and of those with one number the one with the
+/// smallest key. `Memory` may come in place of those from `BadCobId` on: nothing asks for memory before the node-ID and
+/// the sums with `$NODEID` were looked at.
+pub fn build_store<S: FromRows + Drop>(
+    alloc: Global,
+    sheet: &Sheet<'_>,
+    node_id: u8,
+    limits: &Limits<'_>,
+) -> Result<S, BuildFault>
+    ensures ok { IfOk result (λ _. build_fault (plan_of node_id (limits_view limits.now) sheet.now) ≡ None) }
+    ensures description { IfOk result (λ store. S.description store
+        ≡ built_description (plan_of node_id (limits_view limits.now) sheet.now)) }
+    ensures contents { IfOk result (λ store. S.contents store
+        ≡ built_contents (plan_of node_id (limits_view limits.now) sheet.now)) }
+    ensures initial { IfOk result (λ store. (key : Key) → S.contents store key
+        ≡ (S.description store).initial key) }
+    ensures err { IfErr result (IsBuildFault (plan_of node_id (limits_view limits.now) sheet.now)) }
+{
+    build_rows(
+        alloc,
+        node_id,
+        limits,
+        sheet.entries(),
+        usable_dummies(sheet),
+    )
 }
 
 impl ListStore {
@@ -188,13 +253,7 @@ impl ListStore {
             ≡ (⟦<ListStore as ObjectStore>⟧.description store).initial key) }
         ensures err { IfErr result (IsBuildFault (plan_of node_id (limits_view limits.now) sheet.now)) }
     {
-        build_rows(
-            alloc,
-            node_id,
-            limits,
-            sheet.entries(),
-            usable_dummies(sheet),
-        )
+        build_store(alloc, sheet, node_id, limits)
     }
 
     /// In a dictionary that was built each PDO communication parameter has its COB-ID, sub-index 1. This is a law: a call

@@ -10,6 +10,8 @@ mod limits;
 mod list_store;
 mod stored_entry;
 
+pub use build::{FromRows, build_store, entry_of_row};
 pub use build_fault::BuildFault;
 pub use limits::Limits;
 pub use list_store::ListStore;
+pub use stored_entry::StoredEntry;

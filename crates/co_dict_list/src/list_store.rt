@@ -63,7 +63,7 @@ impl ListStore {
     }
 
     // Where the entry of a key is in the list.
-    fn place(&self, key: Key) -> Option<usize>
+    fn position(&self, key: Key) -> Option<usize>
         ensures { result ≡ position (λ entry. same_key key entry.key) (entry_views self.now.entries.items) }
     {
         self.entries
@@ -84,12 +84,12 @@ impl ObjectStore for ListStore {
     }
 
     fn row(&self, key: Key) -> Option<Row> {
-        let at = self.place(key)?;
+        let at = self.position(key)?;
         Some(self.entries[at].row)
     }
 
     fn bytes(&self, key: Key) -> Option<&[u8]> {
-        let at = self.place(key)?;
+        let at = self.position(key)?;
         Some(self.entries[at].bytes())
     }
 
@@ -103,10 +103,25 @@ impl ObjectStore for ListStore {
     }
 
     fn set(&mut self, key: Key, bytes: &[u8]) {
-        let Some(at) = self.place(key) else {
+        let Some(at) = self.position(key) else {
             unreachable!();
         };
         self.entries[at].fill(bytes);
+    }
+
+    // the place is the position in the list
+    fn place(&self, key: Key) -> Option<u32> {
+        let at = self.position(key)?;
+        Some(at as u32)
+    }
+
+    fn bytes_at(&self, place: u32) -> Option<&[u8]> {
+        let entry = self.entries.get(place as usize)?;
+        Some(entry.bytes())
+    }
+
+    fn set_at(&mut self, place: u32, bytes: &[u8]) {
+        self.entries[place as usize].fill(bytes);
     }
 
     fn reset(&mut self, area: Area) {

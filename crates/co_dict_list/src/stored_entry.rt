@@ -16,7 +16,7 @@ use std::boxed::BoxedSlice;
 /// An entry with its bytes and its initial bytes. Both are in memory of their own, which is asked for once: neither
 /// grows.
 #[derive(Drop)]
-pub(crate) struct StoredEntry {
+pub struct StoredEntry {
     pub(crate) key: Key,
     pub(crate) row: Row,
     /// As many bytes as the entry has room for; the first `size` are its bytes.
@@ -68,8 +68,35 @@ impl StoredEntry {
         })
     }
 
+    /// Its key, which is that of an entry.
+    pub fn key(&self) -> Key
+        ensures key { result ≡ (entry_view self.now).key }
+        ensures from_1000 { 0x1000 ≤ result.index }
+    {
+        self.key
+    }
+
+    /// Its row. The capacity of a number is its width, a fixed type is as it must be, and the limits are in order.
+    pub fn row(&self) -> Row
+        ensures row { result ≡ (entry_view self.now).row }
+        ensures width { HasWidth result }
+        ensures fixed { HasFixedType self.now.key result }
+        ensures limits { HasLimits result }
+        ensures fitting { fits result (length (entry_view self.now).bytes) ≡ true }
+    {
+        self.row
+    }
+
+    /// All its room, as many bytes as its capacity, of which the first are its bytes.
+    pub fn room(&self) -> &[u8]
+        ensures len { length result.now ≡ (entry_view self.now).row.capacity }
+        ensures front { take (length (entry_view self.now).bytes) result.now ≡ (entry_view self.now).bytes }
+    {
+        &self.buffer
+    }
+
     /// The bytes.
-    pub(crate) fn bytes(&self) -> &[u8]
+    pub fn bytes(&self) -> &[u8]
         ensures { result.now ≡ (entry_view self.now).bytes }
     {
         &self.buffer[..usize::from(self.size)]

@@ -13,8 +13,8 @@ use crate::stored_entry::StoredEntry;
 use co_sheet::EntryRow;
 use std::alloc::{AllocError, Global};
 
-// the entry of a row, with its initial bytes
-fn entry(
+/// The entry of a row that is ready, with its initial bytes. `AllocError` where there is no memory.
+pub fn entry_of_row(
     alloc: Global,
     node_id: u8,
     limits: &Limits<'_>,
@@ -41,7 +41,7 @@ pub(crate) fn entries(
 {
     let mut entries = Vec::with_capacity(alloc, rows.len())?;
     for row in rows {
-        entries.push(entry(alloc, node_id, limits, row)?)?;
+        entries.push(entry_of_row(alloc, node_id, limits, row)?)?;
     }
     Ok(entries)
 }

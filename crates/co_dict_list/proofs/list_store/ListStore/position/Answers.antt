@@ -8,7 +8,7 @@ use Rattle.co_dict_list.specs.ListedEntries.{keys_in, are_increasing}
 use Rattle.co_dict_list.specs.StoredEntries.{entry_view, entry_views}
 use Rattle.co_dict_list.proofs.Places.{position-map}
 use Rattle.co_dict_list.proofs.Search.{key_cmp, searched}
-use Rattle.co_dict_list.proofs.list_store.ListStore.place.Goals as goal
+use Rattle.co_dict_list.proofs.list_store.ListStore.position.Goals as goal
 
 same_keys : (entries : List StoredEntry) → map (λ (e : StoredEntry). e.key) entries ≡ keys_in (entry_views entries)
 same_keys [] = refl
