@@ -11,4 +11,4 @@ same c = search rules
 pub returns-clause-stands : goal.returns-clause-stands
 returns-clause-stands c = λ k before stands.
     subst (λ (v : InputView). NodeStands k (description_of c.step.new.self.store) (entries_of c.step.new.self.store) c.step.new.self.parts (v ∷ before))
-        (same c) (c.step.ensures.stands k before stands)
+    (same c) (c.step.ensures.stands k before stands)
