@@ -1,5 +1,5 @@
 pub mod Below
-pub mod SameTpdos
+pub mod SamePdos
 pub mod Writes
 pub mod Calls
 pub mod Received
@@ -14,3 +14,4 @@ pub mod Kept
 pub mod Changed
 pub mod Resets
 pub mod SetExactly
+mod KeptRpdos

@@ -4,9 +4,11 @@
 mod changes;
 mod kinds;
 mod lengths;
+mod rpdos;
 mod schedule;
 
 pub use changes::{changes_by_event, changes_by_request};
 pub use kinds::{changes_by_command, changes_by_kind, changes_by_reset, set_exactly};
 pub use lengths::{few, few_responses, few_unanswered, greatest_bound};
+pub use rpdos::rpdos_kept;
 pub use schedule::{schedule_current, schedule_ready};
