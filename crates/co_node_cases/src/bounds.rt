@@ -3,8 +3,8 @@
 use crate::device::{are_frames, frame_of, node_by, node_of, shows, take, write};
 use crate::sheet::sheet_of;
 use co_frame::{Frame, Outbox};
-use co_node::Record;
-use co_node_inputs::Input;
+use co_node::{Node, Record};
+use co_node_inputs::{AppEvent, Input};
 use co_value::Key;
 use std::test::Fail;
 
@@ -21,26 +21,49 @@ fn mandatory_objects_alone(rt: HostRuntime) -> Result<(), Fail> {
     Ok(())
 }
 
-// A run stops where the record has no room for the frames of one more input, or for its end.
+// Runs a device on four requests and an event, without the first so many of them.
+fn run(node: &mut Node, without: usize, record: &mut Record) -> Result<usize, Fail> {
+    let request = frame_of("605#4000100000000000")?;
+    let inputs = [
+        Input::Frame(request),
+        Input::Frame(request),
+        Input::Frame(request),
+        Input::Frame(request),
+        Input::App(AppEvent::Clear(1)),
+    ];
+    Ok(node.run(inputs.get(without..).ok_or("too many")?, record))
+}
+
+// What they send.
+const SENT: &str = "\
+585#4300100091010000 585#4300100091010000 585#4300100091010000 585#4300100091010000
+085#0000000000000000
+";
+
+// A run stops where the record has no room for the frames of one more input, or for its end: how many frames and inputs it
+// has room for, how many inputs are then taken, and how many of those after the second once it is empty again.
 #[test]
 fn records(rt: HostRuntime) -> Result<(), Fail> {
-    let mut node = node_by(rt.alloc(), "1000")?;
-    let request = frame_of("605#4000100000000000")?;
-    let mut inputs = Vec::new(rt.alloc());
-    for _ in 0..4 {
-        inputs.push(Input::Frame(request))?;
-    }
-    let answers = "585#4300100091010000 585#4300100091010000";
-    for (frames, ends, taken) in [(130, 4, 2), (128, 1, 0), (514, 2, 2)] {
+    let all_ends = [1, 2, 3, 4, 5];
+    for (frames, ends, taken, again) in [
+        (130, 4, 2, 2),
+        (128, 1, 0, 0),
+        (514, 2, 2, 2),
+        (133, 5, 5, 3),
+        (132, 5, 4, 3),
+    ] {
+        let mut node = node_by(rt.alloc(), "1000")?;
         let mut record = Record::new(rt.alloc(), frames, ends)?;
-        let count = node.run(inputs.as_slice(), &mut record);
+        let count = run(&mut node, 0, &mut record)?;
         assert_eq!(rt; count, taken, "{frames} frames");
-        let wanted = if taken == 0 { "" } else { answers };
-        assert!(rt; are_frames(record.frames(), wanted)?);
-        assert_eq!(rt; record.ends(), [1, 2].get(..taken).ok_or("too many")?);
+        assert_eq!(rt; record.ends(), all_ends.get(..taken).ok_or("too many")?);
+        assert_eq!(rt; record.frames().len(), taken);
+        for (frame, word) in record.frames().iter().zip(SENT.split_whitespace()) {
+            assert_eq!(rt; *frame, frame_of(word)?);
+        }
         record.clear();
-        let again = node.run(inputs.get(2..).ok_or("too few")?, &mut record);
-        assert_eq!(rt; again, taken, "{frames} frames");
+        let count = run(&mut node, 2, &mut record)?;
+        assert_eq!(rt; count, again, "{frames} frames, empty again");
     }
     Ok(())
 }

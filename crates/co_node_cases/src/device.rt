@@ -1,10 +1,10 @@
 //! A device, and scripts of what comes to it and what it then sends.
 //!
-//! A line of a script is an input and, after ` = `, the frames that are then sent and no other; or a question. Inputs are a
-//! frame, as `605#4000100000000000`, and the event lines of a trace, as `!event 0`; of several ticks the last alone may send
-//! something. `segments 127` are the segments 1 to 127 of a sub-block, all zeros, of which again the last alone may.
-//! Questions are `value 2001:00 3031`, `held 0 7`, `state Stopped`, `done`, and `refused 06020000`. `new 1000 1017=10` is a
-//! new device with 1000 ms for an SDO transfer and that default of 1017h; with `+` after the time it has a SYNC counter.
+//! A line of a script is an input and, after ` = `, the frames that are then sent and no other; or a question. Inputs are
+//! a frame, as `605#4000100000000000`, and the event lines of a trace, as `!event 0`; of several ticks the last alone may
+//! send something. `segments 127` are the segments 1 to 127 of a sub-block, all zeros, of which again the last alone may.
+//! Questions are `value 2001:00 3031`, `held 0 7`, `state Stopped`, `done`, and `refused 06020000`. `new 1000 1017=10` is
+//! a new device with an SDO timeout of 1000 ms and that default of 1017h; with `+` after the time it has a SYNC counter.
 
 use crate::sheet::{COUNTER, MANUFACTURER, PROFILE, sheet_of};
 use co_dict_list::Limits;
@@ -66,36 +66,45 @@ pub(crate) fn node_by(alloc: Global, words: &str) -> Result<Node, Fail> {
     node_of(alloc, text.as_str(), time.parse()?)
 }
 
+// Puts what an input gives into the place of what was sent: a frame; else an event of the application; else a tick.
+fn step(node: &mut Node, frame: Option<Frame>, event: Option<AppEvent<'_>>, sent: &mut Outbox) {
+    match (frame, event) {
+        (Some(frame), _) => node.step(Input::Frame(frame), sent),
+        (None, Some(event)) => node.step(Input::App(event), sent),
+        (None, None) => node.step(Input::Tick, sent),
+    }
+}
+
 /// Puts what a frame gives into the place of what was sent.
 pub(crate) fn take(node: &mut Node, frame: Frame, sent: &mut Outbox) {
-    node.step(Input::Frame(frame), sent);
+    step(node, Some(frame), None, sent);
 }
 
 /// The same of a tick.
 pub(crate) fn elapse(node: &mut Node, sent: &mut Outbox) {
-    node.step(Input::Tick, sent);
+    step(node, None, None, sent);
 }
 
 /// The same of a write of the application.
 pub(crate) fn write(node: &mut Node, key: Key, bytes: &[u8], sent: &mut Outbox) {
-    node.step(Input::App(AppEvent::Write(key, bytes)), sent);
+    step(node, None, Some(AppEvent::Write(key, bytes)), sent);
 }
 
 // The same of an event line.
 fn apply(node: &mut Node, event: &AppLine<'_>, sent: &mut Outbox) {
-    match event {
+    let event = match event {
         AppLine::Write(key, bytes) => {
             if bytes.len() <= 256 {
                 write(node, *key, bytes.bytes().as_slice(), sent);
             }
+            return;
         }
-        AppLine::Event(number) => node.step(Input::App(AppEvent::Event(*number)), sent),
-        AppLine::Changed(key) => node.step(Input::App(AppEvent::Changed(*key)), sent),
-        AppLine::Raise(code, bits, extra) => {
-            node.step(Input::App(AppEvent::Raise(*code, *bits, *extra)), sent);
-        }
-        AppLine::Clear(bits) => node.step(Input::App(AppEvent::Clear(*bits)), sent),
-    }
+        AppLine::Event(number) => AppEvent::Event(*number),
+        AppLine::Changed(key) => AppEvent::Changed(*key),
+        AppLine::Raise(code, bits, extra) => AppEvent::Raise(*code, *bits, *extra),
+        AppLine::Clear(bits) => AppEvent::Clear(*bits),
+    };
+    step(node, None, Some(event), sent);
 }
 
 // So many ticks, of which the last alone sends something.

@@ -1,4 +1,4 @@
-//! Data sheets out of tables with a line for each section: `1018 9` is an object with sub-indices, of object type 9;
+//! Data sheets out of tables with a line for each section: `1018 9` is an object with sub-indices, of object type 9, and
 //! `1018sub0 5 ro 1` an entry of data type 5, access ro and default 1. A word with `=` is a further line of the section.
 
 use std::alloc::Global;

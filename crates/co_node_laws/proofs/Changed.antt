@@ -42,11 +42,11 @@ ended k history state r =
     (taken_at 512 (slot_event k.description r.watched r.marks (record { before = state; after = state })) (slot_log k history) ++ immediate k.description r.watched r.marks.rpdo)
 
 -- a moment at which no command came and no entry changed
-record IsUncommanded (r : Moment) (c : Contents) : Type 0 where
-  command : r.marks.command ≡ None
-  ticked : r.marks.ticked ≡ false
-  received : r.received ≡ c
-  watched : r.watched ≡ c
+pub record IsUncommanded (r : Moment) (c : Contents) : Type 0 where
+  pub command : r.marks.command ≡ None
+  pub ticked : r.marks.ticked ≡ false
+  pub received : r.received ≡ c
+  pub watched : r.watched ≡ c
 
 after_quiet : (k : Constants) (history : History) (r : Moment) (c : Contents) (lost : List ℕ) → lost ≡ [] → IsUncommanded r c → (with_pdos k history (with_lost k.description lost r)).contents ≡ ended k history (state_at history) r
 after_quiet k history r c lost none u = rw (none, u.command, u.received, u.watched) refl
@@ -59,7 +59,7 @@ sync_ended k history frame c input Operational =
     ap (λ errors. after_all_data k.description (all_raised k.description.rows errors c) (all_kept 512 (slot_log k history) ++ [])) (append-nil (sync_errors c (Some frame)))
     ∙ ap (λ rpdos. after_all_data k.description (all_raised k.description.rows (sync_errors c (Some frame)) c) rpdos) (append-nil (all_kept 512 (slot_log k history)))
 
-quiet_sync : (frame : FrameContent) (c : Contents) (input : InputView) (state : NodeState) → IsUncommanded (with_sync state frame (nothing_of input c)) c
+pub quiet_sync : (frame : FrameContent) (c : Contents) (input : InputView) (state : NodeState) → IsUncommanded (with_sync state frame (nothing_of input c)) c
 quiet_sync frame c input Stopped = record { command = refl; ticked = refl; received = refl; watched = refl }
 quiet_sync frame c input PreOperational = record { command = refl; ticked = refl; received = refl; watched = refl }
 quiet_sync frame c input Operational = record { command = refl; ticked = refl; received = refl; watched = refl }
@@ -79,7 +79,7 @@ rpdo_ended k history n frame c input Operational =
     ap (λ taken. after_all_data d (all_raised d.rows (rpdo_errors d c (Some rpdo)) c) (taken ++ immediate d c (Some rpdo)))
     (kept_takes_none (is_synchronous (rpdo_type c n) && not (is_short d c rpdo)) n frame (slot_log k history))
 
-quiet_rpdo : (n : ℕ) (frame : FrameContent) (c : Contents) (input : InputView) (state : NodeState) → IsUncommanded (with_rpdo n state frame (nothing_of input c)) c
+pub quiet_rpdo : (n : ℕ) (frame : FrameContent) (c : Contents) (input : InputView) (state : NodeState) → IsUncommanded (with_rpdo n state frame (nothing_of input c)) c
 quiet_rpdo n frame c input Stopped = record { command = refl; ticked = refl; received = refl; watched = refl }
 quiet_rpdo n frame c input PreOperational = record { command = refl; ticked = refl; received = refl; watched = refl }
 quiet_rpdo n frame c input Operational = record { command = refl; ticked = refl; received = refl; watched = refl }

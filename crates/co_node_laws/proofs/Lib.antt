@@ -9,6 +9,15 @@ pub mod Counts
 pub mod FewAnswers
 pub mod FewExchanged
 pub mod Bounds
+pub mod HeldBytes
+pub mod Ticks
+pub mod HeartbeatDistances
+pub mod EmergencyDistances
+pub mod LossDistances
+pub mod TpdoDistances
+pub mod RpdoWaits
+mod ChangesExamples
+mod DistanceExamples
 mod PartsExamples
 pub mod Kept
 pub mod Changed

@@ -1,5 +1,6 @@
 -- Kinds of inputs.
 use Rattle.std.specs.Prelude.{Bool, true, false}
+use Rattle.co_node_inputs.specs.Inputs.{InputView, Framed, Ticked, Applied}
 use Rattle.co_node_inputs.specs.declared.address.Address.{Address}
 use Rattle.co_node_inputs.specs.declared.address.Address.TheVariants.{Nmt, Sync, Channel, Rpdo, ErrorControl, Nobody}
 
@@ -11,3 +12,9 @@ is_unanswered (Channel j) = false
 is_unanswered (Rpdo n) = true
 is_unanswered (ErrorControl node) = true
 is_unanswered Nobody = true
+
+-- an input is a tick
+abbrev pub is_tick : InputView → Bool
+is_tick (Framed frame) = false
+is_tick Ticked = true
+is_tick (Applied event) = false

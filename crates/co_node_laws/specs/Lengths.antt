@@ -1,5 +1,5 @@
 -- What has to be known of a device's parts, so that no input gives more frames than its bound.
-use Rattle.std.specs.Prelude.{◌∷◌}
+use Rattle.std.specs.Prelude.{[], ◌∷◌}
 use Rattle.co_dict.specs.Stores.{IsDictionary}
 use Rattle.co_node_inputs.specs.Inputs.{InputView, Inputs}
 use Rattle.co_node_history.specs.Moments.{Constants}
@@ -8,3 +8,8 @@ use Rattle.co_node_history.specs.Histories.{contents_of}
 -- at one more input: the entries at its end are those of a dictionary
 pub record HasParts (k : Constants) (inputs : Inputs) (input : InputView) : Type 0 where
   pub dictionary : IsDictionary k.description (contents_of k (input ∷ inputs))
+
+-- the entries were those of a dictionary as the device was built, and at the end of each input
+abbrev pub AllDictionaries : Constants → Inputs → Type 0
+AllDictionaries k [] = IsDictionary k.description k.start
+AllDictionaries k (input ∷ inputs) = IsDictionary k.description (contents_of k (input ∷ inputs)) × AllDictionaries k inputs

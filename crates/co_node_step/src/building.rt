@@ -16,7 +16,6 @@ ghost use Rattle.co_node_step.specs.Built.{constants_of};
 
 use crate::device::Device;
 use crate::parts::Parts;
-use crate::sending::send_life;
 use arrayvec::ArrayVec;
 use co_dict::{ObjectStore, heartbeat_consumer, number_u16};
 use co_frame::{Heartbeat, Outbox};
@@ -25,6 +24,7 @@ use co_node_parts::{
     Emergencies, HeartbeatConsumers, HeartbeatProducer, NmtState, NodeState, ProducerEvent,
     RpdoSlots,
 };
+use co_node_turns::send_life;
 use co_pdo::Schedule;
 use co_profile::PRODUCER_HEARTBEAT;
 use co_sdo_bank::Bank;

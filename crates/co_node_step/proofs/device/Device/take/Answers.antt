@@ -1,6 +1,7 @@
 use Rattle.std.proofs.Common.{◌≡◌, ◌+◌, true, ◌≤◌, List, ◌∷◌, ◌++◌, length, refl, sym, ap, ◌∙◌, subst, arith}
-use Rattle.std.proofs.lemmas.List.{length-append, length-map}
-use Rattle.std.specs.Prelude.{map}
+use Rattle.std.proofs.lemmas.List.{length-map}
+use Rattle.std.specs.Prelude.{ℕ, ◌<◌, map}
+use Rattle.std.specs.List.{slice_index_or}
 use Rattle.co_sdo_bank.specs.Banks.{BankStands}
 use Rattle.co_sdo_bank.specs.Events.{frames_at}
 use Rattle.co_pdo.specs.Schedules.{AllCurrent, IsScheduleAfter}
@@ -112,7 +113,7 @@ module _ (g : given.Over) (c : After-self-5-1 g) (k : Constants) (inputs : Input
   producer = steps.producer k h m is _ _ marks contents _ _ c.producer_event.ensures (c.note-is_due.ensures.stands (producer_log k h) ns.producer)
 
   turn : c.turn-turn.result ≡ turn_at m h
-  turn = steps.turned k h m is _ _ marks contents _ _ transition c.turn-turn.ensures
+  turn = steps.turned k h m is _ _ marks contents _ _ transition c.turn-turn.ensures.turn
 
   schedule_before : IsScheduleAfter (g.S.ObjectStore.description c.take_pdos.new.store) c.args.self.now.parts.schedule (schedule_log k h)
   schedule_before = subst (λ d. IsScheduleAfter d c.args.self.now.parts.schedule (schedule_log k h)) (ns.description ∙ sym d3) ns.schedule
@@ -121,22 +122,20 @@ module _ (g : given.Over) (c : After-self-5-1 g) (k : Constants) (inputs : Input
   current asked = subst (λ contents. AllCurrent contents (schedule_log k h)) (sym contents) (c.schedule_ready.ensures k inputs (given_view c.args.given c.args.frame.now) (ap is_asked (sym turn) ∙ asked))
 
   due : c.take_turn-due.result.items ≡ m.due
-  due = steps.due k h m is _ _ marks contents _ _ transition c.turn-turn.ensures _ _ d3 (c.take_turn-due.ensures.due (schedule_log k h) schedule_before current)
+  due = steps.due k h m is _ _ marks contents _ _ transition c.turn-turn.ensures.turn _ _ d3 (c.take_turn-due.ensures.due (schedule_log k h) schedule_before current)
 
   schedule : IsScheduleAfter (g.S.ObjectStore.description c.take_pdos.new.store) c.take_turn-due.new.schedule (schedule_log k (m ∷ h))
-  schedule = steps.schedule k h m is _ _ marks contents _ _ transition c.turn-turn.ensures _ _ _ d3 due (c.take_turn-due.ensures.after (schedule_log k h) schedule_before current)
+  schedule = steps.schedule k h m is _ _ marks contents _ _ transition c.turn-turn.ensures.turn _ _ _ d3 due (c.take_turn-due.ensures.after (schedule_log k h) schedule_before current)
 
   -- the frames
   first_sent : c.receive-received.new.outbox.items ≡ frames_at m.exchange ++ frames_at m.timed_out
   first_sent = c.receive-received.ensures.frames k h before ∙ ap (λ o. o ++ (frames_at m.exchange ++ frames_at m.timed_out)) c.clear.ensures
 
   parts : HasParts k inputs (given_view c.args.given c.args.frame.now)
-  parts = record { dictionary = dictionary; answers = answers }
+  parts = record { dictionary = dictionary }
     where
       dictionary : IsDictionary k.description m.contents
       dictionary = subst (λ d. IsDictionary d m.contents) d3 (subst (λ entries. IsDictionary (g.S.ObjectStore.description c.take_pdos.new.store) entries) contents c.store_laws.ensures)
-      answers : length (frames_at m.exchange) ≤ 127
-      answers = omega (arith, c.receive-received.ensures.few, ap (λ os. length os) first_sent, length-append (frames_at m.exchange) (frames_at m.timed_out), ap (λ os. length os) c.clear.ensures)
 
   room : length (prescribed k inputs (given_view c.args.given c.args.frame.now)) ≤ 514
   room = omega (arith, c.few.ensures k inputs (given_view c.args.given c.args.frame.now) parts, c.greatest_bound.ensures k inputs (given_view c.args.given c.args.frame.now), tpdos_within k.description.rows)
@@ -186,3 +185,7 @@ returns-clause-frames g c = λ k inputs ns. sent g c k inputs ns
 pub returns-clause-few : goal.returns-clause-few
 returns-clause-few g c = λ k inputs ns.
     subst (λ os. length os ≤ frame_bound k inputs (given_view c.args.given c.args.frame.now)) (sym (sent g c k inputs ns)) (c.few.ensures k inputs (given_view c.args.given c.args.frame.now) (parts g c k inputs ns))
+
+pub send_tpdos-requires : goal.send_tpdos-requires
+send_tpdos-requires g c = λ i e lt.
+    subst (λ (ns : List ℕ). slice_index_or ns i e < 512) (sym c.deref.ensures.0) (c.take_turn-due.ensures.small i e (subst (λ (ns : List ℕ). i < length ns) c.deref.ensures.0 lt))

@@ -1,0 +1,241 @@
+#!/bin/sh
+# Nanoseconds that a device takes for an SDO upload, an RPDO of eight bytes, a SYNC with four TPDOs and a tick, on the sheet of
+# the I/O module and on one with 128 SDO channels, 512 TPDOs and 127 monitored nodes; beside the device in node_by_hand, in
+# safe Rust. Status 1 where the two send different frames.
+set -eu
+root=$(CDPATH='' cd -- "$(dirname -- "$(readlink -f -- "$0")")/.." && pwd)
+folder=$(mktemp -d)
+trap 'rm -rf "$folder"' EXIT
+program=$folder/crates/node_time/out/node_time
+
+# Five runs of a program on a sheet; of each number that it prints the smallest, as `name number` on a line. The frames that
+# the last run sent are left in a file.
+best_of_five() {
+    for _ in 1 2 3 4 5; do
+        "$1" < "$2" > "$folder/printed"
+        grep -v '^;' "$folder/printed"
+    done | awk '{ if (!($1 in best) || $2 < best[$1]) best[$1] = $2 } END { for (name in best) print name, best[name] }' > "$3"
+    grep '^;' "$folder/printed" > "$3.frames"
+}
+
+# the I/O module with two more TPDOs: each TPDO is sent at each SYNC, RPDO 2 has eight bytes, and another node is monitored
+module_sheet() {
+    tr -d "\r" < "$root/examples/io-module.eds" | sed -e "/^.MandatoryObjects/,/^$/ s/^SupportedObjects=3$/SupportedObjects=7\n4=0x1802\n5=0x1803\n6=0x1A02\n7=0x1A03/"
+    awk '
+        function entry(name, type, access, value) { printf "[%s]\nDataType=%d\nAccessType=%s\nDefaultValue=%s\n", name, type, access, value }
+        BEGIN {
+            for (i = 2; i < 4; i++) {
+                name = sprintf("180%d", i)
+                printf "[%s]\nObjectType=9\n", name
+                entry(name "sub0", 5, "ro", 2)
+                entry(name "sub1", 7, "rw", "$NODEID+0x" (i + 1) "80")
+                entry(name "sub2", 5, "rw", 1)
+                name = sprintf("1A0%d", i)
+                printf "[%s]\nObjectType=9\n", name
+                entry(name "sub0", 5, "rw", 2)
+                entry(name "sub1", 7, "rw", "0x60000108")
+                entry(name "sub2", 7, "rw", "0x64010" (i - 1) "10")
+            }
+        }'
+    for frame in 605#2F00180201000000 605#2F01180201000000 605#2301140105030080 605#2F01160000000000 605#2301160310011164 \
+        605#2301160410021164 605#2F01160004000000 605#2301140105030000 605#23161001FFFF0700; do
+        echo ";!- 1 $frame"
+    done
+    echo ";!- 1 000#0105"
+    echo ";!- 1 707#05"
+    echo ";!upload 20000 605#4000100000000000"
+    echo ";!rpdo 20000 305#0102030405060708"
+    echo ";!sync 20000 080#"
+    echo ";!- 1 605#2102200003000000"
+    echo ";!tick 20000 tick"
+}
+
+# the greatest device: 128 SDO channels with an open transfer each, 512 TPDOs of eight bytes, four of which are sent at each
+# SYNC and the others by an event timer, an RPDO of eight bytes, and 127 nodes that are monitored
+greatest_sheet() {
+    awk '
+        function entry(name, type, access, value) { printf "[%s]\nDataType=%d\nAccessType=%s\nDefaultValue=%s\nPDOMapping=1\n", name, type, access, value }
+        function object(number) {
+            name = sprintf("%X", number)
+            list = list (++count) "=0x" name "\n"
+            printf "[%s]\nObjectType=9\n", name
+            return name
+        }
+        function variable(name, type, access, value) {
+            list = list (++count) "=0x" name "\n"
+            entry(name, type, access, value)
+        }
+        BEGIN {
+            variable("1000", 7, "ro", "0x191")
+            variable("1001", 5, "ro", 0)
+            variable("1005", 7, "rw", "0x80")
+            variable("1014", 7, "rw", "$NODEID+0x80")
+            variable("1017", 6, "rw", 0)
+            variable("2002", 7, "rw", 0)
+            variable("2003", 7, "rw", 0)
+            name = object(4120); entry(name "sub0", 5, "ro", 1); entry(name "sub1", 7, "ro", 0)
+            name = object(4118); entry(name "sub0", 5, "ro", 127)
+            for (i = 1; i <= 127; i++) entry(name "sub" sprintf("%X", i), 7, "rw", sprintf("0x%X", i * 65536 + 65535))
+            for (i = 1; i <= 127; i++) {
+                name = object(4608 + i); entry(name "sub0", 5, "ro", 2)
+                entry(name "sub1", 7, "ro", 512 + i); entry(name "sub2", 7, "ro", 768 + i)
+            }
+            name = object(5120); entry(name "sub0", 5, "ro", 2); entry(name "sub1", 7, "rw", "0x400"); entry(name "sub2", 5, "rw", 255)
+            name = object(5632); entry(name "sub0", 5, "rw", 2); entry(name "sub1", 7, "rw", "0x20020020"); entry(name "sub2", 7, "rw", "0x20030020")
+            for (i = 0; i < 512; i++) {
+                name = object(6144 + i); entry(name "sub0", 5, "ro", 5); entry(name "sub1", 7, "rw", "0x185")
+                entry(name "sub2", 5, "rw", i < 4 ? 1 : 255); entry(name "sub3", 6, "rw", 0); entry(name "sub5", 6, "rw", 65535)
+                name = object(6656 + i); entry(name "sub0", 5, "rw", 2)
+                entry(name "sub1", 7, "rw", "0x20020020"); entry(name "sub2", 7, "rw", "0x20030020")
+            }
+            printf "[MandatoryObjects]\nSupportedObjects=%d\n%s", count, list
+            print ";!- 1 000#0105"
+            for (i = 1; i <= 127; i++) printf ";!- 1 %03X#05\n", 1792 + i
+            print ";!upload 2000 605#4000100000000000"
+            print ";!rpdo 2000 400#0102030405060708"
+            print ";!sync 2000 080#"
+            print ";!- 1 605#2002200000000000"
+            for (i = 1; i <= 127; i++) printf ";!- 1 %03X#2002200000000000\n", 512 + i
+            print ";!tick 2000 tick"
+        }'
+}
+
+mkdir -p "$folder/crates/node_time/src"
+cp "$root/HANDLES" "$folder"
+{
+    "$root/bench/below.sh" co_node conode_trace
+    echo 'node_time: co_node co_node_inputs co_dict_list co_sheet conode_trace co_frame co_text arrayvec anyhow'
+} > "$folder/crates.txt"
+"$root/bench/below.sh" co_node conode_trace | cut -d: -f1 | while read -r crate; do cp -R "$root/crates/$crate" "$folder/crates"; done
+cat > "$folder/crates/node_time/src/main.rt" << 'END'
+//! Runs a device on the data sheet on standard input. A line `;!NAME COUNT FRAME` of the sheet, which is a comment to its
+//! reader, hands that frame so often to the device, or `tick` so many ticks, and prints the nanoseconds that one took, unless
+//! the name is `-`, and the frames that the last one gave.
+#![tactic(auto)]
+
+use anyhow::{Context, Result};
+use co_dict_list::Limits;
+use co_frame::{Frame, Outbox};
+use co_node::{Config, Node};
+use co_node_inputs::{AppEvent, Input};
+use co_sheet::read;
+use co_text::HexPairs;
+use conode_trace::push_frame;
+use std::alloc::Global;
+use std::io;
+use std::time::Instant;
+
+fn frame_of(text: &str) -> Option<Frame> {
+    let (id, digits) = text.split_once('#')?;
+    let id = u16::from_str_radix(id, 16).ok()?;
+    let mut bytes = [0; 8];
+    let mut length: usize = 0;
+    if let Some(mut pairs) = HexPairs::read(digits.as_bytes()) {
+        length = pairs.len();
+        for place in bytes.iter_mut() {
+            *place = pairs.next().unwrap_or(0);
+        }
+    }
+    Frame::new(id, bytes.get(..length)?).ok()
+}
+
+// a frame, else an event of the application, else a tick
+fn step(node: &mut Node, frame: Option<Frame>, event: Option<AppEvent<'_>>, sent: &mut Outbox) {
+    match (frame, event) {
+        (Some(frame), _) => node.step(Input::Frame(frame), sent),
+        (None, Some(event)) => node.step(Input::App(event), sent),
+        (None, None) => node.step(Input::Tick, sent),
+    }
+}
+
+fn repeat_frame(node: &mut Node, frame: &Frame, count: u32, sent: &mut Outbox) {
+    for _ in 0..count {
+        step(node, Some(*frame), None, sent);
+    }
+}
+
+fn repeat_tick(node: &mut Node, count: u32, sent: &mut Outbox) {
+    for _ in 0..count {
+        step(node, None, None, sent);
+    }
+}
+
+// the nanoseconds that one takes of so many frames or ticks
+fn measure(rt: &HostRuntime, node: &mut Node, input: &str, count: u32, sent: &mut Outbox) -> Result<u128> {
+    let begin = Instant::now(rt)?;
+    if input == "tick" {
+        repeat_tick(node, count, sent);
+    } else {
+        let frame = frame_of(input).context("no frame")?;
+        repeat_frame(node, &frame, count, sent);
+    }
+    Ok(begin.elapsed(rt)?.as_nanos() / u128::from(count.max(1)))
+}
+
+fn print_time(rt: &HostRuntime, name: &str, spent: u128) -> Result<()> {
+    println!(rt; "{name} {spent}")?;
+    Ok(())
+}
+
+fn print_frames(rt: &HostRuntime, sent: &Outbox) -> Result<()> {
+    let mut text = String::new(rt.alloc());
+    for frame in sent.iter() {
+        text.clear();
+        push_frame(&mut text, frame)?;
+        println!(rt; "; {text}")?;
+    }
+    Ok(())
+}
+
+fn run_line(rt: &HostRuntime, node: &mut Node, line: &str, sent: &mut Outbox) -> Result<()> {
+    let mut words = line.split_whitespace();
+    let name = words.next().context("no name")?;
+    let count: u32 = words.next().context("no count")?.parse().ok().context("no count")?;
+    let input = words.next().context("no input")?;
+    let spent = measure(rt, node, input, count, sent)?;
+    if name != "-" {
+        print_time(rt, name, spent)?;
+    }
+    print_frames(rt, sent)
+}
+
+fn run(rt: &HostRuntime) -> Result<()> {
+    let alloc: Global = rt.alloc();
+    let text = io::read_to_string(alloc, rt.stdin())?;
+    let sheet = read(alloc, text.as_bytes()).ok().context("no sheet")?;
+    let config = Config {
+        limits: Limits {
+            strings: 16,
+            domains: 889,
+            own: &[],
+        },
+        time: 65535,
+    };
+    let mut node = Node::build(alloc, &sheet, 5, &config).ok().context("no device")?;
+    let mut sent = Outbox::new();
+    for line in text.lines() {
+        if let Some(words) = line.strip_prefix(";!") {
+            run_line(rt, &mut node, words, &mut sent)?;
+        }
+    }
+    Ok(())
+}
+
+fn main(rt: HostRuntime) -> Result<()> {
+    run(&rt)
+}
+END
+module_sheet > "$folder/module.eds"
+greatest_sheet > "$folder/greatest.eds"
+rustc -O --edition 2024 -o "$folder/by_hand" "$root/bench/node_by_hand/main.rs"
+(cd "$folder/crates/node_time" && rt run < "$folder/module.eds" > "$folder/log" 2>&1) || { cat "$folder/log" >&2; exit 1; }
+
+for sheet in module greatest; do
+    best_of_five "$program" "$folder/$sheet.eds" "$folder/ours"
+    best_of_five "$folder/by_hand" "$folder/$sheet.eds" "$folder/theirs"
+    cmp "$folder/ours.frames" "$folder/theirs.frames" || exit 1
+    awk -v sheet="$sheet" '
+        NR == FNR { by_hand[$1] = $2; next }
+        { printf "%-8s %-7s %9d ns, by hand %7d ns: %.1f times\n", sheet, $1 ":", $2, by_hand[$1], $2 / (by_hand[$1] ? by_hand[$1] : 1) }
+    ' "$folder/theirs" "$folder/ours"
+done

@@ -1,0 +1,134 @@
+-- The frame of an RPDO of a synchronous type takes effect at the next SYNC.
+use Rattle.std.proofs.Common.{◌≡◌, ℕ, ◌-◌, Bool, true, false, cond, List, [], ◌∷◌, ◌++◌, Option, Some, None, refl, ap, ◌∙◌, arith}
+use Rattle.std.specs.Prelude.{◌==◌, ◌&&◌, ◌||◌, not, is_some, is_none}
+use Rattle.std.proofs.lemmas.Bool.Decides.{nat_tests}
+use Rattle.std.proofs.lemmas.List.{append-nil}
+use Rattle.co_value.specs.declared.key.Key.{Key}
+use Rattle.co_frame.specs.FrameContent.{FrameContent}
+use Rattle.co_profile.specs.Indices.{rpdo_communication}
+use Rattle.co_dict.specs.Rows.{Contents}
+use Rattle.co_dict.specs.Stores.{Description}
+use Rattle.co_node_parts.specs.declared.nmt_state.NodeState.{NodeState}
+use Rattle.co_node_parts.specs.declared.nmt_state.NodeState.TheVariants.{Operational}
+use Rattle.co_node_parts.specs.declared.rpdo_slots.KeptFrame.{KeptFrame}
+use Rattle.co_node_parts.specs.declared.rpdo_slots.SlotEvent.{SlotEvent}
+use Rattle.co_node_parts.specs.declared.rpdo_slots.SlotEvent.TheVariants as slot
+use Rattle.co_node_parts.specs.NmtStates.{leaves, is_state}
+use Rattle.co_node_parts.specs.RpdoSlots.{SlotLog, kept_of, taken_at, all_kept}
+use Rattle.co_node_inputs.specs.Addresses.{rpdo_type}
+use Rattle.co_node_inputs.specs.Inputs.{InputView, Inputs, Framed}
+use Rattle.co_node_inputs.specs.Slots.{is_synchronous, is_short, empties_slot, emptied_by, kept_by, slot_event}
+use Rattle.co_node_inputs.specs.Words.{is_reset, consumers_call}
+use Rattle.co_node_inputs.specs.declared.address.Address.TheVariants.{Sync, Rpdo}
+use Rattle.co_node_effects.specs.RpdoData.{immediate}
+use Rattle.co_node_history.specs.Moments.{Constants, Moment, History}
+use Rattle.co_node_history.specs.Logs.{consumers_log, slot_log, state_at, transition_of}
+use Rattle.co_node_history.specs.Received.{nothing_of, with_sync, with_rpdo, with_frame, address_at}
+use Rattle.co_node_history.specs.Phases.{lost_by, with_lost, with_losses, with_pdos}
+use Rattle.co_node_history.specs.Histories.{moments, contents_of, state_of}
+use Rattle.co_node_laws.specs.Distances.{moment_at}
+use Rattle.co_node_laws.specs.RpdoWaits.{waiting_frame, renews, is_frame_of, keeps_waiting, all_keep_waiting}
+use Rattle.co_node_laws.proofs.Kept.{by_reset}
+use Rattle.co_node_laws.proofs.Changed.{IsUncommanded, quiet_sync, quiet_rpdo}
+
+-- ---- it is kept as it comes
+
+-- what this was to the frames that wait, as received in a state
+abbrev slot_in : Constants → NodeState → Moment → SlotEvent
+slot_in k state r = slot_event k.description r.watched r.marks (record { before = state; after = state })
+
+-- what a moment was to them
+abbrev slot_of : Constants → History → Moment → SlotEvent
+slot_of k history m = slot_event k.description m.watched m.marks (transition_of m history)
+
+slot_quiet : (k : Constants) (history : History) (r : Moment) (c : Contents) (lost : List ℕ) → lost ≡ [] → IsUncommanded r c → slot_of k history (with_lost k.description lost r) ≡ slot_in k (state_at history) r
+slot_quiet k history r c lost none u = rw (none, u.command, u.received, u.watched) refl
+
+slot_received : (k : Constants) (history : History) (r : Moment) (c : Contents) → IsUncommanded r c → slot_of k history (with_losses k history r) ≡ slot_in k (state_at history) r
+slot_received k history r c u =
+    slot_quiet k history r c (lost_by (consumers_call r.marks r.received) (consumers_log k history))
+    (by_reset r.marks r.received (consumers_log k history) (is_reset r.marks) refl u.ticked) u
+
+slot_rpdo : (k : Constants) (inputs : Inputs) (n : ℕ) (frame : FrameContent) → address_at k (moments k inputs) frame.id ≡ Rpdo n → state_of k inputs ≡ Operational
+    → slot_of k (moments k inputs) (moment_at k inputs (Framed frame)) ≡ kept_by k.description (contents_of k inputs) (Some (record { number = n; frame = frame }))
+slot_rpdo k inputs n frame is operational =
+    let h = moments k inputs in
+    let c = contents_of k inputs in
+    ap (λ a. slot_of k h (with_losses k h (with_frame k h a frame (nothing_of (Framed frame) c)))) is
+    ∙ slot_received k h (with_rpdo n (state_at h) frame (nothing_of (Framed frame) c)) c (quiet_rpdo n frame c (Framed frame) (state_at h))
+    ∙ ap (λ state. slot_in k state (with_rpdo n state frame (nothing_of (Framed frame) c))) operational
+
+self : (n : ℕ) (frame : FrameContent) (log : SlotLog) → kept_of n (slot.Keep n frame ∷ log) ≡ Some frame
+self n frame log =
+    let here : (n == n) ≡ true = grind (arith, nat_tests) in
+    ap (λ b. cond b (Some frame) (kept_of n log)) here
+
+pub begins : (k : Constants) (inputs : Inputs) (n : ℕ) (frame : FrameContent) → address_at k (moments k inputs) frame.id ≡ Rpdo n → state_of k inputs ≡ Operational
+    → is_synchronous (rpdo_type (contents_of k inputs) n) ≡ true → is_short k.description (contents_of k inputs) (record { number = n; frame = frame }) ≡ false
+    → waiting_frame k n (Framed frame ∷ inputs) ≡ Some frame
+begins k inputs n frame is operational kind long =
+    let log = slot_log k (moments k inputs) in
+    ap (λ e. kept_of n (e ∷ log)) (slot_rpdo k inputs n frame is operational)
+    ∙ ap (λ b. kept_of n (cond (b && not (is_short k.description (contents_of k inputs) (record { number = n; frame = frame }))) (slot.Keep n frame) slot.Quiet ∷ log)) kind
+    ∙ ap (λ b. kept_of n (cond (not b) (slot.Keep n frame) slot.Quiet ∷ log)) long
+    ∙ self n frame log
+
+-- ---- it waits
+
+emptied_other : (n : ℕ) (key : Key) (log : SlotLog) (b : Bool) → empties_slot key ≡ b → b && n == key.index - rpdo_communication.0 ≡ false
+    → kept_of n (cond b (slot.Empty (key.index - rpdo_communication.0)) slot.Quiet ∷ log) ≡ kept_of n log
+emptied_other n key log true is off = ap (λ b. cond b None (kept_of n log)) off
+emptied_other n key log false is off = refl
+
+kept_other : (n : ℕ) (rpdo : KeptFrame) (log : SlotLog) (b : Bool) → (n == rpdo.number) ≡ false → kept_of n (cond b (slot.Keep rpdo.number rpdo.frame) slot.Quiet ∷ log) ≡ kept_of n log
+kept_other n rpdo log true off = ap (λ b. cond b (Some rpdo.frame) (kept_of n log)) off
+kept_other n rpdo log false off = refl
+
+not_true : (a : Bool) → not a ≡ true → a ≡ false
+not_true true e = absurd (cc)
+not_true false e = refl
+
+first : (a b : Bool) → a && b ≡ true → a ≡ true
+first true b e = refl
+first false b e = absurd (cc)
+
+second : (a b : Bool) → a && b ≡ true → b ≡ true
+second true b e = e
+second false b e = absurd (cc)
+
+by_marks : (d : Description) (c : Contents) (n : ℕ) (ends operational : Bool) (sync : Option FrameContent) (set : Option Key) (rpdo : Option KeptFrame) (log : SlotLog)
+    → not ends && (is_none sync && (not (renews n set) && not (is_frame_of n rpdo))) ≡ true
+    → kept_of n (cond ends slot.EmptyAll (cond (is_some sync && operational) slot.Sync (cond (is_some set) (emptied_by set) (kept_by d c rpdo))) ∷ log) ≡ kept_of n log
+by_marks d c n true operational sync set rpdo log keeps = absurd (cc)
+by_marks d c n false operational (Some frame) set rpdo log keeps = absurd (cc)
+by_marks d c n false operational None (Some key) rpdo log keeps =
+    emptied_other n key log (empties_slot key) refl (not_true (renews n (Some key)) (first (not (renews n (Some key))) (not (is_frame_of n rpdo)) keeps))
+by_marks d c n false operational None None None log keeps = refl
+by_marks d c n false operational None None (Some rpdo) log keeps =
+    kept_other n rpdo log (is_synchronous (rpdo_type c rpdo.number) && not (is_short d c rpdo)) (not_true (n == rpdo.number) keeps)
+
+pub goes_on : (k : Constants) (n : ℕ) (inputs : Inputs) (input : InputView) → keeps_waiting k n inputs input ≡ true → waiting_frame k n (input ∷ inputs) ≡ waiting_frame k n inputs
+goes_on k n inputs input keeps =
+    let m = moment_at k inputs input in
+    let t = transition_of m (moments k inputs) in
+    by_marks k.description m.watched n (is_reset m.marks || leaves Operational t) (is_state Operational t.after) m.marks.sync m.marks.set m.marks.rpdo (slot_log k (moments k inputs)) keeps
+
+pub waits : (k : Constants) (n : ℕ) (inputs later : Inputs) → all_keep_waiting k n inputs later ≡ true → waiting_frame k n (later ++ inputs) ≡ waiting_frame k n inputs
+waits k n inputs [] all = refl
+waits k n inputs (input ∷ later) all =
+    goes_on k n (later ++ inputs) input (first (keeps_waiting k n (later ++ inputs) input) (all_keep_waiting k n inputs later) all)
+    ∙ waits k n inputs later (second (keeps_waiting k n (later ++ inputs) input) (all_keep_waiting k n inputs later) all)
+
+-- ---- a SYNC takes it
+
+pub taken_by_sync : (k : Constants) (inputs : Inputs) (frame : FrameContent) → address_at k (moments k inputs) frame.id ≡ Sync → state_of k inputs ≡ Operational
+    → (moment_at k inputs (Framed frame)).taken ≡ all_kept 512 (slot_log k (moments k inputs))
+taken_by_sync k inputs frame is operational =
+    let h = moments k inputs in
+    let c = contents_of k inputs in
+    let log = slot_log k h in
+    let r = with_sync (state_at h) frame (nothing_of (Framed frame) c) in
+    ap (λ a. (with_pdos k h (with_losses k h (with_frame k h a frame (nothing_of (Framed frame) c)))).taken) is
+    ∙ ap (λ e. taken_at 512 e log ++ immediate k.description (with_losses k h r).watched r.marks.rpdo) (slot_received k h r c (quiet_sync frame c (Framed frame) (state_at h)))
+    ∙ ap (λ state. taken_at 512 (slot_in k state (with_sync state frame (nothing_of (Framed frame) c))) log ++ immediate k.description (with_losses k h (with_sync state frame (nothing_of (Framed frame) c))).watched (with_sync state frame (nothing_of (Framed frame) c)).marks.rpdo) operational
+    ∙ append-nil (all_kept 512 log)

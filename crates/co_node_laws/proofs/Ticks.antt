@@ -1,0 +1,44 @@
+-- An input is marked as a tick exactly where it is one.
+use Rattle.std.proofs.Common.{◌≡◌, ℕ, Bool, true, false, Option, Some, None, refl}
+use Rattle.std.specs.Prelude.{if◌then◌else◌}
+use Rattle.co_frame.specs.FrameContent.{FrameContent}
+use Rattle.co_frame.specs.Heartbeats.{heartbeat_in}
+use Rattle.co_dict.specs.Rows.{Contents}
+use Rattle.co_dict.specs.Stores.{Description}
+use Rattle.co_node_parts.specs.declared.nmt_state.NodeState.TheVariants.{Operational, Stopped}
+use Rattle.co_node_parts.specs.NmtStates.{is_state}
+use Rattle.co_node_inputs.specs.declared.address.Address.{Address}
+use Rattle.co_node_inputs.specs.declared.address.Address.TheVariants.{Nmt, Sync, Channel, Rpdo, ErrorControl, Nobody}
+use Rattle.co_node_inputs.specs.AppAnswers.{event_refusal}
+use Rattle.co_node_inputs.specs.Inputs.{InputView, Inputs, AppView, Framed, Ticked, Applied, Written, EventOn, ChangedAt, Raised, Cleared}
+use Rattle.co_node_history.specs.Moments.{Constants, Moment, History}
+use Rattle.co_node_history.specs.Logs.{contents_at, state_at}
+use Rattle.co_node_history.specs.Received.{nothing_of, with_frame, with_app_event, address_at, is_heartbeat}
+use Rattle.co_node_history.specs.Histories.{moments}
+use Rattle.co_node_laws.specs.Distances.{moment_at}
+use Rattle.co_node_laws.specs.Kinds.{is_tick}
+
+either : (b : Bool) (x y : Moment) → x.marks.ticked ≡ false → y.marks.ticked ≡ false → (if b then x else y).marks.ticked ≡ false
+either true x y p q = p
+either false x y p q = q
+
+by_frame : (k : Constants) (history : History) (address : Address) (frame : FrameContent) (input : InputView) (c : Contents) → (with_frame k history address frame (nothing_of input c)).marks.ticked ≡ false
+by_frame k history Nmt frame input c = refl
+by_frame k history Sync frame input c = either (is_state Stopped (state_at history)) _ _ refl refl
+by_frame k history (Channel j) frame input c = either (is_state Stopped (state_at history)) _ _ refl refl
+by_frame k history (Rpdo n) frame input c = either (is_state Operational (state_at history)) _ _ refl refl
+by_frame k history (ErrorControl node) frame input c = either (is_heartbeat (heartbeat_in frame.bytes)) _ _ refl refl
+by_frame k history Nobody frame input c = refl
+
+by_event : (d : Description) (event : AppView) (refusal : Option ℕ) (input : InputView) (c : Contents) → (with_app_event d event refusal (nothing_of input c)).marks.ticked ≡ false
+by_event d event (Some code) input c = refl
+by_event d (Written key bytes) None input c = refl
+by_event d (EventOn n) None input c = refl
+by_event d (ChangedAt key) None input c = refl
+by_event d (Raised code bits manufacturer) None input c = refl
+by_event d (Cleared bits) None input c = refl
+
+pub ticked_is : (k : Constants) (inputs : Inputs) (input : InputView) → (moment_at k inputs input).marks.ticked ≡ is_tick input
+ticked_is k inputs (Framed frame) = by_frame k (moments k inputs) (address_at k (moments k inputs) frame.id) frame (Framed frame) (contents_at k (moments k inputs))
+ticked_is k inputs Ticked = refl
+ticked_is k inputs (Applied event) = by_event k.description event (event_refusal k.description (contents_at k (moments k inputs)) event) (Applied event) (contents_at k (moments k inputs))

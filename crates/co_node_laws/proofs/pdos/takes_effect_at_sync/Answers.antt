@@ -1,0 +1,11 @@
+use Rattle.std.proofs.Common.{◌∙◌, ◌∷◌}
+use Rattle.co_node_inputs.specs.Inputs.{Framed}
+use Rattle.co_node_laws.proofs.RpdoWaits.{begins, waits, taken_by_sync}
+use Rattle.co_node_laws.proofs.pdos.takes_effect_at_sync.Goals as goal
+
+pub returns-clause-waits : goal.returns-clause-waits
+returns-clause-waits c = λ k inputs later n frame is operational kind long all.
+    waits k n (Framed frame ∷ inputs) later all ∙ begins k inputs n frame is operational kind long
+
+pub returns-clause-taken : goal.returns-clause-taken
+returns-clause-taken c = taken_by_sync

@@ -1,0 +1,44 @@
+//! Heartbeats, lost heartbeats and emergencies by distances over all inputs. Each is a law: a call of it changes nothing.
+
+ghost use Rattle.std.specs.Prelude.{◌≡◌, ◌≤◌, ℕ, [], Some, None, true, false};
+ghost use Rattle.co_frame.specs.declared.heartbeat.Heartbeat.TheVariants.{BootUp};
+ghost use Rattle.co_pdo.specs.Schedules.{is_among};
+ghost use Rattle.co_node_inputs.specs.Inputs.{InputView, Inputs, Ticked};
+ghost use Rattle.co_node_inputs.specs.Words.{is_reset};
+ghost use Rattle.co_node_history.specs.Moments.{Constants};
+ghost use Rattle.co_node_laws.specs.Kinds.{is_tick};
+ghost use Rattle.co_node_laws.specs.Distances.{moment_at, heartbeat_at_tick, is_time_passed, emergency_by};
+
+/// A heartbeat is sent at a tick exactly where the number of ticks since the last reset or write of 1017:00, or since the
+/// device was built, is a positive multiple of the value that 1017:00 had then; it tells the state at the end of the tick. No
+/// other input sends one, but a reset the boot-up (CiA 301, 7.2.8.3.2, 7.2.8.3.3 and 7.5.2.20).
+pub fn heartbeat_due()
+    ensures at_tick { (k : Constants) (inputs : Inputs) →
+        (moment_at k inputs Ticked).life ≡ heartbeat_at_tick k inputs }
+    ensures reset { (k : Constants) (inputs : Inputs) (input : InputView) →
+        is_reset (moment_at k inputs input).marks ≡ true →
+        (moment_at k inputs input).life ≡ Some BootUp }
+    ensures elsewhere { (k : Constants) (inputs : Inputs) (input : InputView) →
+        is_tick input ≡ false →
+        is_reset (moment_at k inputs input).marks ≡ false →
+        (moment_at k inputs input).life ≡ None }
+{}
+
+/// The heartbeat of another node, that of an entry of 1016h, is lost at exactly the tick at which the time of the entry has
+/// passed since the last heartbeat; never where none came since the entry was written, since the last reset, or since the
+/// device was built. No other input loses one (7.2.8.3.2 and 7.5.2.19).
+pub fn heartbeat_lost()
+    ensures at_tick { (k : Constants) (inputs : Inputs) (sub : ℕ) → 1 ≤ sub → sub ≤ 127 →
+        is_among sub (moment_at k inputs Ticked).lost ≡ is_time_passed k sub inputs }
+    ensures elsewhere { (k : Constants) (inputs : Inputs) (input : InputView) →
+        is_tick input ≡ false →
+        (moment_at k inputs input).lost ≡ [] }
+{}
+
+/// The emergency that an input sends is the front of the queue: where one waits, the device may send it, and each sending
+/// since the last reset is at least so many ticks ago as 1015:00 then had in milliseconds, rounded up (7.2.7, 7.5.2.17 and
+/// 7.5.2.18).
+pub fn emergency_sent()
+    ensures { (k : Constants) (inputs : Inputs) (input : InputView) →
+        (moment_at k inputs input).emergency ≡ emergency_by k inputs input }
+{}
