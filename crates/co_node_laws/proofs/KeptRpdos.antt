@@ -30,7 +30,8 @@ by_set d (Some set) c e may off key low high =
 
 pub kept_rpdos : Below → (k : Constants) (inputs : Inputs) (input : InputView)
     → may_change_rpdos (moment k (moments k inputs) input).marks ≡ false
-    → (key : Key) → 0x1400 ≤ key.index → key.index < 0x1800 → contents_of k inputs key ≡ contents_of k (input ∷ inputs) key
+    → (key : Key) → 0x1400 ≤ key.index → key.index < 0x1800
+    → contents_of k inputs key ≡ contents_of k (input ∷ inputs) key
 kept_rpdos below k inputs input off key low high =
     let history = moments k inputs in
     let m = moment k history input in

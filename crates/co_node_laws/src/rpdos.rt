@@ -12,8 +12,8 @@ use co_dict::{invalid_pdo_law, own_rule_law};
 use co_pdo::written_from_2000;
 use co_sdo_bank::Bank;
 
-/// An input that is no reset and writes no parameter of an RPDO leaves all of them, 1400h to 17FFh, as they are. So which
-/// RPDO has an identifier has to be looked up anew after the other inputs alone.
+/// An input that is no reset and writes no parameter of an RPDO leaves all of them, 1400h to 17FFh, as
+/// they are. So which RPDO has an identifier has to be looked up anew after the other inputs alone.
 pub fn rpdos_kept()
     ensures { (k : Constants) (inputs : Inputs) (input : InputView) →
         may_change_rpdos (moment k (moments k inputs) input).marks ≡ false →
