@@ -1,7 +1,7 @@
 #!/bin/sh
-# Nanoseconds that a device takes for an SDO upload, an RPDO of eight bytes, a SYNC with four TPDOs and a tick, on the sheet of
-# the I/O module and on one with 128 SDO channels, 512 TPDOs and 127 monitored nodes; beside the device in node_by_hand, in
-# safe Rust. Status 1 where the two send different frames.
+# Nanoseconds that a device takes for an SDO upload, an RPDO of eight bytes, a SYNC with four TPDOs, a frame of another node
+# and a tick, on the sheet of the I/O module and on one with 128 SDO channels, 512 TPDOs and 127 monitored nodes; beside the
+# device in node_by_hand, in safe Rust. Status 1 where the two send different frames.
 set -eu
 root=$(CDPATH='' cd -- "$(dirname -- "$(readlink -f -- "$0")")/.." && pwd)
 folder=$(mktemp -d)
@@ -13,9 +13,12 @@ program=$folder/crates/node_time/out/node_time
 best_of_five() {
     for _ in 1 2 3 4 5; do
         "$1" < "$2" > "$folder/printed"
-        grep -v '^;' "$folder/printed"
-    done | awk '{ if (!($1 in best) || $2 < best[$1]) best[$1] = $2 } END { for (name in best) print name, best[name] }' > "$3"
-    grep '^;' "$folder/printed" > "$3.frames"
+        sed '/^;/d' "$folder/printed"
+    done | awk '
+        !($1 in best) { name[++count] = $1 }
+        !($1 in best) || $2 < best[$1] { best[$1] = $2 }
+        END { for (i = 1; i <= count; i++) print name[i], best[name[i]] }' > "$3"
+    sed -n '/^;/p' "$folder/printed" > "$3.frames"
 }
 
 # the I/O module with two more TPDOs: each TPDO is sent at each SYNC, RPDO 2 has eight bytes, and another node is monitored
@@ -46,6 +49,7 @@ module_sheet() {
     echo ";!upload 20000 605#4000100000000000"
     echo ";!rpdo 20000 305#0102030405060708"
     echo ";!sync 20000 080#"
+    echo ";!other 20000 186#00"
     echo ";!- 1 605#2102200003000000"
     echo ";!tick 20000 tick"
 }
@@ -94,6 +98,7 @@ greatest_sheet() {
             print ";!upload 2000 605#4000100000000000"
             print ";!rpdo 2000 400#0102030405060708"
             print ";!sync 2000 080#"
+            print ";!other 2000 186#00"
             print ";!- 1 605#2002200000000000"
             for (i = 1; i <= 127; i++) printf ";!- 1 %03X#2002200000000000\n", 512 + i
             print ";!tick 2000 tick"

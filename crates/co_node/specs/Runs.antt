@@ -8,7 +8,7 @@ use Rattle.co_node_history.specs.Histories.{prescribed, tpdo_count}
 abbrev pub all_ends : Constants → Inputs → ℕ → List InputView → List ℕ
 all_ends k inputs before [] = []
 all_ends k inputs before (input ∷ more) =
-    before + length (prescribed k inputs input)
+    (before + length (prescribed k inputs input))
     ∷ all_ends k (input ∷ inputs) (before + length (prescribed k inputs input)) more
 
 -- how many frames an input gives at most: 127, or as many as there are TPDOs where those are more, and 2

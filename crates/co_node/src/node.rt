@@ -1,6 +1,6 @@
 //! A device made from a data sheet.
 
-ghost use Rattle.std.specs.Prelude.{◌≡◌, ℕ, ◌≤◌, ◌<◌, ◌++◌, [], ◌∷◌, ⊥, None, IfOk, IfErr, length, map, take, option_map};
+ghost use Rattle.std.specs.Prelude.{◌≡◌, ℕ, ◌≤◌, ◌<◌, ◌++◌, [], ◌∷◌, None, IfOk, IfErr, length, map, take, option_map};
 ghost use Rattle.co_dict.specs.Stores.{IsGreatestCapacity};
 ghost use Rattle.co_dict_list.specs.Built.{built_description};
 ghost use Rattle.co_dict_list.specs.BuildFaults.{IsBuildFault, build_fault};
@@ -15,8 +15,8 @@ ghost use Rattle.co_node.specs.Runs.{all_ends, most_frames};
 use crate::config::Config;
 use crate::record::Record;
 use co_dict_list::{BuildFault, ListStore};
-use co_frame::Outbox;
-use co_node_inputs::{AppAnswer, Input};
+use co_frame::{Frame, Outbox};
+use co_node_inputs::{AppAnswer, AppEvent, Input};
 use co_node_parts::NodeState;
 use co_node_step::Device;
 use co_sheet::Sheet;
@@ -71,7 +71,23 @@ impl Node {
         ensures few { (k : Constants) (before : Inputs) → Stands k self.old before →
             length outbox.new.items ≤ frame_bound k before (input_view input.entry) }
     {
-        self.device.step(input, outbox);
+        // taken apart and put together again: an input of a caller can't be handed on as a whole
+        let frame = match input {
+            Input::Frame(frame) => frame,
+            _ => Frame::default(),
+        };
+        let whole = match input {
+            Input::Frame(_) => Input::Frame(frame),
+            Input::Tick => Input::Tick,
+            Input::App(AppEvent::Write(key, bytes)) => Input::App(AppEvent::Write(key, bytes)),
+            Input::App(AppEvent::Event(number)) => Input::App(AppEvent::Event(number)),
+            Input::App(AppEvent::Changed(key)) => Input::App(AppEvent::Changed(key)),
+            Input::App(AppEvent::Raise(code, bits, manufacturer)) => {
+                Input::App(AppEvent::Raise(code, bits, manufacturer))
+            }
+            Input::App(AppEvent::Clear(bits)) => Input::App(AppEvent::Clear(bits)),
+        };
+        self.device.step(whole, outbox);
     }
 
     /// The bytes of an entry; `None` where there is no entry.
@@ -120,30 +136,30 @@ impl Node {
     /// Takes inputs in order, and appends to the record the frames of each and where they end. It takes one only where the
     /// record has room for one more input and for as many frames as an input gives at most: 127, or as many as there are
     /// TPDOs where those are more, and 2. It gives how many it took.
-    pub fn run(&mut self, inputs: &[Input<'_>], record: &mut Record) -> usize
+    pub fn run(&mut self, inputs: &[Input<'_>], kept: &mut Record) -> usize
         ensures within { result ≤ length inputs.now }
         ensures frames { (k : Constants) (before : Inputs) → Stands k self.old before →
-            record.new.frames ≡ record.old.frames
+            kept.new.frames ≡ kept.old.frames
             ++ all_frames k before (take result (map input_view inputs.now)) }
         ensures ends { (k : Constants) (before : Inputs) → Stands k self.old before →
-            record.new.ends ≡ record.old.ends ++ all_ends k before (length record.old.frames)
+            kept.new.ends ≡ kept.old.ends ++ all_ends k before (length kept.old.frames)
             (take result (map input_view inputs.now)) }
         ensures stands { (k : Constants) (before : Inputs) → Stands k self.old before →
             Stands k self.new (after_all before (take result (map input_view inputs.now))) }
         ensures early { (k : Constants) (before : Inputs) → Stands k self.old before →
-            result < length inputs.now → HasRoom (most_frames k) record.new → ⊥ }
-        ensures frame_room { record.new.frame_room ≡ record.old.frame_room }
-        ensures input_room { record.new.input_room ≡ record.old.input_room }
+            result < length inputs.now → HasRoom (most_frames k) kept.new → ⊥ }
+        ensures frame_room { kept.new.frame_room ≡ kept.old.frame_room }
+        ensures input_room { kept.new.input_room ≡ kept.old.input_room }
     {
         let most = self.device.most_frames();
         let mut sent = Outbox::new();
         let mut taken = 0;
         for input in inputs.iter().copied() {
-            if !record.has_room(most) {
+            if !kept.has_room(most) {
                 return taken;
             }
             self.device.step(input, &mut sent);
-            record.add(&sent);
+            kept.add(&sent);
             taken += 1;
         }
         taken

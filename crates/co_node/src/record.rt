@@ -1,6 +1,6 @@
 //! The frames that many inputs give, and where those of each end.
 
-ghost use Rattle.std.specs.Prelude.{◌≡◌, [], length, true, false, ⊥, IfOk};
+ghost use Rattle.std.specs.Prelude.{◌≡◌, [], length, true, false, IfOk};
 ghost use Rattle.co_node.specs.Records.{HasRoom, with_input};
 
 use co_frame::Frame;

@@ -15,7 +15,7 @@ use Rattle.co_node_history.specs.Phases.{moment}
 use Rattle.co_node_history.specs.Histories.{moments, contents_of}
 use Rattle.co_node_laws.proofs.Below.{Below}
 use Rattle.co_node_laws.proofs.Received.{MayBecome, changed}
-use Rattle.co_node_laws.proofs.SamePdos.{written_other}
+use Rattle.co_node_laws.proofs.SameSettings.{written_other}
 
 both_off : (a b : Bool) → a || b ≡ false → (a ≡ false) × (b ≡ false)
 both_off true b off = absurd (cc)
@@ -23,10 +23,10 @@ both_off false b off = (refl, off)
 
 by_set : (d : Description) (set : Option Key) (c e : Contents) → MayBecome d set c e → is_rpdo_set set ≡ false
     → (key : Key) → 0x1400 ≤ key.index → key.index < 0x1800 → c key ≡ e key
-by_set d None c e may off key low high = may.same key low (omega arith)
+by_set d None c e may off key low high = may.same key (omega arith) (omega arith)
 by_set d (Some set) c e may off key low high =
     let differs : same_key set key ≡ false = grind (arith, nat_tests) in
-    sym (written_other c set key may.0 differs) ∙ may.1.same.same key low (omega arith)
+    sym (written_other c set key may.0 differs) ∙ may.1.same.same key (omega arith) (omega arith)
 
 pub kept_rpdos : Below → (k : Constants) (inputs : Inputs) (input : InputView)
     → may_change_rpdos (moment k (moments k inputs) input).marks ≡ false

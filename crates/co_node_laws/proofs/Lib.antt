@@ -1,5 +1,5 @@
 pub mod Below
-pub mod SamePdos
+pub mod SameSettings
 pub mod Writes
 pub mod Calls
 pub mod Received
@@ -14,6 +14,7 @@ pub mod Ticks
 pub mod HeartbeatDistances
 pub mod EmergencyDistances
 pub mod LossDistances
+pub mod ValuesNow
 pub mod TpdoDistances
 pub mod RpdoWaits
 mod ChangesExamples

@@ -1,4 +1,4 @@
--- What one input does to the entries of TPDOs, where it is no reset: one permitted write, or nothing.
+-- What one input does to the entries from 1004h to 1FFFh, where it is no reset: one permitted write, or nothing.
 use Rattle.std.proofs.Common.{◌≡◌, ℕ, Bool, true, false, List, [], ◌∷◌, Option, Some, None, refl, sym, arith}
 use Rattle.std.specs.Prelude.{if◌then◌else◌}
 use Rattle.co_value.specs.declared.key.Key.{Key}
@@ -31,15 +31,15 @@ use Rattle.co_node_history.specs.Logs.{contents_at, state_at, channel_logs}
 use Rattle.co_node_history.specs.Received.{service_for, with_service, with_request, with_frame, with_app_event, with_input, nothing_of, address_at, is_heartbeat, app_error}
 use Rattle.co_node_history.specs.Phases.{moment, loss_errors, arrival_errors}
 use Rattle.co_node_laws.proofs.Below.{Below}
-use Rattle.co_node_laws.proofs.SamePdos.{HasSamePdos, same_none, same_both, same_register, same_raised, same_all_raised}
+use Rattle.co_node_laws.proofs.SameSettings.{HasSameSettings, same_none, same_both, same_register, same_raised, same_all_raised}
 use Rattle.co_node_laws.proofs.Writes.{IsWrite}
 
 -- the entries may change so, where this key was set or none was
 abbrev pub MayBecome : Description → Option Key → Contents → Contents → Type 0
-MayBecome d None c e = HasSamePdos c e
+MayBecome d None c e = HasSameSettings c e
 MayBecome d (Some key) c e = (bytes : List ℕ) × IsWrite d c e key bytes
 
-and_then : (d : Description) (set : Option Key) (c e f : Contents) → MayBecome d set c e → HasSamePdos e f → MayBecome d set c f
+and_then : (d : Description) (set : Option Key) (c e f : Contents) → MayBecome d set c e → HasSameSettings e f → MayBecome d set c f
 and_then d None c e f may same = same_both c e f may same
 and_then d (Some key) c e f may same = (may.0, record { permitted = may.1.permitted; same = same_both (written c key may.0) e f may.1.same same })
 
@@ -58,10 +58,10 @@ to_writing d c key indicated bytes h = h
 -- ---- data of RPDOs
 
 module _ (below : Below) where
-  same_data : (d : Description) (c : Contents) (rpdo : KeptFrame) → HasSamePdos c (with_data d c rpdo)
+  same_data : (d : Description) (c : Contents) (rpdo : KeptFrame) → HasSameSettings c (with_data d c rpdo)
   same_data d c rpdo = record { same = λ key low high. sym (below.by_rpdo d c rpdo.number rpdo.frame.bytes key (omega arith)) }
 
-  same_all_data : (d : Description) (c : Contents) (rpdos : List KeptFrame) → HasSamePdos c (after_all_data d c rpdos)
+  same_all_data : (d : Description) (c : Contents) (rpdos : List KeptFrame) → HasSameSettings c (after_all_data d c rpdos)
   same_all_data d c [] = same_none c
   same_all_data d c (rpdo ∷ rpdos) =
       same_both c (after_data d c rpdo) _
@@ -115,11 +115,15 @@ module _ (below : Below) where
 
   -- ---- at the end of the input
 
+  pub after_received : (k : Constants) (history : History) (input : InputView) → HasSameSettings (moment k history input).received (moment k history input).contents
+  after_received k history input =
+      let m = moment k history input in
+      let d = k.description in
+      same_both m.received m.watched m.contents (same_all_raised d.rows (loss_errors m.lost) m.received)
+      (same_both m.watched (all_raised d.rows (arrival_errors d m) m.watched) m.contents (same_all_raised d.rows (arrival_errors d m) m.watched)
+      (same_all_data d (all_raised d.rows (arrival_errors d m) m.watched) m.taken))
+
   pub changed : (k : Constants) (history : History) (input : InputView) → is_reset (moment k history input).marks ≡ false → MayBecome k.description (moment k history input).marks.set (contents_at k history) (moment k history input).contents
   changed k history input off =
       let m = moment k history input in
-      let d = k.description in
-      and_then d m.marks.set (contents_at k history) m.received m.contents (of_input k history (contents_at k history) input input off)
-      (same_both m.received m.watched m.contents (same_all_raised d.rows (loss_errors m.lost) m.received)
-      (same_both m.watched (all_raised d.rows (arrival_errors d m) m.watched) m.contents (same_all_raised d.rows (arrival_errors d m) m.watched)
-      (same_all_data d (all_raised d.rows (arrival_errors d m) m.watched) m.taken)))
+      and_then k.description m.marks.set (contents_at k history) m.received m.contents (of_input k history (contents_at k history) input input off) (after_received k history input)

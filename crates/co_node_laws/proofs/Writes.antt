@@ -24,17 +24,17 @@ use Rattle.co_node_inputs.specs.declared.turn.Turn.TheVariants.{Quiet}
 use Rattle.co_node_inputs.specs.Turns.{part_started, start_turn, turn_by_write}
 use Rattle.co_node_history.specs.TpdoTurns.{with_turn}
 use Rattle.co_node_laws.proofs.Below.{Below}
-use Rattle.co_node_laws.proofs.SamePdos.{HasSamePdos, written_other}
+use Rattle.co_node_laws.proofs.SameSettings.{HasSameSettings, written_other}
 
--- from c to e an entry was set to bytes that its own rule permits, and else no entry of a TPDO changed
+-- from c to e an entry was set to bytes that its own rule permits, and else no entry from 1004h to 1FFFh changed
 pub record IsWrite (d : Description) (c e : Contents) (key : Key) (bytes : List ℕ) : Type 0 where
   pub permitted : own_refusal d c key bytes ≡ None
-  pub same : HasSamePdos (written c key bytes) e
+  pub same : HasSameSettings (written c key bytes) e
 
--- ---- what depends on the entries of TPDOs alone
+-- ---- numbers of entries from 1004h to 1FFFh
 
-number_same : (c e : Contents) (key : Key) → HasSamePdos c e → 0x1800 ≤ key.index → key.index ≤ 0x1BFF → number_at c key ≡ number_at e key
-number_same c e key same low high = ap (λ b. unsigned_of (unwrap_or b [])) (same.same key (omega arith) high)
+pub number_same : (c e : Contents) (key : Key) → HasSameSettings c e → 0x1004 ≤ key.index → key.index ≤ 0x1FFF → number_at c key ≡ number_at e key
+number_same c e key same low high = ap (λ b. unsigned_of (unwrap_or b [])) (same.same key low high)
 
 -- ---- settings after a change, over the log before it
 
@@ -58,7 +58,7 @@ active_by c e j word kind count =
     ∙ ap (λ n. is_valid (number_at c (tpdo_key j 1)) && not (eqb n 0) && is_supported_type (number_at e (tpdo_key j 2))) count
     ∙ ap (λ n. is_valid (number_at c (tpdo_key j 1)) && not (eqb (number_at c (tpdo_count_key j)) 0) && is_supported_type n) kind
 
-pub current_kept : (c e : Contents) (history : History) → HasSamePdos c e → AllCurrent c history → AllCurrent e history
+pub current_kept : (c e : Contents) (history : History) → HasSameSettings c e → AllCurrent c history → AllCurrent e history
 current_kept c e history same all = λ k less.
     alike (settings_of c k) (settings_of e k) (log_of k history) (all k less)
     (active_by c e k
@@ -71,9 +71,9 @@ current_kept c e history same all = λ k less.
 
 -- ---- what a write leaves
 
-number_kept : (c e : Contents) (key other : Key) (bytes : List ℕ) → HasSamePdos (written c key bytes) e → 0x1800 ≤ other.index → other.index ≤ 0x1BFF → same_key key other ≡ false → number_at e other ≡ number_at c other
+pub number_kept : (c e : Contents) (key other : Key) (bytes : List ℕ) → HasSameSettings (written c key bytes) e → 0x1004 ≤ other.index → other.index ≤ 0x1FFF → same_key key other ≡ false → number_at e other ≡ number_at c other
 number_kept c e key other bytes same low high differs =
-    ap (λ b. unsigned_of (unwrap_or b [])) (sym (same.same other (omega arith) high) ∙ written_other c key other bytes differs)
+    ap (λ b. unsigned_of (unwrap_or b [])) (sym (same.same other low high) ∙ written_other c key other bytes differs)
 
 -- ---- what a TPDO's log is after a write
 
@@ -107,7 +107,7 @@ log_elsewhere d key e due history j differs = log_by_part d key e due history j 
 -- ---- one write
 
 -- a write of the inhibit time or of the count of TPDO j leaves it inactive
-still_idle : (c e : Contents) (key : Key) (bytes : List ℕ) (j : ℕ) → j < 512 → HasSamePdos (written c key bytes) e → same_key key (tpdo_key j 1) ≡ false → is_pdo_valid c (0x1800 + j) ≡ false → is_active e j ≡ false
+still_idle : (c e : Contents) (key : Key) (bytes : List ℕ) (j : ℕ) → j < 512 → HasSameSettings (written c key bytes) e → same_key key (tpdo_key j 1) ≡ false → is_pdo_valid c (0x1800 + j) ≡ false → is_active e j ≡ false
 still_idle c e key bytes j less same differs off =
     let word : number_at e (tpdo_key j 1) ≡ number_at c (tpdo_key j 1) = number_kept c e key (tpdo_key j 1) bytes same (omega arith) (omega arith) differs in
     let invalid : is_valid (number_at e (tpdo_key j 1)) ≡ false = ap is_valid word ∙ off in
@@ -120,7 +120,7 @@ record Apart (key : Key) (j : ℕ) : Type 0 where
   inhibit : same_key key (tpdo_key j 3) ≡ false
   count : same_key key (tpdo_count_key j) ≡ false
 
-still_started : (c e : Contents) (key : Key) (bytes : List ℕ) (j : ℕ) (log : Log) → j < 512 → HasSamePdos (written c key bytes) e → Apart key j → IsCurrent (settings_of c j) log → IsAsStarted (settings_of e j) log
+still_started : (c e : Contents) (key : Key) (bytes : List ℕ) (j : ℕ) (log : Log) → j < 512 → HasSameSettings (written c key bytes) e → Apart key j → IsCurrent (settings_of c j) log → IsAsStarted (settings_of e j) log
 still_started c e key bytes j log less same apart h =
     let word = number_kept c e key (tpdo_key j 1) bytes same (omega arith) (omega arith) apart.word in
     let kind = number_kept c e key (tpdo_key j 2) bytes same (omega arith) (omega arith) apart.kind in
@@ -128,7 +128,7 @@ still_started c e key bytes j log less same apart h =
     let count = number_kept c e key (tpdo_count_key j) bytes same (omega arith) (omega arith) apart.count in
     retimed (settings_of c j) (settings_of e j) log h (active_by c e j word kind count) kind inhibit
 
-timer_kept : (c e : Contents) (key : Key) (bytes : List ℕ) (j : ℕ) → j < 512 → HasSamePdos (written c key bytes) e → same_key key (tpdo_key j 5) ≡ false → number_at e (tpdo_key j 5) ≡ number_at c (tpdo_key j 5)
+timer_kept : (c e : Contents) (key : Key) (bytes : List ℕ) (j : ℕ) → j < 512 → HasSameSettings (written c key bytes) e → same_key key (tpdo_key j 5) ≡ false → number_at e (tpdo_key j 5) ≡ number_at c (tpdo_key j 5)
 timer_kept c e key bytes j less same differs = number_kept c e key (tpdo_key j 5) bytes same (omega arith) (omega arith) differs
 
 timer_sub : (n : ℕ) → part_started n ≡ Some Timer → n ≡ 5

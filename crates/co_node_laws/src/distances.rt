@@ -2,15 +2,24 @@
 
 ghost use Rattle.std.specs.Prelude.{◌≡◌, ◌≤◌, ℕ, [], Some, None, true, false};
 ghost use Rattle.co_frame.specs.declared.heartbeat.Heartbeat.TheVariants.{BootUp};
+ghost use Rattle.co_dict.specs.ConsumerHeartbeats.{consumer_key};
+ghost use Rattle.co_dict.specs.Rows.{number_at};
 ghost use Rattle.co_pdo.specs.Schedules.{is_among};
+ghost use Rattle.co_node_parts.specs.Consumers.{monitored_by};
+ghost use Rattle.co_node_inputs.specs.Keys.{producer_key};
 ghost use Rattle.co_node_inputs.specs.Inputs.{InputView, Inputs, Ticked};
 ghost use Rattle.co_node_inputs.specs.Words.{is_reset};
+ghost use Rattle.co_node_history.specs.Histories.{contents_of};
 ghost use Rattle.co_node_history.specs.Moments.{Constants};
 ghost use Rattle.co_node_laws.specs.Kinds.{is_tick};
-ghost use Rattle.co_node_laws.specs.Distances.{moment_at, heartbeat_at_tick, is_time_passed, emergency_by};
+ghost use Rattle.co_node_laws.specs.Distances.{moment_at, heartbeat_at_tick, heartbeat_period, is_time_passed, monitored, emergency_by};
+
+use co_dict::{invalid_pdo_law, own_rule_law};
+use co_pdo::written_from_2000;
+use co_sdo_bank::Bank;
 
 /// A heartbeat is sent at a tick exactly where the number of ticks since the last reset or write of 1017:00, or since the
-/// device was built, is a positive multiple of the value that 1017:00 had then; it tells the state at the end of the tick. No
+/// device was built, is a positive multiple of the value that 1017:00 has; it tells the state at the end of the tick. No
 /// other input sends one, but a reset the boot-up (CiA 301, 7.2.8.3.2, 7.2.8.3.3 and 7.5.2.20).
 pub fn heartbeat_due()
     ensures at_tick { (k : Constants) (inputs : Inputs) →
@@ -22,18 +31,32 @@ pub fn heartbeat_due()
         is_tick input ≡ false →
         is_reset (moment_at k inputs input).marks ≡ false →
         (moment_at k inputs input).life ≡ None }
-{}
+    ensures period { (k : Constants) (inputs : Inputs) →
+        heartbeat_period k inputs ≡ number_at (contents_of k inputs) producer_key }
+{
+    own_rule_law();
+    invalid_pdo_law();
+    written_from_2000();
+    Bank::set_is_permitted();
+}
 
 /// The heartbeat of another node, that of an entry of 1016h, is lost at exactly the tick at which the time of the entry has
 /// passed since the last heartbeat; never where none came since the entry was written, since the last reset, or since the
-/// device was built. No other input loses one (7.2.8.3.2 and 7.5.2.19).
+/// device was built. No other input loses one. What an entry monitors is what its word says now (7.2.8.3.2 and 7.5.2.19).
 pub fn heartbeat_lost()
     ensures at_tick { (k : Constants) (inputs : Inputs) (sub : ℕ) → 1 ≤ sub → sub ≤ 127 →
         is_among sub (moment_at k inputs Ticked).lost ≡ is_time_passed k sub inputs }
     ensures elsewhere { (k : Constants) (inputs : Inputs) (input : InputView) →
         is_tick input ≡ false →
         (moment_at k inputs input).lost ≡ [] }
-{}
+    ensures monitored { (k : Constants) (sub : ℕ) (inputs : Inputs) →
+        monitored k sub inputs ≡ monitored_by (number_at (contents_of k inputs) (consumer_key sub)) }
+{
+    own_rule_law();
+    invalid_pdo_law();
+    written_from_2000();
+    Bank::set_is_permitted();
+}
 
 /// The emergency that an input sends is the front of the queue: where one waits, the device may send it, and each sending
 /// since the last reset is at least so many ticks ago as 1015:00 then had in milliseconds, rounded up (7.2.7, 7.5.2.17 and

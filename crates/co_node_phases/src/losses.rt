@@ -23,7 +23,6 @@ const COMMUNICATION_ERROR: Key = Key {
 };
 
 /// The words of 1016h, sub-indices 1 to 127.
-#[tactic(auto, unfolding(co_node_inputs::specs::Words::consumer_words))]
 fn consumer_words<S: ObjectStore>(store: &S) -> ArrayVec<u32, 127>
     ensures { result.items ≡ consumer_words (S.contents store.now) }
 {
@@ -49,7 +48,6 @@ fn raise_losses<S: ObjectStore>(store: &mut S, emergencies: &mut Emergencies, lo
         EmergenciesStand emergencies.new (with_queued (emergencies_of
         (S.description store.old).rows (loss_errors lost.now) (S.contents store.old)) queued) }
 {
-    DeviceError::codes();
     for _ in lost {
         DeviceError::HEARTBEAT_LOST.raise_and_queue(store, emergencies);
     }

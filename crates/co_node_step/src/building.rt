@@ -5,12 +5,12 @@ ghost use Rattle.co_value.specs.declared.key.Key.{Key};
 ghost use Rattle.co_dict.specs.Rows.{capacity_at, number_at};
 ghost use Rattle.co_node_parts.specs.ConsumerTables.{AllBegun, ConsumersStand};
 ghost use Rattle.co_node_parts.specs.Producers.{ProducerStands};
-ghost use Rattle.co_node_inputs.specs.Inputs.{Inputs};
+ghost use Rattle.co_node_inputs.specs.Inputs.{Inputs, InputView};
 ghost use Rattle.co_node_inputs.specs.Keys.{producer_key};
 ghost use Rattle.co_node_inputs.specs.Words.{consumer_words};
 ghost use Rattle.co_node_history.specs.Moments.{Constants};
 ghost use Rattle.co_node_history.specs.Laws.{boot_up};
-ghost use Rattle.co_node_history.specs.Histories.{app_after, contents_of, held_of, room_of, state_of, tpdo_count};
+ghost use Rattle.co_node_history.specs.Histories.{app_after, contents_of, frame_bound, held_of, room_of, state_of, tpdo_count};
 ghost use Rattle.co_node_step.specs.NodeStanding.{NodeStands};
 ghost use Rattle.co_node_step.specs.Built.{constants_of};
 
@@ -20,6 +20,7 @@ use arrayvec::ArrayVec;
 use co_dict::{ObjectStore, heartbeat_consumer, number_u16};
 use co_frame::{Heartbeat, Outbox};
 use co_node_inputs::AppAnswer;
+use co_node_laws::greatest_bound;
 use co_node_parts::{
     Emergencies, HeartbeatConsumers, HeartbeatProducer, NmtState, NodeState, ProducerEvent,
     RpdoSlots,
@@ -165,8 +166,12 @@ impl<S: ObjectStore> Device<S> {
         ensures most { (k : Constants) (inputs : Inputs) →
             NodeStands k (S.description self.now.store) (S.contents self.now.store) self.now.parts
             inputs → result ≡ max 127 (tpdo_count k.description.rows) + 2 }
+        ensures enough { (k : Constants) (inputs : Inputs) →
+            NodeStands k (S.description self.now.store) (S.contents self.now.store) self.now.parts
+            inputs → (later : Inputs) (input : InputView) → frame_bound k later input ≤ result }
         ensures few { result ≤ 514 }
     {
+        greatest_bound();
         self.parts.schedule.tpdo_count().max(127) + 2
     }
 }

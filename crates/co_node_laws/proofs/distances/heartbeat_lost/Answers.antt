@@ -1,3 +1,4 @@
+use Rattle.co_node_laws.proofs.ValuesNow.{monitored_now}
 use Rattle.co_node_laws.proofs.LossDistances.{at_tick, elsewhere}
 use Rattle.co_node_laws.proofs.distances.heartbeat_lost.Goals as goal
 
@@ -6,3 +7,13 @@ returns-clause-at_tick c = at_tick
 
 pub returns-clause-elsewhere : goal.returns-clause-elsewhere
 returns-clause-elsewhere c = elsewhere
+
+pub returns-clause-monitored : goal.returns-clause-monitored
+returns-clause-monitored c = monitored_now (record {
+  by_sdo = c.own_rule_law.ensures.by_sdo;
+  by_application = c.own_rule_law.ensures.by_application;
+  inhibit_time = c.invalid_pdo_law.ensures.inhibit_time;
+  mapping = c.invalid_pdo_law.ensures.mapping;
+  permitted = c.set_is_permitted.ensures;
+  by_rpdo = c.written_from_2000.ensures;
+})

@@ -8,7 +8,7 @@ pub loop-sub-preserved : goal.loop-sub-preserved
 loop-sub-preserved g c =
     let before = c.loop-sub.invariant in record {
       count = omega (arith, c.push.ensures.len, before.count, c.loop-sub.auto.sub);
-      words = words_more (λ sub. number_at (g.S.ObjectStore.contents c.args.store.now) (consumer_key sub)) c.loop-sub.sub _ _ _ c.loop-sub.auto.sub before.words c.number_u32.ensures c.push.ensures.items;
+      words = words_more (λ sub. number_at (g.S.ObjectStore.contents c.args.store.now) (consumer_key sub)) c.loop-sub.sub c.number_u32.result c.loop-sub.words.items c.push.new.self.items c.loop-sub.auto.sub before.words c.number_u32.ensures c.push.ensures.items;
     }
 
 pub returns : goal.returns

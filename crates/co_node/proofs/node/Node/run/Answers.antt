@@ -1,0 +1,32 @@
+use Rattle.std.proofs.Common.{◌≡◌, ◌≤◌, ◌+◌, ◌<◌, true, List, length, map, take, ap, ◌∙◌, rules, arith}
+use Rattle.std.proofs.lemmas.Iterator.{YieldsList-from_slice}
+use Rattle.std.proofs.lemmas.Iterator.Consumers.{YieldsList-from_copied, YieldsList-turn, YieldsList-end}
+use Rattle.std.proofs.lemmas.List.{length_push}
+use Rattle.co_node_inputs.specs.Inputs.{Inputs, InputView, input_view}
+use Rattle.co_node_history.specs.Moments.{Constants}
+use Rattle.co_node_history.specs.Histories.{after_all}
+use Rattle.co_node.specs.Nodes.{Stands}
+use Rattle.co_node.specs.Records.{HasRoom}
+use Rattle.co_node.proofs.Runs.{next_view, room_for, frames_more, ends_more, stands_more}
+use Rattle.co_node.proofs.node.Node.run.Goals as goal
+
+pub loop-input-preserved : goal.loop-input-preserved
+loop-input-preserved c =
+    let inv = c.loop-input.invariant in
+    let turn = YieldsList-turn (YieldsList-from_copied (YieldsList-from_slice c.args.inputs.now cc)) c.loop-input.yielded _ c.loop-input.yielded_by _ _ c.in-Some.input c.in-Some.is c.next.ensures.steps in
+    let next = next_view c.args.inputs.now c.loop-input.yielded c.loop-input.taken c.in-Some.input inv.count turn in
+    let yes : c.has_room.result ≡ true = search rules in
+    let fits : (k : Constants) (before : Inputs) → Stands k c.args.self.now before → HasRoom (length c.deref.result.now) c.loop-input.kept = λ k before stands.
+    room_for c.loop-input.kept c.most_frames-most.result _ (c.has_room.ensures.yes yes)
+    (omega (arith, ap length c.deref.ensures.0, c.step.ensures.few k _ (inv.stands k before stands), c.most_frames-most.ensures.enough k before stands (after_all before (take c.loop-input.taken (map input_view c.args.inputs.now))) (input_view c.in-Some.input))) in
+    record {
+      count = omega (arith, length_push c.loop-input.yielded c.in-Some.input);
+      within = omega (arith, turn.0);
+      frame_room = c.add.ensures.frame_room ∙ inv.frame_room;
+      input_room = c.add.ensures.input_room ∙ inv.input_room;
+      frames = λ k before stands. frames_more k before _ _ (input_view c.in-Some.input) _ c.loop-input.kept c.add.new.self c.deref.result.now c.step.new.outbox.items
+          next (inv.frames k before stands) (c.step.ensures.frames k _ (inv.stands k before stands)) c.deref.ensures.0 (c.add.ensures.added (fits k before stands));
+      ends = λ k before stands. ends_more k before _ _ (input_view c.in-Some.input) _ _ c.loop-input.kept c.add.new.self c.deref.result.now c.step.new.outbox.items
+          next (inv.frames k before stands) (inv.ends k before stands) (c.step.ensures.frames k _ (inv.stands k before stands)) c.deref.ensures.0 (c.add.ensures.added (fits k before stands));
+      stands = λ k before stands. stands_more k before _ _ (input_view c.in-Some.input) (record { device = c.step.new.self }) next (c.step.ensures.stands k _ (inv.stands k before stands));
+    }

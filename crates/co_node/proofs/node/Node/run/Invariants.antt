@@ -1,0 +1,22 @@
+use Rattle.std.proofs.Common.{◌≡◌, ◌≤◌, ◌++◌, length, map, take}
+use Rattle.co_node_inputs.specs.Inputs.{Inputs, input_view}
+use Rattle.co_node_history.specs.Moments.{Constants}
+use Rattle.co_node_history.specs.Histories.{after_all, all_frames}
+use Rattle.co_node.specs.Nodes.{Stands}
+use Rattle.co_node.specs.Runs.{all_ends}
+use Rattle.co_node.proofs.node.Node.run.Given as goal
+
+-- after the inputs so far
+abbrev pub invariant-loop-input : goal.invariant-loop-input
+invariant-loop-input l = record {
+  count : l.taken ≡ length l.yielded;
+  within : l.taken ≤ length l.inputs;
+  frame_room : l.kept.frame_room ≡ l.fn.kept.frame_room;
+  input_room : l.kept.input_room ≡ l.fn.kept.input_room;
+  frames : (k : Constants) (before : Inputs) → Stands k l.fn.self before →
+      l.kept.frames ≡ l.fn.kept.frames ++ all_frames k before (take l.taken (map input_view l.inputs));
+  ends : (k : Constants) (before : Inputs) → Stands k l.fn.self before →
+      l.kept.ends ≡ l.fn.kept.ends ++ all_ends k before (length l.fn.kept.frames) (take l.taken (map input_view l.inputs));
+  stands : (k : Constants) (before : Inputs) → Stands k l.fn.self before →
+      Stands k l.self (after_all before (take l.taken (map input_view l.inputs)));
+}
