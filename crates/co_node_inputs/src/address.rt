@@ -37,7 +37,8 @@ fn is_rpdo_with<S: ObjectStore>(store: &S, id: u16, number: u16) -> bool
     requires { number < 512 }
     ensures { result ≡ is_rpdo_with (S.contents store.now) id number }
 {
-    is_active(store, Side::Rpdo, number) && cob_id(store, Side::Rpdo, number).identifier() == id
+    // the identifier first: of most RPDOs it is another, and then one look-up is enough
+    cob_id(store, Side::Rpdo, number).identifier() == id && is_active(store, Side::Rpdo, number)
 }
 
 /// The number of the first active RPDO with an identifier.

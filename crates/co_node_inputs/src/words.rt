@@ -3,6 +3,7 @@
 ghost use Rattle.std.specs.Prelude.{◌≡◌};
 ghost use Rattle.co_node_inputs.specs.Words.{quiet, is_reset, state_event, consumers_event, emergency_event, may_send, producer_event, life_of};
 ghost use Rattle.co_node_inputs.specs.Turns.{turn_of, turn_by_write, counter_in, HasTpdoNumber};
+ghost use Rattle.co_node_inputs.specs.Rpdos.{is_rpdo_set, may_change_rpdos};
 ghost use Rattle.co_node_inputs.specs.Keys.{is_set};
 
 use crate::keys::{EMERGENCY_COB_ID, PRODUCER_HEARTBEAT_TIME};
@@ -75,6 +76,14 @@ impl Marks {
             Some(set) => set == key,
             None => false,
         }
+    }
+
+    /// Whether the input may have changed which RPDO has an identifier: it was a reset, or a parameter
+    /// of an RPDO was written.
+    pub fn may_change_rpdos(&self) -> bool
+        ensures { result ≡ may_change_rpdos self.now }
+    {
+        self.is_reset() || is_rpdo_set(self.set)
     }
 
     /// What the input was to the consumers of heartbeats, where it was no reset: at a reset all of
@@ -155,6 +164,19 @@ impl Marks {
             Some(asked) => Turn::Asked(asked),
             None => Turn::Quiet,
         }
+    }
+}
+
+/// Whether a parameter of an RPDO was written.
+fn is_rpdo_set(set: Option<Key>) -> bool
+    ensures { result ≡ is_rpdo_set set }
+{
+    match set {
+        Some(key) => {
+            IndexRange::RPDO_COMMUNICATION.contains(key.index)
+                || IndexRange::RPDO_MAPPING.contains(key.index)
+        }
+        None => false,
     }
 }
 

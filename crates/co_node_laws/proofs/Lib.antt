@@ -24,3 +24,4 @@ pub mod Kept
 pub mod Changed
 pub mod Resets
 pub mod SetExactly
+mod KeptRpdos

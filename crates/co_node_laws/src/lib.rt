@@ -7,6 +7,7 @@ mod held;
 mod kinds;
 mod lengths;
 mod pdos;
+mod rpdos;
 mod schedule;
 
 pub use changes::{changes_by_event, changes_by_request};
@@ -15,4 +16,5 @@ pub use held::held_within_room;
 pub use kinds::{changes_by_command, changes_by_kind, changes_by_reset, set_exactly};
 pub use lengths::{few, few_responses, few_unanswered, greatest_bound};
 pub use pdos::{takes_effect_at_sync, tpdo_due};
+pub use rpdos::rpdos_kept;
 pub use schedule::{schedule_current, schedule_ready};

@@ -1,0 +1,27 @@
+//! What an input changes of the parameters of RPDOs. Each is a law: a call of it changes nothing.
+
+ghost use Rattle.std.specs.Prelude.{◌≡◌, ◌≤◌, ◌<◌, ◌∷◌, false};
+ghost use Rattle.co_value.specs.declared.key.Key.{Key};
+ghost use Rattle.co_node_inputs.specs.Inputs.{InputView, Inputs};
+ghost use Rattle.co_node_inputs.specs.Rpdos.{may_change_rpdos};
+ghost use Rattle.co_node_history.specs.Moments.{Constants};
+ghost use Rattle.co_node_history.specs.Phases.{moment};
+ghost use Rattle.co_node_history.specs.Histories.{moments, contents_of};
+
+use co_dict::{invalid_pdo_law, own_rule_law};
+use co_pdo::written_from_2000;
+use co_sdo_bank::Bank;
+
+/// An input that is no reset and writes no parameter of an RPDO leaves all of them, 1400h to 17FFh, as
+/// they are. So which RPDO has an identifier has to be looked up anew after the other inputs alone.
+pub fn rpdos_kept()
+    ensures { (k : Constants) (inputs : Inputs) (input : InputView) →
+        may_change_rpdos (moment k (moments k inputs) input).marks ≡ false →
+        (key : Key) → 0x1400 ≤ key.index → key.index < 0x1800 →
+        contents_of k inputs key ≡ contents_of k (input ∷ inputs) key }
+{
+    own_rule_law();
+    invalid_pdo_law();
+    written_from_2000();
+    Bank::set_is_permitted();
+}
