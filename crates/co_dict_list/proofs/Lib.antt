@@ -1,7 +1,7 @@
 mod BuildExamples
-mod Changes
+pub mod Changes
 mod CobIdKeys
-mod EntryBytes
+pub mod EntryBytes
 mod Faults
 mod GreatestCapacity
 mod InitialLemmas
@@ -10,10 +10,10 @@ mod ListExamples
 mod PairLaws
 pub mod Numbering
 mod Pairs
-mod Places
-mod Plans
+pub mod Places
+pub mod Plans
 mod Ranges
 mod Readiness
 mod RowExamples
-mod Search
+pub mod Search
 mod Views
