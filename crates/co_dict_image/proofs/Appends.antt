@@ -113,8 +113,8 @@ module _ (slots : List Slot) (increasing : are_increasing (keys_of slots) ≡ tr
       let before : j < i = omega (arith, lt, count) in
       let earlier : Key = (get_or slots j s).key in
       let differs : same_key s.key earlier ≡ false =
-          subst (λ (t : Slot). same_key t.key earlier ≡ false) (sym is)
-          (other_compares earlier (get_or slots i s).key (ap is_eq (before_compares earlier (get_or slots i s).key (before_later (λ (t : Slot). t.key) slots j i s increasing before within)))) in
+      subst (λ (t : Slot). same_key t.key earlier ≡ false) (sym is)
+      (other_compares earlier (get_or slots i s).key (ap is_eq (before_compares earlier (get_or slots i s).key (before_later (λ (t : Slot). t.key) slots j i s increasing before within)))) in
       ap (same_key s.key) (get_or-map (λ (t : Slot). t.key) (take i slots) j s d (let many = length-take-le i slots (omega (arith, within)) in omega (arith, before, many)) ∙ ap (λ (t : Slot). t.key) (get_or-take i slots j s before)) ∙ differs)
 
   pub next_number : (keys : List Key) → keys ≡ keys_of (take i slots) → insert_key same_key keys s.key ≡ keys_of (take (i + 1) slots)

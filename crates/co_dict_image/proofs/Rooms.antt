@@ -115,7 +115,7 @@ module _ (values initial : List ℕ) (start : ℕ) (bytes : List ℕ) (within : 
   entry_here : (old new : Slot) → IsInPlace old new → old.start ≡ start → new.size ≡ length bytes → entry_in (with_range values start bytes) initial new ≡ record (entry_in values initial old) { bytes = bytes }
   entry_here old new same here size =
       let part : take new.size (drop new.start (with_range values start bytes)) ≡ bytes =
-          ap (λ n. take n (drop new.start (with_range values start bytes))) size ∙ ap (λ n. take (length bytes) (drop n (with_range values start bytes))) (same.start ∙ here) ∙ inside values start bytes within in
+      ap (λ n. take n (drop new.start (with_range values start bytes))) size ∙ ap (λ n. take (length bytes) (drop n (with_range values start bytes))) (same.start ∙ here) ∙ inside values start bytes within in
       let made : Key → Row → List ℕ → ℕ → ℕ → ListedEntry = λ key row b n k. record { key = key; row = row; bytes = b; initial = take n (drop k initial) } in
       ap (λ b. made new.key new.row b new.initial_size new.start) part
       ∙ ap (λ key. made key new.row bytes new.initial_size new.start) same.key

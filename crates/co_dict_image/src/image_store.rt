@@ -1,6 +1,6 @@
 //! A store that keeps all values in one piece of memory.
 
-ghost use Rattle.std.specs.Prelude.{◌≡◌, ◌≤◌, ◌<◌, ℕ, true, length, position, IfOk, IfErr, None};
+ghost use Rattle.std.specs.Prelude.{◌≡◌, ◌≤◌, ◌<◌, ℕ, true, length, position, fold, max, IfOk, IfErr, None};
 ghost use Rattle.std.proofs.Props.{props};
 ghost use Rattle.co_value.specs.Keys.{same_key};
 ghost use Rattle.co_value.specs.Numbers.{AreBytes};
@@ -42,6 +42,28 @@ pub struct ImageStore {
     ghost same: { length initial.items ≡ length values.items },
     ghost bytes: { AreBytes values.items } by { Prim.hlevel props },
     ghost initial_bytes: { AreBytes initial.items } by { Prim.hlevel props },
+}
+
+// The greatest capacity of these slots; 0 where there is none.
+fn greatest_capacity(slots: &[Slot]) -> u16
+    ensures { result ≡ fold (λ most slot. max most slot.row.capacity) 0 slots.now }
+{
+    slots
+        .iter()
+        .fold(0, |most, slot| most.max(slot.row.capacity))
+}
+
+impl ImageStore {
+    ghost use Rattle.co_dict.specs.Rows.{capacity_at};
+    ghost use Rattle.co_dict.specs.Stores.{IsGreatestCapacity};
+
+    /// The greatest capacity of all entries, in bytes; 0 where there is no entry.
+    pub fn greatest_capacity(&self) -> u16
+        ensures greatest { IsGreatestCapacity (⟦<ImageStore as ObjectStore>⟧.description self.now).rows result }
+        ensures enough { (key : Key) → capacity_at (⟦<ImageStore as ObjectStore>⟧.description self.now).rows key ≤ result }
+    {
+        greatest_capacity(&self.slots)
+    }
 }
 
 impl ImageStore {

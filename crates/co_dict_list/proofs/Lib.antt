@@ -3,7 +3,7 @@ pub mod Changes
 mod CobIdKeys
 pub mod EntryBytes
 mod Faults
-mod GreatestCapacity
+pub mod GreatestCapacity
 mod InitialLemmas
 mod Roomless
 mod ListExamples

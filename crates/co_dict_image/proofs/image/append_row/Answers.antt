@@ -11,9 +11,14 @@ returns-clause-entries c =
     let made = c.in_ok-entry.ensures in
     let next : IsNext c.args.bytes.now.items c.room.result.now c.new.result e = record {
       start = c.new.ensures.start ∙ c.len.ensures ∙ c.args.bytes.now.ok.0;
-      key = c.new.ensures.key; row = c.new.ensures.row; size = c.new.ensures.size; initial_size = c.new.ensures.initial_size;
-      room = c.room.ensures.len; front = c.room.ensures.front;
-      initially = ap (λ (e : ListedEntry). e.initial) made ∙ sym (ap (λ (e : ListedEntry). e.bytes) made) } in
+      key = c.new.ensures.key;
+      row = c.new.ensures.row;
+      size = c.new.ensures.size;
+      initial_size = c.new.ensures.initial_size;
+      room = c.room.ensures.len;
+      front = c.room.ensures.front;
+      initially = ap (λ (e : ListedEntry). e.initial) made ∙ sym (ap (λ (e : ListedEntry). e.bytes) made);
+    } in
     entries_appended c.args.bytes.now.items c.room.result.now c.new.result e next _ c.args.slots.now.items _ c.in_ok-extend_from_slice.ensures.items c.in_ok-push.ensures.items c.requires.lined
     ∙ ap (λ (e : ListedEntry). entries_in c.args.bytes.now.items c.args.bytes.now.items c.args.slots.now.items ++ e ∷ []) made
 
@@ -23,9 +28,14 @@ returns-clause-lined c =
     let made = c.in_ok-entry.ensures in
     let next : IsNext c.args.bytes.now.items c.room.result.now c.new.result e = record {
       start = c.new.ensures.start ∙ c.len.ensures ∙ c.args.bytes.now.ok.0;
-      key = c.new.ensures.key; row = c.new.ensures.row; size = c.new.ensures.size; initial_size = c.new.ensures.initial_size;
-      room = c.room.ensures.len; front = c.room.ensures.front;
-      initially = ap (λ (e : ListedEntry). e.initial) made ∙ sym (ap (λ (e : ListedEntry). e.bytes) made) } in
+      key = c.new.ensures.key;
+      row = c.new.ensures.row;
+      size = c.new.ensures.size;
+      initial_size = c.new.ensures.initial_size;
+      room = c.room.ensures.len;
+      front = c.room.ensures.front;
+      initially = ap (λ (e : ListedEntry). e.initial) made ∙ sym (ap (λ (e : ListedEntry). e.bytes) made);
+    } in
     lined_appended c.args.bytes.now.items c.room.result.now c.new.result e next _ c.args.slots.now.items _ c.in_ok-extend_from_slice.ensures.items c.in_ok-push.ensures.items c.requires.lined
 
 pub returns-clause-bytes : goal.returns-clause-bytes

@@ -30,61 +30,131 @@ pub invariant_of-self-clause-lined : goal.invariant_of-self-clause-lined
 invariant_of-self-clause-lined c =
     let store = c.args.self.now in
     let p : IsPut store.values store.slots.items c.args.at c.index_mut.result.now c.fill.new.self c.args.bytes.now c.deref_mut.result.now c.fill.new.values = record {
-      held_is = c.deref_mut.ensures.value; held_len = c.deref_mut.ensures.len; lined = store.lined; within = c.requires.within; was = c.index_mut.ensures.value;
-      new_is = c.fill.ensures.values; new_len = c.fill.ensures.len; key = c.fill.ensures.key; row = c.fill.ensures.row; start = c.fill.ensures.start;
-      initial_size = c.fill.ensures.initial_size; size = c.fill.ensures.size } in
+      held_is = c.deref_mut.ensures.value;
+      held_len = c.deref_mut.ensures.len;
+      lined = store.lined;
+      within = c.requires.within;
+      was = c.index_mut.ensures.value;
+      new_is = c.fill.ensures.values;
+      new_len = c.fill.ensures.len;
+      key = c.fill.ensures.key;
+      row = c.fill.ensures.row;
+      start = c.fill.ensures.start;
+      initial_size = c.fill.ensures.initial_size;
+      size = c.fill.ensures.size;
+    } in
     lined_put store.values store.slots.items c.args.at c.index_mut.result.now c.fill.new.self c.args.bytes.now c.deref_mut.result.now c.fill.new.values p
 
 pub invariant_of-self-clause-bytes : goal.invariant_of-self-clause-bytes
 invariant_of-self-clause-bytes c =
     let store = c.args.self.now in
     let p : IsPut store.values store.slots.items c.args.at c.index_mut.result.now c.fill.new.self c.args.bytes.now c.deref_mut.result.now c.fill.new.values = record {
-      held_is = c.deref_mut.ensures.value; held_len = c.deref_mut.ensures.len; lined = store.lined; within = c.requires.within; was = c.index_mut.ensures.value;
-      new_is = c.fill.ensures.values; new_len = c.fill.ensures.len; key = c.fill.ensures.key; row = c.fill.ensures.row; start = c.fill.ensures.start;
-      initial_size = c.fill.ensures.initial_size; size = c.fill.ensures.size } in
+      held_is = c.deref_mut.ensures.value;
+      held_len = c.deref_mut.ensures.len;
+      lined = store.lined;
+      within = c.requires.within;
+      was = c.index_mut.ensures.value;
+      new_is = c.fill.ensures.values;
+      new_len = c.fill.ensures.len;
+      key = c.fill.ensures.key;
+      row = c.fill.ensures.row;
+      start = c.fill.ensures.start;
+      initial_size = c.fill.ensures.initial_size;
+      size = c.fill.ensures.size;
+    } in
     bytes_put store.values store.slots.items c.args.at c.index_mut.result.now c.fill.new.self c.args.bytes.now c.deref_mut.result.now c.fill.new.values p store.bytes (are_bytes _ c.type_inv.bytes)
 
 pub invariant_of-self-clause-same : goal.invariant_of-self-clause-same
 invariant_of-self-clause-same c =
     let store = c.args.self.now in
     let p : IsPut store.values store.slots.items c.args.at c.index_mut.result.now c.fill.new.self c.args.bytes.now c.deref_mut.result.now c.fill.new.values = record {
-      held_is = c.deref_mut.ensures.value; held_len = c.deref_mut.ensures.len; lined = store.lined; within = c.requires.within; was = c.index_mut.ensures.value;
-      new_is = c.fill.ensures.values; new_len = c.fill.ensures.len; key = c.fill.ensures.key; row = c.fill.ensures.row; start = c.fill.ensures.start;
-      initial_size = c.fill.ensures.initial_size; size = c.fill.ensures.size } in
+      held_is = c.deref_mut.ensures.value;
+      held_len = c.deref_mut.ensures.len;
+      lined = store.lined;
+      within = c.requires.within;
+      was = c.index_mut.ensures.value;
+      new_is = c.fill.ensures.values;
+      new_len = c.fill.ensures.len;
+      key = c.fill.ensures.key;
+      row = c.fill.ensures.row;
+      start = c.fill.ensures.start;
+      initial_size = c.fill.ensures.initial_size;
+      size = c.fill.ensures.size;
+    } in
     same_put store.values store.slots.items c.args.at c.index_mut.result.now c.fill.new.self c.args.bytes.now c.deref_mut.result.now c.fill.new.values p store.initial.items store.same
 
 pub invariant_of-self-clause-increasing : goal.invariant_of-self-clause-increasing
 invariant_of-self-clause-increasing c =
     let store = c.args.self.now in
     let p : IsPut store.values store.slots.items c.args.at c.index_mut.result.now c.fill.new.self c.args.bytes.now c.deref_mut.result.now c.fill.new.values = record {
-      held_is = c.deref_mut.ensures.value; held_len = c.deref_mut.ensures.len; lined = store.lined; within = c.requires.within; was = c.index_mut.ensures.value;
-      new_is = c.fill.ensures.values; new_len = c.fill.ensures.len; key = c.fill.ensures.key; row = c.fill.ensures.row; start = c.fill.ensures.start;
-      initial_size = c.fill.ensures.initial_size; size = c.fill.ensures.size } in
+      held_is = c.deref_mut.ensures.value;
+      held_len = c.deref_mut.ensures.len;
+      lined = store.lined;
+      within = c.requires.within;
+      was = c.index_mut.ensures.value;
+      new_is = c.fill.ensures.values;
+      new_len = c.fill.ensures.len;
+      key = c.fill.ensures.key;
+      row = c.fill.ensures.row;
+      start = c.fill.ensures.start;
+      initial_size = c.fill.ensures.initial_size;
+      size = c.fill.ensures.size;
+    } in
     increasing_put store.values store.slots.items c.args.at c.index_mut.result.now c.fill.new.self c.args.bytes.now c.deref_mut.result.now c.fill.new.values p store.increasing
 
 pub invariant_of-self-clause-numbered : goal.invariant_of-self-clause-numbered
 invariant_of-self-clause-numbered c =
     let store = c.args.self.now in
     let p : IsPut store.values store.slots.items c.args.at c.index_mut.result.now c.fill.new.self c.args.bytes.now c.deref_mut.result.now c.fill.new.values = record {
-      held_is = c.deref_mut.ensures.value; held_len = c.deref_mut.ensures.len; lined = store.lined; within = c.requires.within; was = c.index_mut.ensures.value;
-      new_is = c.fill.ensures.values; new_len = c.fill.ensures.len; key = c.fill.ensures.key; row = c.fill.ensures.row; start = c.fill.ensures.start;
-      initial_size = c.fill.ensures.initial_size; size = c.fill.ensures.size } in
+      held_is = c.deref_mut.ensures.value;
+      held_len = c.deref_mut.ensures.len;
+      lined = store.lined;
+      within = c.requires.within;
+      was = c.index_mut.ensures.value;
+      new_is = c.fill.ensures.values;
+      new_len = c.fill.ensures.len;
+      key = c.fill.ensures.key;
+      row = c.fill.ensures.row;
+      start = c.fill.ensures.start;
+      initial_size = c.fill.ensures.initial_size;
+      size = c.fill.ensures.size;
+    } in
     store.numbered ∙ sym (keys_put store.values store.slots.items c.args.at c.index_mut.result.now c.fill.new.self c.args.bytes.now c.deref_mut.result.now c.fill.new.values p)
 
 pub returns-clause-entries : goal.returns-clause-entries
 returns-clause-entries c =
     let store = c.args.self.now in
     let p : IsPut store.values store.slots.items c.args.at c.index_mut.result.now c.fill.new.self c.args.bytes.now c.deref_mut.result.now c.fill.new.values = record {
-      held_is = c.deref_mut.ensures.value; held_len = c.deref_mut.ensures.len; lined = store.lined; within = c.requires.within; was = c.index_mut.ensures.value;
-      new_is = c.fill.ensures.values; new_len = c.fill.ensures.len; key = c.fill.ensures.key; row = c.fill.ensures.row; start = c.fill.ensures.start;
-      initial_size = c.fill.ensures.initial_size; size = c.fill.ensures.size } in
+      held_is = c.deref_mut.ensures.value;
+      held_len = c.deref_mut.ensures.len;
+      lined = store.lined;
+      within = c.requires.within;
+      was = c.index_mut.ensures.value;
+      new_is = c.fill.ensures.values;
+      new_len = c.fill.ensures.len;
+      key = c.fill.ensures.key;
+      row = c.fill.ensures.row;
+      start = c.fill.ensures.start;
+      initial_size = c.fill.ensures.initial_size;
+      size = c.fill.ensures.size;
+    } in
     λ d. entries_put store.values store.slots.items c.args.at c.index_mut.result.now c.fill.new.self c.args.bytes.now c.deref_mut.result.now c.fill.new.values p store.initial.items d
 
 pub returns-clause-keys : goal.returns-clause-keys
 returns-clause-keys c =
     let store = c.args.self.now in
     let p : IsPut store.values store.slots.items c.args.at c.index_mut.result.now c.fill.new.self c.args.bytes.now c.deref_mut.result.now c.fill.new.values = record {
-      held_is = c.deref_mut.ensures.value; held_len = c.deref_mut.ensures.len; lined = store.lined; within = c.requires.within; was = c.index_mut.ensures.value;
-      new_is = c.fill.ensures.values; new_len = c.fill.ensures.len; key = c.fill.ensures.key; row = c.fill.ensures.row; start = c.fill.ensures.start;
-      initial_size = c.fill.ensures.initial_size; size = c.fill.ensures.size } in
+      held_is = c.deref_mut.ensures.value;
+      held_len = c.deref_mut.ensures.len;
+      lined = store.lined;
+      within = c.requires.within;
+      was = c.index_mut.ensures.value;
+      new_is = c.fill.ensures.values;
+      new_len = c.fill.ensures.len;
+      key = c.fill.ensures.key;
+      row = c.fill.ensures.row;
+      start = c.fill.ensures.start;
+      initial_size = c.fill.ensures.initial_size;
+      size = c.fill.ensures.size;
+    } in
     keys_put store.values store.slots.items c.args.at c.index_mut.result.now c.fill.new.self c.args.bytes.now c.deref_mut.result.now c.fill.new.values p

@@ -18,7 +18,7 @@ pub overflow_cast-result : goal.overflow_cast-result
 overflow_cast-result c =
     let s = c.args.self.now in
     let small = placed_small (entries_of s) (are_entries s.values.items s.initial.items s.slots.items s.lined s.same s.bytes s.initial_bytes) (entries_increase s.values.items s.initial.items s.slots.items s.increasing) c.args.key c.in_ok-at.at
-        (c.in_ok-at.ensures ∙ number_is_place s.values.items s.initial.items s.slots.items c.args.key) in
+    (c.in_ok-at.ensures ∙ number_is_place s.values.items s.initial.items s.slots.items c.args.key) in
     omega (arith, small)
 
 pub returns : goal.returns

@@ -18,11 +18,11 @@ loop-at-preserved c =
     let slot = c.index.result.now in
     let d : ListedEntry = entry_in now.values.items now.initial.items slot in
     let here : is_in_area c.args.area (get_or (entries_of now) at d).key ≡ c.contains.result =
-        ap (λ (e : ListedEntry). is_in_area c.args.area e.key) (sym (entry_at_slot now.values.items now.initial.items now.slots.items at slot c.index.ensures)) ∙ sym c.contains.ensures in
+    ap (λ (e : ListedEntry). is_in_area c.args.area e.key) (sym (entry_at_slot now.values.items now.initial.items now.slots.items at slot c.index.ensures)) ∙ sym c.contains.ensures in
     let many = entries_len now.values.items now.initial.items now.slots.items in
     let within : at < length (entries_of now) = omega (arith, c.loop-at-test.true, c.len-at-end.ensures, old.slots.ok.0, c.loop-at.invariant.slots, many) in
     elim c.if-contains.branch [
-      then-contains w ↦ record {
+      | then-contains w ↦ record {
         up_to = subst (λ (s : ImageStore). AreResetUpTo c.args.area (entries_of old) (entries_of s) (at + 1)) (sym w.self-is)
             (reset_restored c.args.area (entries_of old) (entries_of now) (entries_of w.restore.new.self) at d within c.loop-at.invariant.up_to (here ∙ w.if-contains.true) (w.restore.ensures.entries d));
         node = ap (λ (s : ImageStore). s.node_id) w.self-is ∙ w.restore.ensures.node ∙ c.loop-at.invariant.node;
