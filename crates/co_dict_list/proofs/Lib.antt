@@ -1,19 +1,19 @@
 mod BuildExamples
-mod Changes
+pub mod Changes
 mod CobIdKeys
-mod EntryBytes
+pub mod EntryBytes
 mod Faults
-mod GreatestCapacity
+pub mod GreatestCapacity
 mod InitialLemmas
 mod Roomless
 mod ListExamples
 mod PairLaws
 pub mod Numbering
 mod Pairs
-mod Places
-mod Plans
+pub mod Places
+pub mod Plans
 mod Ranges
 mod Readiness
 mod RowExamples
-mod Search
+pub mod Search
 mod Views

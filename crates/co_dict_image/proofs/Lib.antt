@@ -1,0 +1,4 @@
+pub mod Appends
+pub mod Entries
+pub mod Puts
+pub mod Rooms

@@ -1,0 +1,160 @@
+use Rattle.std.proofs.Common.{◌≡◌, ◌≤◌, ◌+◌, true, length, List, ℕ, get_or, take, sym, ap, ◌∙◌, subst}
+use Rattle.std.specs.Prelude.{drop}
+use Rattle.std.proofs.lemmas.List.{get_or-map}
+use Rattle.co_value.specs.Numbers.{AreBytes}
+use Rattle.co_dict.specs.Rows.{fits}
+use Rattle.co_dict_list.specs.ListedEntries.{ListedEntry}
+use Rattle.co_dict_list.proofs.EntryBytes.{are_bytes}
+use Rattle.co_dict_image.specs.declared.slot.Slot.{Slot}
+use Rattle.co_dict_image.specs.Slots.{entry_in, entries_in}
+use Rattle.co_dict_image.specs.Images.{filled_at}
+use Rattle.co_dict_image.proofs.Rooms.{bytes_part}
+use Rattle.co_dict_image.proofs.Puts.{room_at, IsPut, lined_put, keys_put, increasing_put, same_put, bytes_put, entries_put}
+use Rattle.co_dict_image.proofs.image_store.ImageStore.put.Goals as goal
+
+pub fill-requires-clause-fitting : goal.fill-requires-clause-fitting
+fill-requires-clause-fitting c =
+    let store = c.args.self.now in
+    let slot = c.index_mut.result.now in
+    ap (λ (s : Slot). fits s.row (length c.args.bytes.now)) c.index_mut.ensures.value
+    ∙ ap (λ (e : ListedEntry). fits e.row (length c.args.bytes.now)) (sym (get_or-map (entry_in store.values.items store.initial.items) store.slots.items c.args.at slot (entry_in store.values.items store.initial.items slot) c.requires.within))
+    ∙ c.requires.fitting (entry_in store.values.items store.initial.items slot)
+
+pub fill-requires-clause-room : goal.fill-requires-clause-room
+fill-requires-clause-room c =
+    let store = c.args.self.now in
+    let slot = c.index_mut.result.now in
+    subst (λ (l : List ℕ). slot.start + slot.row.capacity ≤ length l) (sym c.deref_mut.ensures.value) (room_at store.values.items store.slots.items c.args.at slot store.lined c.requires.within c.index_mut.ensures.value)
+
+pub invariant_of-self-clause-lined : goal.invariant_of-self-clause-lined
+invariant_of-self-clause-lined c =
+    let store = c.args.self.now in
+    let p : IsPut store.values store.slots.items c.args.at c.index_mut.result.now c.fill.new.self c.args.bytes.now c.deref_mut.result.now c.fill.new.values = record {
+      held_is = c.deref_mut.ensures.value;
+      held_len = c.deref_mut.ensures.len;
+      lined = store.lined;
+      within = c.requires.within;
+      was = c.index_mut.ensures.value;
+      new_is = c.fill.ensures.values;
+      new_len = c.fill.ensures.len;
+      key = c.fill.ensures.key;
+      row = c.fill.ensures.row;
+      start = c.fill.ensures.start;
+      initial_size = c.fill.ensures.initial_size;
+      size = c.fill.ensures.size;
+    } in
+    lined_put store.values store.slots.items c.args.at c.index_mut.result.now c.fill.new.self c.args.bytes.now c.deref_mut.result.now c.fill.new.values p
+
+pub invariant_of-self-clause-bytes : goal.invariant_of-self-clause-bytes
+invariant_of-self-clause-bytes c =
+    let store = c.args.self.now in
+    let p : IsPut store.values store.slots.items c.args.at c.index_mut.result.now c.fill.new.self c.args.bytes.now c.deref_mut.result.now c.fill.new.values = record {
+      held_is = c.deref_mut.ensures.value;
+      held_len = c.deref_mut.ensures.len;
+      lined = store.lined;
+      within = c.requires.within;
+      was = c.index_mut.ensures.value;
+      new_is = c.fill.ensures.values;
+      new_len = c.fill.ensures.len;
+      key = c.fill.ensures.key;
+      row = c.fill.ensures.row;
+      start = c.fill.ensures.start;
+      initial_size = c.fill.ensures.initial_size;
+      size = c.fill.ensures.size;
+    } in
+    bytes_put store.values store.slots.items c.args.at c.index_mut.result.now c.fill.new.self c.args.bytes.now c.deref_mut.result.now c.fill.new.values p store.bytes (are_bytes _ c.type_inv.bytes)
+
+pub invariant_of-self-clause-same : goal.invariant_of-self-clause-same
+invariant_of-self-clause-same c =
+    let store = c.args.self.now in
+    let p : IsPut store.values store.slots.items c.args.at c.index_mut.result.now c.fill.new.self c.args.bytes.now c.deref_mut.result.now c.fill.new.values = record {
+      held_is = c.deref_mut.ensures.value;
+      held_len = c.deref_mut.ensures.len;
+      lined = store.lined;
+      within = c.requires.within;
+      was = c.index_mut.ensures.value;
+      new_is = c.fill.ensures.values;
+      new_len = c.fill.ensures.len;
+      key = c.fill.ensures.key;
+      row = c.fill.ensures.row;
+      start = c.fill.ensures.start;
+      initial_size = c.fill.ensures.initial_size;
+      size = c.fill.ensures.size;
+    } in
+    same_put store.values store.slots.items c.args.at c.index_mut.result.now c.fill.new.self c.args.bytes.now c.deref_mut.result.now c.fill.new.values p store.initial.items store.same
+
+pub invariant_of-self-clause-increasing : goal.invariant_of-self-clause-increasing
+invariant_of-self-clause-increasing c =
+    let store = c.args.self.now in
+    let p : IsPut store.values store.slots.items c.args.at c.index_mut.result.now c.fill.new.self c.args.bytes.now c.deref_mut.result.now c.fill.new.values = record {
+      held_is = c.deref_mut.ensures.value;
+      held_len = c.deref_mut.ensures.len;
+      lined = store.lined;
+      within = c.requires.within;
+      was = c.index_mut.ensures.value;
+      new_is = c.fill.ensures.values;
+      new_len = c.fill.ensures.len;
+      key = c.fill.ensures.key;
+      row = c.fill.ensures.row;
+      start = c.fill.ensures.start;
+      initial_size = c.fill.ensures.initial_size;
+      size = c.fill.ensures.size;
+    } in
+    increasing_put store.values store.slots.items c.args.at c.index_mut.result.now c.fill.new.self c.args.bytes.now c.deref_mut.result.now c.fill.new.values p store.increasing
+
+pub invariant_of-self-clause-numbered : goal.invariant_of-self-clause-numbered
+invariant_of-self-clause-numbered c =
+    let store = c.args.self.now in
+    let p : IsPut store.values store.slots.items c.args.at c.index_mut.result.now c.fill.new.self c.args.bytes.now c.deref_mut.result.now c.fill.new.values = record {
+      held_is = c.deref_mut.ensures.value;
+      held_len = c.deref_mut.ensures.len;
+      lined = store.lined;
+      within = c.requires.within;
+      was = c.index_mut.ensures.value;
+      new_is = c.fill.ensures.values;
+      new_len = c.fill.ensures.len;
+      key = c.fill.ensures.key;
+      row = c.fill.ensures.row;
+      start = c.fill.ensures.start;
+      initial_size = c.fill.ensures.initial_size;
+      size = c.fill.ensures.size;
+    } in
+    store.numbered ∙ sym (keys_put store.values store.slots.items c.args.at c.index_mut.result.now c.fill.new.self c.args.bytes.now c.deref_mut.result.now c.fill.new.values p)
+
+pub returns-clause-entries : goal.returns-clause-entries
+returns-clause-entries c =
+    let store = c.args.self.now in
+    let p : IsPut store.values store.slots.items c.args.at c.index_mut.result.now c.fill.new.self c.args.bytes.now c.deref_mut.result.now c.fill.new.values = record {
+      held_is = c.deref_mut.ensures.value;
+      held_len = c.deref_mut.ensures.len;
+      lined = store.lined;
+      within = c.requires.within;
+      was = c.index_mut.ensures.value;
+      new_is = c.fill.ensures.values;
+      new_len = c.fill.ensures.len;
+      key = c.fill.ensures.key;
+      row = c.fill.ensures.row;
+      start = c.fill.ensures.start;
+      initial_size = c.fill.ensures.initial_size;
+      size = c.fill.ensures.size;
+    } in
+    λ d. entries_put store.values store.slots.items c.args.at c.index_mut.result.now c.fill.new.self c.args.bytes.now c.deref_mut.result.now c.fill.new.values p store.initial.items d
+
+pub returns-clause-keys : goal.returns-clause-keys
+returns-clause-keys c =
+    let store = c.args.self.now in
+    let p : IsPut store.values store.slots.items c.args.at c.index_mut.result.now c.fill.new.self c.args.bytes.now c.deref_mut.result.now c.fill.new.values = record {
+      held_is = c.deref_mut.ensures.value;
+      held_len = c.deref_mut.ensures.len;
+      lined = store.lined;
+      within = c.requires.within;
+      was = c.index_mut.ensures.value;
+      new_is = c.fill.ensures.values;
+      new_len = c.fill.ensures.len;
+      key = c.fill.ensures.key;
+      row = c.fill.ensures.row;
+      start = c.fill.ensures.start;
+      initial_size = c.fill.ensures.initial_size;
+      size = c.fill.ensures.size;
+    } in
+    keys_put store.values store.slots.items c.args.at c.index_mut.result.now c.fill.new.self c.args.bytes.now c.deref_mut.result.now c.fill.new.values p

@@ -1,0 +1,4 @@
+pub mod Images
+pub mod LawfulImages
+pub mod Ranges
+pub mod Slots

@@ -1,0 +1,8 @@
+//! The object dictionary as one image: all values in one piece of memory, and the initial ones in a second.
+#![tactic(auto)]
+
+mod image;
+mod image_store;
+mod slot;
+
+pub use image_store::ImageStore;
