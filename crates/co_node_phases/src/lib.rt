@@ -5,5 +5,5 @@
 mod losses;
 mod rpdos;
 
-pub use losses::watch;
+pub use losses::{consumer_words, watch};
 pub use rpdos::take_pdos;

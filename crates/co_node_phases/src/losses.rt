@@ -22,8 +22,8 @@ const COMMUNICATION_ERROR: Key = Key {
     sub: 1,
 };
 
-/// The words of 1016h, sub-indices 1 to 127.
-fn consumer_words<S: ObjectStore>(store: &S) -> ArrayVec<u32, 127>
+/// The words of 1016h, sub-indices 1 to 127 (CiA 301, 7.5.2.19).
+pub fn consumer_words<S: ObjectStore>(store: &S) -> ArrayVec<u32, 127>
     ensures { result.items ≡ consumer_words (S.contents store.now) }
 {
     let mut words = ArrayVec::new();

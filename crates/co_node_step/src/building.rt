@@ -16,8 +16,7 @@ ghost use Rattle.co_node_step.specs.Built.{constants_of};
 
 use crate::device::Device;
 use crate::parts::Parts;
-use arrayvec::ArrayVec;
-use co_dict::{ObjectStore, heartbeat_consumer, number_u16};
+use co_dict::{ObjectStore, number_u16};
 use co_frame::{Heartbeat, Outbox};
 use co_node_inputs::AppAnswer;
 use co_node_laws::greatest_bound;
@@ -25,6 +24,7 @@ use co_node_parts::{
     Emergencies, HeartbeatConsumers, HeartbeatProducer, NmtState, NodeState, ProducerEvent,
     RpdoSlots,
 };
+use co_node_phases::consumer_words;
 use co_node_turns::send_life;
 use co_pdo::Schedule;
 use co_profile::PRODUCER_HEARTBEAT;
@@ -37,17 +37,6 @@ const PRODUCER_HEARTBEAT_TIME: Key = Key {
     index: PRODUCER_HEARTBEAT,
     sub: 0,
 };
-
-// The words of 1016h, sub-indices 1 to 127.
-fn consumer_words<S: ObjectStore>(store: &S) -> ArrayVec<u32, 127>
-    ensures { result.items ≡ consumer_words (S.contents store.now) }
-{
-    let mut words = ArrayVec::new();
-    for sub in 1..128u8 {
-        words.push(heartbeat_consumer(store, sub).0);
-    }
-    words
-}
 
 // The consumers of heartbeats, each begun with its word.
 fn begun_consumers<S: ObjectStore>(store: &S) -> HeartbeatConsumers
