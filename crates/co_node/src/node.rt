@@ -1,8 +1,9 @@
 //! A device made from a data sheet.
 
 ghost use Rattle.std.specs.Prelude.{◌≡◌, ℕ, ◌≤◌, ◌<◌, ◌++◌, [], ◌∷◌, None, IfOk, IfErr, length, map, take, option_map};
+ghost use Rattle.co_value.specs.declared.key.Key.{Key};
 ghost use Rattle.co_dict.specs.Stores.{IsGreatestCapacity};
-ghost use Rattle.co_dict_list.specs.Built.{built_description};
+ghost use Rattle.co_dict_list.specs.Built.{built_contents, built_description};
 ghost use Rattle.co_dict_list.specs.BuildFaults.{IsBuildFault, build_fault};
 ghost use Rattle.co_node_inputs.specs.Inputs.{Inputs, input_view};
 ghost use Rattle.co_node_history.specs.Moments.{Constants};
@@ -10,7 +11,7 @@ ghost use Rattle.co_node_history.specs.Laws.{boot_up};
 ghost use Rattle.co_node_history.specs.Histories.{after_all, all_frames, app_after, contents_of, frame_bound, held_of, prescribed, room_of, state_of};
 ghost use Rattle.co_node.specs.Nodes.{Stands, node_constants, planned};
 ghost use Rattle.co_node.specs.Records.{HasRoom};
-ghost use Rattle.co_node.specs.Runs.{all_ends, most_frames};
+ghost use Rattle.co_node.specs.Runs.{all_ends, most_frames, recorded_after};
 
 use crate::config::Config;
 use crate::record::Record;
@@ -42,6 +43,9 @@ impl Node {
             (built_description (planned sheet.now node_id config.now)).rows greatest → Stands
             (node_constants (planned sheet.now node_id config.now) greatest config.now.time)
             node []) }
+        ensures start { IfOk result (λ _. (key : Key) →
+            built_contents (planned sheet.now node_id config.now) key
+            ≡ (built_description (planned sheet.now node_id config.now)).initial key) }
         ensures ok { IfOk result (λ _. build_fault (planned sheet.now node_id config.now) ≡ None) }
         ensures err { IfErr result (IsBuildFault (planned sheet.now node_id config.now)) }
     {
@@ -146,6 +150,9 @@ impl Node {
             (take result (map input_view inputs.now)) }
         ensures stands { (k : Constants) (before : Inputs) → Stands k self.old before →
             Stands k self.new (after_all before (take result (map input_view inputs.now))) }
+        ensures roomy { (k : Constants) (before : Inputs) → Stands k self.old before →
+            (n : ℕ) → n < result → HasRoom (most_frames k)
+            (recorded_after k before (take n (map input_view inputs.now)) kept.old) }
         ensures early { (k : Constants) (before : Inputs) → Stands k self.old before →
             result < length inputs.now → HasRoom (most_frames k) kept.new → ⊥ }
         ensures frame_room { kept.new.frame_room ≡ kept.old.frame_room }
