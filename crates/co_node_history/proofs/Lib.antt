@@ -5,6 +5,7 @@ mod ErrorExamples
 mod TpdoExamples
 mod RpdoExamples
 mod EventExamples
+mod EdgeExamples
 pub mod Answers
 pub mod Resets
 pub mod BootUps

@@ -34,7 +34,8 @@ pub fn changes_by_request()
         address_at k (moments k inputs) frame.id ≡ Channel j →
         is_state Stopped (state_of k inputs) ≡ false →
         contents_of k (Framed frame ∷ inputs) ≡ contents_with (contents_of k inputs)
-        (set_of (channels k) k.description (contents_of k inputs) (channel_logs (moments k inputs)) frame) }
+        (set_of (channels k) k.description (contents_of k inputs)
+        (channel_logs (moments k inputs)) frame) }
     ensures stopped { (k : Constants) (inputs : Inputs) (frame : FrameContent) (j : ℕ) →
         address_at k (moments k inputs) frame.id ≡ Channel j →
         is_state Stopped (state_of k inputs) ≡ true →

@@ -50,7 +50,8 @@ pub fn heartbeat_lost()
         is_tick input ≡ false →
         (moment_at k inputs input).lost ≡ [] }
     ensures monitored { (k : Constants) (sub : ℕ) (inputs : Inputs) →
-        monitored k sub inputs ≡ monitored_by (number_at (contents_of k inputs) (consumer_key sub)) }
+        monitored k sub inputs
+        ≡ monitored_by (number_at (contents_of k inputs) (consumer_key sub)) }
 {
     own_rule_law();
     invalid_pdo_law();

@@ -23,9 +23,10 @@ ghost use Rattle.co_node_history.specs.Histories.{contents_of, moments, prescrib
 ghost use Rattle.co_node_laws.specs.Changes.{changed_by, reset_service, reset_to, is_for};
 
 /// The entries after one more input, whatever it is: `changed_by` says it by the kind of input, and of a frame by who takes
-/// it. A reset restores its area; a SYNC and the frame of an RPDO raise the errors of their lengths, then the data that they
-/// let take effect are written; a frame to an SDO channel sets the entry whose permitted download it completes; a tick raises
-/// the heartbeats lost at it; an application event changes what it says, unless it is refused. Nothing else changes an entry.
+/// it. A reset restores its area; a SYNC and the frame of an RPDO raise the errors of their lengths, then the data that
+/// they let take effect are written; a frame to an SDO channel sets the entry whose permitted download it completes; a tick
+/// raises the heartbeats lost at it; an application event changes what it says, unless it is refused. Nothing else changes
+/// an entry.
 #[tactic(auto, using(crate::proofs::Changed::changed))]
 pub fn changes_by_kind()
     ensures { (k : Constants) (inputs : Inputs) (input : InputView) →
@@ -64,17 +65,22 @@ pub fn set_exactly()
     ensures set { (k : Constants) (inputs : Inputs) (frame : FrameContent) (j : ℕ) (w : Download) →
         address_at k (moments k inputs) frame.id ≡ Channel j →
         is_state Stopped (state_of k inputs) ≡ false → length frame.bytes ≡ 8 →
-        completed_by k.description.rows (open_transfer (channel_logs (moments k inputs) j)) frame.bytes ≡ Some w →
+        completed_by k.description.rows (open_transfer (channel_logs (moments k inputs) j))
+        frame.bytes ≡ Some w →
         completion_refusal k.description (contents_of k inputs) w.key w.indicated w.bytes ≡ None →
         contents_of k (Framed frame ∷ inputs) ≡ written (contents_of k inputs) w.key w.bytes }
-    ensures refused { (k : Constants) (inputs : Inputs) (frame : FrameContent) (j : ℕ) (w : Download) (code : ℕ) →
+    ensures refused { (k : Constants) (inputs : Inputs) (frame : FrameContent) (j : ℕ)
+        (w : Download) (code : ℕ) →
         address_at k (moments k inputs) frame.id ≡ Channel j →
-        completed_by k.description.rows (open_transfer (channel_logs (moments k inputs) j)) frame.bytes ≡ Some w →
-        completion_refusal k.description (contents_of k inputs) w.key w.indicated w.bytes ≡ Some code →
+        completed_by k.description.rows (open_transfer (channel_logs (moments k inputs) j))
+        frame.bytes ≡ Some w →
+        completion_refusal k.description (contents_of k inputs) w.key w.indicated w.bytes
+        ≡ Some code →
         contents_of k (Framed frame ∷ inputs) ≡ contents_of k inputs }
     ensures incomplete { (k : Constants) (inputs : Inputs) (frame : FrameContent) (j : ℕ) →
         address_at k (moments k inputs) frame.id ≡ Channel j →
-        completed_by k.description.rows (open_transfer (channel_logs (moments k inputs) j)) frame.bytes ≡ None →
+        completed_by k.description.rows (open_transfer (channel_logs (moments k inputs) j))
+        frame.bytes ≡ None →
         contents_of k (Framed frame ∷ inputs) ≡ contents_of k inputs }
     ensures ignored { (k : Constants) (inputs : Inputs) (frame : FrameContent) (j : ℕ) →
         address_at k (moments k inputs) frame.id ≡ Channel j → length frame.bytes ≢ 8 →

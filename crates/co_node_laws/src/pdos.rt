@@ -25,24 +25,28 @@ ghost use Rattle.co_node_laws.specs.Distances.{moment_at};
 ghost use Rattle.co_node_laws.specs.RpdoWaits.{all_keep_waiting, waiting_frame};
 ghost use Rattle.co_node_laws.specs.TpdoDistances.{is_sent, ticks_of_timer, tpdo_log, turn_of_input};
 
-/// TPDO n is sent at a SYNC, at a tick and at an event of the application on it, in operational, exactly where `is_due` says so
-/// by what all inputs were to it: by its transmission type, with the entries at the end of the input. No other input sends
-/// one. One that is event-driven and has no event that waits, and whose inhibit time is over, is sent at exactly the tick at
-/// which its event timer has passed since it was started or sent (CiA 301, 7.2.2.2 to 7.2.2.4 and 7.5.2.37).
+/// TPDO n is sent at a SYNC, at a tick and at an event of the application on it, in operational, exactly where `is_due`
+/// says so by what all inputs were to it: by its transmission type, with the entries at the end of the input. No other
+/// input sends one. One that is event-driven and has no event that waits, and whose inhibit time is over, is sent at
+/// exactly the tick at which its event timer has passed since it was started or sent (CiA 301, 7.2.2.2 to 7.2.2.4 and
+/// 7.5.2.37).
 pub fn tpdo_due()
-    ensures at_sync { (k : Constants) (n : ℕ) (inputs : Inputs) (input : InputView) (counter : Option ℕ) →
-        n < 512 → turn_of_input k inputs input ≡ turn.Sync counter →
-        is_sent k n inputs input ≡ is_due (settings_of (contents_of k (input ∷ inputs)) n) (tpdo_log k n inputs)
+    ensures at_sync { (k : Constants) (n : ℕ) (inputs : Inputs) (input : InputView)
+        (counter : Option ℕ) → n < 512 → turn_of_input k inputs input ≡ turn.Sync counter →
+        is_sent k n inputs input ≡
+        is_due (settings_of (contents_of k (input ∷ inputs)) n) (tpdo_log k n inputs)
         (sync_with counter (contents_of k (input ∷ inputs))) }
     ensures at_tick { (k : Constants) (n : ℕ) (inputs : Inputs) (input : InputView) →
         n < 512 → turn_of_input k inputs input ≡ turn.Tick →
         is_sent k n inputs input ≡
-        is_due (settings_of (contents_of k (input ∷ inputs)) n) (tpdo_log k n inputs) occasion.Tick }
-    ensures at_event { (k : Constants) (n : ℕ) (inputs : Inputs) (input : InputView) (asked : Asked) →
-        n < 512 → turn_of_input k inputs input ≡ turn.Asked asked →
+        is_due (settings_of (contents_of k (input ∷ inputs)) n) (tpdo_log k n inputs)
+        occasion.Tick }
+    ensures at_event { (k : Constants) (n : ℕ) (inputs : Inputs) (input : InputView)
+        (asked : Asked) → n < 512 → turn_of_input k inputs input ≡ turn.Asked asked →
         is_sent k n inputs input ≡
         is_among n (numbers_asked k.description (contents_of k (input ∷ inputs)) asked)
-        && is_due (settings_of (contents_of k (input ∷ inputs)) n) (tpdo_log k n inputs) occasion.Event }
+        && is_due (settings_of (contents_of k (input ∷ inputs)) n) (tpdo_log k n inputs)
+        occasion.Event }
     ensures elsewhere { (k : Constants) (inputs : Inputs) (input : InputView) →
         is_asked (turn_of_input k inputs input) ≡ false →
         (moment_at k inputs input).due ≡ [] }
@@ -52,18 +56,21 @@ pub fn tpdo_due()
         n < 512 → turn_of_input k inputs Ticked ≡ turn.Tick → is_active contents n ≡ true →
         is_event_driven settings.transmission_type ≡ true →
         event_waits (tpdo_log k n inputs) ≡ false →
-        is_inhibit_over settings.inhibit_time (Happened occasion.Tick settings false ∷ tpdo_log k n inputs) ≡ true →
+        is_inhibit_over settings.inhibit_time
+        (Happened occasion.Tick settings false ∷ tpdo_log k n inputs) ≡ true →
         is_sent k n inputs Ticked ≡ (ticks_of_timer k n inputs + 1 == settings.event_timer) }
 {}
 
-/// In operational the frame of an RPDO of type 0 to 240, where it isn't short, waits from when it comes; it waits on while no
-/// SYNC comes, operational isn't left, nothing resets the device, the RPDO isn't written and no other frame of it comes. The
-/// next SYNC in operational takes all frames that wait, by number: their data take effect then (7.2.2.2 and 7.5.2.35).
+/// In operational the frame of an RPDO of type 0 to 240, where it isn't short, waits from when it comes; it waits on while
+/// no SYNC comes, operational isn't left, nothing resets the device, the RPDO isn't written and no other frame of it
+/// comes. The next SYNC in operational takes all frames that wait, by number: their data take effect then (7.2.2.2 and
+/// 7.5.2.35).
 pub fn takes_effect_at_sync()
     ensures waits { (k : Constants) (inputs later : Inputs) (n : ℕ) (frame : FrameContent) →
         address_at k (moments k inputs) frame.id ≡ Rpdo n → state_of k inputs ≡ Operational →
         is_synchronous (rpdo_type (contents_of k inputs) n) ≡ true →
-        is_short k.description (contents_of k inputs) (record { number = n; frame = frame }) ≡ false →
+        is_short k.description (contents_of k inputs) (record { number = n; frame = frame })
+        ≡ false →
         all_keep_waiting k n (Framed frame ∷ inputs) later ≡ true →
         waiting_frame k n (later ++ Framed frame ∷ inputs) ≡ Some frame }
     ensures taken { (k : Constants) (inputs : Inputs) (frame : FrameContent) →

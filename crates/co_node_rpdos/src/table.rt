@@ -1,13 +1,16 @@
 //! A table of RPDOs by their identifiers.
 
-ghost use Rattle.std.specs.Prelude.{◌≡◌, ℕ, ◌<◌, Option, None, length, IfOk, IfSome};
+ghost use Rattle.std.specs.Prelude.{◌≡◌, ℕ, ◌<◌, Option, None, false, length, IfOk, IfSome};
 ghost use Rattle.std.specs.List.{slice_index_or};
 ghost use Rattle.std.specs.Option.{option_or};
 ghost use Rattle.co_dict.specs.Rows.{Contents};
 ghost use Rattle.co_node_inputs.specs.Addresses.{is_rpdo_with, rpdo_with};
-ghost use Rattle.co_node_rpdos.specs.RpdoTables.{IsRpdoTable, IsTableOf, number_if};
+ghost use Rattle.co_node_inputs.specs.Rpdos.{may_change_rpdos};
+ghost use Rattle.co_node_rpdos.specs.RpdoTables.{AgreeOnRpdos, IsRpdoTable, IsTableOf, number_if};
 
+use crate::laws::rpdos_by_parameters;
 use co_dict::{ObjectStore, Side};
+use co_node_inputs::Marks;
 use co_pdo::{cob_id, is_active};
 use std::alloc::{AllocError, Global};
 use std::boxed::BoxedSlice;
@@ -54,8 +57,8 @@ fn fill<S: ObjectStore>(numbers: &mut [Option<u16>], store: &S)
     }
 }
 
-/// For each identifier the first active RPDO with it, as the dictionary said at the last refresh. It asks for no memory
-/// after `new`. Contracts see the numbers of the RPDOs by identifier.
+/// For each identifier the first active RPDO with it. It asks for no memory after `new`. Contracts see the numbers of the
+/// RPDOs by identifier.
 #[derive(Drop)]
 pub struct RpdoTable {
     numbers: BoxedSlice<Option<u16>>,
@@ -74,7 +77,7 @@ impl Model for RpdoTable {
 }
 
 impl RpdoTable {
-    /// A table of what a dictionary says now. `AllocError` where there is no memory.
+    /// The table of a dictionary. `AllocError` where there is no memory.
     pub fn new<S: ObjectStore>(alloc: Global, store: &S) -> Result<RpdoTable, AllocError>
         ensures { IfOk result (λ table. IsTableOf (S.contents store.now) table) }
     {
@@ -85,14 +88,21 @@ impl RpdoTable {
         })
     }
 
-    /// Takes what the dictionary says now.
-    pub fn refresh<S: ObjectStore>(&mut self, store: &S)
-        ensures { IsTableOf (S.contents store.now) self.new }
+    /// Follows the dictionary over an input: the table is filled anew where that may have changed which
+    /// RPDO has an identifier, at a reset and where a parameter of an RPDO was written.
+    pub fn note<S: ObjectStore>(&mut self, marks: &Marks, store: &S)
+        ensures { (before : Contents) → IsTableOf before self.old →
+            (may_change_rpdos marks.now ≡ false → AgreeOnRpdos before (S.contents store.now)) →
+            IsTableOf (S.contents store.now) self.new }
     {
-        fill(&mut self.numbers, store);
+        if marks.may_change_rpdos() {
+            fill(&mut self.numbers, store);
+        } else {
+            rpdos_by_parameters();
+        }
     }
 
-    /// The number of the first active RPDO with an identifier, 0 to 7FFh, as of the last refresh.
+    /// The number of the first active RPDO with an identifier, 0 to 7FFh.
     pub fn rpdo_for(&self, id: u16) -> Option<u16>
         requires { id < 2048 }
         ensures number { (contents : Contents) → IsTableOf contents self.now →
