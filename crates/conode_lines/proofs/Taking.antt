@@ -37,7 +37,7 @@ pub record HasTaken (known left : Option (List ℕ)) (progress : Progress) : Typ
   pub front : LeavesLines known left taken
   pub reached : (more : List (List ℕ)) → trace_of (taken ++ more) ≡ preceded inputs (trace_next progress more)
 
-pub taken_none : (known left : Option (List ℕ)) (progress : Progress) → left ≡ known → ((more : List (List ℕ)) → trace_next progress more ≡ trace_of more) → HasTaken known left progress
+unfoldable pub taken_none : (known left : Option (List ℕ)) (progress : Progress) → left ≡ known → ((more : List (List ℕ)) → trace_next progress more ≡ trace_of more) → HasTaken known left progress
 taken_none known left progress same start = record {
   taken = [];
   inputs = [];
@@ -46,7 +46,7 @@ taken_none known left progress same start = record {
 }
 
 module _ (known left : Option (List ℕ)) (progress : Progress) (h : HasTaken known left progress) where
-  pub taken_more : (next : Option (List ℕ)) (after : Progress) (line : List ℕ) (t : TimedLine)
+  unfoldable pub taken_more : (next : Option (List ℕ)) (after : Progress) (line : List ℕ) (t : TimedLine)
       → GivesLine left next line → ((more : List (List ℕ)) → trace_next progress (line ∷ more) ≡ preceded (inputs_of t) (trace_next after more))
       → HasTaken known next after
   taken_more next after line t gives read = record {
