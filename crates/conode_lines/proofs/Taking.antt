@@ -19,11 +19,11 @@ LeavesLines None left taken = ⊤
 LeavesLines (Some text) None taken = ⊥
 LeavesLines (Some text) (Some rest) taken = lines text ≡ taken ++ lines rest
 
-leaves_all : (known : Option (List ℕ)) → LeavesLines known known []
+pub leaves_all : (known : Option (List ℕ)) → LeavesLines known known []
 leaves_all None = tt
 leaves_all (Some text) = refl
 
-leaves_more : (known left next : Option (List ℕ)) (taken : List (List ℕ)) (line : List ℕ) → LeavesLines known left taken → GivesLine left next line → LeavesLines known next (taken ++ line ∷ [])
+pub leaves_more : (known left next : Option (List ℕ)) (taken : List (List ℕ)) (line : List ℕ) → LeavesLines known left taken → GivesLine left next line → LeavesLines known next (taken ++ line ∷ [])
 leaves_more None left next taken line h gives = tt
 leaves_more (Some text) None next taken line h gives = absurd h
 leaves_more (Some text) (Some rest) None taken line h gives = absurd gives

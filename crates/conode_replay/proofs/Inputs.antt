@@ -73,7 +73,7 @@ ticks_at line ms done count within =
     let clock : ms + done + 1 ≡ ms + 1 + done = omega arith in (
       ticks_after line (ms + done + 1) more,
       ap (ticks_after line ms) parts ∙ ticks_split line ms done (suc more)
-      ∙ ap (λ (at : ℕ). ticks_after line ms done ++ record { line = line; ms = at; input = tick } ∷ ticks_after line (ms + done + 1) more) clock,
+          ∙ ap (λ (at : ℕ). ticks_after line ms done ++ record { line = line; ms = at; input = tick } ∷ ticks_after line (ms + done + 1) more) clock,
     )
 
 -- ---- what is written in two parts
@@ -91,7 +91,7 @@ module _ (old mid new : Option (List ℕ)) (first : List (List ℕ)) (written : 
     front,
     is,
     subst (Appends old new) (sym (ap (λ (bytes : List ℕ). bytes ++ front) (flat_map-append (λ line. line) first whole) ∙ append_assoc (flat_map (λ line. line) first) (flat_map (λ line. line) whole) front))
-    (Appends-trans old mid new (flat_map (λ line. line) first) (flat_map (λ line. line) whole ++ front) written appended),
+        (Appends-trans old mid new (flat_map (λ line. line) first) (flat_map (λ line. line) whole ++ front) written appended),
   )
 
   pub whole_more : (whole next : List (List ℕ)) → WritesWhole mid new whole next → WritesWhole old new (first ++ whole) next
@@ -157,8 +157,8 @@ stops_after k before node First Whole xs ys more (at, writes) = (
     stands = subst (Stands k node) (sym (ap (after_inputs before) (append_assoc xs at.earlier (at.last ∷ [])) ∙ after_append before xs (at.earlier ++ at.last ∷ []))) at.stands;
   },
   subst (λ (lines : List (List ℕ)). Whole lines (input_lines k (after_inputs before (xs ++ at.earlier)) at.last)) (sym (replayed_append k before xs at.earlier))
-  (subst (λ (inputs : Inputs). Whole (replayed_lines k before xs ++ replayed_lines k (after_inputs before xs) at.earlier) (input_lines k inputs at.last)) (sym (after_append before xs at.earlier))
-  (more (replayed_lines k (after_inputs before xs) at.earlier) (input_lines k (after_inputs (after_inputs before xs) at.earlier) at.last) writes)),
+      (subst (λ (inputs : Inputs). Whole (replayed_lines k before xs ++ replayed_lines k (after_inputs before xs) at.earlier) (input_lines k inputs at.last)) (sym (after_append before xs at.earlier))
+      (more (replayed_lines k (after_inputs before xs) at.earlier) (input_lines k (after_inputs (after_inputs before xs) at.earlier) at.last) writes)),
 )
 
 -- ---- one tick more of a line
@@ -287,16 +287,16 @@ counted_more k before totals t printed inputs are frames =
     let ticks : List TimedInput = ticks_after t.number t.before t.ticks in
     let own : List TimedInput = own_inputs t in
     let handed_line : sum_by (λ (u : TimedInput). handed_by u.input) (inputs_of t) ≡ handed_in t.said =
-        sum_by-append (λ (u : TimedInput). handed_by u.input) ticks own
-        ∙ ap (λ (n : ℕ). n + sum_by (λ (u : TimedInput). handed_by u.input) own) (no_frame_ticks t.number t.before t.ticks) ∙ zero-add _ ∙ own_handed t.number t.ms t.said in
+    sum_by-append (λ (u : TimedInput). handed_by u.input) ticks own
+    ∙ ap (λ (n : ℕ). n + sum_by (λ (u : TimedInput). handed_by u.input) own) (no_frame_ticks t.number t.before t.ticks) ∙ zero-add _ ∙ own_handed t.number t.ms t.said in
     let ticks_line : sum_by (λ (u : TimedInput). ticks_by u.input) (inputs_of t) ≡ t.ticks =
-        sum_by-append (λ (u : TimedInput). ticks_by u.input) ticks own
-        ∙ ap (λ (n : ℕ). n + sum_by (λ (u : TimedInput). ticks_by u.input) own) (all_ticks t.number t.before t.ticks)
-        ∙ ap (λ (n : ℕ). t.ticks + n) (own_ticks t.number t.ms t.said) ∙ add-zero t.ticks in
+    sum_by-append (λ (u : TimedInput). ticks_by u.input) ticks own
+    ∙ ap (λ (n : ℕ). n + sum_by (λ (u : TimedInput). ticks_by u.input) own) (all_ticks t.number t.before t.ticks)
+    ∙ ap (λ (n : ℕ). t.ticks + n) (own_ticks t.number t.ms t.said) ∙ add-zero t.ticks in
     ap (λ (so_far : Totals). counted so_far t printed) are
     ∙ totals_are _ _ _ _ _ _
-        (ap (λ (n : ℕ). sum_by (λ (u : TimedInput). handed_by u.input) inputs + n) (sym handed_line) ∙ sym (sum_by-append (λ (u : TimedInput). handed_by u.input) inputs (inputs_of t)))
-        (let both : length (all_frames k before (views_of (inputs ++ inputs_of t))) ≡ length (all_frames k before (views_of inputs)) + length (all_frames k (after_inputs before inputs) (views_of (inputs_of t))) =
-            ap length (frames_append k before inputs (inputs_of t)) ∙ length-append (all_frames k before (views_of inputs)) (all_frames k (after_inputs before inputs) (views_of (inputs_of t))) in
-        omega (arith, both, frames))
-        (ap (λ (n : ℕ). sum_by (λ (u : TimedInput). ticks_by u.input) inputs + n) (sym ticks_line) ∙ sym (sum_by-append (λ (u : TimedInput). ticks_by u.input) inputs (inputs_of t)))
+    (ap (λ (n : ℕ). sum_by (λ (u : TimedInput). handed_by u.input) inputs + n) (sym handed_line) ∙ sym (sum_by-append (λ (u : TimedInput). handed_by u.input) inputs (inputs_of t)))
+    (let both : length (all_frames k before (views_of (inputs ++ inputs_of t))) ≡ length (all_frames k before (views_of inputs)) + length (all_frames k (after_inputs before inputs) (views_of (inputs_of t))) =
+    ap length (frames_append k before inputs (inputs_of t)) ∙ length-append (all_frames k before (views_of inputs)) (all_frames k (after_inputs before inputs) (views_of (inputs_of t))) in
+    omega (arith, both, frames))
+    (ap (λ (n : ℕ). sum_by (λ (u : TimedInput). ticks_by u.input) inputs + n) (sym ticks_line) ∙ sym (sum_by-append (λ (u : TimedInput). ticks_by u.input) inputs (inputs_of t)))

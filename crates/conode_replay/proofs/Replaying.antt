@@ -132,15 +132,15 @@ module _ (first : Node) (known left : Option (List ℕ)) (progress : Progress) (
     fails_writing Ends rest stopped =
         in_line (λ inputs. AfterAny first (λ k before. FailsToWrite k before old new then inputs)) known left following progress next h.took line t gives read
         (λ later k before stands.
-            let run = runs k before stands in
-            inl (inr (inl (stops (WritesPart mid new) (WritesPart old new) k before (part_more old mid new (started_lines k before h.took.inputs) run.written) (stopped k (after_inputs before h.took.inputs) run.stands) later))))
+        let run = runs k before stands in
+        inl (inr (inl (stops (WritesPart mid new) (WritesPart old new) k before (part_more old mid new (started_lines k before h.took.inputs) run.written) (stopped k (after_inputs before h.took.inputs) run.stands) later))))
 
     fails_making : (Ends : Constants → Inputs → Totals → List TimedInput → Type 0) (rest : Option (List ℕ)) → AfterAny node (λ k before. StopsIn k before then (WritesWhole mid new) (inputs_of t)) → Replayed Ends first then known rest old new (Err Memory)
     fails_making Ends rest stopped =
         in_line (λ inputs. AfterAny first (λ k before. BreaksOff k before then (WritesWhole old new) inputs)) known left following progress next h.took line t gives read
         (λ later k before stands.
-            let run = runs k before stands in
-            inr (inl (stops (WritesWhole mid new) (WritesWhole old new) k before (whole_more old mid new (started_lines k before h.took.inputs) run.written) (stopped k (after_inputs before h.took.inputs) run.stands) later)))
+        let run = runs k before stands in
+        inr (inl (stops (WritesWhole mid new) (WritesWhole old new) k before (whole_more old mid new (started_lines k before h.took.inputs) run.written) (stopped k (after_inputs before h.took.inputs) run.stands) later)))
 
     pub fails_in_line : (Ends : Constants → Inputs → Totals → List TimedInput → Type 0) (rest : Option (List ℕ)) (fault : CmdFault) → (fault ≡ Write) ⊎ (fault ≡ Memory)
         → (fault ≡ Write → AfterAny node (λ k before. StopsIn k before then (WritesPart mid new) (inputs_of t)))
@@ -195,16 +195,22 @@ module _ (first last : Node) (rest old mid new : Option (List ℕ)) (totals : To
   fails_writing_totals None h front = tt
   fails_writing_totals (Some text) (good, gone) front = λ k before stands.
       let all = gone k before stands in
-      inl (inr (inr (all.run.stands, subst (λ (sum : Totals). WritesPart old new (started_lines k before (trace_in text).inputs) (totals_line sum ∷ [])) all.counted
-      (part_after old mid new (started_lines k before (trace_in text).inputs) all.run.written (totals_line totals ∷ []) front))))
+      inl (inr (inr (
+        all.run.stands,
+        subst (λ (sum : Totals). WritesPart old new (started_lines k before (trace_in text).inputs) (totals_line sum ∷ [])) all.counted
+            (part_after old mid new (started_lines k before (trace_in text).inputs) all.run.written (totals_line totals ∷ []) front),
+      )))
 
   fails_making_totals : (known : Option (List ℕ)) → Replayed (λ k before. HasCounted k before old mid last) first last known rest old mid (Ok totals) → WritesSome mid new (totals_line totals ∷ [])
       → Replayed (λ k before. HasEnded k before old new last) first last known rest old new (Err Memory)
   fails_making_totals None h some = tt
   fails_making_totals (Some text) (good, gone) some = λ k before stands.
       let all = gone k before stands in
-      inr (inr (all.run.stands, subst (λ (sum : Totals). WritesWhole old new (started_lines k before (trace_in text).inputs) (totals_line sum ∷ [])) all.counted
-      (whole_after old mid new (started_lines k before (trace_in text).inputs) all.run.written (totals_line totals ∷ []) some)))
+      inr (inr (
+        all.run.stands,
+        subst (λ (sum : Totals). WritesWhole old new (started_lines k before (trace_in text).inputs) (totals_line sum ∷ [])) all.counted
+            (whole_after old mid new (started_lines k before (trace_in text).inputs) all.run.written (totals_line totals ∷ []) some),
+      ))
 
   pub totals_fail : (known : Option (List ℕ)) (fault : CmdFault) → Replayed (λ k before. HasCounted k before old mid last) first last known rest old mid (Ok totals) → (fault ≡ Write) ⊎ (fault ≡ Memory)
       → (fault ≡ Write → WritesFront mid new (totals_line totals ∷ [])) → (fault ≡ Memory → WritesSome mid new (totals_line totals ∷ [])) → Replayed (λ k before. HasEnded k before old new last) first last known rest old new (Err fault)

@@ -65,12 +65,22 @@ pub(crate) fn apply(node: &mut Node, event: &AppLine<'_>, sent: &mut Outbox)
     match event {
         AppLine::Write(key, bytes) => {
             let bytes = bytes.bytes();
-            step(node, None, Some(AppEvent::Write(*key, bytes.as_slice())), sent);
+            step(
+                node,
+                None,
+                Some(AppEvent::Write(*key, bytes.as_slice())),
+                sent,
+            );
         }
         AppLine::Event(number) => step(node, None, Some(AppEvent::Event(*number)), sent),
         AppLine::Changed(key) => step(node, None, Some(AppEvent::Changed(*key)), sent),
         AppLine::Raise(code, bits, extra) => {
-            step(node, None, Some(AppEvent::Raise(*code, *bits, *extra)), sent);
+            step(
+                node,
+                None,
+                Some(AppEvent::Raise(*code, *bits, *extra)),
+                sent,
+            );
         }
         AppLine::Clear(bits) => step(node, None, Some(AppEvent::Clear(*bits)), sent),
     }

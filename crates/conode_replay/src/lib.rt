@@ -3,9 +3,9 @@
 
 mod input;
 mod lines;
-mod replayed_trace;
 mod replay_file;
 mod replayed_line;
+mod replayed_trace;
 mod totals;
 
 pub use replay_file::{replay_files, replay_stored};

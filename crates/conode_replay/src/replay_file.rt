@@ -9,17 +9,17 @@ use co_node::{Config, Node};
 use co_sheet::{Sheet, SheetFault, read};
 use conode_io::{CmdFault, Ending, Message, file_text, flushed, out_of_memory, say, stopped};
 use std::alloc::Global;
-use std::fs;
-use std::io;
 use std::io::{Input, Read, Write};
 use std::process::ExitCode;
 use std::rt::Files;
+use std::{fs, io};
 
 /// The path that stands for standard input.
 const STANDARD_INPUT: &str = "-";
 
 /// The data sheet of a device with the mandatory objects alone: device type 191h, error register, and identity.
-const STORED_SHEET: &[u8] = b"[MandatoryObjects]\nSupportedObjects=3\n1=0x1000\n2=0x1001\n3=0x1018\n\
+const STORED_SHEET: &[u8] =
+    b"[MandatoryObjects]\nSupportedObjects=3\n1=0x1000\n2=0x1001\n3=0x1018\n\
     [1000]\nDataType=7\nAccessType=ro\nDefaultValue=0x191\n\
     [1001]\nDataType=5\nAccessType=ro\n\
     [1018]\nObjectType=9\n\
@@ -78,8 +78,7 @@ fn replay_input<R: Read, O: Write, E: Write>(
     input: &mut R,
     out: &mut O,
     err: &mut E,
-) -> Ending
-{
+) -> Ending {
     let outcome = replay(alloc, node, input, out);
     match flushed(out, outcome) {
         Ok(_) => Ending::Whole,

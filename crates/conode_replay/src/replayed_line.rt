@@ -4,6 +4,8 @@ ghost use Rattle.std.specs.Prelude.{◌≡◌, ◌⊎◌, ◌+◌, ◌^◌, ◌<
 ghost use Rattle.co_node_inputs.specs.Inputs.{Inputs};
 ghost use Rattle.co_node_history.specs.Moments.{Constants};
 ghost use Rattle.co_node.specs.Nodes.{Stands};
+ghost use Rattle.conode_trace.specs.declared.trace_line.TraceLine.TheVariants.{Event};
+ghost use Rattle.conode_trace.specs.Events.{HasFewBytes};
 ghost use Rattle.conode_trace.specs.FrameLines.{WritesFewBytes};
 ghost use Rattle.conode_trace.specs.Traces.{inputs_of, own_input, ticks_after};
 ghost use Rattle.conode_replay.specs.Lines.{own_inputs};
@@ -49,6 +51,23 @@ fn replay_ticks<W: Write>(
     Ok(printed)
 }
 
+// the device takes an event of the application, if an event line is one
+fn take_event(node: &mut Node, event: &EventLine<'_>, sent: &mut Outbox) -> bool
+    requires { HasFewBytes event.now }
+    ensures some { result ≡ true →
+        TakesOwn node.old node.new (Event event.now) sent.new.items }
+    ensures none { result ≡ false → own_input (Event event.now) ≡ None }
+    ensures same { result ≡ false → node.new ≡ node.old }
+{
+    match event {
+        EventLine::App(applied) => {
+            apply(node, applied, sent);
+            true
+        }
+        EventLine::Ticks(_) => false,
+    }
+}
+
 // the device takes the own input of what a line says, if it has one
 fn take_own(node: &mut Node, said: &TraceLine<'_>, sent: &mut Outbox) -> bool
     requires { WritesFewBytes said.now }
@@ -61,13 +80,9 @@ fn take_own(node: &mut Node, said: &TraceLine<'_>, sent: &mut Outbox) -> bool
             take(node, *frame, sent);
             true
         }
-        TraceLine::Event(EventLine::App(event)) => {
-            apply(node, event, sent);
-            true
-        }
+        TraceLine::Event(event) => take_event(node, event, sent),
         TraceLine::Skipped => false,
         TraceLine::PassedOver { .. } => false,
-        TraceLine::Event(EventLine::Ticks(_)) => false,
     }
 }
 

@@ -2,12 +2,11 @@
 
 use crate::fakes::{config_of, text_by};
 use conode_replay::{replay_files, replay_stored};
-use std::fs;
 use std::io::Input;
 use std::process::{Abort, ExitCode};
 use std::rt::Files;
-use std::str;
 use std::test::Fail;
+use std::{fs, str};
 
 const SHEET: &str = "conode-replay.eds";
 

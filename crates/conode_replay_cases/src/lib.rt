@@ -8,6 +8,6 @@ mod files;
 #[cfg(test)]
 mod replays;
 #[cfg(test)]
-mod sheet;
-#[cfg(test)]
 mod sessions;
+#[cfg(test)]
+mod sheet;

@@ -98,7 +98,11 @@ fn writer_fails(rt: HostRuntime) -> Result<(), Fail> {
             writes,
         };
         let outcome = replay(rt.alloc(), &mut node, &mut TRACE.as_bytes(), &mut writer);
-        let wanted = if writes < 4 { Err(CmdFault::Write) } else { Ok(TOTALS) };
+        let wanted = if writes < 4 {
+            Err(CmdFault::Write)
+        } else {
+            Ok(TOTALS)
+        };
         assert_eq!(rt; outcome, wanted, "at {writes}");
         expect(&rt, writer.text.as_slice(), writes.min(4) as usize)?;
         assert_eq!(rt; has_time(&node), writes > 0, "at {writes}");
