@@ -10,7 +10,8 @@
  *     count = bafokun_tick(&node, frames, BAFOKUN_MOST_FRAMES);     each ms
  *     count = bafokun_take(&node, &frame, frames, BAFOKUN_MOST_FRAMES);
  *
- * Linux on x86-64 and aarch64. Link with libbafokun.a alone; it calls malloc, realloc and free of the program.
+ * For Linux on x86-64 (x86-64-v2 and later). Link with libbafokun.a alone; it calls malloc, realloc and free of the
+ * program.
  *
  * What holds of every call:
  * - No pointer is NULL, also where the count beside it is 0. An array has as many elements as its count says.
