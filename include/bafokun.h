@@ -68,7 +68,7 @@ typedef struct bafokun_config {
 typedef struct bafokun_fault {
     uint64_t line;      /* of the EDS, from 1; 0 where no line is to blame, and for a fault of the device */
     uint16_t stage;     /* BAFOKUN_FAULT_NONE, _SHEET or _DEVICE */
-    uint16_t number;    /* 1 to 20 of an EDS, 1 to 7 of a device; docs/FORMATS.md has each, and how to mend it */
+    uint16_t number;    /* 1 to 20 of an EDS, 1 to 7 of a device; docs/SHEETS.md has each, and how to fix it */
     uint16_t index;     /* the entry that a fault of the device names, else 0 */
     uint16_t sub_index;
 } bafokun_fault;

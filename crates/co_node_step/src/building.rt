@@ -25,6 +25,7 @@ use co_node_parts::{
     RpdoSlots,
 };
 use co_node_phases::consumer_words;
+use co_node_rpdos::RpdoTable;
 use co_node_turns::send_life;
 use co_pdo::Schedule;
 use co_profile::PRODUCER_HEARTBEAT;
@@ -72,12 +73,14 @@ impl<S: ObjectStore + Drop> Device<S> {
         ensures contents { IfOk result (λ device. S.contents device.store ≡ S.contents store) }
     {
         let bank = Bank::new(alloc, &store, greatest, time)?;
+        let rpdos = RpdoTable::new(alloc, &store)?;
         let emergencies = Emergencies::new(alloc)?;
         let slots = RpdoSlots::new(alloc, 512)?;
         let schedule = Schedule::new(alloc, &store)?;
         let parts = Parts {
             state: NmtState::new(),
             bank,
+            rpdos,
             consumers: begun_consumers(&store),
             emergencies,
             slots,

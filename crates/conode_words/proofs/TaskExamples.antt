@@ -97,3 +97,7 @@ no_words_are_taken = refl
 asked_for_help : fault_of conode_command (codes "conode" ∷ codes "--help" ∷ []) ≡ kind.DisplayHelp ∷ []
 unfolding clap_on_literals
 asked_for_help = refl
+
+asked_for_version : fault_of conode_command (codes "conode" ∷ codes "--version" ∷ []) ≡ kind.DisplayVersion ∷ []
+unfolding clap_on_literals
+asked_for_version = refl

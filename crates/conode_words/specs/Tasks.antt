@@ -47,10 +47,14 @@ abbrev pub decode_command : App
 decode_command =
     with_rule (with_rule (with_rule (new_app (codes "decode")) (wanted (codes "TRACE"))) sheet_option) node_option
 
+-- a command with `--version`
+abbrev pub versioned : App → App
+versioned app = record app { top = record app.top { has_version = true } }
+
 -- the program's command
 abbrev pub conode_command : App
 conode_command =
-    with_subcommand (with_subcommand (new_app (codes "conode")) check_command.top) decode_command.top
+    with_subcommand (with_subcommand (versioned (new_app (codes "conode"))) check_command.top) decode_command.top
 
 -- what the words after `check` ask for: texts and numbers
 pub record AskedCheck : Type 0 where

@@ -18,7 +18,7 @@ fn sheet_arg<'a>(alloc: Global) -> Arg<'a>
 {
     Arg::new(alloc, "SHEET")
         .required(true)
-        .help("The electronic data sheet (EDS, CiA 306) to check")
+        .help("The data sheet to check (EDS, CiA 306)")
 }
 
 // an option with a number from `low` to `high`
@@ -38,16 +38,16 @@ fn check_command<'a>(alloc: Global) -> Result<Command<'a>, AllocError>
 {
     let sheet = sheet_arg(alloc);
     let node = numbered(alloc, "node", 1, 127).help(
-        "Also builds the sheet's dictionary for this node-ID, 1 to 127",
+        "Also build its dictionary for node-ID 1 to 127",
     );
     let strings = numbered(alloc, "strings", 0, 65_535)
         .default_value("16")
-        .help("The room of each string that may be written, in bytes, 0 to 65535");
+        .help("Room of a writable string, in bytes");
     let domains = numbered(alloc, "domains", 0, 65_535)
         .default_value("889")
-        .help("The room of each domain, in bytes, 0 to 65535");
+        .help("Room of a domain, in bytes");
     Command::new(alloc, "check")
-        .about("Checks a data sheet: what it has, or its first fault and the line of it")
+        .about("Checks a data sheet: what it has, or its first fault and its line")
         .after_help(help::FAULTS)
         .arg(sheet)?
         .arg(node)?
@@ -73,7 +73,7 @@ fn sheet_option<'a>(alloc: Global) -> Arg<'a>
     Arg::new(alloc, "sheet")
         .long("sheet")
         .value_name("SHEET")
-        .help("An electronic data sheet (EDS, CiA 306), whose names follow the keys")
+        .help("A data sheet whose names follow the keys")
 }
 
 fn decode_command<'a>(alloc: Global) -> Result<Command<'a>, AllocError>
@@ -82,9 +82,7 @@ fn decode_command<'a>(alloc: Global) -> Result<Command<'a>, AllocError>
 {
     let trace = trace_arg(alloc);
     let sheet = sheet_option(alloc);
-    let node = numbered(alloc, "node", 1, 127).help(
-        "The node-ID of the only node whose entries are named, 1 to 127",
-    );
+    let node = numbered(alloc, "node", 1, 127).help("Name the entries of node-ID 1 to 127 alone");
     Command::new(alloc, "decode")
         .about("Decodes a CAN trace: each frame with what it says, by CiA 301")
         .after_help(help::DECODED)
@@ -99,9 +97,8 @@ fn conode_command<'a>(alloc: Global) -> Result<Command<'a>, AllocError>
     let check = check_command(alloc)?;
     let decode = decode_command(alloc)?;
     Command::new(alloc, "conode")
-        .about(
-            "Checks data sheets of CANopen devices, decodes CAN traces, and answers the SDO requests of one",
-        )
+        .version(help::VERSION)
+        .about("Checks data sheets of CANopen devices, decodes and answers CAN traces")
         .after_help(help::TRACES)
         .subcommand(check)?
         .subcommand(decode)

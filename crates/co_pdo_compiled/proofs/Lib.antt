@@ -1,0 +1,3 @@
+mod CompiledExamples
+mod Parameters
+mod Parts
