@@ -1,8 +1,11 @@
 #!/bin/sh
 # Decodes a log of a million frames and one of two million, of the mix of a running machine, with the names of a data
 # sheet; prints the first log with log2asc (of the package can-utils) and, where it is installed, with tshark. Prints the
-# seconds of the best of five runs and their ratios. Status 1 where the program decodes something else than it should.
+# seconds of the best of five runs, in turn, and their ratios, and the instructions for a frame where valgrind is installed.
+# Status 1 where the program decodes something else than it should.
+#     decode.sh [PROGRAM]      PROGRAM: another conode, as one of an earlier commit, which decodes the same in the same run
 set -eu
+earlier=${1:-}
 root=$(CDPATH='' cd -- "$(dirname -- "$(readlink -f -- "$0")")/.." && pwd)
 folder=$(mktemp -d)
 trap 'rm -rf "$folder"' EXIT
@@ -43,40 +46,67 @@ frames() {
         }'
 }
 
-# the seconds of the best of five runs of a command, whose output is thrown away
-best_of_five() {
-    for _ in 1 2 3 4 5; do
-        start=$(date +%s%N)
-        "$@" > /dev/null
-        end=$(date +%s%N)
-        echo $((end - start))
-    done | sort -n | head -n 1 | awk '{ printf "%.3f\n", $1 / 1e9 }'
+# appends the seconds of a run of a command to a file, and throws its output away
+timed() {
+    file=$1
+    shift
+    start=$(date +%s%N)
+    "$@" > /dev/null
+    end=$(date +%s%N)
+    awk -v ns=$((end - start)) 'BEGIN { printf "%.3f\n", ns / 1e9 }' >> "$file"
 }
+
+best() { sort -n "$folder/$1" | head -n 1; }
 
 ratio() { awk -v a="$1" -v b="$2" 'BEGIN { printf "%.2f\n", a / b }'; }
 
+# how many instructions a frame more takes a program: of 100,000 frames and of 200,000
+instructions() {
+    for log in 100 200; do
+        valgrind --tool=callgrind --callgrind-out-file=/dev/null "$1" decode "$folder/$log.log" --sheet "$sheet" 2>&1 > /dev/null |
+            awk '/Collected/ { print $NF }'
+    done | awk 'NR == 1 { few = $1 } NR == 2 { printf "%.0f\n", ($1 - few) / 100000 }'
+}
+
 frames 1000000 > "$folder/one.log"
 frames 2000000 > "$folder/two.log"
+head -n 100000 "$folder/one.log" > "$folder/100.log"
+head -n 200000 "$folder/one.log" > "$folder/200.log"
 
 lines=$("$program" decode "$folder/one.log" --sheet "$sheet" | wc -l)
 if [ "$lines" -ne 1000000 ]; then
     echo "decoded $lines of 1000000 frames" >&2
     exit 1
 fi
+if [ -n "$earlier" ]; then
+    "$program" decode "$folder/100.log" --sheet "$sheet" > "$folder/decoded"
+    "$earlier" decode "$folder/100.log" --sheet "$sheet" | cmp - "$folder/decoded"
+fi
 
-one=$(best_of_five "$program" decode "$folder/one.log" --sheet "$sheet")
-two=$(best_of_five "$program" decode "$folder/two.log" --sheet "$sheet")
+for _ in 1 2 3 4 5; do
+    timed "$folder/one" "$program" decode "$folder/one.log" --sheet "$sheet"
+    if [ -n "$earlier" ]; then timed "$folder/earlier" "$earlier" decode "$folder/one.log" --sheet "$sheet"; fi
+    if command -v log2asc > /dev/null; then timed "$folder/log2asc" log2asc -I "$folder/one.log" can0; fi
+    timed "$folder/two" "$program" decode "$folder/two.log" --sheet "$sheet"
+    if command -v tshark > /dev/null; then timed "$folder/tshark" tshark -r "$folder/one.log"; fi
+done
+one=$(best one)
+two=$(best two)
 echo "decode of a million frames: $one s"
 echo "of two million: $two s, $(ratio "$two" "$one") times as long (aim 2.1)"
-if command -v log2asc > /dev/null; then
-    other=$(best_of_five log2asc -I "$folder/one.log" can0)
-    echo "log2asc of a million frames: $other s; decode takes $(ratio "$one" "$other") of it (aim 0.2)"
-else
-    echo "log2asc is not installed"
+if [ -n "$earlier" ]; then
+    echo "the earlier program: $(best earlier) s; decode takes $(ratio "$one" "$(best earlier)") of it (aim 1)"
 fi
-if command -v tshark > /dev/null; then
-    other=$(best_of_five tshark -r "$folder/one.log")
-    echo "tshark of a million frames: $other s; decode takes $(ratio "$one" "$other") of it (aim 0.05)"
+for other in log2asc tshark; do
+    if [ -e "$folder/$other" ]; then
+        echo "$other of a million frames: $(best $other) s; decode takes $(ratio "$one" "$(best $other)") of it"
+    else
+        echo "$other is not installed"
+    fi
+done
+if command -v valgrind > /dev/null; then
+    echo "instructions for a frame: $(instructions "$program")"
+    if [ -n "$earlier" ]; then echo "of the earlier program: $(instructions "$earlier")"; fi
 else
-    echo "tshark is not installed"
+    echo "valgrind is not installed"
 fi

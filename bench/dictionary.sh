@@ -1,11 +1,14 @@
 #!/bin/sh
-# Builds the dictionary of a data sheet with 16,384 entries and of one with half as many, and times reading, permitting
-# and setting a number. Status 1 where the first build takes more than 2.5 times as long as the second.
+# Builds the dictionary of a data sheet with 16,384 entries and of one with half as many, as a list and as an image, and times
+# reading and setting a number by its key and by its place, permitting it, and a reset of all entries; beside the same in
+# Rust's BTreeMap<Key, Vec<u8>> and in an indexed Vec<Vec<u8>>, in the same run. Status 1 where an image of 16,384 entries takes
+# more than 2.5 times as long to build as one of half as many.
 set -eu
 root=$(CDPATH='' cd -- "$(dirname -- "$(readlink -f -- "$0")")/.." && pwd)
 folder=$(mktemp -d)
 trap 'rm -rf "$folder"' EXIT
 program=$folder/crates/dict_time/out/dict_time
+runs=${1:-9}
 
 # A data sheet of so many entries: the four of the mandatory objects, and ARRAYs of at most 256 entries.
 make_sheet() {
@@ -31,32 +34,138 @@ make_sheet() {
         }'
 }
 
-# five runs of the program on a sheet; of each number that it prints the smallest, as `name number` on a line
-best_of_five() {
-    for _ in 1 2 3 4 5; do "$program" < "$1"; done | awk '
-        { for (i = 1; i < NF; i += 2) if (!($i in best) || $(i + 1) < best[$i]) best[$i] = $(i + 1) }
+# runs of the program on a sheet, and of the one in Rust on as many entries, in turn; of each number that they print the
+# smallest, as `name number` on a line
+best_of() {
+    for _ in $(seq "$runs"); do
+        "$program" < "$1"
+        "$folder/in_rust" "$2"
+    done | awk '
+        !($1 in best) || $2 < best[$1] { best[$1] = $2 }
         END { for (name in best) print name, best[name] }'
 }
 
 mkdir -p "$folder/crates/dict_time/src"
 cp "$root/HANDLES" "$folder"
 {
-    "$root/bench/below.sh" co_dict_list
-    echo 'dict_time: co_value co_sheet co_dict co_dict_list anyhow'
+    "$root/bench/below.sh" co_dict_image
+    echo 'dict_time: co_value co_sheet co_dict co_dict_list co_dict_image anyhow'
 } > "$folder/crates.txt"
-"$root/bench/below.sh" co_dict_list | cut -d: -f1 | while read -r crate; do cp -R "$root/crates/$crate" "$folder/crates"; done
+"$root/bench/below.sh" co_dict_image | cut -d: -f1 | while read -r crate; do cp -R "$root/crates/$crate" "$folder/crates"; done
+cat > "$folder/in_rust.rs" << 'END'
+//! The same calls on Rust's ordered map, and on a plain vector, of numbers of four bytes with the keys of the sheet.
+use std::collections::BTreeMap;
+use std::hint::black_box;
+use std::time::Instant;
+
+#[derive(Clone, Copy, PartialEq, Eq, PartialOrd, Ord)]
+struct Key {
+    index: u16,
+    sub: u8,
+}
+
+const ROUNDS: u32 = 64;
+
+fn time<T>(name: &str, calls: usize, work: impl FnOnce() -> T) -> T {
+    let begin = Instant::now();
+    let result = black_box(work());
+    println!("{name} {:.3}", begin.elapsed().as_nanos() as f64 / calls as f64);
+    result
+}
+
+fn main() {
+    let entries: usize = std::env::args().nth(1).unwrap().parse().unwrap();
+    let mut sorted = Vec::new();
+    let mut made = 4;
+    for array in 0.. {
+        for sub in 0..=255 {
+            if made < entries {
+                made += 1;
+                if sub > 0 {
+                    sorted.push(Key { index: 0x2000 + array, sub });
+                }
+            }
+        }
+        if made == entries {
+            break;
+        }
+    }
+    let count = sorted.len();
+    let places: Vec<usize> = (0..count).map(|i| i * 7919 % count).collect();
+    let keys: Vec<Key> = places.iter().map(|place| sorted[*place]).collect();
+    let calls = count * ROUNDS as usize;
+    let mut map = time("map_build", 1, || sorted.iter().map(|key| (*key, vec![0u8; 4])).collect::<BTreeMap<Key, Vec<u8>>>());
+    let mut values = time("plain_build", 1, || sorted.iter().map(|_| vec![0u8; 4]).collect::<Vec<Vec<u8>>>());
+    let initial = values.clone();
+    time("map_bytes", calls, || {
+        let mut sum = 0usize;
+        for _ in 0..ROUNDS {
+            for key in &keys {
+                if let Some(bytes) = map.get(key) {
+                    sum = sum.wrapping_add(bytes.len()).wrapping_add(usize::from(bytes[0]));
+                }
+            }
+        }
+        sum
+    });
+    time("plain_bytes_at", calls, || {
+        let mut sum = 0usize;
+        for _ in 0..ROUNDS {
+            for place in &places {
+                let bytes = &values[*place];
+                sum = sum.wrapping_add(bytes.len()).wrapping_add(usize::from(bytes[0]));
+            }
+        }
+        sum
+    });
+    time("map_set", calls, || {
+        for round in 0..ROUNDS {
+            for key in &keys {
+                if let Some(bytes) = map.get_mut(key) {
+                    bytes.copy_from_slice(&round.to_le_bytes());
+                }
+            }
+        }
+    });
+    time("plain_set_at", calls, || {
+        for round in 0..ROUNDS {
+            for place in &places {
+                values[*place].copy_from_slice(&round.to_le_bytes());
+            }
+        }
+    });
+    time("plain_reset", 1, || {
+        for (value, first) in values.iter_mut().zip(&initial) {
+            value.copy_from_slice(first);
+        }
+    });
+    black_box((map, values));
+}
+END
+rustc -O --edition 2024 -o "$folder/in_rust" "$folder/in_rust.rs"
+mkdir -p "$folder/crates/dict_time/proofs/places_of"
+cat > "$folder/crates/dict_time/proofs/places_of/Invariants.antt" << 'END'
+use Rattle.std.proofs.Common.{◌≡◌, true, All}
+use Rattle.co_dict.specs.Places.{takes_at}
+use Rattle.dict_time.proofs.places_of.Given as goal
+
+abbrev pub invariant-loop-key : goal.invariant-loop-key
+invariant-loop-key g l = All (λ place. takes_at (g.S.ObjectStore.description l.store) place 4 ≡ true) l.places.items
+END
 cat > "$folder/crates/dict_time/src/main.rt" << 'END'
-//! Builds the dictionary of the data sheet on standard input, calls it for each of its numbers that may be written, many
-//! times in a mixed order, and prints how many nanoseconds each part took.
+//! Builds the dictionary of the data sheet on standard input in both stores, calls it for each of its numbers that may be
+//! written, many times in a mixed order, and prints how many nanoseconds a call took.
 #![tactic(auto)]
 
-ghost use Rattle.std.specs.Prelude.{◌≡◌, true, All};
+ghost use Rattle.std.specs.Prelude.{◌≡◌, true, All, IfSome, IfOk};
 ghost use Rattle.co_dict.specs.Rows.{takes};
+ghost use Rattle.co_dict.specs.Places.{takes_at};
 
 use anyhow::{Context, Result, bail};
+use co_dict::{Area, ObjectStore, may_store, place_laws};
+use co_dict_image::ImageStore;
 use co_dict_list::{Limits, ListStore};
-use co_dict::{ObjectStore, may_store};
-use co_sheet::{Access, EntryRow, read};
+use co_sheet::{Access, EntryRow, Sheet, read};
 use co_value::{DataType, Key};
 use std::alloc::{AllocError, Global};
 use std::io;
@@ -64,12 +173,20 @@ use std::time::Instant;
 
 const ROUNDS: u32 = 64;
 
-/// A dictionary with keys of numbers of four bytes, each of which may be written.
+const LIMITS: Limits<'static> = Limits {
+    strings: 0,
+    domains: 0,
+    own: &[],
+};
+
+/// A dictionary with keys and places of numbers of four bytes, each of which may be written.
 #[derive(Drop)]
 struct Numbers<S: ObjectStore> {
     store: S,
     keys: Vec<Key>,
+    places: Vec<u32>,
     ghost writable: { All (λ key. takes (S.description store).rows key 4 ≡ true) keys.items },
+    ghost placed: { All (λ place. takes_at (S.description store) place 4 ≡ true) places.items },
 }
 
 fn are_writable<S: ObjectStore>(store: &S, keys: &[Key]) -> bool
@@ -78,11 +195,39 @@ fn are_writable<S: ObjectStore>(store: &S, keys: &[Key]) -> bool
     keys.iter().all(|key| may_store(store, *key, &[0; 4]).is_ok())
 }
 
+// the place of a number that may be written
+fn writable_place<S: ObjectStore>(store: &S, key: Key) -> Option<u32>
+    ensures { IfSome result (λ place. takes_at (S.description store.now) place 4 ≡ true) }
+{
+    place_laws(store);
+    match may_store(store, key, &[0; 4]) {
+        Ok(()) => store.place(key),
+        Err(_) => None,
+    }
+}
+
+fn places_of<S: ObjectStore>(alloc: Global, store: &S, keys: &[Key]) -> Result<Vec<u32>>
+    ensures { IfOk result (λ places. All (λ place. takes_at (S.description store.now) place 4 ≡ true) places.items) }
+{
+    let mut places = Vec::new(alloc);
+    for key in keys {
+        places.push(writable_place(store, *key).context("no place")?)?;
+    }
+    Ok(places)
+}
+
 impl<S: ObjectStore> Numbers<S> {
     fn set(&mut self, at: usize, bytes: [u8; 4]) {
         if at < self.keys.len() {
             let key = self.keys[at];
             self.store.set(key, &bytes);
+        }
+    }
+
+    fn set_at(&mut self, at: usize, bytes: [u8; 4]) {
+        if at < self.places.len() {
+            let place = self.places[at];
+            self.store.set_at(place, &bytes);
         }
     }
 }
@@ -95,41 +240,41 @@ fn set_all<S: ObjectStore>(numbers: &mut Numbers<S>) {
     }
 }
 
-fn copy_all(cells: &mut [[u8; 4]], places: &[usize]) {
+fn set_all_at<S: ObjectStore>(numbers: &mut Numbers<S>) {
     for round in 0..ROUNDS {
-        for place in places {
-            if let Some(cell) = cells.get_mut(*place) {
-                *cell = round.to_le_bytes();
-            }
+        for at in 0..numbers.places.len() {
+            numbers.set_at(at, round.to_le_bytes());
         }
     }
 }
 
-fn look_up(store: &ListStore, keys: &[Key]) -> usize {
+fn look_up<S: ObjectStore>(store: &S, keys: &[Key]) -> usize {
     let mut sum: usize = 0;
     for _ in 0..ROUNDS {
         for key in keys {
             if let Some(bytes) = store.bytes(*key) {
-                sum = sum.wrapping_add(bytes.len());
+                let first = bytes.first().copied().unwrap_or(0);
+                sum = sum.wrapping_add(bytes.len()).wrapping_add(usize::from(first));
             }
         }
     }
     sum
 }
 
-fn search(sorted: &[Key], keys: &[Key]) -> usize {
+fn look_up_at<S: ObjectStore>(store: &S, places: &[u32]) -> usize {
     let mut sum: usize = 0;
     for _ in 0..ROUNDS {
-        for key in keys {
-            if let Ok(at) = sorted.binary_search(key) {
-                sum = sum.wrapping_add(at);
+        for place in places {
+            if let Some(bytes) = store.bytes_at(*place) {
+                let first = bytes.first().copied().unwrap_or(0);
+                sum = sum.wrapping_add(bytes.len()).wrapping_add(usize::from(first));
             }
         }
     }
     sum
 }
 
-fn ask(store: &ListStore, keys: &[Key]) -> usize {
+fn ask<S: ObjectStore>(store: &S, keys: &[Key]) -> usize {
     let mut sum: usize = 0;
     for round in 0..ROUNDS {
         for key in keys {
@@ -160,9 +305,11 @@ fn sorted_keys(alloc: Global, rows: &[EntryRow<'_>]) -> Result<Vec<Key>, AllocEr
     Ok(keys)
 }
 
-fn mixed_keys(alloc: Global, sorted: &[Key], places: &[usize]) -> Result<Vec<Key>, AllocError> {
+fn mixed_keys(alloc: Global, sheet: &Sheet<'_>) -> Result<Vec<Key>, AllocError> {
+    let sorted = sorted_keys(alloc, sheet.entries())?;
+    let places = mixed(alloc, sorted.len())?;
     let mut keys = Vec::new(alloc);
-    for place in places {
+    for place in &places {
         if let Some(key) = sorted.get(*place) {
             keys.push(*key)?;
         }
@@ -170,52 +317,66 @@ fn mixed_keys(alloc: Global, sorted: &[Key], places: &[usize]) -> Result<Vec<Key
     Ok(keys)
 }
 
-fn main(rt: HostRuntime) -> Result<()> {
+// prints the nanoseconds since then by call
+fn print(rt: &HostRuntime, store: &str, name: &str, begin: &Instant, calls: u128) -> Result<()> {
+    let spent = begin.elapsed(rt)?.as_nanos().wrapping_mul(1000) / calls.max(1);
+    println!(rt; "{store}_{name} {}.{:03}", spent / 1000, spent % 1000)?;
+    Ok(())
+}
+
+// times all calls of a store, and gives a sum of what was read
+fn time<S: ObjectStore + Drop>(rt: &HostRuntime, name: &str, store: S, keys: Vec<Key>) -> Result<usize> {
     let alloc = rt.alloc();
-    let text = io::read_to_string(alloc, rt.stdin())?;
-    let sheet = read(alloc, text.as_bytes()).ok().context("no sheet")?;
-    let limits = Limits {
-        strings: 0,
-        domains: 0,
-        own: &[],
-    };
-    let sorted = sorted_keys(alloc, sheet.entries())?;
-    let places = mixed(alloc, sorted.len())?;
-    let keys = mixed_keys(alloc, &sorted, &places)?;
-    let calls = u64::from(ROUNDS).wrapping_mul(keys.len() as u64);
-
-    let begin = Instant::now(&rt)?;
-    let built = ListStore::build(alloc, &sheet, 1, &limits);
-    let build = begin.elapsed(&rt)?.as_nanos();
-    let store = built.ok().context("no dictionary")?;
-
-    let begin = Instant::now(&rt)?;
-    let found = search(&sorted, &keys);
-    let search = begin.elapsed(&rt)?.as_nanos();
-
-    let begin = Instant::now(&rt)?;
-    let total = look_up(&store, &keys);
-    let bytes = begin.elapsed(&rt)?.as_nanos();
-
-    let begin = Instant::now(&rt)?;
-    let permitted = ask(&store, &keys);
-    let may_store = begin.elapsed(&rt)?.as_nanos();
-
-    let mut cells = vec![in alloc; [0; 4]; keys.len()]?;
-    let begin = Instant::now(&rt)?;
-    copy_all(&mut cells, &places);
-    let copy = begin.elapsed(&rt)?.as_nanos();
-
+    let calls = u128::from(ROUNDS).wrapping_mul(keys.len() as u128);
     if !are_writable(&store, &keys) {
         bail!("not all can be written");
     }
-    let mut numbers = Numbers { store, keys };
-    let begin = Instant::now(&rt)?;
+    let places = places_of(alloc, &store, &keys)?;
+    let begin = Instant::now(rt)?;
+    let mut sum = look_up(&store, &keys);
+    print(rt, name, "bytes", &begin, calls)?;
+    let begin = Instant::now(rt)?;
+    sum = sum.wrapping_add(look_up_at(&store, &places));
+    print(rt, name, "bytes_at", &begin, calls)?;
+    let begin = Instant::now(rt)?;
+    sum = sum.wrapping_add(ask(&store, &keys));
+    print(rt, name, "may_store", &begin, calls)?;
+    let mut numbers = Numbers { store, keys, places };
+    let begin = Instant::now(rt)?;
     set_all(&mut numbers);
-    let set = begin.elapsed(&rt)?.as_nanos();
+    print(rt, name, "set", &begin, calls)?;
+    let begin = Instant::now(rt)?;
+    set_all_at(&mut numbers);
+    print(rt, name, "set_at", &begin, calls)?;
+    let begin = Instant::now(rt)?;
+    numbers.store.reset(Area::All);
+    print(rt, name, "reset", &begin, 1)?;
+    Ok(sum.wrapping_add(look_up(&numbers.store, &numbers.keys)))
+}
 
-    let sums = found.wrapping_add(total).wrapping_add(permitted);
-    println!(rt; "calls {calls} sums {sums} build {build} search {search} bytes {bytes} may_store {may_store} copy {copy} set {set}")?;
+fn run(rt: &HostRuntime, sheet: &Sheet<'_>) -> Result<usize> {
+    let alloc = rt.alloc();
+    let keys = mixed_keys(alloc, sheet)?;
+    let begin = Instant::now(rt)?;
+    let built = ListStore::build(alloc, sheet, 1, &LIMITS);
+    print(rt, "list", "build", &begin, 1)?;
+    let list = time(rt, "list", built.ok().context("no list")?, keys)?;
+    let keys = mixed_keys(alloc, sheet)?;
+    let begin = Instant::now(rt)?;
+    let built = ImageStore::build(alloc, sheet, 1, &LIMITS);
+    print(rt, "image", "build", &begin, 1)?;
+    let image = time(rt, "image", built.ok().context("no image")?, keys)?;
+    if list != image {
+        bail!("the two stores differ");
+    }
+    Ok(image)
+}
+
+fn main(rt: HostRuntime) -> Result<()> {
+    let text = io::read_to_string(rt.alloc(), rt.stdin())?;
+    let sheet = read(rt.alloc(), text.as_bytes()).ok().context("no sheet")?;
+    let sum = run(&rt, &sheet)?;
+    println!(rt; "sum {sum}")?;
     Ok(())
 }
 END
@@ -223,20 +384,29 @@ make_sheet 8192 > "$folder/half.eds"
 make_sheet 16384 > "$folder/whole.eds"
 (cd "$folder/crates/dict_time" && rt run < "$folder/half.eds" > "$folder/log" 2>&1) || { cat "$folder/log" >&2; exit 1; }
 
-best_of_five "$folder/half.eds" > "$folder/half"
-best_of_five "$folder/whole.eds" > "$folder/whole"
+best_of "$folder/half.eds" 8192 > "$folder/half"
+best_of "$folder/whole.eds" 16384 > "$folder/whole"
 awk '
     NR == FNR { half[$1] = $2; next }
     { whole[$1] = $2 }
-    function per_call(name) { return whole[name] / whole["calls"] }
-    function compare(name, other, text) {
-        printf "%-10s %8.1f ns, %.2f times %s, %.1f ns\n", name ":", per_call(name), whole[name] / whole[other], text, per_call(other)
+    function build(name) {
+        printf "%-16s %8.2f ms for 8,192 entries, %.2f ms for 16,384: %.2f times\n", name "_build:", half[name "_build"] / 1e6,
+            whole[name "_build"] / 1e6, whole[name "_build"] / half[name "_build"]
+    }
+    function compare(name, other) {
+        printf "%-16s %8.1f ns, %5.2f times %s, %.1f ns\n", name ":", whole[name], whole[name] / whole[other], other, whole[other]
     }
     END {
-        printf "build:     %8.2f ms for 8,192 entries, %.2f ms for 16,384\n", half["build"] / 1e6, whole["build"] / 1e6
-        printf "whole / half: %5.2f (at most 2.5)\n", whole["build"] / half["build"]
-        compare("bytes", "search", "a binary search in a list of the keys")
-        compare("set", "copy", "a copy of the same bytes to a known place")
-        compare("may_store", "bytes", "bytes")
-        exit (whole["build"] > 2.5 * half["build"])
+        build("list"); build("image"); build("map")
+        split("list image", stores, " ")
+        for (i = 1; i <= 2; i++) {
+            compare(stores[i] "_bytes", "map_bytes")
+            compare(stores[i] "_set", "map_set")
+            compare(stores[i] "_bytes_at", "plain_bytes_at")
+            compare(stores[i] "_set_at", "plain_set_at")
+            compare(stores[i] "_may_store", stores[i] "_bytes")
+            printf "%-16s %8.1f us for 16,384 entries, %5.2f times plain_reset, %.1f us\n", stores[i] "_reset:",
+                whole[stores[i] "_reset"] / 1e3, whole[stores[i] "_reset"] / whole["plain_reset"], whole["plain_reset"] / 1e3
+        }
+        exit (whole["image_build"] > 2.5 * half["image_build"])
     }' "$folder/half" "$folder/whole"

@@ -54,55 +54,18 @@ module_sheet() {
     echo ";!tick 20000 tick"
 }
 
-# the greatest device: 128 SDO channels with an open transfer each, 512 TPDOs of eight bytes, four of which are sent at each
-# SYNC and the others by an event timer, an RPDO of eight bytes, and 127 nodes that are monitored
+# the greatest device, with an open transfer on each SDO channel
 greatest_sheet() {
-    awk '
-        function entry(name, type, access, value) { printf "[%s]\nDataType=%d\nAccessType=%s\nDefaultValue=%s\nPDOMapping=1\n", name, type, access, value }
-        function object(number) {
-            name = sprintf("%X", number)
-            list = list (++count) "=0x" name "\n"
-            printf "[%s]\nObjectType=9\n", name
-            return name
-        }
-        function variable(name, type, access, value) {
-            list = list (++count) "=0x" name "\n"
-            entry(name, type, access, value)
-        }
-        BEGIN {
-            variable("1000", 7, "ro", "0x191")
-            variable("1001", 5, "ro", 0)
-            variable("1005", 7, "rw", "0x80")
-            variable("1014", 7, "rw", "$NODEID+0x80")
-            variable("1017", 6, "rw", 0)
-            variable("2002", 7, "rw", 0)
-            variable("2003", 7, "rw", 0)
-            name = object(4120); entry(name "sub0", 5, "ro", 1); entry(name "sub1", 7, "ro", 0)
-            name = object(4118); entry(name "sub0", 5, "ro", 127)
-            for (i = 1; i <= 127; i++) entry(name "sub" sprintf("%X", i), 7, "rw", sprintf("0x%X", i * 65536 + 65535))
-            for (i = 1; i <= 127; i++) {
-                name = object(4608 + i); entry(name "sub0", 5, "ro", 2)
-                entry(name "sub1", 7, "ro", 512 + i); entry(name "sub2", 7, "ro", 768 + i)
-            }
-            name = object(5120); entry(name "sub0", 5, "ro", 2); entry(name "sub1", 7, "rw", "0x400"); entry(name "sub2", 5, "rw", 255)
-            name = object(5632); entry(name "sub0", 5, "rw", 2); entry(name "sub1", 7, "rw", "0x20020020"); entry(name "sub2", 7, "rw", "0x20030020")
-            for (i = 0; i < 512; i++) {
-                name = object(6144 + i); entry(name "sub0", 5, "ro", 5); entry(name "sub1", 7, "rw", "0x185")
-                entry(name "sub2", 5, "rw", i < 4 ? 1 : 255); entry(name "sub3", 6, "rw", 0); entry(name "sub5", 6, "rw", 65535)
-                name = object(6656 + i); entry(name "sub0", 5, "rw", 2)
-                entry(name "sub1", 7, "rw", "0x20020020"); entry(name "sub2", 7, "rw", "0x20030020")
-            }
-            printf "[MandatoryObjects]\nSupportedObjects=%d\n%s", count, list
-            print ";!- 1 000#0105"
-            for (i = 1; i <= 127; i++) printf ";!- 1 %03X#05\n", 1792 + i
-            print ";!upload 2000 605#4000100000000000"
-            print ";!rpdo 2000 400#0102030405060708"
-            print ";!sync 2000 080#"
-            print ";!other 2000 186#00"
-            print ";!- 1 605#2002200000000000"
-            for (i = 1; i <= 127; i++) printf ";!- 1 %03X#2002200000000000\n", 512 + i
-            print ";!tick 2000 tick"
-        }'
+    "$root/bench/greatest_device.sh"
+    echo ";!- 1 000#0105"
+    for node in $(seq 1 127); do printf ';!- 1 %03X#05\n' $((1792 + node)); done
+    echo ";!upload 2000 605#4000100000000000"
+    echo ";!rpdo 2000 400#0102030405060708"
+    echo ";!sync 2000 080#"
+    echo ";!other 2000 186#00"
+    echo ";!- 1 605#2002200000000000"
+    for channel in $(seq 1 127); do printf ';!- 1 %03X#2002200000000000\n' $((512 + channel)); done
+    echo ";!tick 2000 tick"
 }
 
 mkdir -p "$folder/crates/node_time/src"

@@ -15,7 +15,8 @@ ghost use Rattle.co_node.specs.Runs.{all_ends, most_frames, recorded_after};
 
 use crate::config::Config;
 use crate::record::Record;
-use co_dict_list::{BuildFault, ListStore};
+use co_dict_image::ImageStore;
+use co_dict_list::BuildFault;
 use co_frame::{Frame, Outbox};
 use co_node_inputs::{AppAnswer, AppEvent, Input};
 use co_node_parts::NodeState;
@@ -27,12 +28,12 @@ use std::alloc::Global;
 /// A CANopen device made from a data sheet. It asks for no memory after `build`.
 #[derive(Drop)]
 pub struct Node {
-    device: Device<ListStore>,
+    device: Device<ImageStore>,
 }
 
 impl Node {
     /// The device of a data sheet at a node-ID, in NMT state pre-operational and with nothing received. The faults are those
-    /// of `ListStore::build`; `Memory` also where there is none for the device.
+    /// of `ImageStore::build`; `Memory` also where there is none for the device.
     pub fn build(
         alloc: Global,
         sheet: &Sheet<'_>,
@@ -49,7 +50,7 @@ impl Node {
         ensures ok { IfOk result (λ _. build_fault (planned sheet.now node_id config.now) ≡ None) }
         ensures err { IfErr result (IsBuildFault (planned sheet.now node_id config.now)) }
     {
-        let store = ListStore::build(alloc, sheet, node_id, &config.limits)?;
+        let store = ImageStore::build(alloc, sheet, node_id, &config.limits)?;
         let greatest = u32::from(store.greatest_capacity());
         match Device::new(alloc, store, greatest, config.time) {
             Ok(device) => Ok(Node { device }),

@@ -1,0 +1,95 @@
+//! The device of the table of replies, and what it does with frames in text.
+
+use arrayvec::ArrayVec;
+use co_dict_list::Limits;
+use co_frame::{Frame, Outbox};
+use co_node::{Config, Node};
+use co_node_inputs::{AppEvent, Input};
+use co_sdo_states::SHEET;
+use co_sheet::read;
+use co_value::Key;
+use std::alloc::Global;
+use std::process::Abort;
+use std::test::Fail;
+
+/// The entry that transfers are of.
+pub(crate) const STRING: Key = Key {
+    index: 0x2001,
+    sub: 0,
+};
+
+/// Its first bytes.
+pub(crate) const INITIAL: &[u8] = b"0123456789";
+
+/// The device at node-ID 5.
+pub(crate) fn device(alloc: Global) -> Result<Node, Fail> {
+    let sheet = read(alloc, SHEET.as_bytes())?;
+    let config = Config {
+        limits: Limits {
+            strings: 12,
+            domains: 0,
+            own: &[],
+        },
+        time: 65535,
+    };
+    Ok(Node::build(alloc, &sheet, 5, &config)?)
+}
+
+/// The frame that a text spells: its identifier, `#`, and eight data bytes, all in hexadecimal digits.
+pub(crate) fn frame_of(text: &str) -> Result<Frame, Fail> {
+    let (id, digits) = text.split_once('#').ok_or("no data")?;
+    let id = u16::from_str_radix(id, 16)?;
+    let number = u64::from_str_radix(digits, 16)?;
+    Ok(Frame::new(id, &number.to_be_bytes())?)
+}
+
+/// The requests of a dialogue.
+pub(crate) fn requests_of(dialogue: &str) -> Result<ArrayVec<Frame, 4>, Fail> {
+    let mut requests = ArrayVec::new();
+    for text in dialogue.split_whitespace() {
+        let frame = frame_of(text)?;
+        if frame.id() == 0x605 && !requests.is_full() {
+            requests.push(frame);
+        }
+    }
+    Ok(requests)
+}
+
+// Puts what an input gives into the place of what was sent: a frame; else an event of the application; else a tick.
+fn step(node: &mut Node, frame: Option<Frame>, event: Option<AppEvent<'_>>, sent: &mut Outbox) {
+    match (frame, event) {
+        (Some(frame), _) => node.step(Input::Frame(frame), sent),
+        (None, Some(event)) => node.step(Input::App(event), sent),
+        (None, None) => node.step(Input::Tick, sent),
+    }
+}
+
+/// Puts what a frame gives into the place of what was sent.
+pub(crate) fn take(node: &mut Node, frame: &Frame, sent: &mut Outbox) {
+    step(node, Some(*frame), None, sent);
+}
+
+/// The same of a write of the application.
+pub(crate) fn write(node: &mut Node, key: Key, bytes: &[u8], sent: &mut Outbox) {
+    step(node, None, Some(AppEvent::Write(key, bytes)), sent);
+}
+
+/// Whether a dialogue goes so: the requests in this text (605h) get the answers (585h) that come after each, and no other.
+pub(crate) fn shows(rt: &impl Abort, node: &mut Node, dialogue: &str) -> Result<(), Fail> {
+    let mut sent = Outbox::new();
+    let mut seen = 0usize;
+    for word in dialogue.split_whitespace() {
+        let frame = frame_of(word)?;
+        if frame.id() == 0x585 {
+            let is_sent = sent.get(seen) == Some(&frame);
+            assert!(rt; is_sent, "{word} in {dialogue}");
+            seen = seen.saturating_add(1);
+        } else {
+            assert!(rt; sent.len() == seen, "before {word} in {dialogue}");
+            take(node, &frame, &mut sent);
+            seen = 0;
+        }
+    }
+    assert!(rt; sent.len() == seen, "at the end of {dialogue}");
+    Ok(())
+}
