@@ -1,10 +1,12 @@
 //! A device made from a data sheet.
 
-ghost use Rattle.std.specs.Prelude.{◌≡◌, ℕ, ◌≤◌, ◌<◌, ◌++◌, [], ◌∷◌, None, IfOk, IfErr, length, map, take, option_map};
+ghost use Rattle.std.specs.Prelude.{◌≡◌, ℕ, ◌≤◌, ◌<◌, ◌++◌, ◌&&◌, [], ◌∷◌, None, IfOk, IfErr, IfSome, is_some, length, map, nat_lt, take, option_map};
 ghost use Rattle.co_value.specs.declared.key.Key.{Key};
 ghost use Rattle.co_dict.specs.Stores.{IsGreatestCapacity};
 ghost use Rattle.co_dict_list.specs.Built.{built_contents, built_description};
 ghost use Rattle.co_dict_list.specs.BuildFaults.{IsBuildFault, build_fault};
+ghost use Rattle.co_pdo.specs.Mappings.{has_pdo, mapping_of};
+ghost use Rattle.co_pdo_compiled.specs.CompiledMappings.{IsCompiledForm};
 ghost use Rattle.co_node_inputs.specs.Inputs.{Inputs, input_view};
 ghost use Rattle.co_node_history.specs.Moments.{Constants};
 ghost use Rattle.co_node_history.specs.Laws.{boot_up};
@@ -21,6 +23,8 @@ use co_frame::{Frame, Outbox};
 use co_node_inputs::{AppAnswer, AppEvent, Input};
 use co_node_parts::NodeState;
 use co_node_step::Device;
+use co_pdo::Side;
+use co_pdo_compiled::Compiled;
 use co_sheet::Sheet;
 use co_value::Key;
 use std::alloc::Global;
@@ -128,6 +132,18 @@ impl Node {
             result ≤ room_of k before channel }
     {
         self.device.held(channel)
+    }
+
+    /// The compiled mapping of PDO `number` of a side, of what it maps as the dictionary is now; `None` where there is no such
+    /// PDO (CiA 301, 7.5.2.36, 7.5.2.38).
+    pub fn compiled(&self, side: Side, number: u16) -> Option<&Compiled>
+        ensures there { (k : Constants) (before : Inputs) → Stands k self.now before →
+            is_some result ≡ (nat_lt number 512 && has_pdo side k.description.rows number) }
+        ensures form { (k : Constants) (before : Inputs) → Stands k self.now before →
+            IfSome result (λ compiled. IsCompiledForm k.description
+            (mapping_of side k.description (contents_of k before) number) compiled.now) }
+    {
+        self.device.compiled(side, number)
     }
 
     /// The answer to the last input, where that was an application event.

@@ -1,6 +1,7 @@
 //! The parts of a device besides its dictionary.
 
 use co_node_inputs::AppAnswer;
+use co_node_mappings::CompiledMappings;
 use co_node_parts::{Emergencies, HeartbeatConsumers, HeartbeatProducer, NmtState, RpdoSlots};
 use co_node_rpdos::RpdoTable;
 use co_pdo::Schedule;
@@ -15,6 +16,8 @@ pub struct Parts {
     pub bank: Bank,
     /// The RPDOs by their identifiers.
     pub rpdos: RpdoTable,
+    /// The compiled mappings of all PDOs.
+    pub mappings: CompiledMappings,
     /// The monitoring of other nodes' heartbeats.
     pub consumers: HeartbeatConsumers,
     /// The emergencies that wait.

@@ -1,4 +1,5 @@
-//! A data sheet: the mandatory objects, a string at 2001h, numbers at 2002h to 2004h, and a domain at 2100h.
+//! A data sheet: the mandatory objects, 1018:01 with a ParameterValue, a string at 2001h, numbers at 2002h to 2004h, and a
+//! domain at 2100h.
 
 pub(crate) const SHEET: &str = "\
 [MandatoryObjects]
@@ -22,6 +23,7 @@ DefaultValue=1
 [1018sub1]
 DataType=7
 AccessType=ro
+ParameterValue=0x99
 [ManufacturerObjects]
 SupportedObjects=5
 1=0x2001

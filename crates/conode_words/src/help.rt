@@ -6,16 +6,14 @@ pub const VERSION: &str = "0.1.0, proved with rattle-kit-13b logic dac8208d650f1
 /// What the program does without a command.
 pub const TRACES: &str = "\
 Without a command, standard input is read as a CAN trace, as `candump -L` writes
-it. Each SDO request in it to node 5 is answered on standard output, as a line
-of a trace, from two entries:
-  1000:00  UNSIGNED32, read only, 191h
-  2002:00  UNSIGNED32, writable, 0
-Uploads and expedited downloads are answered; any other request is aborted.
+it, and played to node 5 of a small stored sheet: 1000:00, 1001:00 and 1018h.
+What the node sends is printed as lines of a trace, and at last the numbers of
+frames received and sent and of ms:
 
   conode < trace.log
 
-Status: 0 if all of the trace was answered, 1 if not; then the last line says
-why, as `stopped: BadLine 3`.";
+Status: 0 if all of the trace was played, 1 if not; then the last line says why,
+as `stopped: BadLine 3`.";
 
 /// What `check` prints, and what to do about each fault.
 pub const FAULTS: &str = "\
@@ -90,6 +88,36 @@ Build faults, each with an index or an index and a sub-index:
    6 TooMany            over 16,384 entries: take objects out of the lists; or
                         over 16,777,216 bytes of room: lower --domains or
                         --strings";
+
+/// What `replay` prints.
+pub const REPLAYED: &str = "\
+Makes the device of the sheet, plays the trace to it, and prints each frame that
+it sends as a line of a trace: first its boot-up. A frame of the trace is one
+that the device receives; event lines (`!write 2001:00 05`, `!tick 1000`, ..)
+are what its application does, and time. An event that is refused is printed as
+`; line 7 refused 06090030`. The last line has the numbers of frames received
+and sent and of ms: `; in 1, out 3, ticks 1000`. `-` as TRACE is standard input:
+
+  candump -L can0 | conode replay sensor.eds - --node 5 | canplayer
+
+Status: 0 if all of the trace was played, 1 if not; then the last line says why,
+as `stopped: BadLine 3`, `fault 9 BadList line 1` or `build fault 3 BadCobId
+1800:01`; 2 if the words are wrong.";
+
+/// What `loop` prints.
+pub const LOOPED: &str = "\
+Makes the device of the sheet, lets an SDO client download HEX to its entry KEY,
+and prints the frames of both as lines of a trace, and how it ended: `; done, 3
+requests`, `; failed 06070012, 1 requests`, or `; gave up`. KEY is an index and
+a sub-index, HEX pairs of digits, or `-` for no bytes.
+
+  conode loop sensor.eds 2000:00 F401 --node 5 --mode block
+
+Status: 0 if it is done, 1 if it isn't or the sheet has a fault, 2 if the words
+are wrong.";
+
+/// What is said of a mode that is none.
+pub const MODES: &str = "invalid value for '--mode <MODE>': plain, segmented or block";
 
 /// What `decode` prints.
 pub const DECODED: &str = "\
