@@ -1,15 +1,14 @@
 -- What clap makes of the program's command, and Rust's `parse` of a word.
 use Rattle.std.proofs.Common.{◌≡◌, ℕ, ◌^◌, Bool, true, false, List, [], ◌∷◌, Some, None, Result, Ok, Err, inl, inr, refl, sym, ap}
 use Rattle.std.proofs.lemmas.Bool.{ltb-true, lt-ltb}
-use Rattle.std.specs.Prelude.{◌&&◌, nat_lt, length, if◌then◌else◌, IsErr}
+use Rattle.std.specs.Prelude.{◌&&◌, nat_lt, length}
 use Rattle.std.specs.Result.{result_ok}
 use Rattle.std.specs.Char.{digit_value}
 use Rattle.std.specs.List.{list_all}
 use Rattle.std.specs.Str.Parse.{AllDigits, ParsesUnsigned, digits_value, without_leading_plus}
-use Rattle.clap.specs.Kinds.{Kinds, FailsBy, HasKind, or_else}
+use Rattle.clap.specs.Kinds.{Kinds, HasKind, or_else}
 use Rattle.clap.specs.Words.{Text, first_of, first_value, rows_of, is_simple, is_simple_and_free}
 use Rattle.clap.specs.declared.error.Error.{Error}
-use Rattle.clap.specs.declared.error.kind.ErrorKind.TheVariants.{InvalidValue}
 use Rattle.clap.specs.ValueTests.{is_numeral}
 use Rattle.clap.specs.declared.parser.matches.Found.{Found}
 use Rattle.clap.proofs.OnLiterals.{clap_on_literals}
@@ -59,13 +58,9 @@ more_kinds [] more e (inl memory) = inl memory
 more_kinds [] more e (inr among) = absurd among
 more_kinds (k ∷ ks) more e has = has
 
-pub fails_more : {T : Type 0} (kinds more : Kinds) (r : Result T Error) → IsErr r → FailsBy kinds r → FailsBy (or_else kinds more) r
-fails_more kinds more (Ok x) err fails = absurd err
-fails_more kinds more (Err e) err fails = more_kinds kinds more e fails
-
--- the rules of the command refuse nothing: then the mode decides
-pub mode_decides : (kinds : Kinds) (is_other b : Bool) → kinds ≡ [] → is_other ≡ b → or_else kinds (if is_other then InvalidValue ∷ [] else []) ≡ (if b then InvalidValue ∷ [] else [])
-mode_decides kinds is_other b none is = rw (none, is) refl
+-- where the rules of the command refuse nothing, the mode decides
+pub mode_decides : {Rows : Type 0} (fault : Rows → Kinds) (kinds : Kinds) (rows given : Rows) → kinds ≡ [] → given ≡ rows → fault given ≡ or_else kinds (fault rows)
+mode_decides fault kinds rows given none same = rw (none, same) refl
 
 pub is_simple_command : is_simple conode_command ≡ true
 unfolding clap_on_literals

@@ -232,8 +232,10 @@ asked_of matches = option_and_then (λ m. asked_in m.0 m.1) matches
 abbrev pub has_other_mode : Option (Text × List Row) → Bool
 has_other_mode matches = option_map_or (λ m. bytes_eq m.0 (codes "loop") && is_none (mode_for m.1)) matches false
 
+-- why matches are refused for their mode
+abbrev pub mode_fault : Option (Text × List Row) → Kinds
+mode_fault matches = if has_other_mode matches then InvalidValue ∷ [] else []
+
 -- why words are refused: by the rules of the command, or for their mode
 abbrev pub task_fault : List Text → Kinds
-task_fault words =
-    or_else (fault_of conode_command words)
-    (if has_other_mode (subcommand_of conode_command words) then InvalidValue ∷ [] else [])
+task_fault words = or_else (fault_of conode_command words) (mode_fault (subcommand_of conode_command words))

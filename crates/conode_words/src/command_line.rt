@@ -3,7 +3,7 @@
 ghost use Rattle.std.specs.Prelude.{◌≡◌, map, IfOk, option_map, false, [], ◌∷◌, codes};
 ghost use Rattle.clap.specs.Words.{FailsBy, app_of, found_of, rows_of, rule_of, subcommand_of, subcommand_rows_of};
 ghost use Rattle.clap.specs.declared.builder.command.Command.TheViews.{out-Command};
-ghost use Rattle.conode_words.specs.Tasks.{asked_by, asked_check, asked_decode, asked_device, asked_in, asked_loop, asked_of, asked_replay, check_command, conode_command, decode_command, device_by, domains_option, has_other_mode, loop_command, mode_for, mode_of, mode_option, number_for, numbered, replay_command, sheet_option, strings_option, task_fault, time_option, wanted, wanted_node};
+ghost use Rattle.conode_words.specs.Tasks.{asked_by, asked_check, asked_decode, asked_device, asked_in, asked_loop, asked_of, asked_replay, check_command, conode_command, decode_command, device_by, domains_option, has_other_mode, loop_command, mode_fault, mode_for, mode_of, mode_option, number_for, numbered, replay_command, sheet_option, strings_option, task_fault, time_option, wanted, wanted_node, with_rooms};
 
 use crate::help;
 use crate::tasks::Task;
@@ -145,6 +145,18 @@ fn mode_arg<'a>(alloc: Global) -> Arg<'a>
         .help("How to transfer: plain, segmented or block")
 }
 
+// a command with the options of a device's rooms and its time
+fn with_rooms<'a>(alloc: Global, command: Command<'a>) -> Result<Command<'a>, AllocError>
+    ensures shape { IfOk result (λ r. app_of r ≡ with_rooms (app_of command.entry)) }
+    ensures local { IfOk result (λ r. (out-Command command.entry).has_globals ≡ false →
+        (out-Command r).has_globals ≡ false) }
+{
+    let strings = strings_arg(alloc);
+    let domains = domains_arg(alloc);
+    let time = time_arg(alloc);
+    command.arg(strings)?.arg(domains)?.arg(time)
+}
+
 fn replay_command<'a>(alloc: Global) -> Result<Command<'a>, AllocError>
     ensures shape { IfOk result (λ command. app_of command ≡ replay_command) }
     ensures local { IfOk result (λ command. (out-Command command).has_globals ≡ false) }
@@ -156,18 +168,13 @@ fn replay_command<'a>(alloc: Global) -> Result<Command<'a>, AllocError>
         "What it receives, as `candump -L` writes it",
     );
     let node = node_arg(alloc);
-    let strings = strings_arg(alloc);
-    let domains = domains_arg(alloc);
-    let time = time_arg(alloc);
-    Command::new(alloc, "replay")
+    let command = Command::new(alloc, "replay")
         .about("Plays a CAN trace to the device of a data sheet")
         .after_help(help::REPLAYED)
         .arg(sheet)?
         .arg(trace)?
-        .arg(node)?
-        .arg(strings)?
-        .arg(domains)?
-        .arg(time)
+        .arg(node)?;
+    with_rooms(alloc, command)
 }
 
 fn loop_command<'a>(alloc: Global) -> Result<Command<'a>, AllocError>
@@ -179,20 +186,15 @@ fn loop_command<'a>(alloc: Global) -> Result<Command<'a>, AllocError>
     let bytes = wanted(alloc, "HEX", "The bytes, in hexadecimal digits");
     let node = node_arg(alloc);
     let mode = mode_arg(alloc);
-    let strings = strings_arg(alloc);
-    let domains = domains_arg(alloc);
-    let time = time_arg(alloc);
-    Command::new(alloc, "loop")
+    let command = Command::new(alloc, "loop")
         .about("Downloads bytes to the device of a data sheet by an SDO client")
         .after_help(help::LOOPED)
         .arg(sheet)?
         .arg(key)?
         .arg(bytes)?
         .arg(node)?
-        .arg(mode)?
-        .arg(strings)?
-        .arg(domains)?
-        .arg(time)
+        .arg(mode)?;
+    with_rooms(alloc, command)
 }
 
 fn conode_command<'a>(alloc: Global) -> Result<Command<'a>, AllocError>
@@ -378,6 +380,21 @@ fn asked_of<'a>(matches: &ArgMatches<'a>) -> Option<Task<'a>>
     asked_in(name, found)
 }
 
+// what words that the command takes ask for, unless they name a mode that is none
+fn task_of<'a>(
+    command: &mut Command<'a>,
+    matches: &ArgMatches<'a>,
+) -> Result<Option<Task<'a>>, Error>
+    ensures ok { IfOk result (λ task.
+        option_map asked_by task ≡ asked_of (subcommand_rows_of matches.now)) }
+    ensures fault { FailsBy (mode_fault (subcommand_rows_of matches.now)) result }
+{
+    if has_other_mode(matches) {
+        return Err(command.error(ErrorKind::InvalidValue, help::MODES)?);
+    }
+    Ok(asked_of(matches))
+}
+
 /// What the words ask for, the program's name first; `None` without a subcommand. The error has the text for the user,
 /// a mistake in the words or the help that was asked for, and the exit status.
 pub fn task<'a>(alloc: Global, words: &'a [&'a str]) -> Result<Option<Task<'a>>, Error>
@@ -386,9 +403,8 @@ pub fn task<'a>(alloc: Global, words: &'a [&'a str]) -> Result<Option<Task<'a>>,
     ensures fault { FailsBy (task_fault (map (λ word. word.now) words.entry.now)) result }
 {
     let mut command = conode_command(alloc)?;
-    let matches = command.try_get_matches_from_mut(words)?;
-    if has_other_mode(&matches) {
-        return Err(command.error(ErrorKind::InvalidValue, help::MODES)?);
+    match command.try_get_matches_from_mut(words) {
+        Ok(matches) => task_of(&mut command, &matches),
+        Err(error) => Err(error),
     }
-    Ok(asked_of(&matches))
 }
