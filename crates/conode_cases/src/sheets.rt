@@ -4,7 +4,7 @@
 use crate::fakes::{Narrow, expect_lines, lines_of};
 use co_dict_list::Limits;
 use conode_check::{check, check_file, check_text};
-use conode_io::CmdFault;
+use conode_io::{CmdFault, Ending};
 use std::alloc::Global;
 use std::fs;
 use std::process::{Abort, ExitCode};
@@ -137,7 +137,7 @@ fn failing_flush(rt: HostRuntime) -> Result<(), Fail> {
     let mut out = Narrow::new(rt.alloc(), 1000);
     out.flushes = false;
     let mut err = Vec::new(rt.alloc());
-    let status = check_text(
+    let outcome = check_text(
         rt.alloc(),
         text.as_bytes(),
         None,
@@ -145,7 +145,7 @@ fn failing_flush(rt: HostRuntime) -> Result<(), Fail> {
         &mut out,
         &mut err,
     );
-    assert!(rt; status == ExitCode::FAILURE);
+    assert_eq!(rt; outcome, Err(Ending::Said(CmdFault::Write)));
     expect_lines(&rt, err.as_slice(), "stopped: Write|")
 }
 
