@@ -4,11 +4,11 @@ ghost use Rattle.std.specs.Prelude.{◌≡◌, ◌≤◌};
 ghost use Rattle.co_value.specs.declared.key.Key.{Key};
 ghost use Rattle.co_sdo.specs.Refused.{capacity_at};
 
-use crate::sheet::SHEET;
 use co_dict::{Area, ObjectStore, app_store, capacity_law};
 use co_dict_list::{Limits, ListStore};
 use co_frame::{Frame, Outbox};
 use co_sdo::{Channel, Ids};
+use co_sdo_states::SHEET;
 use co_sheet::read;
 use co_value::Key;
 use std::alloc::{AllocError, Global};

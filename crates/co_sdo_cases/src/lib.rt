@@ -8,8 +8,4 @@ mod device;
 #[cfg(test)]
 mod dialogues;
 #[cfg(test)]
-mod reply_table;
-#[cfg(test)]
-mod sheet;
-#[cfg(test)]
 mod states;

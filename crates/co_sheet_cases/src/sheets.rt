@@ -1,5 +1,6 @@
 //! Whole data sheets.
 
+mod cuts;
 mod large_sheet;
 mod out_of_memory;
 
