@@ -4,11 +4,8 @@
 # run. Status 1 where a text doesn't come within a second, where the long run takes more than 10 MB, or where a run whose
 # reader has gone doesn't end.
 set -eu
-root=$(CDPATH='' cd -- "$(dirname -- "$(readlink -f -- "$0")")/.." && pwd)
-folder=$(mktemp -d)
-trap 'rm -rf "$folder"' EXIT
-"$root/bin/conode" --help > /dev/null
-program=$root/crates/conode/out/conode
+# shellcheck source=bench/program.sh
+. "$(dirname "$(readlink -f "$0")")/program.sh"
 
 mkfifo "$folder/in" "$folder/out"
 "$program" decode - < "$folder/in" > "$folder/out" &

@@ -18,6 +18,10 @@ const BUILDS: &str = "\
 5|build fault 2 ValueRange 2003:00|HighLimit=1000/>HighLimit=1000/DefaultValue=$NODEID+999/;$NODEID+0x180>0x101
 5|build fault 2 ValueRange 1800:01|$NODEID+0x180>$NODEID+0xFFFFFFFF;HighLimit=1000/>HighLimit=1000/DefaultValue=$NODEID+999/
 5|build fault 3 BadCobId 1800:01|$NODEID+0x180>0x101;14=0x1A01/15=0x1010/16=0x1011/17=0x1019/>14=0x1010/15=0x1011/16=0x1019/;Objects=17>Objects=16
+5|ok|HighLimit=1000/>HighLimit=1000/DefaultValue=$NODEID+999/ParameterValue=17/
+1|ok|HighLimit=1000/>HighLimit=1000/DefaultValue=17/ParameterValue=$NODEID+999/
+5|build fault 2 ValueRange 2003:00|HighLimit=1000/>HighLimit=1000/DefaultValue=17/ParameterValue=$NODEID+999/
+5|build fault 3 BadCobId 1800:01|$NODEID+0x180>$NODEID+0x180/ParameterValue=0x101
 5|build fault 3 BadCobId 1201:02|0x681>0x680
 5|build fault 3 BadCobId 1201:01|0x680>0x605
 6|ok|0x680>0x605

@@ -4,6 +4,8 @@
 #[cfg(test)]
 mod build;
 #[cfg(test)]
+mod configured;
+#[cfg(test)]
 mod image;
 #[cfg(test)]
 mod pieces;

@@ -31,6 +31,13 @@ one_greatest rows size other one two =
     let ge : other ≤ size = within_other rows other size one two.reached in
     omega arith
 
+-- what the entries of a dictionary that a plan makes are, they are by the plan
+pub starts_by_plan : (plan : Plan) (d : Description) (contents : Contents) (key : Key)
+    → d ≡ built_description plan → contents ≡ built_contents plan → contents key ≡ d.initial key
+    → built_contents plan key ≡ (built_description plan).initial key
+starts_by_plan plan d contents key made filled same =
+    ap (λ (c : Contents). c key) (sym filled) ∙ same ∙ ap (λ (d : Description). d.initial key) made
+
 -- what stands by a dictionary that a plan makes stands by the plan
 pub stands_by_plan : (plan : Plan) (d : Description) (contents : Contents) (size wide greatest time : ℕ) (now : Description) (entries : Contents) (parts : Parts)
     → d ≡ built_description plan → contents ≡ built_contents plan → wide ≡ size → IsGreatestCapacity d.rows size

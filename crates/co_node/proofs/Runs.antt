@@ -1,5 +1,5 @@
 -- One more input at the end of a run.
-use Rattle.std.proofs.Common.{◌≡◌, ◌≤◌, ◌<◌, ◌+◌, ℕ, List, [], ◌∷◌, ◌++◌, length, map, get_or, take, refl, sym, ap, ◌∙◌, subst, append_assoc, append-nil, length-append, arith}
+use Rattle.std.proofs.Common.{◌≡◌, ◌≤◌, ◌<◌, ◌+◌, ℕ, Bool, true, false, ltb, List, [], ◌∷◌, ◌++◌, length, map, get_or, take, refl, sym, ap, ◌∙◌, subst, append_assoc, append-nil, length-append, arith}
 use Rattle.std.proofs.lemmas.List.{take_more, get_or-map, length-map}
 use Rattle.co_frame.specs.FrameContent.{FrameContent}
 use Rattle.co_node_inputs.specs.declared.input.Input.{Input}
@@ -9,7 +9,7 @@ use Rattle.co_node_history.specs.Histories.{after_all, all_frames, prescribed}
 use Rattle.co_node.specs.declared.node.Node.{Node}
 use Rattle.co_node.specs.Nodes.{Stands}
 use Rattle.co_node.specs.Records.{Recorded, HasRoom, with_input}
-use Rattle.co_node.specs.Runs.{all_ends}
+use Rattle.co_node.specs.Runs.{all_ends, most_frames, recorded_after}
 
 after_all-snoc : (before : Inputs) (xs : List InputView) (x : InputView) → after_all before (xs ++ x ∷ []) ≡ x ∷ after_all before xs
 after_all-snoc before [] x = refl
@@ -48,6 +48,24 @@ next_view inputs yielded taken input count here =
 -- a record with room for more frames has room for fewer
 pub room_for : (r : Recorded) (most frames : ℕ) → HasRoom most r → frames ≤ most → HasRoom frames r
 room_for r most frames room few = record { input = room.input; sent = omega arith }
+
+-- a record that is as after some inputs has room where it has room after them
+pub room_after : (k : Constants) (before : Inputs) (more : List InputView) (old r : Recorded) (most : ℕ) → most ≡ most_frames k
+    → r.frames ≡ old.frames ++ all_frames k before more → r.ends ≡ old.ends ++ all_ends k before (length old.frames) more
+    → r.frame_room ≡ old.frame_room → r.input_room ≡ old.input_room
+    → HasRoom most r → HasRoom (most_frames k) (recorded_after k before more old)
+room_after k before more old r most greatest framed ended frame_room input_room room =
+    let ends : length r.ends ≡ length (old.ends ++ all_ends k before (length old.frames) more) = ap length ended in
+    let frames : length r.frames ≡ length (old.frames ++ all_frames k before more) = ap length framed in
+    record { input = omega (arith, room.input); sent = omega (arith, room.sent) }
+
+-- what holds of all numbers below one and of this one
+pub below_next : (P : ℕ → Type 0) (m : ℕ) → ((n : ℕ) → n < m → P n) → P m → (n : ℕ) → n < m + 1 → P n
+below_next P m each last n below = by_test (ltb n m) refl
+  where
+    by_test : (b : Bool) → ltb n m ≡ b → P n
+    by_test true e = each n (grind arith)
+    by_test false e = let same : n ≡ m = grind arith in subst P (sym same) last
 
 pub frames_more : (k : Constants) (before : Inputs) (xs ys : List InputView) (x : InputView) (old : List FrameContent) (r new : Recorded) (sent frames : List FrameContent)
     → ys ≡ xs ++ x ∷ [] → r.frames ≡ old ++ all_frames k before xs → frames ≡ prescribed k (after_all before xs) x → sent ≡ frames → new ≡ with_input sent r

@@ -3,11 +3,11 @@ use Rattle.std.specs.Prelude.{ℕ}
 use Rattle.co_dict.specs.Rows.{Contents}
 use Rattle.co_dict.specs.Stores.{Description}
 use Rattle.co_sheet.specs.Content.{SheetContent}
-use Rattle.co_dict_list.specs.declared.list_store.ListStore.{ListStore}
+use Rattle.co_dict_image.specs.declared.image_store.ImageStore.{ImageStore}
+use Rattle.co_dict_image.specs.Slots.{entries_in}
 use Rattle.co_dict_list.specs.Built.{Plan, plan_of, built_description, built_contents}
 use Rattle.co_dict_list.specs.Capacities.{limits_view}
 use Rattle.co_dict_list.specs.ListedEntries.{description_in, contents_in}
-use Rattle.co_dict_list.specs.StoredEntries.{entry_views}
 use Rattle.co_node_inputs.specs.Inputs.{Inputs}
 use Rattle.co_node_history.specs.Moments.{Constants}
 use Rattle.co_node_step.specs.Built.{constants_of}
@@ -24,11 +24,11 @@ abbrev pub node_constants : Plan → ℕ → ℕ → Constants
 node_constants plan greatest time = constants_of (built_description plan) (built_contents plan) greatest time
 
 -- the description and the contents of its dictionary
-abbrev pub description_of : ListStore → Description
-description_of store = description_in store.node_id store.dummies (entry_views store.entries.items)
+abbrev pub description_of : ImageStore → Description
+description_of store = description_in store.node_id store.dummies (entries_in store.values.items store.initial.items store.slots.items)
 
-abbrev pub entries_of : ListStore → Contents
-entries_of store = contents_in (entry_views store.entries.items)
+abbrev pub entries_of : ImageStore → Contents
+entries_of store = contents_in (entries_in store.values.items store.initial.items store.slots.items)
 
 -- this device stands after these inputs, the newest first
 abbrev pub Stands : Constants → Node → Inputs → Type 0

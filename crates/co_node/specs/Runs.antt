@@ -1,8 +1,9 @@
 -- Inputs one after another, and what is recorded of them.
-use Rattle.std.specs.Prelude.{ℕ, ◌+◌, List, [], ◌∷◌, length, max}
+use Rattle.std.specs.Prelude.{ℕ, ◌+◌, List, [], ◌∷◌, ◌++◌, length, max}
 use Rattle.co_node_inputs.specs.Inputs.{InputView, Inputs}
 use Rattle.co_node_history.specs.Moments.{Constants}
-use Rattle.co_node_history.specs.Histories.{prescribed, tpdo_count}
+use Rattle.co_node_history.specs.Histories.{all_frames, prescribed, tpdo_count}
+use Rattle.co_node.specs.Records.{Recorded}
 
 -- after how many frames those of each input end, where there were so many before
 abbrev pub all_ends : Constants → Inputs → ℕ → List InputView → List ℕ
@@ -10,6 +11,13 @@ all_ends k inputs before [] = []
 all_ends k inputs before (input ∷ more) =
     (before + length (prescribed k inputs input))
     ∷ all_ends k (input ∷ inputs) (before + length (prescribed k inputs input)) more
+
+-- a record after some inputs
+abbrev pub recorded_after : Constants → Inputs → List InputView → Recorded → Recorded
+recorded_after k inputs more r = record r {
+  frames = r.frames ++ all_frames k inputs more;
+  ends = r.ends ++ all_ends k inputs (length r.frames) more;
+}
 
 -- how many frames an input gives at most: 127, or as many as there are TPDOs where those are more, and 2
 abbrev pub most_frames : Constants → ℕ

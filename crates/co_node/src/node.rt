@@ -1,24 +1,30 @@
 //! A device made from a data sheet.
 
-ghost use Rattle.std.specs.Prelude.{◌≡◌, ℕ, ◌≤◌, ◌<◌, ◌++◌, [], ◌∷◌, None, IfOk, IfErr, length, map, take, option_map};
+ghost use Rattle.std.specs.Prelude.{◌≡◌, ℕ, ◌≤◌, ◌<◌, ◌++◌, ◌&&◌, [], ◌∷◌, None, IfOk, IfErr, IfSome, is_some, length, map, nat_lt, take, option_map};
+ghost use Rattle.co_value.specs.declared.key.Key.{Key};
 ghost use Rattle.co_dict.specs.Stores.{IsGreatestCapacity};
-ghost use Rattle.co_dict_list.specs.Built.{built_description};
+ghost use Rattle.co_dict_list.specs.Built.{built_contents, built_description};
 ghost use Rattle.co_dict_list.specs.BuildFaults.{IsBuildFault, build_fault};
+ghost use Rattle.co_pdo.specs.Mappings.{has_pdo, mapping_of};
+ghost use Rattle.co_pdo_compiled.specs.CompiledMappings.{IsCompiledForm};
 ghost use Rattle.co_node_inputs.specs.Inputs.{Inputs, input_view};
 ghost use Rattle.co_node_history.specs.Moments.{Constants};
 ghost use Rattle.co_node_history.specs.Laws.{boot_up};
 ghost use Rattle.co_node_history.specs.Histories.{after_all, all_frames, app_after, contents_of, frame_bound, held_of, prescribed, room_of, state_of};
 ghost use Rattle.co_node.specs.Nodes.{Stands, node_constants, planned};
 ghost use Rattle.co_node.specs.Records.{HasRoom};
-ghost use Rattle.co_node.specs.Runs.{all_ends, most_frames};
+ghost use Rattle.co_node.specs.Runs.{all_ends, most_frames, recorded_after};
 
 use crate::config::Config;
 use crate::record::Record;
-use co_dict_list::{BuildFault, ListStore};
+use co_dict_image::ImageStore;
+use co_dict_list::BuildFault;
 use co_frame::{Frame, Outbox};
 use co_node_inputs::{AppAnswer, AppEvent, Input};
 use co_node_parts::NodeState;
 use co_node_step::Device;
+use co_pdo::Side;
+use co_pdo_compiled::Compiled;
 use co_sheet::Sheet;
 use co_value::Key;
 use std::alloc::Global;
@@ -26,12 +32,12 @@ use std::alloc::Global;
 /// A CANopen device made from a data sheet. It asks for no memory after `build`.
 #[derive(Drop)]
 pub struct Node {
-    device: Device<ListStore>,
+    device: Device<ImageStore>,
 }
 
 impl Node {
     /// The device of a data sheet at a node-ID, in NMT state pre-operational and with nothing received. The faults are those
-    /// of `ListStore::build`; `Memory` also where there is none for the device.
+    /// of `ImageStore::build`; `Memory` also where there is none for the device.
     pub fn build(
         alloc: Global,
         sheet: &Sheet<'_>,
@@ -42,10 +48,13 @@ impl Node {
             (built_description (planned sheet.now node_id config.now)).rows greatest → Stands
             (node_constants (planned sheet.now node_id config.now) greatest config.now.time)
             node []) }
+        ensures start { IfOk result (λ _. (key : Key) →
+            built_contents (planned sheet.now node_id config.now) key
+            ≡ (built_description (planned sheet.now node_id config.now)).initial key) }
         ensures ok { IfOk result (λ _. build_fault (planned sheet.now node_id config.now) ≡ None) }
         ensures err { IfErr result (IsBuildFault (planned sheet.now node_id config.now)) }
     {
-        let store = ListStore::build(alloc, sheet, node_id, &config.limits)?;
+        let store = ImageStore::build(alloc, sheet, node_id, &config.limits)?;
         let greatest = u32::from(store.greatest_capacity());
         match Device::new(alloc, store, greatest, config.time) {
             Ok(device) => Ok(Node { device }),
@@ -125,6 +134,18 @@ impl Node {
         self.device.held(channel)
     }
 
+    /// The compiled mapping of PDO `number` of a side, of what it maps as the dictionary is now; `None` where there is no such
+    /// PDO (CiA 301, 7.5.2.36, 7.5.2.38).
+    pub fn compiled(&self, side: Side, number: u16) -> Option<&Compiled>
+        ensures there { (k : Constants) (before : Inputs) → Stands k self.now before →
+            is_some result ≡ (nat_lt number 512 && has_pdo side k.description.rows number) }
+        ensures form { (k : Constants) (before : Inputs) → Stands k self.now before →
+            IfSome result (λ compiled. IsCompiledForm k.description
+            (mapping_of side k.description (contents_of k before) number) compiled.now) }
+    {
+        self.device.compiled(side, number)
+    }
+
     /// The answer to the last input, where that was an application event.
     pub fn last_app(&self) -> AppAnswer
         ensures { (k : Constants) (before : Inputs) → Stands k self.now before →
@@ -146,6 +167,9 @@ impl Node {
             (take result (map input_view inputs.now)) }
         ensures stands { (k : Constants) (before : Inputs) → Stands k self.old before →
             Stands k self.new (after_all before (take result (map input_view inputs.now))) }
+        ensures roomy { (k : Constants) (before : Inputs) → Stands k self.old before →
+            (n : ℕ) → n < result → HasRoom (most_frames k)
+            (recorded_after k before (take n (map input_view inputs.now)) kept.old) }
         ensures early { (k : Constants) (before : Inputs) → Stands k self.old before →
             result < length inputs.now → HasRoom (most_frames k) kept.new → ⊥ }
         ensures frame_room { kept.new.frame_room ≡ kept.old.frame_room }

@@ -55,7 +55,7 @@ by_both f {d} {e} {c} {n} same there = ap (λ x. f x c) same ∙ ap (λ x. f e x
 -- ---- an SDO request
 
 module _ (k : Constants) (history : History) (d : Description) (entries : Contents) (bank : List NumberedChannel)
-    (now : NodeState) (is : IsBefore k history d entries bank now) (frame : FrameContent) where
+    (numbers : List (Option ℕ)) (now : NodeState) (is : IsBefore k history d entries bank numbers now) (frame : FrameContent) where
   abbrev nothing : Moment
   nothing = nothing_of (Framed frame) (contents_at k history)
 

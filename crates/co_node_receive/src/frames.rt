@@ -1,6 +1,6 @@
 //! Frames and ticks as they are received.
 
-ghost use Rattle.std.specs.Prelude.{◌≡◌, ◌+◌, ◌<◌, ◌≤◌, ◌++◌, ℕ, List, None, IfSome};
+ghost use Rattle.std.specs.Prelude.{◌≡◌, ◌+◌, ◌<◌, ◌≤◌, ◌++◌, ℕ, List, Option, None, IfSome};
 ghost use Rattle.arrayvec.specs.ArrayVec.{array_vec_len};
 ghost use Rattle.co_frame.specs.Nmt.{nmt_command_in};
 ghost use Rattle.co_frame.specs.Outboxes.{HasRoomFor};
@@ -24,6 +24,7 @@ use co_dict::{Area, ObjectStore};
 use co_frame::{Frame, Heartbeat, NmtCommand, NmtService, Outbox};
 use co_node_inputs::{Address, Marks};
 use co_node_parts::{KeptFrame, NodeState};
+use co_node_rpdos::RpdoTable;
 use co_sdo_bank::Bank;
 
 /// The service of a command for this node or for all nodes (CiA 301, 7.2.8.3.1).
@@ -89,8 +90,8 @@ fn take_request<S: ObjectStore>(
     ensures settings { all_settings bank.new ≡ all_settings bank.old }
     ensures description { S.description store.new ≡ S.description store.old }
     ensures rpdo { result.rpdo ≡ None }
-    ensures received { (k : Constants) (history : History) (number : ℕ) →
-        IsBefore k history (S.description store.old) (S.contents store.old) bank.old state →
+    ensures received { (k : Constants) (history : History) (number : ℕ) (rpdos : List (Option ℕ)) →
+        IsBefore k history (S.description store.old) (S.contents store.old) bank.old rpdos state →
         IsFrameReceived (S.description store.old) k history
         (frame_moment k history (Channel number) frame.now) result (S.contents store.new)
         outbox.old.items outbox.new.items bank.new }
@@ -155,8 +156,8 @@ fn take_at<S: ObjectStore>(
     ensures number { IfSome result.rpdo (λ rpdo. rpdo.number < 512) }
     ensures settings { all_settings bank.new ≡ all_settings bank.old }
     ensures description { S.description store.new ≡ S.description store.old }
-    ensures received { (k : Constants) (history : History) →
-        IsBefore k history (S.description store.old) (S.contents store.old) bank.old state →
+    ensures received { (k : Constants) (history : History) (rpdos : List (Option ℕ)) →
+        IsBefore k history (S.description store.old) (S.contents store.old) bank.old rpdos state →
         IsFrameReceived (S.description store.old) k history
         (frame_moment k history address frame.now) result (S.contents store.new)
         outbox.old.items outbox.new.items bank.new }
@@ -175,6 +176,7 @@ fn take_at<S: ObjectStore>(
 pub(crate) fn take_frame<S: ObjectStore>(
     store: &mut S,
     bank: &mut Bank,
+    rpdos: &RpdoTable,
     state: NodeState,
     frame: &Frame,
     outbox: &mut Outbox,
@@ -186,13 +188,16 @@ pub(crate) fn take_frame<S: ObjectStore>(
     ensures settings { all_settings bank.new ≡ all_settings bank.old }
     ensures description { S.description store.new ≡ S.description store.old }
     ensures received { (k : Constants) (history : History) →
-        IsBefore k history (S.description store.old) (S.contents store.old) bank.old state →
+        IsBefore k history (S.description store.old) (S.contents store.old) bank.old rpdos.now
+        state →
         IsFrameReceived (S.description store.old) k history
         (frame_moment k history (address_at k history frame.now.id) frame.now) result
         (S.contents store.new) outbox.old.items outbox.new.items bank.new }
 {
-    let channel = bank.channel_for(frame.id());
-    let address = Address::of(store, frame.id(), channel);
+    let id = frame.id();
+    let channel = bank.channel_for(id);
+    let rpdo = rpdos.rpdo_for(id);
+    let address = Address::with_rpdo(store, id, channel, rpdo);
     take_at(store, bank, state, address, frame, outbox)
 }
 

@@ -1,10 +1,12 @@
 //! A device as it is built, and what is read of it.
 
-ghost use Rattle.std.specs.Prelude.{◌≡◌, ◌≤◌, ◌+◌, ℕ, [], ◌∷◌, IfOk, max, option_map};
+ghost use Rattle.std.specs.Prelude.{◌≡◌, ◌≤◌, ◌+◌, ◌&&◌, ℕ, [], ◌∷◌, IfOk, IfSome, is_some, max, nat_lt, option_map};
 ghost use Rattle.co_value.specs.declared.key.Key.{Key};
 ghost use Rattle.co_dict.specs.Rows.{capacity_at, number_at};
 ghost use Rattle.co_node_parts.specs.ConsumerTables.{AllBegun, ConsumersStand};
 ghost use Rattle.co_node_parts.specs.Producers.{ProducerStands};
+ghost use Rattle.co_pdo.specs.Mappings.{has_pdo, mapping_of};
+ghost use Rattle.co_pdo_compiled.specs.CompiledMappings.{IsCompiledForm};
 ghost use Rattle.co_node_inputs.specs.Inputs.{Inputs, InputView};
 ghost use Rattle.co_node_inputs.specs.Keys.{producer_key};
 ghost use Rattle.co_node_inputs.specs.Words.{consumer_words};
@@ -16,17 +18,20 @@ ghost use Rattle.co_node_step.specs.Built.{constants_of};
 
 use crate::device::Device;
 use crate::parts::Parts;
-use co_dict::{ObjectStore, number_u16};
+use co_dict::{ObjectStore, Side, number_u16};
 use co_frame::{Heartbeat, Outbox};
 use co_node_inputs::AppAnswer;
 use co_node_laws::greatest_bound;
+use co_node_mappings::CompiledMappings;
 use co_node_parts::{
     Emergencies, HeartbeatConsumers, HeartbeatProducer, NmtState, NodeState, ProducerEvent,
     RpdoSlots,
 };
 use co_node_phases::consumer_words;
+use co_node_rpdos::RpdoTable;
 use co_node_turns::send_life;
-use co_pdo::Schedule;
+use co_pdo::{Schedule, has_pdo};
+use co_pdo_compiled::Compiled;
 use co_profile::PRODUCER_HEARTBEAT;
 use co_sdo_bank::Bank;
 use co_value::Key;
@@ -72,12 +77,16 @@ impl<S: ObjectStore + Drop> Device<S> {
         ensures contents { IfOk result (λ device. S.contents device.store ≡ S.contents store) }
     {
         let bank = Bank::new(alloc, &store, greatest, time)?;
+        let rpdos = RpdoTable::new(alloc, &store)?;
+        let mappings = CompiledMappings::new(alloc, &store)?;
         let emergencies = Emergencies::new(alloc)?;
         let slots = RpdoSlots::new(alloc, 512)?;
         let schedule = Schedule::new(alloc, &store)?;
         let parts = Parts {
             state: NmtState::new(),
             bank,
+            rpdos,
+            mappings,
             consumers: begun_consumers(&store),
             emergencies,
             slots,
@@ -147,6 +156,24 @@ impl<S: ObjectStore> Device<S> {
             inputs → result ≡ app_after k inputs }
     {
         self.parts.last_app
+    }
+
+    /// The compiled mapping of PDO `number` of a side, of what it maps as the dictionary is now; `None` where there is no such
+    /// PDO (CiA 301, 7.5.2.36, 7.5.2.38).
+    pub fn compiled(&self, side: Side, number: u16) -> Option<&Compiled>
+        ensures there { (k : Constants) (inputs : Inputs) →
+            NodeStands k (S.description self.now.store) (S.contents self.now.store) self.now.parts
+            inputs → is_some result ≡ (nat_lt number 512 && has_pdo side k.description.rows number) }
+        ensures form { (k : Constants) (inputs : Inputs) →
+            NodeStands k (S.description self.now.store) (S.contents self.now.store) self.now.parts
+            inputs → IfSome result (λ compiled. IsCompiledForm k.description
+            (mapping_of side k.description (contents_of k inputs) number) compiled.now) }
+    {
+        if number < 512 && has_pdo(&self.store, side, number) {
+            self.parts.mappings.compiled(side, number)
+        } else {
+            None
+        }
     }
 
     /// How many frames one input gives at most: 127, or as many as there are TPDOs where those are more, and 2; so at most

@@ -19,7 +19,8 @@ use crate::parts::Parts;
 use co_dict::{ObjectStore, number_u16, store_laws};
 use co_frame::{Frame, Outbox};
 use co_node_inputs::{AppEvent, Input, Marks};
-use co_node_laws::{few, greatest_bound, schedule_ready};
+use co_node_laws::{few, greatest_bound, rpdos_kept, schedule_ready};
+use co_node_mappings::mappings_kept;
 use co_node_parts::{NodeState, Transition};
 use co_node_phases::{take_pdos, watch};
 use co_node_receive::{Given, receive};
@@ -116,6 +117,7 @@ impl<S: ObjectStore> Device<S> {
             &mut self.store,
             &mut self.parts.bank,
             &mut self.parts.emergencies,
+            &self.parts.rpdos,
             before,
             given,
             frame,
@@ -143,6 +145,8 @@ impl<S: ObjectStore> Device<S> {
             marks,
             transition,
         );
+        self.parts.rpdos.note(marks, &self.store);
+        self.parts.mappings.note(marks, &self.store);
         self.parts.emergencies.note(marks.emergency_event());
         let may = marks.may_send(&self.store, transition.after);
         let inhibit = number_u16(&self.store, EMERGENCY_INHIBIT);
@@ -155,6 +159,8 @@ impl<S: ObjectStore> Device<S> {
         let due = take_turn(&mut self.parts.schedule, &self.store, turn);
         send_tpdos(&self.store, &due, outbox);
         // what follows holds of every device, and does nothing
+        rpdos_kept();
+        mappings_kept();
         schedule_ready();
         few();
         greatest_bound();

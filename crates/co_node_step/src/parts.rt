@@ -1,17 +1,23 @@
 //! The parts of a device besides its dictionary.
 
 use co_node_inputs::AppAnswer;
+use co_node_mappings::CompiledMappings;
 use co_node_parts::{Emergencies, HeartbeatConsumers, HeartbeatProducer, NmtState, RpdoSlots};
+use co_node_rpdos::RpdoTable;
 use co_pdo::Schedule;
 use co_sdo_bank::Bank;
 
-/// The parts of a device besides its dictionary: each is told once an input what the input was to it.
+/// The parts of a device besides its dictionary: each gets once an input what the input was to it.
 #[derive(Drop)]
 pub struct Parts {
     /// The NMT state.
     pub state: NmtState,
     /// All SDO channels.
     pub bank: Bank,
+    /// The RPDOs by their identifiers.
+    pub rpdos: RpdoTable,
+    /// The compiled mappings of all PDOs.
+    pub mappings: CompiledMappings,
     /// The monitoring of other nodes' heartbeats.
     pub consumers: HeartbeatConsumers,
     /// The emergencies that wait.

@@ -16,6 +16,22 @@ const LIMITED: Key = Key {
     sub: 0,
 };
 
+/// What comes into 2002h and 2003h, the answer, and what is sent of them then.
+pub(crate) const ROWS: [(&[u8], Result<(), PdoFault>, [u8; 6]); 4] = [
+    (&[1, 2, 3, 4, 5], Err(PdoFault::Short), [0; 6]),
+    (&[1, 2, 3, 4, 5, 0], Ok(()), [1, 2, 3, 4, 5, 0]),
+    (
+        &[6, 7, 8, 9, 0xE9, 3],
+        Err(PdoFault::OutOfLimits),
+        [1, 2, 3, 4, 5, 0],
+    ),
+    (
+        &[6, 7, 8, 9, 0xE8, 3, 0],
+        Err(PdoFault::Long),
+        [6, 7, 8, 9, 0xE8, 3],
+    ),
+];
+
 #[test]
 fn mappings(rt: HostRuntime) -> Result<(), Fail> {
     let store = device(rt.alloc())?;
@@ -43,22 +59,7 @@ fn mappings(rt: HostRuntime) -> Result<(), Fail> {
 #[test]
 fn data(rt: HostRuntime) -> Result<(), Fail> {
     let mut store = device(rt.alloc())?;
-    // what comes into 2002h and 2003h, the answer, and what is sent of them then
-    let rows: [(&[u8], Result<(), PdoFault>, [u8; 6]); 4] = [
-        (&[1, 2, 3, 4, 5], Err(PdoFault::Short), [0; 6]),
-        (&[1, 2, 3, 4, 5, 0], Ok(()), [1, 2, 3, 4, 5, 0]),
-        (
-            &[6, 7, 8, 9, 0xE9, 3],
-            Err(PdoFault::OutOfLimits),
-            [1, 2, 3, 4, 5, 0],
-        ),
-        (
-            &[6, 7, 8, 9, 0xE8, 3, 0],
-            Err(PdoFault::Long),
-            [6, 7, 8, 9, 0xE8, 3],
-        ),
-    ];
-    for (bytes, answer, sent) in rows {
+    for (bytes, answer, sent) in ROWS {
         let rpdo = Mapping::read(&store, Side::Rpdo, 0);
         assert_eq!(rt; apply(&mut store, &rpdo, bytes), answer, "{bytes:?}");
         let number = Mapping::read(&store, Side::Tpdo, 0);

@@ -2,6 +2,7 @@
 
 use crate::sheet::SHEET;
 use co_dict::{ObjectStore, may_store};
+use co_dict_image::ImageStore;
 use co_dict_list::{Limits, ListStore};
 use co_sheet::read;
 use co_value::Key;
@@ -17,6 +18,17 @@ pub(crate) fn device(alloc: Global) -> Result<ListStore, Fail> {
         own: &[],
     };
     Ok(ListStore::build(alloc, &sheet, 5, &limits)?)
+}
+
+/// The same dictionary as one image of all values.
+pub(crate) fn image_device(alloc: Global) -> Result<ImageStore, Fail> {
+    let sheet = read(alloc, SHEET.as_bytes())?;
+    let limits = Limits {
+        strings: 16,
+        domains: 0,
+        own: &[],
+    };
+    Ok(ImageStore::build(alloc, &sheet, 5, &limits)?)
 }
 
 /// Writes a number by SDO at a place such as 0x1800_01, and gives the abort code, 0 for none.

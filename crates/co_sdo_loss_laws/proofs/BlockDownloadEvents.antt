@@ -27,7 +27,7 @@ use Rattle.co_sdo_laws.proofs.Client.{follows, stays}
 use Rattle.co_sdo_laws.proofs.BlockSegments.{sub_block_bytes}
 use Rattle.co_sdo_laws.proofs.BlockDownloadPlaces.{HasBegun, Took}
 use Rattle.co_sdo_loss_laws.specs.Disturbed.{is_repeat}
-use Rattle.co_sdo_loss_laws.proofs.StopAndWait.{is_aborted, has_failed, failed_more}
+use Rattle.co_sdo_loss_laws.proofs.Failures.{is_aborted, has_failed, failed_more}
 use Rattle.co_sdo_loss_laws.proofs.Channel.{IsServing, serving_ticks, serving_ends}
 use Rattle.co_sdo_loss_laws.proofs.BlockUploads.{live, live_both, cut_fails, cut_read}
 use Rattle.co_sdo_loss_laws.proofs.BlockDownloads.{is_awaited, awaited, awaited_both, aborted_other, IsGone, gone_ticks, gone_ends}

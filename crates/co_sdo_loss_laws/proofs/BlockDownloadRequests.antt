@@ -24,7 +24,7 @@ use Rattle.co_sdo_laws.proofs.Server.{moved}
 use Rattle.co_sdo_laws.proofs.BlockSegments.{full_joined, all_held, all_is}
 use Rattle.co_sdo_laws.proofs.BlockDownloadPlaces.{HasBegun, Took}
 use Rattle.co_sdo_loss_laws.specs.Disturbed.{IsAlone}
-use Rattle.co_sdo_loss_laws.proofs.StopAndWait.{has_failed, failed_front}
+use Rattle.co_sdo_loss_laws.proofs.Failures.{has_failed, failed_front}
 use Rattle.co_sdo_loss_laws.proofs.Channel.{IsServing, is_served}
 use Rattle.co_sdo_loss_laws.proofs.BlockUploads.{live, live_after}
 use Rattle.co_sdo_loss_laws.proofs.BlockDownloads.{awaited, awaited_after, AreOthers, aborted_other, IsGone, gone_answers, gone_goes_on}

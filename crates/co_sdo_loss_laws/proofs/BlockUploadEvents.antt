@@ -28,7 +28,7 @@ use Rattle.co_sdo_laws.proofs.SegmentedUploads.{value}
 use Rattle.co_sdo_laws.proofs.BlockSegments.{all_is}
 use Rattle.co_sdo_laws.proofs.BlockUploadPlaces.{HasBegun, Took, TookAll, IsDone}
 use Rattle.co_sdo_loss_laws.specs.Disturbed.{is_repeat}
-use Rattle.co_sdo_loss_laws.proofs.StopAndWait.{has_failed, failed_more, failed_front}
+use Rattle.co_sdo_loss_laws.proofs.Failures.{has_failed, failed_more, failed_front}
 use Rattle.co_sdo_loss_laws.proofs.Channel.{serving_ticks, serving_ends}
 use Rattle.co_sdo_loss_laws.proofs.Uploads.{small_value}
 use Rattle.co_sdo_loss_laws.proofs.BlockUploads.{IsUpload, total, confirmation, unused, server_end, segment_at, segments, live, live_both, cut_fails, Lawful, Idle, begun, sending, May, Moment, Stands, asking, confirmed, starting, taking, acknowledging, finishing, ending, quiet, over, failed}

@@ -19,7 +19,7 @@ use Rattle.co_sdo_laws.proofs.Client.{follows}
 use Rattle.co_sdo_laws.proofs.SegmentedUploads.{value}
 use Rattle.co_sdo_laws.proofs.BlockSegments.{segment_with, full_joined}
 use Rattle.co_sdo_laws.proofs.BlockUploadPlaces.{Took}
-use Rattle.co_sdo_loss_laws.proofs.StopAndWait.{has_failed}
+use Rattle.co_sdo_loss_laws.proofs.Failures.{has_failed}
 use Rattle.co_sdo_loss_laws.proofs.BlockUploads.{IsUpload, total, size_after, segment_at, segments, data_at, frame_with, frame_is, frame_long, frame_read, other_byte, live, sending, May, Stands, taking, acknowledging, finishing, failed}
 
 -- ---- a segment at the client

@@ -36,7 +36,7 @@ use Rattle.co_sdo_laws.proofs.SegmentedUploads.{value}
 use Rattle.co_sdo_laws.proofs.BlockSegments.{segment_with, padded_long}
 use Rattle.co_sdo_laws.proofs.BlockUploadPlaces.{HasBegun, Took, TookAll, IsDone}
 use Rattle.co_sdo_loss_laws.specs.Disturbed.{IsAlone}
-use Rattle.co_sdo_loss_laws.proofs.StopAndWait.{is_aborted, has_failed}
+use Rattle.co_sdo_loss_laws.proofs.Failures.{is_aborted, has_failed}
 use Rattle.co_sdo_loss_laws.proofs.Channel.{IsServing, Steps}
 use Rattle.co_sdo_loss_laws.proofs.Client.{aborted_fails}
 

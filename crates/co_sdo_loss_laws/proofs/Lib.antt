@@ -1,3 +1,4 @@
+pub mod Failures
 pub mod StopAndWait
 pub mod Channel
 pub mod Client

@@ -1,52 +1,26 @@
 -- Transfers in which each request waits for its answer, whatever disturbs them. The client sends nothing twice, and each queue
 -- keeps its order, so both ends see only frames of two steps, one after the other: which of the two, the toggle tells.
-use Rattle.std.proofs.Common.{◌≡◌, ℕ, zero, suc, ◌<◌, ◌≤◌, Bool, true, false, List, [], ◌∷◌, ◌++◌, map, drop, Option, Some, refl, sym, ap, ◌∙◌, arith, eqb, subst, append-nil, ◌⊎◌, inl, inr}
+use Rattle.std.proofs.Common.{◌≡◌, ℕ, zero, suc, ◌<◌, ◌≤◌, Bool, true, false, List, [], ◌∷◌, ◌++◌, map, drop, refl, sym, ap, ◌∙◌, arith, eqb, subst, append-nil, ◌⊎◌, inl, inr}
 use Rattle.std.specs.List.{AllByRecursion}
 use Rattle.std.proofs.lemmas.Bool.{eqb-true, false≢true}
 use Rattle.std.proofs.lemmas.Bool.Decides.{nat_tests}
 use Rattle.std.specs.Prelude.{if◌then◌else◌}
-use Rattle.co_value.specs.declared.key.Key.{Key}
-use Rattle.co_frame.specs.declared.sdo_response.SdoResponse.{SdoResponse}
 use Rattle.co_frame.specs.declared.sdo_response.SdoResponse.TheVariants.{Abort}
-use Rattle.co_frame.specs.SdoResponses.{response_row_in, response_in, response_bytes}
-use Rattle.co_sdo_client.specs.declared.state.ClientState.{ClientState}
-use Rattle.co_sdo_client.specs.declared.state.ClientState.TheVariants.{Waiting, Done, Failed}
+use Rattle.co_frame.specs.SdoResponses.{response_bytes}
+use Rattle.co_sdo_client.specs.declared.state.ClientState.TheVariants.{Waiting, Done}
 use Rattle.co_sdo_client.specs.Calls.{message_bytes, Event as ClientEvent, Answered, Ticked as TickedAtClient, is_time_over as is_client_over}
 use Rattle.co_sdo_client.specs.Verdicts.{GoesOn, Ends, verdict}
-use Rattle.co_sdo_client.specs.Outcomes.{state_by, while_waiting, outcome, asked, result}
+use Rattle.co_sdo_client.specs.Outcomes.{outcome, asked, result}
 use Rattle.co_dict.specs.Rows.{Contents}
 use Rattle.co_sdo.specs.Log.{Log, Ticked, TimedOut}
 use Rattle.co_sdo.specs.Opened.{opened_after, is_time_over}
 use Rattle.co_sdo.specs.Replies.{open_key, time_out_reply}
-use Rattle.co_sdo.specs.Completed.{set_by, contents_with}
-use Rattle.co_sdo_laws.specs.World.{Setup, World, Queue, Requests, Answers, WorldEvent, Delivered, Lost, Repeated, ClientTicked, ChannelTicked, first_world, at_client, at_channel, timed_out, ticked, on_way, without_front, front_arrives, after_event, world_after}
+use Rattle.co_sdo_laws.specs.World.{Setup, World, Queue, Requests, Answers, WorldEvent, Delivered, Lost, Repeated, ClientTicked, ChannelTicked, first_world, at_client, at_channel, timed_out, ticked, without_front, front_arrives, after_event, world_after}
 use Rattle.co_sdo_laws.proofs.Client.{follows, stays, tick_verdict}
 use Rattle.co_sdo_laws.proofs.Turns.{Takes, GoesOnWith}
+use Rattle.co_sdo_loss_laws.proofs.Failures.{IsAbort, has_failed, Fails, Refuses, abort_read, failed_event}
 
--- ---- aborts and failures
-
-abbrev pub is_aborted : Option SdoResponse → Bool
-is_aborted (Some (Abort key code)) = true
-is_aborted _ = false
-
--- a frame that gives the transfer up
-abbrev pub IsAbort : List ℕ → Type 0
-IsAbort frame = is_aborted (response_in frame) ≡ true
-
-abbrev pub has_failed : ClientState → Bool
-has_failed (Failed code) = true
-has_failed _ = false
-
--- this answer makes a client give up that waits after these events
-abbrev pub Fails : Setup → List ClientEvent → List ℕ → Type 0
-Fails s events frame = has_failed (state_by (verdict s.call events (Answered frame))) ≡ true
-
--- the channel refuses a request: an abort, and nothing is open or set
-pub record Refuses (s : Setup) (log : Log) (contents : Contents) (request : List ℕ) (Idle : Log → Contents → Type 0) : Type 0 where
-  pub answer : List ℕ
-  pub is_abort : IsAbort answer
-  pub takes : Takes s log contents request answer Idle
-  pub same : contents_with contents (set_by s.description contents log request) ≡ contents
+-- ---- the channel
 
 -- the channel after it took request k: that is open, or it was the last one
 pub data Reached (last : ℕ) (Idle : Log → Contents → Type 0) (Open : ℕ → Log → Contents → Type 0) (IsSet : Contents → Type 0) (k : ℕ) (log : Log) (contents : Contents) : Type 0 where
@@ -486,10 +460,6 @@ after_ends : (s : Setup) (t : StopAndWait s) (k : ℕ) (log : Log) (contents : C
 after_ends s t k log contents (inl h) = t.idle_ends log contents h
 after_ends s t k log contents (inr h) = t.open_ends k log contents h
 
-pub abort_read : (key : Key) (code : ℕ) → IsAbort (response_bytes (Abort key (record { 0 = code })))
-unfolding response_row_in
-abort_read key code = refl
-
 -- the frame that a channel sends when its time is over
 abbrev last_word : Log → List ℕ
 last_word log = response_bytes (Abort (open_key (opened_after log)) (record { 0 = 0x05040000 }))
@@ -518,37 +488,6 @@ waits_tick s t k w false h = record { waits = h.waits; within = h.within; client
 over_tick : (s : Setup) (t : StopAndWait s) (w : World) (ends : Bool) → IsOver s t w → IsOver s t (if ends then timed_out (ticked w) else ticked w)
 over_tick s t w true h = record { done = h.done; value = h.value; requests = h.requests; channel = t.idle_ends (Ticked ∷ w.log) w.contents (t.idle_ticks w.log w.contents h.channel); set = h.set }
 over_tick s t w false h = record { done = h.done; value = h.value; requests = h.requests; channel = t.idle_ticks w.log w.contents h.channel; set = h.set }
-
--- ---- a client that has failed
-
-failed_still : (state next : ClientState) → has_failed state ≡ true → has_failed (while_waiting state next state) ≡ true
-failed_still Waiting next h = absurd (false≢true h)
-failed_still Done next h = absurd (false≢true h)
-failed_still (Failed code) next h = h
-
-pub failed_more : (s : Setup) (event : ClientEvent) (older : List ClientEvent) → has_failed (outcome s.call older) ≡ true → has_failed (outcome s.call (event ∷ older)) ≡ true
-failed_more s event older h = failed_still (outcome s.call older) (state_by (verdict s.call older event)) h
-
-pub failed_front : (s : Setup) (queue : Queue) (xs : List (List ℕ)) (w : World) → has_failed (outcome s.call w.events) ≡ true → has_failed (outcome s.call (front_arrives s queue xs w).events) ≡ true
-failed_front s queue [] w h = h
-failed_front s Requests (x ∷ xs) w h = h
-failed_front s Answers (x ∷ xs) w h = failed_more s (Answered x) w.events h
-
-failed_loses : (s : Setup) (queue : Queue) (w : World) → has_failed (outcome s.call w.events) ≡ true → has_failed (outcome s.call (without_front queue w).events) ≡ true
-failed_loses s Requests w h = h
-failed_loses s Answers w h = h
-
-failed_tick : (s : Setup) (w : World) (ends : Bool) → has_failed (outcome s.call w.events) ≡ true → has_failed (outcome s.call (if ends then timed_out (ticked w) else ticked w).events) ≡ true
-failed_tick s w true h = h
-failed_tick s w false h = h
-
--- whatever happens to a client that has failed
-pub failed_event : (s : Setup) (event : WorldEvent) (w : World) → has_failed (outcome s.call w.events) ≡ true → has_failed (outcome s.call (after_event s event w).events) ≡ true
-failed_event s (Delivered queue) w h = failed_front s queue (on_way queue w) (without_front queue w) (failed_loses s queue w h)
-failed_event s (Lost queue) w h = failed_loses s queue w h
-failed_event s (Repeated queue) w h = failed_front s queue (on_way queue w) w h
-failed_event s ClientTicked w h = failed_more s TickedAtClient w.events h
-failed_event s ChannelTicked w h = failed_tick s w (is_time_over s.time (Ticked ∷ w.log)) h
 
 -- ---- every event
 

@@ -6,8 +6,8 @@ use Rattle.std.specs.Result.{result_ok, result_err, IfOk}
 use Rattle.co_value.specs.declared.data_type.DataType.{DataType}
 use Rattle.co_value.specs.declared.data_type.DataType.TheVariants.{VisibleString, OctetString, Domain}
 use Rattle.co_value.specs.Types.{code_of, least_of, greatest_of}
-use Rattle.co_sheet_rows.specs.declared.entry.Preset.{Preset}
 use Rattle.co_sheet.specs.declared.checks.entries.Limit.{Limit}
+use Rattle.co_sheet.specs.declared.checks.entries.Stated.{Stated}
 use Rattle.co_sheet.specs.declared.checks.entries.Values.{Values}
 use Rattle.co_sheet_rows.specs.declared.fault.FaultKind.{FaultKind}
 use Rattle.co_sheet_rows.specs.declared.fault.FaultKind.TheVariants.{MissingKey, LeftOutType, BadLimits, BadDefault}
@@ -18,12 +18,12 @@ use Rattle.co_sheet_text.specs.Properties.{property_number}
 use Rattle.co_sheet.specs.ObjectLists.{is_one_of}
 use Rattle.co_profile.specs.FixedTypes.{fixed_type_of}
 use Rattle.co_sheet.specs.Entries.{Entry, is_domain, data_type_with, type_code, data_type_of}
-use Rattle.co_sheet.specs.Limits.{Default, absent, number, node_id, text, pairs, number_at_type, numeric_default, is_numeric, limit_at, low_limit, high_limit, at_most, default_with, default_of}
-use Rattle.co_sheet.specs.Checks.{fault_if, at_key, missing_key, unread, unread_limits, limit_outside, bad_limits, is_bad_default, bad_default, in_numeric, left_out_codes, type_line, is_bad_type, bad_type, left_out_type, bad_access, unread_entry_numbers}
+use Rattle.co_sheet.specs.Limits.{Default, absent, number, node_id, text, pairs, number_at_type, numeric_default, is_numeric, limit_at, low_limit, high_limit, at_most, default_with, stated_default}
+use Rattle.co_sheet.specs.Checks.{fault_if, at_key, missing_key, unread_limit, unread_defaults, unread_limits, limit_outside, bad_limits, is_bad_default, bad_default_at, bad_default, in_numeric, left_out_codes, type_line, is_bad_type, bad_type, left_out_type, bad_access, unread_entry_numbers}
 use Rattle.co_sheet.specs.Accepted.{least_fault}
 use Rattle.co_sheet.specs.private.LeastFaults.{earlier}
 use Rattle.co_sheet.specs.private.Findings.{found_by, checked}
-use Rattle.co_sheet.specs.private.EntryReadings.{IsNumberAt, IsLimitAt, IsDefaultAt, value_of, limits_found, type_finding, value_finding, entry_finding, AreValues, is_outside, default_found}
+use Rattle.co_sheet.specs.private.EntryReadings.{IsNumberAt, IsLimitAt, IsDefaultAt, IsStatedAt, value_of, preset_of, limits_found, type_finding, value_finding, entry_finding, AreValues, is_outside, default_found, defaults_found}
 use Rattle.co_sheet.specs.Views.{default_view}
 use Rattle.co_sheet.proofs.LeastLemmas.{least-two}
 
@@ -103,12 +103,23 @@ numeric-form OctetString value h = absurd (cc)
 numeric-form Domain value h = absurd (cc)
 numeric-form t value h = refl
 
-pub default-read : (t : DataType) (e : Entry) (preset : Preset) → is_numeric t ≡ true → IsDefaultAt t (property_at (codes "DefaultValue") e.section) preset → default_of t e ≡ default_view preset
-default-read t e preset numeric h = cases (property_at (codes "DefaultValue") e.section) h
-  where
-    cases : (key : Option Property) → IsDefaultAt t key preset → unwrap_or (option_and_then (λ (k : Property). default_with t k.value) key) absent ≡ default_view preset
-    cases None h = sym h
-    cases (Some k) h = rw (numeric-form t k.value numeric, h) refl
+-- what is read of a numeric type is what is stated
+numeric-stated : (t : DataType) (key : Option Property) (stated : Option Stated) → is_numeric t ≡ true → IsDefaultAt t key stated → IsStatedAt t key stated
+numeric-stated t None None numeric h = tt
+numeric-stated t None (Some s) numeric h = absurd h
+numeric-stated t (Some k) None numeric h = absurd h
+numeric-stated t (Some k) (Some s) numeric h = (ap (λ o. unwrap_or o absent) (numeric-form t k.value numeric ∙ ap result_ok h.0), h.1)
+
+-- ParameterValue's, or where it is absent DefaultValue's
+default-read : (t : DataType) (default_key parameter_key : Option Property) (default parameter : Option Stated) → IsStatedAt t default_key default → IsStatedAt t parameter_key parameter
+    → option_map_or (stated_default t) (option_or parameter_key default_key) absent ≡ preset_of (option_or parameter default)
+default-read t None None None None h p = refl
+default-read t (Some k) None (Some s) None h p = h.0
+default-read t default_key (Some k) default (Some s) h p = p.0
+default-read t None None (Some s) None h p = absurd h
+default-read t (Some k) None None None h p = absurd h
+default-read t default_key None default (Some s) h p = absurd p
+default-read t default_key (Some k) default None h p = absurd p
 
 -- ---- types
 
@@ -167,17 +178,20 @@ stops g o rest h = ap (λ p. option_or p rest) h
 
 -- ---- limits
 
--- what of_low, of_high and of_default find is what can't be read
-pub unread-read : (t : DataType) (e : Entry) (of_low of_high of_default : Option SheetFault)
-    → of_low ≡ least_fault (at_key (λ k. unread (number_at_type t k.value) k.line) (codes "LowLimit") e.section)
-    → of_high ≡ least_fault (at_key (λ k. unread (number_at_type t k.value) k.line) (codes "HighLimit") e.section)
-    → of_default ≡ least_fault (at_key (λ k. unread (numeric_default t k.value) k.line) (codes "DefaultValue") e.section)
-    → earlier (earlier of_low of_high) of_default ≡ least_fault (unread_limits t e)
-unread-read t e of_low of_high of_default l h d =
-    let low = at_key (λ k. unread (number_at_type t k.value) k.line) (codes "LowLimit") e.section in
-    let high = at_key (λ k. unread (number_at_type t k.value) k.line) (codes "HighLimit") e.section in
-    let default = at_key (λ k. unread (numeric_default t k.value) k.line) (codes "DefaultValue") e.section in
-    least-two (low ++ high) default (earlier of_low of_high) of_default (earlier (earlier of_low of_high) of_default) refl (least-two low high of_low of_high (earlier of_low of_high) refl l h) d
+-- what is found at two keys
+pub both-keys : (found : Property → List SheetFault) (name other : List ℕ) (e : Entry) (of_first of_second : Option SheetFault)
+    → of_first ≡ least_fault (at_key found name e.section) → of_second ≡ least_fault (at_key found other e.section)
+    → earlier of_first of_second ≡ least_fault (at_key found name e.section ++ at_key found other e.section)
+both-keys found name other e of_first of_second h k =
+    least-two (at_key found name e.section) (at_key found other e.section) of_first of_second (earlier of_first of_second) refl h k
+
+-- what of_limits and of_defaults find is what can't be read
+pub unread-read : (t : DataType) (e : Entry) (of_limits of_defaults : Option SheetFault)
+    → of_limits ≡ least_fault (at_key (unread_limit t) (codes "LowLimit") e.section ++ at_key (unread_limit t) (codes "HighLimit") e.section)
+    → of_defaults ≡ least_fault (unread_defaults t e)
+    → earlier of_limits of_defaults ≡ least_fault (unread_limits t e)
+unread-read t e of_limits of_defaults l d =
+    least-two (at_key (unread_limit t) (codes "LowLimit") e.section ++ at_key (unread_limit t) (codes "HighLimit") e.section) (unread_defaults t e) of_limits of_defaults (earlier of_limits of_defaults) refl l d
 
 -- what is read of a numeric type
 numeric_is : (t : DataType) (e : Entry) (found : DataType → Entry → List SheetFault) → data_type_of e ≡ Some t → is_numeric t ≡ true → in_numeric found e ≡ found t e
@@ -186,15 +200,46 @@ numeric_is t e found is numeric = ap (λ o. option_map_or (λ u. cond (is_numeri
 pub numeric-unread : (t : DataType) (e : Entry) → data_type_of e ≡ Some t → is_numeric t ≡ true → least_fault (unread_limits t e) ≡ least_fault (in_numeric unread_limits e)
 numeric-unread t e is numeric = ap least_fault (sym (numeric_is t e unread_limits is numeric))
 
+-- what is wrong with a default, and with both
+default_cases : (t : DataType) (e : Entry) (low high : Option ℤ) (d : Default) → low_limit t e ≡ low → high_limit t e ≡ high → is_bad_default t e d ≡ is_outside t low high d
+default_cases t e low high (number value) l h = rw (l, h) refl
+default_cases t e low high (pairs digits) l h = refl
+default_cases t e low high absent l h = refl
+default_cases t e low high (node_id n) l h = refl
+default_cases t e low high (text bytes) l h = refl
+
+module _ (t : DataType) (e : Entry) (values : Values) (is : data_type_of e ≡ Some t) (low : low_limit t e ≡ value_of values.low) (high : high_limit t e ≡ value_of values.high) where
+  stated_cases : (key : Option Property) (stated : Option Stated) → IsStatedAt t key stated → option_map_or (bad_default_at e) key [] ≡ option_map_or (default_found t values) stated []
+  stated_cases None None h = refl
+  stated_cases None (Some s) h = absurd h
+  stated_cases (Some k) None h = absurd h
+  stated_cases (Some k) (Some s) h =
+      ap (λ o. fault_if (option_map_or (λ u. is_bad_default u e (stated_default u k)) o false) BadDefault k.line) is
+      ∙ ap (λ d. fault_if (is_bad_default t e d) BadDefault k.line) h.0
+      ∙ ap (λ b. fault_if b BadDefault k.line) (default_cases t e (value_of values.low) (value_of values.high) (default_view s.preset) low high)
+      ∙ ap (fault_if (is_outside t (value_of values.low) (value_of values.high) (default_view s.preset)) BadDefault) h.1
+
+  bad-read : IsStatedAt t (property_at (codes "DefaultValue") e.section) values.default → IsStatedAt t (property_at (codes "ParameterValue") e.section) values.parameter → bad_default e ≡ defaults_found t values
+  bad-read h p =
+      ap (λ fs. fs ++ option_map_or (bad_default_at e) (property_at (codes "ParameterValue") e.section) []) (stated_cases (property_at (codes "DefaultValue") e.section) values.default h)
+      ∙ ap (λ fs. option_map_or (default_found t values) values.default [] ++ fs) (stated_cases (property_at (codes "ParameterValue") e.section) values.parameter p)
+
 pub numeric-values : (t : DataType) (e : Entry) (values : Values) → data_type_of e ≡ Some t → is_numeric t ≡ true
-    → IsLimitAt t (property_at (codes "LowLimit") e.section) values.low → IsLimitAt t (property_at (codes "HighLimit") e.section) values.high → IsDefaultAt t (property_at (codes "DefaultValue") e.section) values.default
+    → IsLimitAt t (property_at (codes "LowLimit") e.section) values.low → IsLimitAt t (property_at (codes "HighLimit") e.section) values.high
+    → IsDefaultAt t (property_at (codes "DefaultValue") e.section) values.default → IsDefaultAt t (property_at (codes "ParameterValue") e.section) values.parameter
     → AreValues t e values
-numeric-values t e values is numeric low high default = record {
-  low = limit-read (codes "LowLimit") t e values.low numeric low;
-  high = limit-read (codes "HighLimit") t e values.high numeric high;
-  default = default-read t e values.default numeric default;
-  limits = numeric_is t e bad_limits is numeric ∙ limits-read t e values.low values.high numeric low high;
-}
+numeric-values t e values is numeric low high default parameter =
+    let low_same = limit-read (codes "LowLimit") t e values.low numeric low in
+    let high_same = limit-read (codes "HighLimit") t e values.high numeric high in
+    let default_stated = numeric-stated t (property_at (codes "DefaultValue") e.section) values.default numeric default in
+    let parameter_stated = numeric-stated t (property_at (codes "ParameterValue") e.section) values.parameter numeric parameter in
+    record {
+      low = low_same;
+      high = high_same;
+      default = default-read t (property_at (codes "DefaultValue") e.section) (property_at (codes "ParameterValue") e.section) values.default values.parameter default_stated parameter_stated;
+      limits = numeric_is t e bad_limits is numeric ∙ limits-read t e values.low values.high numeric low high;
+      defaults = bad-read t e values is low_same high_same default_stated parameter_stated;
+    }
 
 -- and of any other
 text_is : (t : DataType) (e : Entry) (found : DataType → Entry → List SheetFault) → data_type_of e ≡ Some t → is_numeric t ≡ false → in_numeric found e ≡ []
@@ -203,28 +248,19 @@ text_is t e found is other = ap (λ o. option_map_or (λ u. cond (is_numeric u) 
 pub text-unread : (t : DataType) (e : Entry) → data_type_of e ≡ Some t → is_numeric t ≡ false → None ≡ least_fault (in_numeric unread_limits e)
 text-unread t e is other = ap least_fault (sym (text_is t e unread_limits is other))
 
-pub text-values : (t : DataType) (e : Entry) (default : Preset) → data_type_of e ≡ Some t → is_numeric t ≡ false → default_of t e ≡ default_view default
-    → AreValues t e (record { low = None; high = None; default = default })
-text-values t e default is other same = record {
-  low = ap (λ b. cond b (option_and_then (λ (k : Property). result_ok (number_at_type t k.value)) (property_at (codes "LowLimit") e.section)) None) other;
-  high = ap (λ b. cond b (option_and_then (λ (k : Property). result_ok (number_at_type t k.value)) (property_at (codes "HighLimit") e.section)) None) other;
-  default = same;
-  limits = text_is t e bad_limits is other;
-}
-
--- what is wrong with the default
-default_cases : (t : DataType) (e : Entry) (low high : Option ℤ) (d : Default) → low_limit t e ≡ low → high_limit t e ≡ high → is_bad_default t e d ≡ is_outside t low high d
-default_cases t e low high (number value) l h = rw (l, h) refl
-default_cases t e low high (pairs digits) l h = refl
-default_cases t e low high absent l h = refl
-default_cases t e low high (node_id n) l h = refl
-default_cases t e low high (text bytes) l h = refl
-
-pub bad_default-read : (t : DataType) (e : Entry) (values : Values) → data_type_of e ≡ Some t → AreValues t e values → bad_default e ≡ at_key (default_found t values) (codes "DefaultValue") e.section
-bad_default-read t e values is are =
-    ap (λ o. at_key (λ k. fault_if (option_map_or (λ u. is_bad_default u e (default_of u e)) o false) BadDefault k.line) (codes "DefaultValue") e.section) is
-    ∙ ap (λ d. at_key (λ k. fault_if (is_bad_default t e d) BadDefault k.line) (codes "DefaultValue") e.section) are.default
-    ∙ ap (λ b. at_key (λ k. fault_if b BadDefault k.line) (codes "DefaultValue") e.section) (default_cases t e (value_of values.low) (value_of values.high) (default_view values.default) are.low are.high)
+pub text-values : (t : DataType) (e : Entry) (default parameter : Option Stated) → data_type_of e ≡ Some t → is_numeric t ≡ false
+    → IsStatedAt t (property_at (codes "DefaultValue") e.section) default → IsStatedAt t (property_at (codes "ParameterValue") e.section) parameter
+    → AreValues t e (record { low = None; high = None; default = default; parameter = parameter })
+text-values t e default parameter is other default_stated parameter_stated =
+    let low = ap (λ b. cond b (option_and_then (λ (k : Property). result_ok (number_at_type t k.value)) (property_at (codes "LowLimit") e.section)) None) other in
+    let high = ap (λ b. cond b (option_and_then (λ (k : Property). result_ok (number_at_type t k.value)) (property_at (codes "HighLimit") e.section)) None) other in
+    record {
+      low = low;
+      high = high;
+      default = default-read t (property_at (codes "DefaultValue") e.section) (property_at (codes "ParameterValue") e.section) default parameter default_stated parameter_stated;
+      limits = text_is t e bad_limits is other;
+      defaults = bad-read t e (record { low = None; high = None; default = default; parameter = parameter }) is low high default_stated parameter_stated;
+    }
 
 -- ---- results
 

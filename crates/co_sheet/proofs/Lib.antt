@@ -22,5 +22,6 @@ mod KeyLemmas
 mod EachEntryLemmas
 mod SheetLawLemmas
 mod ViewLemmas
+mod ConfigurationExamples
 mod SheetLawExamples
 mod PlaceExamples

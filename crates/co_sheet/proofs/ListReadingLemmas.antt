@@ -8,7 +8,7 @@ use Rattle.std.specs.Option.{option_map_or, option_or, option_copied}
 use Rattle.co_sheet_text.specs.declared.text_section.Property.{Property as CodeProperty}
 use Rattle.co_sheet_text.specs.Properties.{property_number}
 use Rattle.co_sheet_text.specs.Views.{property_view}
-use Rattle.co_sheet_text.specs.declared.section_kind.SectionKind.TheVariants.{MandatoryObjects, DummyUsage, DeviceInfo}
+use Rattle.co_sheet_text.specs.declared.section_kind.SectionKind.TheVariants.{MandatoryObjects, DummyUsage, DeviceInfo, DeviceCommissioning}
 use Rattle.co_sheet_text.specs.Names.{is_list, same_kind}
 use Rattle.co_sheet_text.specs.Sections.{Property, TextSection, section_at}
 use Rattle.co_sheet.specs.declared.checks.findings.Finding.{Finding}
@@ -118,22 +118,22 @@ good-counts s n places large len h is =
 
 -- ---- one section
 
-no_list : (list d i : Bool) → (list || d || i) ≡ false → list ≡ false
-no_list true d i h = absurd (cc)
-no_list false d i h = refl
+no_list : (list d i c : Bool) → (list || d || i || c) ≡ false → list ≡ false
+no_list true d i c h = absurd (cc)
+no_list false d i c h = refl
 
 -- a section that isn't read here
 pub none-read : (s : TextSection) → has_numbers s.kind ≡ false → None ≡ list_finding s
-none-read s h = let other = no_list (is_list s.kind) (same_kind s.kind DummyUsage) (same_kind s.kind DeviceInfo) h in rw (h, other) refl
+none-read s h = let other = no_list (is_list s.kind) (same_kind s.kind DummyUsage) (same_kind s.kind DeviceInfo) (same_kind s.kind DeviceCommissioning) h in rw (h, other) refl
 
 pub none-named : (s : TextSection) (before : List Listing) → has_numbers s.kind ≡ false → before ≡ before ++ named_by s
-none-named s before h = let other = no_list (is_list s.kind) (same_kind s.kind DummyUsage) (same_kind s.kind DeviceInfo) h in rw other (sym (append-none before))
+none-named s before h = let other = no_list (is_list s.kind) (same_kind s.kind DummyUsage) (same_kind s.kind DeviceInfo) (same_kind s.kind DeviceCommissioning) h in rw other (sym (append-none before))
 
 -- a number that can't be read
 pub number-read : (s : TextSection) (fault : SheetFault) → has_numbers s.kind ≡ true → least_fault (flat_map unread_number s.properties) ≡ Some fault → Some (found_by 2 fault) ≡ list_finding s
 number-read s fault h unread = rw (h, unread) refl
 
--- DummyUsage or DeviceInfo
+-- DummyUsage, DeviceInfo or the device commissioning
 pub usage-read : (s : TextSection) → has_numbers s.kind ≡ true → is_list s.kind ≡ false → least_fault (flat_map unread_number s.properties) ≡ None → None ≡ list_finding s
 usage-read s h other unread = rw (h, other, unread) refl
 

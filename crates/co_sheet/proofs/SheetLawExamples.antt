@@ -206,7 +206,7 @@ abbrev object : ℕ → ObjectRow
 object index = record { index = index; object_type = Var; name = None; line = 1 }
 
 abbrev content : List ObjectRow → List Row → SheetContent
-content objects rows = record { objects = objects; rows = rows; sections = []; notes = []; dummies = [] }
+content objects rows = record { objects = objects; rows = rows; sections = []; notes = []; dummies = []; node_id = None }
 
 abbrev mandatory : List ObjectRow
 mandatory = object 0x1000 ∷ object 0x1001 ∷ object 0x1018 ∷ []
@@ -233,7 +233,29 @@ kept = record {
   has_1000 = refl;
   has_1001 = refl;
   has_1018 = refl;
+  node_id_range = tt;
 }
+
+-- with a node-ID
+abbrev content_of_node : ℕ → SheetContent
+content_of_node id = record (content mandatory []) { node_id = Some id }
+
+kept_of_node : (id : ℕ) → 1 ≤ id → id ≤ 127 → IsSheetContent (content_of_node id)
+kept_of_node id h k = record {
+  each_row = All-from_recursion IsSheetRow [] tt;
+  keys_increase = λ i j d h k. absurd (omega arith);
+  indices_increase = of_three IsObjectBefore (object 0x1000) (object 0x1001) (object 0x1018) (lit< tt) (lit< tt) (lit< tt);
+  has_1000 = refl;
+  has_1001 = refl;
+  has_1018 = refl;
+  node_id_range = (h, k);
+}
+
+node_id_0 : IsSheetContent (content_of_node 0) → ⊥
+node_id_0 laws = let h = laws.node_id_range.0 in omega arith
+
+node_id_128 : IsSheetContent (content_of_node 128) → ⊥
+node_id_128 laws = let h = laws.node_id_range.1 in omega arith
 
 bad_row : IsSheetContent (content mandatory (row_at 0x1000 0 Unsigned8 ∷ [])) → ⊥
 bad_row laws = other_fixed_type (laws.each_row 0 (row_at 0x1000 0 Unsigned8) (lit< tt))

@@ -1,6 +1,7 @@
 -- What every sheet keeps follows where no line is at fault and no check finds anything.
-use Rattle.std.proofs.Common.{◌≡◌, ℕ, Bool, true, false, cond, not, ◌&&◌, ◌||◌, if◌then◌else◌, List, [], ◌∷◌, ◌++◌, Option, Some, None, Result, Ok, Err, refl, sym, ap, ◌∙◌, subst, arith, map, eqb, ltb, IfSome, IsSomeAnd, ◌≤◌, length, pos, eqb-true, ltb-true, ℤ, ◌≤ℤ◌, int_le, codes}
+use Rattle.std.proofs.Common.{◌≡◌, ℕ, Bool, true, false, cond, not, ◌&&◌, ◌||◌, if◌then◌else◌, List, [], ◌∷◌, ◌++◌, Option, Some, None, Result, Ok, Err, refl, sym, ap, ◌∙◌, subst, arith, map, eqb, ltb, IfSome, IsSomeAnd, ◌≤◌, length, pos, eqb-true, ltb-true, leb, ℤ, ◌≤ℤ◌, int_le, codes}
 use Rattle.std.proofs.lemmas.Int.{ints}
+use Rattle.std.proofs.lemmas.Bool.Decides.{nat_tests}
 use Rattle.std.proofs.lemmas.Bool.{and_parts}
 use Rattle.std.specs.Prelude.{is_none, flat_map, filter_map, option_map, option_and_then, unwrap_or}
 use Rattle.std.specs.List.{list_any, AllByRecursion, before_first, after_first}
@@ -15,13 +16,16 @@ use Rattle.co_sheet_rows.specs.declared.fault.FaultKind.TheVariants.{BadLimits, 
 use Rattle.co_sheet_rows.specs.declared.fault.SheetFault.{SheetFault}
 use Rattle.co_sheet_text.specs.declared.numeral.NumeralFault.{NumeralFault}
 use Rattle.co_sheet_text.specs.Text.{trim, same_name}
-use Rattle.co_sheet_text.specs.Sections.{Property, TextSection, property_at}
+use Rattle.co_sheet_text.specs.declared.section_kind.SectionKind.TheVariants.{DeviceCommissioning}
+use Rattle.co_sheet_text.specs.Properties.{property_number}
+use Rattle.co_sheet_text.specs.Sections.{Property, TextSection, property_at, section_at}
 use Rattle.co_sheet_text.specs.Numerals.{result_map, unsigned_number}
 use Rattle.co_sheet.specs.ObjectLists.{is_one_of, Listing, listings, is_listed}
 use Rattle.co_profile.specs.FixedTypes.{fixed_type_of}
 use Rattle.co_sheet.specs.Entries.{is_domain, listed_objects, Entry, entries_of, data_type_with, type_code, data_type_of, access_of}
-use Rattle.co_sheet.specs.Limits.{Default, absent, number, node_id, text, pairs, number_at_type, is_node_id, is_plus, node_id_sum, numeric_default, is_numeric, limit_at, low_limit, high_limit, at_most, is_in_type, is_in_limits, default_with, default_of}
-use Rattle.co_sheet.specs.Checks.{left_out_codes, fault_if, at_key, is_bad_type, bad_type, type_line, in_numeric, limit_outside, limits_crossed, bad_limits, is_bad_default, bad_default, checks}
+use Rattle.co_sheet.specs.Limits.{Default, absent, number, node_id, text, pairs, number_at_type, is_node_id, is_plus, node_id_sum, numeric_default, is_numeric, limit_at, low_limit, high_limit, at_most, is_in_type, is_in_limits, stated_default, value_property}
+use Rattle.co_sheet.specs.Commissioning.{node_id_with, node_id_of}
+use Rattle.co_sheet.specs.Checks.{left_out_codes, fault_if, at_key, is_bad_type, bad_type, type_line, in_numeric, limit_outside, limits_crossed, bad_limits, is_bad_default, bad_default_at, bad_default, checks}
 use Rattle.co_sheet.specs.Accepted.{first_found}
 use Rattle.co_value.specs.Keys.{is_key_before, same_key}
 use Rattle.co_sheet.specs.Content.{Row, row_with, row_of, insert_before, in_order, ObjectRow, object_row_of, rows_in, objects_in, content_of}
@@ -267,7 +271,7 @@ of_numeric t (node_id n) h form = h
 of_numeric t (text bytes) h form = absurd form
 of_numeric t (pairs digits) h form = absurd form
 
-default-form : (t : DataType) (o : Option Property) → IsForm t (unwrap_or (option_and_then (λ (k : Property). default_with t k.value) o) absent)
+default-form : (t : DataType) (o : Option Property) → IsForm t (option_map_or (stated_default t) o absent)
 default-form t None = tt
 default-form VisibleString (Some k) = refl
 default-form OctetString (Some k) = refl
@@ -290,14 +294,25 @@ default-form Unsigned48 (Some k) = of_numeric Unsigned48 _ refl (numeric-form Un
 default-form Unsigned56 (Some k) = of_numeric Unsigned56 _ refl (numeric-form Unsigned56 k.value)
 default-form Unsigned64 (Some k) = of_numeric Unsigned64 _ refl (numeric-form Unsigned64 k.value)
 
-domain-absent : (o : Option Property) → unwrap_or (option_and_then (λ (k : Property). default_with Domain k.value) o) absent ≡ absent
+domain-absent : (o : Option Property) → option_map_or (stated_default Domain) o absent ≡ absent
 domain-absent None = refl
 domain-absent (Some k) = refl
 
-default_cases : (t : DataType) (e : Entry) (o : Option Property) → option_map_or (λ (k : Property). fault_if (is_bad_default t e (unwrap_or (option_and_then (λ (k : Property). default_with t k.value) o) absent)) BadDefault k.line) o [] ≡ []
-    → is_bad_default t e (unwrap_or (option_and_then (λ (k : Property). default_with t k.value) o) absent) ≡ false
-default_cases t e None h = refl
-default_cases t e (Some k) h = no_fault _ BadDefault k.line h
+default_cases : (t : DataType) (e : Entry) (o : Option Property) → data_type_of e ≡ Some t → option_map_or (bad_default_at e) o [] ≡ []
+    → is_bad_default t e (option_map_or (stated_default t) o absent) ≡ false
+default_cases t e None is h = refl
+default_cases t e (Some k) is h =
+    no_fault _ BadDefault k.line (ap (λ o. fault_if (option_map_or (λ u. is_bad_default u e (stated_default u k)) o false) BadDefault k.line) (sym is) ∙ h)
+
+-- of two properties the one that counts
+default_chosen : (t : DataType) (e : Entry) (first second : Option Property) → is_bad_default t e (option_map_or (stated_default t) first absent) ≡ false → is_bad_default t e (option_map_or (stated_default t) second absent) ≡ false
+    → is_bad_default t e (option_map_or (stated_default t) (option_or first second) absent) ≡ false
+default_chosen t e None second h k = k
+default_chosen t e (Some first) second h k = h
+
+either : {X : Type 0} (P : X → Type 0) (first second : Option X) → IfSome first P → IfSome second P → IfSome (option_or first second) P
+either P None second h k = k
+either P (Some first) second h k = h
 
 above_low-kept : (limit : Option ℤ) (value : ℤ) → at_most limit (Some value) ≡ true → IfSome limit (λ low. low ≤ℤ value)
 above_low-kept None value h = tt
@@ -332,7 +347,7 @@ numeric_short (node_id n) form = tt
 numeric_short (text bytes) form = absurd form
 numeric_short (pairs digits) form = absurd form
 
-default-short : (t : DataType) (o : Option Property) → IfSome o (λ k. length k.value ≤ 512) → IsShort (unwrap_or (option_and_then (λ (k : Property). default_with t k.value) o) absent)
+default-short : (t : DataType) (o : Option Property) → IfSome o (λ k. length k.value ≤ 512) → IsShort (option_map_or (stated_default t) o absent)
 default-short t None h = tt
 default-short VisibleString (Some k) h = h
 default-short OctetString (Some k) h = h
@@ -387,10 +402,13 @@ row_laws e t access is from values none =
     let rest = both-empty (in_numeric bad_limits e) (bad_default e) parts.1 in
     let limits_good : cond (is_numeric t) (bad_limits t e) [] ≡ [] = ap (λ o. option_map_or (λ u. cond (is_numeric u) (bad_limits u e) []) o []) (sym is) ∙ rest.0 in
     let limits = limits-kept t e limits_good in
-    let default_good = ap (λ o. option_map_or (λ (k : Property). fault_if (option_map_or (λ u. is_bad_default u e (default_of u e)) o false) BadDefault k.line) default_key []) (sym is) ∙ rest.1 in
-    let good = default_cases t e default_key default_good in
-    let form = default-form t default_key in
-    let short = default-short t default_key (found_all (λ (k : Property). length k.value ≤ 512) (λ k. same_name k.name (codes "DefaultValue")) e.section.properties values) in
+    let parameter_key = property_at (codes "ParameterValue") e.section in
+    let value_key = value_property e in
+    let defaults_good = both-empty (option_map_or (bad_default_at e) default_key []) (option_map_or (bad_default_at e) parameter_key []) rest.1 in
+    let good = default_chosen t e parameter_key default_key (default_cases t e parameter_key is defaults_good.1) (default_cases t e default_key is defaults_good.0) in
+    let form = default-form t value_key in
+    let short_at : (name : List ℕ) → IfSome (property_at name e.section) (λ k. length k.value ≤ 512) = λ name. found_all (λ (k : Property). length k.value ≤ 512) (λ k. same_name k.name name) e.section.properties values in
+    let short = default-short t value_key (either (λ (k : Property). length k.value ≤ 512) parameter_key default_key (short_at (codes "ParameterValue")) (short_at (codes "DefaultValue"))) in
     record {
       from_1000 = from;
       low_in_type = limits.low_in_type;
@@ -409,7 +427,7 @@ row_laws e t access is from values none =
       pairs_digits = λ digits h. (and_parts _ _ (denied _ (subst (λ d. is_bad_default t e d ≡ false) h good))).1;
       text_short = λ bytes h. subst IsShort h short;
       pairs_short = λ digits h. subst IsShort h short;
-      domain_absent = λ h. ap (λ u. unwrap_or (option_and_then (λ (k : Property). default_with u k.value) default_key) absent) h ∙ domain-absent default_key;
+      domain_absent = λ h. ap (λ u. option_map_or (stated_default u) value_key absent) h ∙ domain-absent value_key;
       fixed_type = λ fixed h. fixed_cases e (type_code e) (type_line e) t fixed is h parts.0;
     }
 
@@ -473,6 +491,25 @@ three true true false h = absurd (cc)
 three true false c h = absurd (cc)
 three false b c h = absurd (cc)
 
+-- ---- the node-ID
+
+node_id_within : (n : ℕ) (a b : Bool) → leb 1 n ≡ a → leb n 127 ≡ b → IfSome (cond (a && b) (Some n) None) (λ id. (1 ≤ id) × (id ≤ 127))
+node_id_within n true true h k = (grind (arith, nat_tests), grind (arith, nat_tests))
+node_id_within n true false h k = tt
+node_id_within n false b h k = tt
+
+number_within : (o : Option ℕ) → IfSome (option_and_then node_id_with o) (λ id. (1 ≤ id) × (id ≤ 127))
+number_within None = tt
+number_within (Some n) = node_id_within n (leb 1 n) (leb n 127) refl refl
+
+property_within : (o : Option Property) → IfSome (option_and_then node_id_of o) (λ id. (1 ≤ id) × (id ≤ 127))
+property_within None = tt
+property_within (Some k) = number_within (property_number k)
+
+node_id-range : (o : Option TextSection) → IfSome (option_and_then (λ s. option_and_then node_id_of (property_at (codes "NodeID") s)) o) (λ id. (1 ≤ id) × (id ≤ 127))
+node_id-range None = tt
+node_id-range (Some s) = property_within (property_at (codes "NodeID") s)
+
 -- ---- a sheet
 
 abbrev is_below : ObjectRow → ObjectRow → Type 0
@@ -497,4 +534,5 @@ content_laws sections parsed kept found =
       has_1000 = has-listed sections 0x1000 nothing mandatory.0;
       has_1001 = has-listed sections 0x1001 nothing mandatory.1;
       has_1018 = has-listed sections 0x1018 nothing mandatory.2;
+      node_id_range = node_id-range (section_at DeviceCommissioning sections);
     }

@@ -7,7 +7,7 @@ use Rattle.co_value.specs.declared.data_type.DataType.{DataType}
 use Rattle.co_value.specs.declared.data_type.DataType.TheVariants.{Domain}
 use Rattle.co_value.specs.Types.{code_of, least_of, greatest_of}
 use Rattle.co_sheet_text.specs.declared.section_kind.SectionKind.{SectionKind}
-use Rattle.co_sheet_text.specs.declared.section_kind.SectionKind.TheVariants.{MandatoryObjects, DummyUsage, DeviceInfo, Object}
+use Rattle.co_sheet_text.specs.declared.section_kind.SectionKind.TheVariants.{MandatoryObjects, DummyUsage, DeviceInfo, DeviceCommissioning, Object}
 use Rattle.co_sheet_rows.specs.declared.fault.FaultKind.{FaultKind}
 use Rattle.co_sheet_rows.specs.declared.fault.FaultKind.TheVariants.{MissingSection, BadNumber, AmbiguousNumber, BadList, ListedTwice, MissingKey, BadType, LeftOutType, BadAccess, BadLimits, BadDefault, MissingSub0, CompactForm, MissingMandatory}
 use Rattle.co_sheet_rows.specs.declared.fault.SheetFault.{SheetFault}
@@ -21,7 +21,7 @@ use Rattle.co_sheet_text.specs.Properties.{property_number}
 use Rattle.co_sheet.specs.ObjectLists.{is_one_of, object_lists, count_of, keys_to, Listing, listings, is_listed}
 use Rattle.co_profile.specs.FixedTypes.{fixed_type_of}
 use Rattle.co_sheet.specs.Entries.{object_code, single_codes, compound_codes, ListedObject, listed_objects, Entry, sub_indices, entries_of, is_domain, data_type_with, type_code, data_type_of, access_with, is_other_than_zero}
-use Rattle.co_sheet.specs.Limits.{Default, number, pairs, number_at_type, numeric_default, is_pairs, is_numeric, low_limit, high_limit, at_most, is_in_type, is_in_limits, default_of}
+use Rattle.co_sheet.specs.Limits.{Default, number, pairs, number_at_type, numeric_default, is_pairs, is_numeric, low_limit, high_limit, at_most, is_in_type, is_in_limits, stated_default}
 
 -- a fault at a line, where a test says so
 abbrev pub fault_if : Bool → FaultKind → ℕ → List SheetFault
@@ -49,9 +49,11 @@ missing_lists sections = fault_if (is_none (section_at MandatoryObjects sections
 
 -- sections whose values are all numbers
 abbrev pub has_numbers : SectionKind → Bool
-has_numbers kind = is_list kind || same_kind kind DummyUsage || same_kind kind DeviceInfo
+has_numbers kind =
+    is_list kind || same_kind kind DummyUsage || same_kind kind DeviceInfo
+    || same_kind kind DeviceCommissioning
 
--- check 2: a number in lists, DummyUsage and DeviceInfo
+-- check 2: a number in lists, DummyUsage, DeviceInfo and the device commissioning
 abbrev pub unread_list_numbers : List TextSection → List SheetFault
 unread_list_numbers sections =
     flat_map (λ s. flat_map unread_number s.properties) (filter (λ s. has_numbers s.kind) sections)
@@ -172,18 +174,22 @@ bad_access e =
 abbrev pub in_numeric : (DataType → Entry → List SheetFault) → Entry → List SheetFault
 in_numeric found e = option_map_or (λ t. if is_numeric t then found t e else []) (data_type_of e) []
 
--- check 15: limits and a default of a numeric type
+-- check 15: limits, a default and a parameter value of a numeric type
 abbrev pub unread_limit : DataType → Property → List SheetFault
 unread_limit t k = unread (number_at_type t k.value) k.line
 
 abbrev pub unread_default : DataType → Property → List SheetFault
 unread_default t k = unread (numeric_default t k.value) k.line
 
+abbrev pub unread_defaults : DataType → Entry → List SheetFault
+unread_defaults t e =
+    at_key (unread_default t) (codes "DefaultValue") e.section
+    ++ at_key (unread_default t) (codes "ParameterValue") e.section
+
 abbrev pub unread_limits : DataType → Entry → List SheetFault
 unread_limits t e =
     at_key (unread_limit t) (codes "LowLimit") e.section
-    ++ at_key (unread_limit t) (codes "HighLimit") e.section
-    ++ at_key (unread_default t) (codes "DefaultValue") e.section
+    ++ at_key (unread_limit t) (codes "HighLimit") e.section ++ unread_defaults t e
 
 -- the lowest and the highest number that an entry may hold: its limit, or where that is absent
 -- the type's end
@@ -212,19 +218,22 @@ bad_limits t e =
     ++ at_key (limit_outside t (high_limit t e)) (codes "HighLimit") e.section
     ++ option_map_or (limits_crossed t e) (last_limit e) []
 
--- check 17: a number outside the type or the limits; an OCTET_STRING's default that isn't pairs
--- of digits
+-- check 17: DefaultValue or ParameterValue, each by itself, is a number outside the type or the limits, or an
+-- OCTET_STRING's that isn't pairs of digits
 abbrev pub is_bad_default : DataType → Entry → Default → Bool
 is_bad_default t e (number value) = not (is_in_limits t e value)
 is_bad_default t e (pairs value) = not (is_pairs value)
 is_bad_default t e default = false
 
+abbrev pub bad_default_at : Entry → Property → List SheetFault
+bad_default_at e k =
+    fault_if (option_map_or (λ t. is_bad_default t e (stated_default t k)) (data_type_of e) false)
+    BadDefault k.line
+
 abbrev pub bad_default : Entry → List SheetFault
 bad_default e =
-    at_key
-    (λ k. fault_if (option_map_or (λ t. is_bad_default t e (default_of t e)) (data_type_of e) false)
-    BadDefault k.line)
-    (codes "DefaultValue") e.section
+    at_key (bad_default_at e) (codes "DefaultValue") e.section
+    ++ at_key (bad_default_at e) (codes "ParameterValue") e.section
 
 -- check 18: 1000h, 1001h or 1018h is in no list
 abbrev pub missing_mandatory : List TextSection → List SheetFault

@@ -1,4 +1,5 @@
--- What a sheet holds, by the sections of its text: its objects, entries, section lines, notes and dummies (CiA 306).
+-- What a sheet holds, by the sections of its text: its objects, entries, section lines, notes, dummies and node-ID
+-- (CiA 306).
 use Rattle.std.specs.Prelude.{◌≡◌, ℕ, ◌-◌, Bool, false, ◌&&◌, nat_lt, nat_le, if◌then◌else◌, List, [], ◌∷◌, map, filter_map, codes, ℤ, Option, option_map, option_and_then, slice_get, unwrap_or}
 use Rattle.co_value.specs.declared.key.Key.{Key}
 use Rattle.co_value.specs.declared.data_type.DataType.{DataType}
@@ -12,6 +13,7 @@ use Rattle.co_sheet_text.specs.Properties.{number_at}
 use Rattle.co_sheet.specs.ObjectLists.{is_one_of, listings}
 use Rattle.co_sheet.specs.Entries.{ListedObject, listed_objects, object_type_with, object_code, Entry, entries_of, data_type_of, access_of, is_mappable, name_of}
 use Rattle.co_sheet.specs.Limits.{Default, low_limit, high_limit, default_of}
+use Rattle.co_sheet.specs.Commissioning.{node_id_in}
 use Rattle.co_sheet.specs.Notes.{notes_of}
 use Rattle.co_sheet.specs.Accepted.{sections_in, IsAccepted}
 
@@ -119,6 +121,7 @@ pub record SheetContent : Type 0 where
   pub sections : List SectionName
   pub notes : List Note
   pub dummies : List Bool
+  pub node_id : Option ℕ
 
 -- what a sheet holds, by the sections of its text
 abbrev pub content_of : List TextSection → SheetContent
@@ -128,6 +131,7 @@ content_of sections = record {
   sections = section_names_in sections;
   notes = notes_of sections;
   dummies = dummies_in sections;
+  node_id = node_id_in sections;
 }
 
 -- the text is a data sheet, and this is what it holds

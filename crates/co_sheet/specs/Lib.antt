@@ -8,6 +8,7 @@ pub mod ObjectLists
 pub use Rattle.co_profile.specs.FixedTypes
 pub mod Entries
 pub mod Limits
+pub mod Commissioning
 pub mod Notes
 pub mod Checks
 pub mod Accepted

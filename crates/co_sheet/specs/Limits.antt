@@ -1,6 +1,7 @@
--- The limits and the default of an entry (CiA 306, object description).
+-- The limits of an entry and the value that it begins with (CiA 306, object description, device configuration file).
 use Rattle.std.specs.Prelude.{ℕ, ◌%◌, Bool, true, ◌&&◌, ◌==◌, if◌then◌else◌, ℤ, int_le, List, length, codes, Option, Some, None, is_some, option_and_then, unwrap_or, Result, Ok, Err}
 use Rattle.std.specs.List.{list_any, list_all, before_first, after_first}
+use Rattle.std.specs.Option.{option_map_or, option_or}
 use Rattle.std.specs.Result.{result_ok}
 use Rattle.co_sheet_text.specs.Names.{is_hexadecimal_digit}
 use Rattle.co_value.specs.declared.data_type.DataType.{DataType}
@@ -9,7 +10,7 @@ use Rattle.co_value.specs.Types.{width_of, least_of, greatest_of}
 use Rattle.co_sheet_text.specs.declared.numeral.NumeralFault.{NumeralFault}
 use Rattle.co_sheet_text.specs.declared.numeral.NumeralFault.TheVariants.{Malformed}
 use Rattle.co_sheet_text.specs.Text.{trim, same_name}
-use Rattle.co_sheet_text.specs.Sections.{property_at}
+use Rattle.co_sheet_text.specs.Sections.{Property, property_at}
 use Rattle.co_sheet_text.specs.Numerals.{result_map, signed_numeral, unsigned_number, value_at}
 use Rattle.co_sheet.specs.Entries.{Entry}
 
@@ -91,8 +92,16 @@ default_with VisibleString value = Some (text value)
 default_with OctetString value = Some (pairs value)
 default_with t value = if is_numeric t then result_ok (numeric_default t value) else None
 
--- the default of an entry, absent where it states none
+-- the default that a property states at a type, absent where it is passed over
+abbrev pub stated_default : DataType → Property → Default
+stated_default t k = unwrap_or (default_with t k.value) absent
+
+-- what states the value that an entry begins with: ParameterValue, or where it is absent DefaultValue
+abbrev pub value_property : Entry → Option Property
+value_property e =
+    option_or (property_at (codes "ParameterValue") e.section)
+    (property_at (codes "DefaultValue") e.section)
+
+-- the default of an entry: the value that it begins with, absent where it states none
 abbrev pub default_of : DataType → Entry → Default
-default_of t e =
-    unwrap_or
-    (option_and_then (λ k. default_with t k.value) (property_at (codes "DefaultValue") e.section)) absent
+default_of t e = option_map_or (stated_default t) (value_property e) absent

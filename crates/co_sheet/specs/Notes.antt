@@ -1,15 +1,16 @@
--- What is odd in a data sheet, and no fault (CiA 306, object description).
-use Rattle.std.specs.Prelude.{ℕ, Bool, not, ◌&&◌, nat_le, if◌then◌else◌, List, [], ◌∷◌, ◌++◌, length, flat_map, codes}
+-- What is odd in a data sheet, and no fault (CiA 306, object description, device commissioning).
+use Rattle.std.specs.Prelude.{ℕ, Bool, not, ◌&&◌, nat_le, if◌then◌else◌, List, [], ◌∷◌, ◌++◌, length, flat_map, codes, is_some}
 use Rattle.std.specs.Option.{option_map_or}
 use Rattle.co_sheet_text.specs.declared.section_kind.SectionKind.{SectionKind}
-use Rattle.co_sheet_text.specs.declared.section_kind.SectionKind.TheVariants.{Object}
+use Rattle.co_sheet_text.specs.declared.section_kind.SectionKind.TheVariants.{DeviceCommissioning, Object}
 use Rattle.co_sheet_rows.specs.declared.note.Note.{Note}
 use Rattle.co_sheet_rows.specs.declared.note.NoteKind.{NoteKind}
-use Rattle.co_sheet_rows.specs.declared.note.NoteKind.TheVariants.{SubNumber, Unlisted}
+use Rattle.co_sheet_rows.specs.declared.note.NoteKind.TheVariants.{SubNumber, Unlisted, NodeId}
 use Rattle.co_sheet_text.specs.Sections.{Property, TextSection, property_at}
 use Rattle.co_sheet_text.specs.Properties.{property_number}
 use Rattle.co_sheet.specs.ObjectLists.{is_one_of, is_listed}
 use Rattle.co_sheet.specs.Entries.{sub_indices}
+use Rattle.co_sheet.specs.Commissioning.{node_id_of}
 
 -- a note of a kind, at a line
 abbrev pub note_at : ℕ → NoteKind → Note
@@ -33,11 +34,19 @@ abbrev pub sub_number_note : TextSection → ℕ → List Note
 sub_number_note section count =
     option_map_or (other_number count) (property_at (codes "SubNumber") section) []
 
--- the notes of a section; only an object section has any
+-- a NodeID that is no node-ID
+abbrev pub other_node_id : Property → List Note
+other_node_id k = if is_some (node_id_of k) then [] else note_at k.line NodeId ∷ []
+
+abbrev pub node_id_note : TextSection → List Note
+node_id_note section = option_map_or other_node_id (property_at (codes "NodeID") section) []
+
+-- the notes of a section: of an object, or of the device commissioning
 abbrev pub notes_at : List TextSection → TextSection → SectionKind → List Note
 notes_at sections section (Object index) =
     unlisted_note sections section index
     ++ sub_number_note section (length (sub_indices sections index))
+notes_at sections section DeviceCommissioning = node_id_note section
 notes_at sections section kind = []
 
 -- the notes of the text, in the order of their lines

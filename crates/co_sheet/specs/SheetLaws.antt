@@ -67,7 +67,7 @@ abbrev pub has_object : List ObjectRow → ℕ → Bool
 has_object objects index = list_any (λ o. o.index == index) objects
 
 -- What every sheet keeps: each entry by itself; keys and indices increase, so none is there twice;
--- the mandatory objects are there (CiA 301, communication profile).
+-- the mandatory objects are there (CiA 301, communication profile); a node-ID is 1 to 127.
 pub record IsSheetContent (sheet : SheetContent) : Type 0 where
   pub each_row : All IsSheetRow sheet.rows
   pub keys_increase : AllPairs IsRowBefore sheet.rows
@@ -75,6 +75,7 @@ pub record IsSheetContent (sheet : SheetContent) : Type 0 where
   pub has_1000 : has_object sheet.objects 0x1000 ≡ true
   pub has_1001 : has_object sheet.objects 0x1001 ≡ true
   pub has_1018 : has_object sheet.objects 0x1018 ≡ true
+  pub node_id_range : IfSome sheet.node_id (λ id. (1 ≤ id) × (id ≤ 127))
 
 -- no entry is left out: each has a row, of its key
 abbrev pub KeepsEntries : List TextSection → Type 0

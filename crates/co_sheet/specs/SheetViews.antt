@@ -1,5 +1,5 @@
 -- What the rows of a sheet say, without where their texts lie in memory.
-use Rattle.std.specs.Prelude.{List, Bool, map}
+use Rattle.std.specs.Prelude.{ℕ, List, Bool, Option, map}
 use Rattle.std.specs.Option.{option_copied}
 use Rattle.co_sheet_rows.specs.declared.section.Section.{Section}
 use Rattle.co_sheet_rows.specs.declared.entry.EntryRow.{EntryRow}
@@ -36,11 +36,12 @@ section_name_view s = record { name = s.name.now; line = s.line }
 
 -- what a sheet holds, by its lists
 abbrev pub content_view : List Object → List EntryRow → List Section → List Note → List Bool
-    → SheetContent
-content_view objects entries sections notes dummies = record {
+    → Option ℕ → SheetContent
+content_view objects entries sections notes dummies node_id = record {
   objects = map object_row_view objects;
   rows = map row_view entries;
   sections = map section_name_view sections;
   notes = notes;
   dummies = dummies;
+  node_id = node_id;
 }

@@ -2,6 +2,7 @@
 #![tactic(auto)]
 
 mod checks;
+mod commissioning;
 mod data_type;
 mod entry;
 mod notes;

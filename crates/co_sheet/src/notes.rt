@@ -4,9 +4,10 @@ ghost use Rattle.std.specs.Prelude.{◌≡◌, ◌++◌, ℕ, nat_eq, length, If
 ghost use Rattle.indexmap.specs.IndexSet.{contains};
 ghost use Rattle.co_sheet.specs.ObjectLists.{is_listed};
 ghost use Rattle.co_sheet.specs.Entries.{sub_indices};
-ghost use Rattle.co_sheet.specs.Notes.{note_unlisted, sub_number_note, notes_at, notes_of};
+ghost use Rattle.co_sheet.specs.Notes.{note_unlisted, sub_number_note, node_id_note, notes_at, notes_of};
 ghost use Rattle.co_sheet_text.specs.Views.{section_view};
 
+use crate::commissioning::node_id_of;
 use crate::tables::Tables;
 use co_sheet_rows::{Note, NoteKind};
 use co_sheet_text::{SectionKind, TextSection};
@@ -53,6 +54,22 @@ fn add_sub_number(
     Ok(())
 }
 
+// a NodeID that is no node-ID
+fn add_node_id(notes: &mut Vec<Note>, section: &TextSection) -> Result<(), AllocError>
+    ensures { OnOk result (notes.new.items
+        ≡ notes.old.items ++ node_id_note (section_view section.now)) }
+{
+    if let Some(given) = section.property(b"NodeID") {
+        if node_id_of(&given).is_none() {
+            notes.push(Note {
+                kind: NoteKind::NodeId,
+                line: given.line,
+            })?;
+        }
+    }
+    Ok(())
+}
+
 // the number of an object's sub-index sections
 fn parts_len(tables: &Tables, index: u16) -> usize
     ensures { result ≡ length (sub_indices tables.now index) }
@@ -70,12 +87,15 @@ fn add_notes(
     ensures { OnOk result (notes.new.items
         ≡ notes.old.items ++ notes_at tables.now (section_view section.now) section.now.kind) }
 {
-    if let SectionKind::Object(index) = section.kind {
-        let is_listed = indices.contains(&u64::from(index));
-        add_unlisted(notes, section, index, is_listed)?;
-        add_sub_number(notes, section, parts_len(tables, index))?;
+    match section.kind {
+        SectionKind::Object(index) => {
+            let is_listed = indices.contains(&u64::from(index));
+            add_unlisted(notes, section, index, is_listed)?;
+            add_sub_number(notes, section, parts_len(tables, index))
+        }
+        SectionKind::DeviceCommissioning => add_node_id(notes, section),
+        _ => Ok(()),
     }
-    Ok(())
 }
 
 /// What is odd in a text, in the order of its sections.

@@ -18,6 +18,7 @@ fn same_kind(kind: SectionKind, other: SectionKind) -> bool
         SectionKind::ManufacturerObjects => matches!(other, SectionKind::ManufacturerObjects),
         SectionKind::DummyUsage => matches!(other, SectionKind::DummyUsage),
         SectionKind::DeviceInfo => matches!(other, SectionKind::DeviceInfo),
+        SectionKind::DeviceCommissioning => matches!(other, SectionKind::DeviceCommissioning),
         SectionKind::Object(index) => matches!(other, SectionKind::Object(of) if index == of),
         SectionKind::SubIndex(key) => {
             matches!(other, SectionKind::SubIndex(of) if key.index == of.index && key.sub == of.sub)

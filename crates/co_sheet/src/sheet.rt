@@ -1,6 +1,6 @@
 //! A data sheet, read.
 
-ghost use Rattle.std.specs.Prelude.{◌≡◌, ◌<◌, ℕ, nat_eq, map, filter_map, true, All, AllPairs, IfOk, IfErr, None};
+ghost use Rattle.std.specs.Prelude.{◌≡◌, ◌<◌, ◌≤◌, ℕ, nat_eq, map, filter_map, true, All, AllPairs, IfOk, IfErr, IfSome, None};
 ghost use Rattle.indexmap.specs.IndexSet.{contains};
 ghost use Rattle.co_sheet.specs.ObjectLists.{is_listed};
 ghost use Rattle.co_sheet.specs.Entries.{listed_objects, entries_of};
@@ -16,6 +16,7 @@ ghost use Rattle.co_sheet.specs.SheetLaws.{IsSheetRow, IsSheetContent, KeepsEntr
 use crate::checks::entries::read_entries;
 use crate::checks::lists::{listed_indices, missing_mandatory, read_lists};
 use crate::checks::objects::read_objects;
+use crate::commissioning::node_id;
 use crate::notes::notes;
 use crate::rows::{dummies, ordered_objects, ordered_rows, section_names};
 use crate::tables::Tables;
@@ -33,6 +34,7 @@ pub struct Sheet<'a> {
     pub(crate) sections: Vec<Section<'a>>,
     pub(crate) notes: Vec<Note>,
     pub(crate) dummies: [bool; 6],
+    pub(crate) node_id: Option<u8>,
 }
 
 impl<'a> Model for Sheet<'a> {
@@ -43,10 +45,10 @@ impl<'a> Model for Sheet<'a> {
     ghost Value = { SheetContent };
 
     ghost view = { λ s. content_view s.objects.items s.entries.items s.sections.items
-        s.notes.items s.dummies };
+        s.notes.items s.dummies s.node_id };
 
     ghost invariant = { λ s. IsSheetContent (content_view s.objects.items s.entries.items
-        s.sections.items s.notes.items s.dummies) };
+        s.sections.items s.notes.items s.dummies s.node_id) };
 }
 
 impl<'a> Sheet<'a> {
@@ -60,9 +62,9 @@ impl<'a> Sheet<'a> {
         self.objects.as_slice()
     }
 
-    /// The entries of these objects, in increasing key. Limits are numbers of the entry's type, in order. A default is
-    /// of its type's form, a number within the limits, and of at most 512 bytes of text. A type that is fixed is that one
-    /// (CiA 301, object dictionary).
+    /// The entries of these objects, in increasing key. Limits are numbers of the entry's type, in order. A default, by
+    /// ParameterValue or else DefaultValue, is of its type's form, a number within the limits, and of at most 512 bytes of
+    /// text. A type that is fixed is that one (CiA 301, object dictionary).
     pub fn entries(&self) -> &[EntryRow<'a>]
         ensures view { map row_view result.now ≡ self.now.rows }
         ensures each { All (λ e. IsSheetRow (row_view e)) result.now }
@@ -98,6 +100,15 @@ impl<'a> Sheet<'a> {
                 .copied()
                 .unwrap_or(false)
     }
+
+    /// The node-ID that a device configuration file has for its node: NodeID of DeviceComissioning, where it is 1 to 127
+    /// (CiA 306, device commissioning).
+    pub fn node_id(&self) -> Option<u8>
+        ensures value { result ≡ self.now.node_id }
+        ensures range { IfSome result (λ id. (1 ≤ id) × (id ≤ 127)) }
+    {
+        self.node_id
+    }
 }
 
 // what the sheet of accepted sections holds
@@ -121,12 +132,14 @@ fn contents<'a>(
     let names = section_names(alloc, sections)?;
     let notes = notes(alloc, tables, indices)?;
     let usable = dummies(sections);
+    let node_id = node_id(sections);
     Ok(Sheet {
         objects,
         entries: rows,
         sections: names,
         notes,
         dummies: usable,
+        node_id,
     })
 }
 

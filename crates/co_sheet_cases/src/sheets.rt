@@ -57,6 +57,25 @@ fn small_sheet(rt: HostRuntime) -> Result<(), Fail> {
     Ok(())
 }
 
+/// A device configuration file, of the same device, has a node-ID and values.
+#[test]
+fn configured(rt: HostRuntime) -> Result<(), Fail> {
+    let text = format!(in rt.alloc();
+        "[DeviceComissioning]\nNodeName=inlet\nNodeID=0x7F\n{SMALL}ParameterValue=7\n"
+    )?;
+    let (front, rest) = text
+        .as_str()
+        .split_once("AccessType=ro\nDefault")
+        .ok_or("no part")?;
+    let text = format!(in rt.alloc(); "{front}AccessType=ro\nParameterValue=5\nDefault{rest}")?;
+    let sheet = read(rt.alloc(), text.as_bytes()).ok().ok_or("refused")?;
+    assert_eq!(rt; sheet.node_id(), Some(127));
+    let entry = sheet.entries().first().ok_or("no entry")?;
+    assert_eq!(rt; entry.default, Preset::Number(5));
+    assert_eq!(rt; read(rt.alloc(), SMALL.as_bytes())?.node_id(), None);
+    Ok(())
+}
+
 #[test]
 fn printed(rt: HostRuntime) -> Result<(), Fail> {
     let kind = FaultKind::BadList;

@@ -4,7 +4,7 @@ use Rattle.std.specs.Prelude.{map}
 use Rattle.std.specs.Fmt.{digits}
 use Rattle.co_sheet_rows.specs.declared.fault.FaultKind.{FaultKind}
 use Rattle.co_sheet_rows.specs.declared.fault.FaultKind.TheVariants.{TooLarge, BadLine, KeyOutsideSection, DuplicateSection, DuplicateKey, MissingSection, BadNumber, AmbiguousNumber, BadList, ListedTwice, MissingKey, BadType, LeftOutType, BadAccess, BadLimits, BadDefault, MissingSub0, CompactForm, MissingMandatory, Memory}
-use Rattle.co_sheet_rows.specs.declared.note.NoteKind.TheVariants.{SubNumber, Unlisted}
+use Rattle.co_sheet_rows.specs.declared.note.NoteKind.TheVariants.{SubNumber, Unlisted, NodeId}
 use Rattle.co_sheet_rows.specs.FaultTexts.{fault_number, fault_name, fault_text, note_name, note_text}
 
 -- faults 1 to 10, and 11 to 20
@@ -36,7 +36,7 @@ names_to_20 : map fault_name last_ten ≡
     ∷ codes "MissingMandatory" ∷ codes "Memory" ∷ []
 names_to_20 = refl
 
-names_of_notes : map note_name (SubNumber ∷ Unlisted ∷ []) ≡ codes "SubNumber" ∷ codes "Unlisted" ∷ []
+names_of_notes : map note_name (SubNumber ∷ Unlisted ∷ NodeId ∷ []) ≡ codes "SubNumber" ∷ codes "Unlisted" ∷ codes "NodeId" ∷ []
 names_of_notes = refl
 
 bad_list_text : fault_text (record { kind = BadList; line = 1 }) ≡ codes "fault 9 BadList line 1"
@@ -50,6 +50,10 @@ memory_text = refl
 sub_number_text : note_text (record { kind = SubNumber; line = 12 }) ≡ codes "note 12 SubNumber"
 unfolding digits
 sub_number_text = refl
+
+node_id_text : note_text (record { kind = NodeId; line = 23 }) ≡ codes "note 23 NodeId"
+unfolding digits
+node_id_text = refl
 
 unlisted_text : note_text (record { kind = Unlisted; line = 3 }) ≡ codes "note 3 Unlisted"
 unfolding digits

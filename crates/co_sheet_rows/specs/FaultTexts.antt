@@ -4,7 +4,7 @@ use Rattle.co_sheet_rows.specs.declared.fault.FaultKind.{FaultKind}
 use Rattle.co_sheet_rows.specs.declared.fault.FaultKind.TheVariants.{TooLarge, BadLine, KeyOutsideSection, DuplicateSection, DuplicateKey, MissingSection, BadNumber, AmbiguousNumber, BadList, ListedTwice, MissingKey, BadType, LeftOutType, BadAccess, BadLimits, BadDefault, MissingSub0, CompactForm, MissingMandatory, Memory}
 use Rattle.co_sheet_rows.specs.declared.fault.SheetFault.{SheetFault}
 use Rattle.co_sheet_rows.specs.declared.note.NoteKind.{NoteKind}
-use Rattle.co_sheet_rows.specs.declared.note.NoteKind.TheVariants.{SubNumber, Unlisted}
+use Rattle.co_sheet_rows.specs.declared.note.NoteKind.TheVariants.{SubNumber, Unlisted, NodeId}
 use Rattle.co_sheet_rows.specs.declared.note.Note.{Note}
 
 -- the number of a kind of fault
@@ -57,6 +57,7 @@ fault_name Memory = codes "Memory"
 abbrev pub note_name : NoteKind → List ℕ
 note_name SubNumber = codes "SubNumber"
 note_name Unlisted = codes "Unlisted"
+note_name NodeId = codes "NodeId"
 
 -- the text of a fault, as `fault 9 BadList line 1`
 abbrev pub fault_text : SheetFault → List ℕ

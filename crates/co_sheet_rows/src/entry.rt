@@ -3,10 +3,11 @@
 use co_profile::Access;
 use co_value::{DataType, Key};
 
-/// The default of an entry, by its DefaultValue (CiA 306, object description).
+/// The value that an entry begins with, by its ParameterValue, or where there is none by its DefaultValue (CiA 306, object
+/// description, device configuration file).
 #[derive(Clone, Copy, Debug, PartialEq, Eq, Hash)]
 pub enum Preset<'a> {
-    /// There is none, or the entry is a DOMAIN.
+    /// There is neither, or the entry is a DOMAIN.
     Absent,
     /// The number of a numeric entry.
     Number(i128),
@@ -28,6 +29,7 @@ pub struct EntryRow<'a> {
     pub low: Option<i128>,
     /// HighLimit, where a numeric entry has one.
     pub high: Option<i128>,
+    /// ParameterValue where it is there, else DefaultValue.
     pub default: Preset<'a>,
     /// Whether PDOMapping is there and not 0.
     pub mappable: bool,

@@ -11,6 +11,8 @@ pub enum NoteKind {
     SubNumber,
     /// An object section that no object list names.
     Unlisted,
+    /// NodeID of the device commissioning is a number, but no node-ID from 1 to 127.
+    NodeId,
 }
 
 impl NoteKind {
@@ -25,6 +27,7 @@ impl NoteKind {
         match self {
             NoteKind::SubNumber => "SubNumber",
             NoteKind::Unlisted => "Unlisted",
+            NoteKind::NodeId => "NodeId",
         }
     }
 }

@@ -2,7 +2,7 @@
 use Rattle.std.proofs.Common.{◌≡◌, [], codes, refl, true, false}
 use Rattle.std.specs.Prelude.{pos, neg_ℤ}
 use Rattle.co_value.specs.declared.data_type.DataType.TheVariants.{Integer16, Integer64, Unsigned16}
-use Rattle.co_sheet_text.specs.declared.section_kind.SectionKind.TheVariants.{MandatoryObjects, OptionalObjects, DummyUsage, DeviceInfo, Object, SubIndex, PassedOver}
+use Rattle.co_sheet_text.specs.declared.section_kind.SectionKind.TheVariants.{MandatoryObjects, OptionalObjects, DummyUsage, DeviceInfo, DeviceCommissioning, Object, SubIndex, PassedOver}
 use Rattle.co_sheet_text.specs.declared.numeral.Numeral.TheVariants.{Hexadecimal}
 use Rattle.co_sheet_text.specs.Text.{trim, same_name}
 use Rattle.co_sheet_text.specs.Names.{kind_of, is_read_name}
@@ -66,6 +66,15 @@ list_in_any_case = refl
 dummy_usage : kind_of (codes "DummyUsage") ≡ DummyUsage
 dummy_usage = refl
 
+commissioning : kind_of (codes "DeviceComissioning") ≡ DeviceCommissioning
+commissioning = refl
+
+commissioning_with_mm : kind_of (codes "deviceCOMMISSIONING") ≡ DeviceCommissioning
+commissioning_with_mm = refl
+
+commissioning_with_one_s : kind_of (codes "DeviceComisioning") ≡ PassedOver
+commissioning_with_one_s = refl
+
 object : kind_of (codes "1000") ≡ Object 0x1000
 object = refl
 
@@ -127,6 +136,24 @@ dummy_1 = refl
 
 compact_pdo : is_read_name DeviceInfo (codes "CompactPDO") ≡ true
 compact_pdo = refl
+
+parameter_value : is_read_name (Object 5) (codes "ParameterValue") ≡ true
+parameter_value = refl
+
+parameter_value_of_sub_index : is_read_name (SubIndex (record { index = 5; sub = 1 })) (codes "parametervalue") ≡ true
+parameter_value_of_sub_index = refl
+
+parameter_value_elsewhere : is_read_name DeviceCommissioning (codes "ParameterValue") ≡ false
+parameter_value_elsewhere = refl
+
+node_id : is_read_name DeviceCommissioning (codes "NodeId") ≡ true
+node_id = refl
+
+other_key_of_commissioning : is_read_name DeviceCommissioning (codes "NodeName") ≡ false
+other_key_of_commissioning = refl
+
+node_id_elsewhere : is_read_name DeviceInfo (codes "NodeID") ≡ false
+node_id_elsewhere = refl
 
 key_of_section_passed_over : is_read_name PassedOver (codes "DataType") ≡ false
 key_of_section_passed_over = refl

@@ -1,10 +1,10 @@
 -- The names of sections and of the properties that are read in them (CiA 306, object lists,
--- object description, dummy usage).
+-- object description, dummy usage, device commissioning).
 use Rattle.std.specs.Prelude.{ℕ, ◌+◌, ◌*◌, Bool, true, false, ◌&&◌, ◌||◌, not, ◌==◌, nat_le, if◌then◌else◌, List, [], ◌∷◌, length, take, drop, fold, take_while, codes}
 use Rattle.std.specs.List.{list_any, list_all, prefix_len}
 use Rattle.std.specs.Char.{is_digit, digit_value}
 use Rattle.co_sheet_text.specs.declared.section_kind.SectionKind.{SectionKind}
-use Rattle.co_sheet_text.specs.declared.section_kind.SectionKind.TheVariants.{MandatoryObjects, OptionalObjects, ManufacturerObjects, DummyUsage, DeviceInfo, Object, SubIndex, PassedOver}
+use Rattle.co_sheet_text.specs.declared.section_kind.SectionKind.TheVariants.{MandatoryObjects, OptionalObjects, ManufacturerObjects, DummyUsage, DeviceInfo, DeviceCommissioning, Object, SubIndex, PassedOver}
 use Rattle.co_sheet_text.specs.Text.{same_name, is_empty}
 
 -- the number that digits of a base write
@@ -28,6 +28,11 @@ sub_index_kind index rest =
     then SubIndex (record { index = number_in 16 index; sub = number_in 16 (drop 3 rest) })
     else PassedOver
 
+-- CiA 306 spells the section `DeviceComissioning`; the other spelling names the same one
+abbrev pub is_commissioning : List ℕ → Bool
+is_commissioning name =
+    same_name name (codes "DeviceComissioning") || same_name name (codes "DeviceCommissioning")
+
 -- what a section is about, by its name
 abbrev pub kind_of : List ℕ → SectionKind
 kind_of name =
@@ -36,6 +41,7 @@ kind_of name =
     else if same_name name (codes "ManufacturerObjects") then ManufacturerObjects
     else if same_name name (codes "DummyUsage") then DummyUsage
     else if same_name name (codes "DeviceInfo") then DeviceInfo
+    else if is_commissioning name then DeviceCommissioning
     else if is_hexadecimal_up_to 4 name then Object (number_in 16 name)
     else sub_index_kind (take_while is_hexadecimal_digit name)
     (drop (prefix_len is_hexadecimal_digit name) name)
@@ -47,6 +53,7 @@ same_kind OptionalObjects OptionalObjects = true
 same_kind ManufacturerObjects ManufacturerObjects = true
 same_kind DummyUsage DummyUsage = true
 same_kind DeviceInfo DeviceInfo = true
+same_kind DeviceCommissioning DeviceCommissioning = true
 same_kind (Object index) (Object other) = index == other
 same_kind (SubIndex key) (SubIndex other) = (key.index == other.index) && (key.sub == other.sub)
 same_kind PassedOver PassedOver = true
@@ -70,8 +77,8 @@ is_position (digit ∷ digits) = list_all (λ c. is_digit c 10) (digit ∷ digit
 abbrev pub object_names : List (List ℕ)
 object_names =
     codes "ParameterName" ∷ codes "ObjectType" ∷ codes "DataType" ∷ codes "AccessType"
-    ∷ codes "LowLimit" ∷ codes "HighLimit" ∷ codes "DefaultValue" ∷ codes "PDOMapping"
-    ∷ codes "SubNumber" ∷ codes "CompactSubObj" ∷ []
+    ∷ codes "LowLimit" ∷ codes "HighLimit" ∷ codes "DefaultValue" ∷ codes "ParameterValue"
+    ∷ codes "PDOMapping" ∷ codes "SubNumber" ∷ codes "CompactSubObj" ∷ []
 
 -- the names that are read in a section
 abbrev pub read_names : SectionKind → List (List ℕ)
@@ -79,6 +86,7 @@ read_names DummyUsage =
     codes "Dummy0002" ∷ codes "Dummy0003" ∷ codes "Dummy0004" ∷ codes "Dummy0005"
     ∷ codes "Dummy0006" ∷ codes "Dummy0007" ∷ []
 read_names DeviceInfo = codes "CompactPDO" ∷ []
+read_names DeviceCommissioning = codes "NodeID" ∷ []
 read_names (Object index) = object_names
 read_names (SubIndex key) = object_names
 read_names PassedOver = []

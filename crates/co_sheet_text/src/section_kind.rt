@@ -3,7 +3,7 @@
 ghost use Rattle.std.specs.Prelude.{◌≡◌, ◌≤◌, ◌<◌, ◌^◌, Some, None, IfSome, take_while, drop, length, if◌then◌else◌};
 ghost use Rattle.std.specs.List.{list_any, prefix_len};
 ghost use Rattle.co_sheet_text.specs.Text.{same_name};
-ghost use Rattle.co_sheet_text.specs.Names.{is_hexadecimal_digit, is_hexadecimal_up_to, number_in, sub_index_kind, kind_of, is_read, is_list, is_position, object_names, read_names, is_read_name};
+ghost use Rattle.co_sheet_text.specs.Names.{is_hexadecimal_digit, is_hexadecimal_up_to, number_in, sub_index_kind, is_commissioning, kind_of, is_read, is_list, is_position, object_names, read_names, is_read_name};
 
 use crate::numeral::{all_digits, is_digit, number_in};
 use crate::text::same_name;
@@ -17,6 +17,8 @@ pub enum SectionKind {
     ManufacturerObjects,
     DummyUsage,
     DeviceInfo,
+    /// `DeviceComissioning`, as CiA 306 spells it, or `DeviceCommissioning`.
+    DeviceCommissioning,
     /// The object with this index.
     Object(u16),
     /// The sub-index with this key.
@@ -26,8 +28,9 @@ pub enum SectionKind {
 }
 
 impl SectionKind {
-    /// What a section of this name is about: a list, DummyUsage, DeviceInfo, an object as `1018`, a sub-index as
-    /// `1018sub1`, or nothing that is read (CiA 306, object lists, object description).
+    /// What a section of this name is about: a list, DummyUsage, DeviceInfo, device commissioning in either spelling, an
+    /// object as `1018`, a sub-index as `1018sub1`, or nothing that is read (CiA 306, object lists, object description,
+    /// device commissioning).
     pub fn of_name(name: &[u8]) -> SectionKind
         ensures { result ≡ kind_of name.now }
     {
@@ -41,6 +44,8 @@ impl SectionKind {
             SectionKind::DummyUsage
         } else if same_name(name, b"DeviceInfo") {
             SectionKind::DeviceInfo
+        } else if is_commissioning(name) {
+            SectionKind::DeviceCommissioning
         } else if let Some(index) = hexadecimal_up_to(4, name) {
             SectionKind::Object(index)
         } else {
@@ -75,13 +80,14 @@ impl SectionKind {
             _ if self.is_list() => same_name(name, b"SupportedObjects") || is_position(name),
             SectionKind::DummyUsage => is_among(name, &DUMMY_NAMES),
             SectionKind::DeviceInfo => same_name(name, b"CompactPDO"),
-            SectionKind::Object(_) | SectionKind::SubIndex(_) => is_among(name, &OBJECT_NAMES),
+            SectionKind::DeviceCommissioning => same_name(name, b"NodeID"),
+            SectionKind::Object(_) | SectionKind::SubIndex(_) => is_object_name(name),
             _ => false,
         }
     }
 }
 
-const OBJECT_NAMES: [&[u8]; 10] = [
+const OBJECT_NAMES: [&[u8]; 11] = [
     b"ParameterName",
     b"ObjectType",
     b"DataType",
@@ -89,6 +95,7 @@ const OBJECT_NAMES: [&[u8]; 10] = [
     b"LowLimit",
     b"HighLimit",
     b"DefaultValue",
+    b"ParameterValue",
     b"PDOMapping",
     b"SubNumber",
     b"CompactSubObj",
@@ -103,10 +110,23 @@ const DUMMY_NAMES: [&[u8]; 6] = [
     b"Dummy0007",
 ];
 
+// CiA 306 spells the section with one `m`, which many tools correct
+fn is_commissioning(name: &[u8]) -> bool
+    ensures { result ≡ is_commissioning name.now }
+{
+    same_name(name, b"DeviceComissioning") || same_name(name, b"DeviceCommissioning")
+}
+
 fn is_among(name: &[u8], names: &[&[u8]]) -> bool
     ensures { result ≡ list_any (λ other. same_name name.now other.now) names.now }
 {
     names.iter().any(|other| same_name(name, other))
+}
+
+fn is_object_name(name: &[u8]) -> bool
+    ensures { result ≡ list_any (same_name name.now) object_names }
+{
+    is_among(name, &OBJECT_NAMES)
 }
 
 // a place in an object list: a decimal number from 1, without leading zeros

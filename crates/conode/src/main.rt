@@ -1,18 +1,72 @@
-//! A CANopen device node on the command line: checks data sheets, decodes CAN traces as `candump -L` writes them, and
-//! answers the SDO requests of one.
+//! A CANopen device node on the command line: checks data sheets, decodes CAN traces as `candump -L` writes them, plays one
+//! to the device of a data sheet, and lets an SDO client download to it.
 #![tactic(auto)]
 
 use co_dict_list::Limits;
-use conode_answers::answer_input;
+use co_node::Config;
 use conode_check::check_file;
 use conode_decode::decode_files;
 use conode_io::{CmdFault, stopped};
+use conode_loop::loop_files;
+use conode_replay::{replay_files, replay_stored};
 use conode_words::{Task, task};
 use std::io::{BufWriter, Write};
 use std::process::ExitCode;
 use std::{env, io};
 
-/// Does what the words ask for; without a subcommand it answers standard input.
+/// The room of strings and domains.
+fn limits_of(strings: u16, domains: u16) -> Limits<'static> {
+    Limits {
+        strings,
+        domains,
+        own: &[],
+    }
+}
+
+/// Does what the words ask for.
+fn carry_out_task<O: Write, E: Write>(
+    rt: &HostRuntime,
+    task: Task<'_>,
+    out: &mut O,
+    err: &mut E,
+) -> ExitCode {
+    match task {
+        Task::Check {
+            sheet,
+            node,
+            strings,
+            domains,
+        } => check_file(rt, sheet, node, &limits_of(strings, domains), out, err),
+        Task::Decode { trace, sheet, node } => decode_files(rt, trace, sheet, node, out, err),
+        Task::Replay {
+            sheet,
+            trace,
+            node,
+            strings,
+            domains,
+            time,
+        } => {
+            let limits = limits_of(strings, domains);
+            replay_files(rt, sheet, trace, node, &Config { limits, time }, out, err)
+        }
+        Task::LoopBack {
+            sheet,
+            key,
+            bytes,
+            node,
+            mode,
+            strings,
+            domains,
+            time,
+        } => {
+            let limits = limits_of(strings, domains);
+            let config = Config { limits, time };
+            loop_files(rt, sheet, key, bytes, node, mode, &config, out, err)
+        }
+    }
+}
+
+/// Does what the words ask for; without a subcommand it plays standard input to a stored device.
 fn carry_out<O: Write, E: Write>(
     rt: &HostRuntime,
     words: &[&str],
@@ -20,34 +74,14 @@ fn carry_out<O: Write, E: Write>(
     err: &mut E,
 ) -> ExitCode {
     match task(rt.alloc(), words) {
-        Ok(
-            Some(
-                Task::Check {
-                    sheet,
-                    node,
-                    strings,
-                    domains,
-                },
-            ),
-        ) => {
-            let limits = Limits {
-                strings,
-                domains,
-                own: &[],
-            };
-            check_file(rt, sheet, node, &limits, out, err)
-        }
-        Ok(Some(Task::Decode { trace, sheet, node })) => {
-            decode_files(rt, trace, sheet, node, out, err)
-        }
-        Ok(None) => answer_input(rt.alloc(), &mut rt.reader(), out, err).status(),
+        Ok(Some(task)) => carry_out_task(rt, task, out, err),
+        Ok(None) => replay_stored(rt.alloc(), &mut rt.reader(), out, err),
         Err(error) => {
             let _ = error.print(rt);
             ExitCode::from(error.exit_code() as u8)
         }
     }
 }
-
 /// Takes the words of the command line and does what they ask for.
 fn run_words<E: Write>(rt: &HostRuntime, err: &mut E) -> io::Result<ExitCode> {
     let alloc = rt.alloc();

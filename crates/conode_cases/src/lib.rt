@@ -11,6 +11,4 @@ mod fakes;
 #[cfg(test)]
 mod sheets;
 #[cfg(test)]
-mod traces;
-#[cfg(test)]
 mod words;

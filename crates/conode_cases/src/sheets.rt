@@ -4,7 +4,7 @@
 use crate::fakes::{Narrow, expect_lines, lines_of};
 use co_dict_list::Limits;
 use conode_check::{check, check_file, check_text};
-use conode_io::CmdFault;
+use conode_io::{CmdFault, Ending};
 use std::alloc::Global;
 use std::fs;
 use std::process::{Abort, ExitCode};
@@ -74,6 +74,12 @@ fn builds(rt: HostRuntime) -> Result<(), Fail> {
 const SHEETS: &str = "\
 ; end / ; end => ok: 3 objects, 4 entries, 0 notes|
 ; end / [2000]|SubNumber=1 => ok: 3 objects, 4 entries, 2 notes|note 22 Unlisted|note 23 SubNumber|
+; end / ParameterValue=0x99|[DeviceComissioning]|NodeID=5 => ok: 3 objects, 4 entries, 0 notes|node 5|
+; end / [DeviceCommissioning]|NodeID=255 => ok: 3 objects, 4 entries, 1 notes|note 23 NodeId|
+; end / [DeviceCommissioning]|NodeID=127|[2000] => ok: 3 objects, 4 entries, 1 notes|note 24 Unlisted|node 127|
+; end / [DeviceComissioning]|NodeID=5|[OptionalObjects]|SupportedObjects=1|1=0x1014|[1014]|DataType=7|AccessType=rw|ParameterValue=0x101|[2000] => ok: 4 objects, 5 entries, 1 notes|note 31 Unlisted|node 5|build fault 3 BadCobId 1014:00|
+; end / ParameterValue=0x99|[DeviceComissioning]|NodeID=5|[DeviceCommissioning] => fault 4 DuplicateSection line 25|
+; end / ParameterValue=0x100000000 => fault 16 BadDefault line 22|
 [1000] / [1000 => fault 2 BadLine line 6|
 [MandatoryObjects] / x=1|[MandatoryObjects] => fault 3 KeyOutsideSection line 1|
 ; end / [1001] => fault 4 DuplicateSection line 22|
@@ -95,6 +101,8 @@ SupportedObjects=3 / SupportedObjects=2 => fault 19 MissingMandatory line 0|";
 
 const BUILDS: &str = "\
 5 ; end / ; end => ok: 3 objects, 4 entries, 0 notes|
+6 ; end / ParameterValue=0x99|[DeviceComissioning]|NodeID=5 => ok: 3 objects, 4 entries, 0 notes|
+0 ; end / [DeviceComissioning]|NodeID=5 => ok: 3 objects, 4 entries, 0 notes|build fault 1 NodeId|
 0 ; end / ; end => ok: 3 objects, 4 entries, 0 notes|build fault 1 NodeId|
 128 ; end / ; end => ok: 3 objects, 4 entries, 0 notes|build fault 1 NodeId|
 1 ; end / [OptionalObjects]|SupportedObjects=1|1=0x2003|[2003]|DataType=6|AccessType=rw|HighLimit=1000|DefaultValue=$NODEID+999 => ok: 4 objects, 5 entries, 0 notes|
@@ -105,12 +113,13 @@ const BUILDS: &str = "\
 
 #[test]
 fn failing_writer(rt: HostRuntime) -> Result<(), Fail> {
-    let text = changed(rt.alloc(), "; end / [2000]|SubNumber=1")?;
-    let whole = b"ok: 3 objects, 4 entries, 2 notes\nnote 22 Unlisted\nnote 23 SubNumber\n";
-    for room in [0, 33, 34, 50, 51, 68, 69] {
+    let change = "; end / [2000]|SubNumber=1|[DeviceComissioning]|NodeID=5";
+    let text = changed(rt.alloc(), change)?;
+    let whole = b"ok: 3 objects, 4 entries, 2 notes\nnote 22 Unlisted\nnote 23 SubNumber\nnode 5\n";
+    for room in [0, 33, 34, 50, 51, 68, 69, 75, 76] {
         let mut writer = Narrow::new(rt.alloc(), room);
         let outcome = check(rt.alloc(), text.as_bytes(), None, &LIMITS, &mut writer);
-        let wanted = if room < 69 {
+        let wanted = if room < 76 {
             Err(CmdFault::Write)
         } else {
             Ok(true)
@@ -128,7 +137,7 @@ fn failing_flush(rt: HostRuntime) -> Result<(), Fail> {
     let mut out = Narrow::new(rt.alloc(), 1000);
     out.flushes = false;
     let mut err = Vec::new(rt.alloc());
-    let status = check_text(
+    let outcome = check_text(
         rt.alloc(),
         text.as_bytes(),
         None,
@@ -136,7 +145,7 @@ fn failing_flush(rt: HostRuntime) -> Result<(), Fail> {
         &mut out,
         &mut err,
     );
-    assert!(rt; status == ExitCode::FAILURE);
+    assert_eq!(rt; outcome, Err(Ending::Said(CmdFault::Write)));
     expect_lines(&rt, err.as_slice(), "stopped: Write|")
 }
 

@@ -9,6 +9,10 @@ check a => check
  => nothing
 check --node 127 a --strings=0 --domains 65535 => check
 decode --sheet s t --node=1 => decode
+replay s - --node 5 --time 0 => replay
+loop s 2001:00 05 --node=127 --mode block => loop
+loop s 2001:00 05 --node 5 --mode fast => status 2
+replay s t => status 2
 check a --nodes 5 => status 2
 check a --node 0 => status 2
 chek => status 2
@@ -30,6 +34,8 @@ fn command_lines(rt: HostRuntime) -> Result<(), Fail> {
             Ok(task) => match task {
                 Some(Task::Check { .. }) => "check",
                 Some(Task::Decode { .. }) => "decode",
+                Some(Task::Replay { .. }) => "replay",
+                Some(Task::LoopBack { .. }) => "loop",
                 None => "nothing",
             },
             Err(error) => match error.exit_code() {

@@ -1,1 +1,2 @@
+pub mod CheckEndings
 pub mod SheetTexts

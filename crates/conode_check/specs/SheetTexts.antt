@@ -1,6 +1,6 @@
 -- What is written of a data sheet that is checked.
-use Rattle.std.specs.Prelude.{◌&&◌, ℕ, Bool, List, [], ◌∷◌, ◌++◌, map, length, Option, option_and_then, is_none, codes, decimal}
-use Rattle.std.specs.Option.{option_map_or}
+use Rattle.std.specs.Prelude.{◌&&◌, ℕ, Bool, List, [], ◌∷◌, ◌++◌, map, length, Option, None, option_and_then, is_none, if◌then◌else◌, codes, decimal}
+use Rattle.std.specs.Option.{option_map_or, option_or}
 use Rattle.co_sheet_rows.specs.declared.fault.SheetFault.{SheetFault}
 use Rattle.co_sheet_rows.specs.declared.note.Note.{Note}
 use Rattle.co_sheet.specs.Accepted.{first_fault, sections_in}
@@ -30,6 +30,10 @@ summary_line sheet =
 unfoldable pub build_fault_line : BuildFault → List ℕ
 build_fault_line fault = build_fault_text fault ++ 10 ∷ []
 
+-- the line of the node-ID that a sheet itself has
+unfoldable pub node_line : ℕ → List ℕ
+node_line id = codes "node " ++ decimal id ++ 10 ∷ []
+
 -- why a sheet makes no dictionary for a node-ID and limits; without a node-ID none is made
 abbrev pub sheet_build_fault : Option ℕ → Limits → SheetContent → Option BuildFault
 sheet_build_fault node limits sheet = option_and_then (λ id. build_fault (plan_of id limits sheet)) node
@@ -38,9 +42,22 @@ sheet_build_fault node limits sheet = option_and_then (λ id. build_fault (plan_
 abbrev pub build_lines : Option BuildFault → List (List ℕ)
 build_lines fault = option_map_or (λ fault. build_fault_line fault ∷ []) fault []
 
--- the lines of a sheet that is accepted: what it has, its notes, and its build fault
-abbrev pub sheet_lines : SheetContent → Option BuildFault → List (List ℕ)
-sheet_lines sheet fault = summary_line sheet ∷ (map note_line sheet.notes ++ build_lines fault)
+-- the line of a node-ID, where there is one
+abbrev pub node_lines : Option ℕ → List (List ℕ)
+node_lines id = option_map_or (λ id. node_line id ∷ []) id []
+
+-- the lines of a sheet that is accepted: what it has, its notes, its own node-ID, and its build fault
+abbrev pub sheet_lines : SheetContent → Option ℕ → Option BuildFault → List (List ℕ)
+sheet_lines sheet own fault =
+    summary_line sheet ∷ (map note_line sheet.notes ++ (node_lines own ++ build_lines fault))
+
+-- the node-ID of a sheet itself, which counts and is written where none is given
+abbrev pub own_node : Option ℕ → SheetContent → Option ℕ
+own_node node sheet = if is_none node then sheet.node_id else None
+
+-- why a sheet makes no dictionary for the node-ID that is given, or else for its own
+abbrev pub checked_fault : Option ℕ → Limits → SheetContent → Option BuildFault
+checked_fault node limits sheet = sheet_build_fault (option_or node (own_node node sheet)) limits sheet
 
 -- the sheet that a text is, where it is accepted
 abbrev pub text_sheet : List ℕ → SheetContent
@@ -50,8 +67,9 @@ text_sheet text = content_of (sections_in text)
 abbrev pub checked_lines : List ℕ → Option ℕ → Limits → List (List ℕ)
 checked_lines text node limits =
     option_map_or (λ fault. fault_line fault ∷ [])
-    (first_fault text) (sheet_lines (text_sheet text) (sheet_build_fault node limits (text_sheet text)))
+    (first_fault text)
+    (sheet_lines (text_sheet text) (own_node node (text_sheet text)) (checked_fault node limits (text_sheet text)))
 
--- a text has neither a fault as a sheet nor, with a node-ID, a build fault
+-- a text has neither a fault as a sheet nor, with a node-ID that is given or its own, a build fault
 abbrev pub is_good : List ℕ → Option ℕ → Limits → Bool
-is_good text node limits = is_none (first_fault text) && is_none (sheet_build_fault node limits (text_sheet text))
+is_good text node limits = is_none (first_fault text) && is_none (checked_fault node limits (text_sheet text))

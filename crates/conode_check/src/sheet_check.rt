@@ -3,10 +3,12 @@
 ghost use Rattle.std.specs.Prelude.{◌≡◌, ◌⊎◌, ◌++◌, map, OnOk, IfOk, IfErr, Err, is_none};
 ghost use Rattle.std.specs.Io.KnownBytes.{Appends, Keeps};
 ghost use Rattle.co_dict_list.specs.Capacities.{limits_view};
-ghost use Rattle.conode_check.specs.SheetTexts.{build_lines, checked_lines, fault_line, is_good, note_line, sheet_build_fault, sheet_lines};
+ghost use Rattle.conode_check.specs.SheetTexts.{build_lines, checked_fault, checked_lines, fault_line, is_good, node_lines, note_line, own_node, sheet_build_fault, sheet_lines};
 ghost use Rattle.conode_io.specs.Written.{AppendsFront, WritesFront, WritesLines, WritesSome};
 
-use crate::sheet_text::{set_build_fault_line, set_fault_line, set_note_line, set_summary_line};
+use crate::sheet_text::{
+    set_build_fault_line, set_fault_line, set_node_line, set_note_line, set_summary_line,
+};
 use co_dict_list::{BuildFault, Limits, ListStore};
 use co_sheet::{FaultKind, Note, Sheet, SheetFault, read};
 use conode_io::{CmdFault, hand_over};
@@ -50,45 +52,87 @@ fn write_build_fault<W: Write>(
     hand_over(line.as_bytes(), writer)
 }
 
-// the notes of a sheet, and its build fault
+#[tactic(auto, using(conode_io::proofs::WriteLemmas::line_alone, conode_io::proofs::WriteLemmas::front_alone, conode_io::proofs::WriteLemmas::no_lines))]
+fn write_node<W: Write>(line: &mut String, node: Option<u8>, writer: &mut W) -> Result<(), CmdFault>
+    ensures ok { OnOk result
+        (WritesLines (W.contents writer.old) (W.contents writer.new) (node_lines node)) }
+    ensures write { result ≡ Err CmdFault.Write →
+        WritesFront (W.contents writer.old) (W.contents writer.new) (node_lines node) }
+    ensures memory { result ≡ Err CmdFault.Memory →
+        WritesSome (W.contents writer.old) (W.contents writer.new) (node_lines node) }
+    ensures err { IfErr result (λ fault. (fault ≡ CmdFault.Write) ⊎ (fault ≡ CmdFault.Memory)) }
+{
+    let Some(id) = node else {
+        return Ok(());
+    };
+    set_node_line(line, id)?;
+    hand_over(line.as_bytes(), writer)
+}
+
+// the node-ID that a sheet itself has, and its build fault
 #[tactic(auto, using(conode_io::proofs::WriteLemmas::lines_after, conode_io::proofs::WriteLemmas::front_of_more, conode_io::proofs::WriteLemmas::some_of_more))]
-fn write_remarks<W: Write>(
+fn write_outcome<W: Write>(
     line: &mut String,
-    notes: &[Note],
+    own: Option<u8>,
     fault: Option<BuildFault>,
     writer: &mut W,
 ) -> Result<(), CmdFault>
     ensures ok { OnOk result (WritesLines (W.contents writer.old) (W.contents writer.new)
-        (map note_line notes.now ++ build_lines fault)) }
+        (node_lines own ++ build_lines fault)) }
     ensures write { result ≡ Err CmdFault.Write →
         WritesFront (W.contents writer.old) (W.contents writer.new)
-        (map note_line notes.now ++ build_lines fault) }
+        (node_lines own ++ build_lines fault) }
     ensures memory { result ≡ Err CmdFault.Memory →
         WritesSome (W.contents writer.old) (W.contents writer.new)
-        (map note_line notes.now ++ build_lines fault) }
+        (node_lines own ++ build_lines fault) }
+    ensures err { IfErr result (λ fault. (fault ≡ CmdFault.Write) ⊎ (fault ≡ CmdFault.Memory)) }
+{
+    write_node(line, own, writer)?;
+    write_build_fault(line, fault, writer)
+}
+
+// the notes of a sheet, the node-ID that it has itself, and its build fault
+#[tactic(auto, using(conode_io::proofs::WriteLemmas::lines_after, conode_io::proofs::WriteLemmas::front_of_more, conode_io::proofs::WriteLemmas::some_of_more))]
+fn write_remarks<W: Write>(
+    line: &mut String,
+    notes: &[Note],
+    own: Option<u8>,
+    fault: Option<BuildFault>,
+    writer: &mut W,
+) -> Result<(), CmdFault>
+    ensures ok { OnOk result (WritesLines (W.contents writer.old) (W.contents writer.new)
+        (map note_line notes.now ++ (node_lines own ++ build_lines fault))) }
+    ensures write { result ≡ Err CmdFault.Write →
+        WritesFront (W.contents writer.old) (W.contents writer.new)
+        (map note_line notes.now ++ (node_lines own ++ build_lines fault)) }
+    ensures memory { result ≡ Err CmdFault.Memory →
+        WritesSome (W.contents writer.old) (W.contents writer.new)
+        (map note_line notes.now ++ (node_lines own ++ build_lines fault)) }
     ensures err { IfErr result (λ fault. (fault ≡ CmdFault.Write) ⊎ (fault ≡ CmdFault.Memory)) }
 {
     write_notes(line, notes, writer)?;
-    write_build_fault(line, fault, writer)
+    write_outcome(line, own, fault, writer)
 }
 
 fn write_sheet<W: Write>(
     line: &mut String,
     sheet: &Sheet<'_>,
+    own: Option<u8>,
     fault: Option<BuildFault>,
     writer: &mut W,
 ) -> Result<(), CmdFault>
     ensures ok { OnOk result
-        (WritesLines (W.contents writer.old) (W.contents writer.new) (sheet_lines sheet.now fault)) }
+        (WritesLines (W.contents writer.old) (W.contents writer.new)
+        (sheet_lines sheet.now own fault)) }
     ensures write { result ≡ Err CmdFault.Write →
-        WritesFront (W.contents writer.old) (W.contents writer.new) (sheet_lines sheet.now fault) }
+        WritesFront (W.contents writer.old) (W.contents writer.new) (sheet_lines sheet.now own fault) }
     ensures memory { result ≡ Err CmdFault.Memory →
-        WritesSome (W.contents writer.old) (W.contents writer.new) (sheet_lines sheet.now fault) }
+        WritesSome (W.contents writer.old) (W.contents writer.new) (sheet_lines sheet.now own fault) }
     ensures err { IfErr result (λ fault. (fault ≡ CmdFault.Write) ⊎ (fault ≡ CmdFault.Memory)) }
 {
     set_summary_line(line, sheet)?;
     hand_over(line.as_bytes(), writer)?;
-    write_remarks(line, sheet.notes(), fault, writer)
+    write_remarks(line, sheet.notes(), own, fault, writer)
 }
 
 fn write_fault<W: Write>(
@@ -128,6 +172,16 @@ fn sheet_build_fault(
     }
 }
 
+// the node-ID that a sheet itself has, where none is given
+fn own_node(sheet: &Sheet<'_>, node: Option<u8>) -> Option<u8>
+    ensures { result ≡ own_node node sheet.now }
+{
+    match node {
+        Some(_) => None,
+        None => sheet.node_id(),
+    }
+}
+
 // writes what an accepted sheet has, and its build fault; whether it has none
 fn check_sheet<W: Write>(
     alloc: Global,
@@ -137,27 +191,32 @@ fn check_sheet<W: Write>(
     writer: &mut W,
 ) -> Result<bool, CmdFault>
     ensures accepted { IfOk result (λ accepted.
-        accepted ≡ is_none (sheet_build_fault node (limits_view limits.now) sheet.now)) }
+        accepted ≡ is_none (checked_fault node (limits_view limits.now) sheet.now)) }
     ensures text { OnOk result (WritesLines (W.contents writer.old) (W.contents writer.new)
-        (sheet_lines sheet.now (sheet_build_fault node (limits_view limits.now) sheet.now))) }
+        (sheet_lines sheet.now (own_node node sheet.now)
+        (checked_fault node (limits_view limits.now) sheet.now))) }
     ensures write { result ≡ Err CmdFault.Write →
         WritesFront (W.contents writer.old) (W.contents writer.new)
-        (sheet_lines sheet.now (sheet_build_fault node (limits_view limits.now) sheet.now)) }
+        (sheet_lines sheet.now (own_node node sheet.now)
+        (checked_fault node (limits_view limits.now) sheet.now)) }
     ensures memory { result ≡ Err CmdFault.Memory →
         WritesSome (W.contents writer.old) (W.contents writer.new)
-        (sheet_lines sheet.now (sheet_build_fault node (limits_view limits.now) sheet.now)) }
+        (sheet_lines sheet.now (own_node node sheet.now)
+        (checked_fault node (limits_view limits.now) sheet.now)) }
     ensures err { IfErr result (λ fault. (fault ≡ CmdFault.Write) ⊎ (fault ≡ CmdFault.Memory)) }
 {
-    let fault = sheet_build_fault(alloc, sheet, node, limits)?;
+    let own = own_node(sheet, node);
+    let fault = sheet_build_fault(alloc, sheet, node.or(own), limits)?;
     let mut line = String::new(alloc);
-    write_sheet(&mut line, sheet, fault, writer)?;
+    write_sheet(&mut line, sheet, own, fault, writer)?;
     Ok(fault.is_none())
 }
 
 /// Checks a data sheet (CiA 306), with a node-ID also whether a dictionary can be built of it, and writes what it has:
 /// `ok: 3 objects, 4 entries, 0 notes`, a line for each note, as `note 12 SubNumber`, and its build fault, as
 /// `build fault 3 BadCobId 1800:01`; or its fault, as `fault 9 BadList line 1`. Whether there is neither a fault nor a
-/// build fault.
+/// build fault. Where no node-ID is given that of the device commissioning counts, and is written after the notes, as
+/// `node 5`.
 ///
 /// The dictionary is built before the first line is written, and not kept. `Write` where the writer failed: some of the
 /// lines have been written, and perhaps a part of the next one. `Memory` where memory ran out: some of the lines have

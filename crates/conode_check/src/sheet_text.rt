@@ -1,7 +1,7 @@
 //! The lines that are written of a data sheet.
 
 ghost use Rattle.std.specs.Prelude.{◌≡◌, OnOk, string_bytes};
-ghost use Rattle.conode_check.specs.SheetTexts.{build_fault_line, fault_line, note_line, summary_line};
+ghost use Rattle.conode_check.specs.SheetTexts.{build_fault_line, fault_line, node_line, note_line, summary_line};
 
 use co_dict_list::BuildFault;
 use co_sheet::{Note, Sheet, SheetFault};
@@ -38,6 +38,16 @@ pub(crate) fn set_note_line(text: &mut String, note: Note) -> Result<(), AllocEr
     text.clear();
     text.push_str(note.text().as_str())?;
     text.push('\n')
+}
+
+/// Makes the text the line of the node-ID that the sheet itself has, as `node 5`. On an `Err` memory ran out, and the text
+/// holds a part of the line.
+#[tactic(auto, unfolding(crate::specs::SheetTexts::node_line))]
+pub(crate) fn set_node_line(text: &mut String, node: u8) -> Result<(), AllocError>
+    ensures { OnOk result (string_bytes text.new ≡ node_line node) }
+{
+    text.clear();
+    writeln!(text, "node {node}")
 }
 
 /// Makes the text the first line of a sheet that is accepted: how many objects, entries and notes it has. On an `Err`

@@ -405,6 +405,7 @@ sheet = record {
   sections = [];
   notes = [];
   dummies = [];
+  node_id = None;
 }
 
 abbrev names_for : List ℕ → Names

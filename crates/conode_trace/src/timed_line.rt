@@ -50,6 +50,7 @@ impl<'a> TimedLine<'a> {
         requires { clock.old.ms + 2 ^ 32 < 2 ^ 128 }
         ensures exact { option_map (λ t. (t, clock.new)) result ≡ timed number clock.old line.now }
         ensures few { IfSome result (λ t. WritesFewBytes t.said) }
+        ensures before { IfSome result (λ t. t.before ≡ clock.old.ms) }
         ensures bad { IfNone result (clock.new ≡ clock.old) }
         ensures bounded { clock.new.ms < max clock.old.ms (2 ^ 64) + 2 ^ 32 }
     {

@@ -49,6 +49,8 @@ impl TraceProgress {
             trace_next self.old (line.now ∷ more)
             ≡ preceded (inputs_of read) (trace_next self.new more)) }
         ensures few { IfOk result (λ read. WritesFewBytes read.said) }
+        // the clock of each of its ticks fits
+        ensures early { IfOk result (λ read. read.before + 2 ^ 32 < 2 ^ 128) }
         ensures number { OnOk result (self.new.number ≡ self.old.number + 1) }
         ensures bad { IfErr result (λ fault. (more : List (List ℕ)) →
             trace_next self.old (line.now ∷ more) ≡ record { inputs = []; bad = Some fault.0 }) }

@@ -4,7 +4,8 @@ use Rattle.clap.specs.Words.{Text, fault_of, is_simple_and_free, subcommand_of}
 use Rattle.clap.specs.declared.error.kind.ErrorKind.{ErrorKind}
 use Rattle.clap.specs.declared.error.kind.ErrorKind.TheVariants as kind
 use Rattle.clap.proofs.OnLiterals.{clap_on_literals}
-use Rattle.conode_words.specs.Tasks.{Asked, check, decode, asked_of, conode_command}
+use Rattle.co_sdo_client.specs.declared.mode.Mode.TheVariants.{Plain, Block}
+use Rattle.conode_words.specs.Tasks.{Asked, check, decode, replay, loop_back, asked_of, conode_command, task_fault}
 
 abbrev asked : List Text → Option Asked
 asked words = asked_of (subcommand_of conode_command (codes "conode" ∷ words))
@@ -97,3 +98,42 @@ no_words_are_taken = refl
 asked_for_help : fault_of conode_command (codes "conode" ∷ codes "--help" ∷ []) ≡ kind.DisplayHelp ∷ []
 unfolding clap_on_literals
 asked_for_help = refl
+
+asked_for_version : fault_of conode_command (codes "conode" ∷ codes "--version" ∷ []) ≡ kind.DisplayVersion ∷ []
+unfolding clap_on_literals
+asked_for_version = refl
+
+replay_of_a_trace : asked (codes "replay" ∷ codes "s" ∷ codes "-" ∷ codes "--node" ∷ codes "5" ∷ [])
+    ≡ Some (replay (record { sheet = codes "s"; trace = codes "-"; device = record { node = 5; strings = 16; domains = 889; time = 1000 } }))
+unfolding clap_on_literals
+replay_of_a_trace = refl
+
+replay_without_node : fault_of conode_command (codes "conode" ∷ codes "replay" ∷ codes "s" ∷ codes "t" ∷ []) ≡ kind.MissingRequiredArgument ∷ []
+unfolding clap_on_literals
+replay_without_node = refl
+
+time_65536 : fault_of conode_command (codes "conode" ∷ codes "replay" ∷ codes "s" ∷ codes "t" ∷ codes "--node" ∷ codes "5" ∷ codes "--time" ∷ codes "65536" ∷ []) ≡ kind.ValueValidation ∷ []
+unfolding clap_on_literals
+time_65536 = refl
+
+loop_of_bytes : asked (codes "loop" ∷ codes "s" ∷ codes "2001:00" ∷ codes "-" ∷ codes "--node" ∷ codes "127" ∷ [])
+    ≡ Some (loop_back (record { sheet = codes "s"; key = codes "2001:00"; bytes = codes "-"; mode = Plain; device = record { node = 127; strings = 16; domains = 889; time = 1000 } }))
+unfolding clap_on_literals
+loop_of_bytes = refl
+
+loop_with_options : asked (codes "loop" ∷ codes "--mode" ∷ codes "block" ∷ codes "s" ∷ codes "k" ∷ codes "01" ∷ codes "--node=1" ∷ codes "--strings" ∷ codes "1" ∷ codes "--domains" ∷ codes "2" ∷ codes "--time" ∷ codes "3" ∷ [])
+    ≡ Some (loop_back (record { sheet = codes "s"; key = codes "k"; bytes = codes "01"; mode = Block; device = record { node = 1; strings = 1; domains = 2; time = 3 } }))
+unfolding clap_on_literals
+loop_with_options = refl
+
+loop_in_another_mode : task_fault (codes "conode" ∷ codes "loop" ∷ codes "s" ∷ codes "k" ∷ codes "01" ∷ codes "--node" ∷ codes "5" ∷ codes "--mode" ∷ codes "Block" ∷ []) ≡ kind.InvalidValue ∷ []
+unfolding clap_on_literals
+loop_in_another_mode = refl
+
+loop_in_segments : task_fault (codes "conode" ∷ codes "loop" ∷ codes "s" ∷ codes "k" ∷ codes "01" ∷ codes "--node" ∷ codes "5" ∷ codes "--mode" ∷ codes "segmented" ∷ []) ≡ []
+unfolding clap_on_literals
+loop_in_segments = refl
+
+loop_without_bytes : task_fault (codes "conode" ∷ codes "loop" ∷ codes "s" ∷ codes "k" ∷ codes "--node" ∷ codes "5" ∷ []) ≡ kind.MissingRequiredArgument ∷ []
+unfolding clap_on_literals
+loop_without_bytes = refl

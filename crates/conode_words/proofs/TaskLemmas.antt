@@ -1,12 +1,14 @@
 -- What clap makes of the program's command, and Rust's `parse` of a word.
-use Rattle.std.proofs.Common.{◌≡◌, ℕ, ◌^◌, Bool, true, false, List, [], ◌∷◌, Some, None, Result, Ok, Err, refl, sym, ap}
+use Rattle.std.proofs.Common.{◌≡◌, ℕ, ◌^◌, Bool, true, false, List, [], ◌∷◌, Some, None, Result, Ok, Err, inl, inr, refl, sym, ap}
 use Rattle.std.proofs.lemmas.Bool.{ltb-true, lt-ltb}
 use Rattle.std.specs.Prelude.{◌&&◌, nat_lt, length}
 use Rattle.std.specs.Result.{result_ok}
 use Rattle.std.specs.Char.{digit_value}
 use Rattle.std.specs.List.{list_all}
 use Rattle.std.specs.Str.Parse.{AllDigits, ParsesUnsigned, digits_value, without_leading_plus}
-use Rattle.clap.specs.Words.{Text, first_of, first_value, rows_of, is_simple_and_free}
+use Rattle.clap.specs.Kinds.{Kinds, HasKind, or_else}
+use Rattle.clap.specs.Words.{Text, first_of, first_value, rows_of, is_simple, is_simple_and_free}
+use Rattle.clap.specs.declared.error.Error.{Error}
 use Rattle.clap.specs.ValueTests.{is_numeral}
 use Rattle.clap.specs.declared.parser.matches.Found.{Found}
 use Rattle.clap.proofs.OnLiterals.{clap_on_literals}
@@ -47,3 +49,19 @@ number_read bits word (Err e) h = go (is_numeral ds && nat_lt (digits_value 10 d
         let outer = both _ _ t in
         let inner = both _ _ outer.0 in
         absurd (h ((ltb-true _ _ inner.0, digits_from ds inner.1), ltb-true _ _ outer.1))
+
+-- ---- why words are refused
+
+-- an error of the command's rules
+pub more_kinds : (kinds more : Kinds) (e : Error) → HasKind kinds e → HasKind (or_else kinds more) e
+more_kinds [] more e (inl memory) = inl memory
+more_kinds [] more e (inr among) = absurd among
+more_kinds (k ∷ ks) more e has = has
+
+-- where the rules of the command refuse nothing, the mode decides
+pub mode_decides : {Rows : Type 0} (fault : Rows → Kinds) (kinds : Kinds) (rows given : Rows) → kinds ≡ [] → given ≡ rows → fault given ≡ or_else kinds (fault rows)
+mode_decides fault kinds rows given none same = rw (none, same) refl
+
+pub is_simple_command : is_simple conode_command ≡ true
+unfolding clap_on_literals
+is_simple_command = refl

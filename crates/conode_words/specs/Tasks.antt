@@ -1,13 +1,18 @@
 -- What the words of a command line ask for.
-use Rattle.std.specs.Prelude.{◌^◌, ◌&&◌, true, ℕ, List, [], ◌∷◌, codes, Option, Some, None, nat_lt, option_map, option_and_then, if◌then◌else◌}
-use Rattle.std.specs.Option.{option_copied}
+use Rattle.std.specs.Prelude.{◌^◌, ◌&&◌, true, false, ℕ, Bool, List, [], ◌∷◌, codes, Option, Some, None, nat_lt, is_none, option_map, option_and_then, if◌then◌else◌}
+use Rattle.std.specs.Option.{option_copied, option_map_or}
 use Rattle.std.specs.Str.{bytes_eq}
 use Rattle.std.specs.Str.Parse.{digits_value, without_leading_plus}
 use Rattle.clap.specs.ValueTests.{is_numeral}
-use Rattle.clap.specs.Words.{App, Row, Rule, Text, first_of, new_app, new_rule, with_rule, with_subcommand}
+use Rattle.clap.specs.Kinds.{Kinds, or_else}
+use Rattle.clap.specs.Words.{App, Row, Rule, Text, fault_of, first_of, new_app, new_rule, subcommand_of, with_rule, with_subcommand}
 use Rattle.clap.specs.declared.builder.value_parser.ValueParser.TheVariants.{Unsigned}
+use Rattle.clap.specs.declared.error.kind.ErrorKind.TheVariants.{InvalidValue}
+use Rattle.co_sdo_client.specs.declared.mode.Mode.{Mode}
+use Rattle.co_sdo_client.specs.declared.mode.Mode.TheVariants.{Plain, Segmented, Block}
+use Rattle.conode_words.specs.declared.command_line.DeviceWords.{DeviceWords}
 use Rattle.conode_words.specs.declared.tasks.Task.{Task}
-use Rattle.conode_words.specs.declared.tasks.Task.TheVariants.{Check, Decode}
+use Rattle.conode_words.specs.declared.tasks.Task.TheVariants.{Check, Decode, Replay, LoopBack}
 
 -- a word that has to be there
 abbrev pub wanted : Text → Rule
@@ -47,10 +52,45 @@ abbrev pub decode_command : App
 decode_command =
     with_rule (with_rule (with_rule (new_app (codes "decode")) (wanted (codes "TRACE"))) sheet_option) node_option
 
+-- `--node N`, which has to be there; `--time N`, ms; `--mode MODE`
+abbrev pub wanted_node : Rule
+wanted_node = record node_option { required = true }
+
+abbrev pub time_option : Rule
+time_option = numbered (codes "time") 0 65535 (codes "1000" ∷ [])
+
+abbrev pub mode_option : Rule
+mode_option = record (new_rule (codes "mode")) {
+  long = Some (codes "mode");
+  value_names = 1;
+  defaults = codes "plain" ∷ [];
+}
+
+-- a command with the room of strings and domains, and the time
+abbrev pub with_rooms : App → App
+with_rooms app = with_rule (with_rule (with_rule app strings_option) domains_option) time_option
+
+-- `replay SHEET TRACE --node N [--strings N] [--domains N] [--time N]`
+abbrev pub replay_command : App
+replay_command =
+    with_rooms (with_rule (with_rule (with_rule (new_app (codes "replay"))
+    (wanted (codes "SHEET"))) (wanted (codes "TRACE"))) wanted_node)
+
+-- `loop SHEET KEY HEX --node N [--mode MODE] [--strings N] [--domains N] [--time N]`
+abbrev pub loop_command : App
+loop_command =
+    with_rooms (with_rule (with_rule (with_rule (with_rule (with_rule (new_app (codes "loop"))
+    (wanted (codes "SHEET"))) (wanted (codes "KEY"))) (wanted (codes "HEX"))) wanted_node) mode_option)
+
+-- a command with `--version`
+abbrev pub versioned : App → App
+versioned app = record app { top = record app.top { has_version = true } }
+
 -- the program's command
 abbrev pub conode_command : App
 conode_command =
-    with_subcommand (with_subcommand (new_app (codes "conode")) check_command.top) decode_command.top
+    with_subcommand (with_subcommand (with_subcommand (with_subcommand (versioned (new_app (codes "conode")))
+    check_command.top) decode_command.top) replay_command.top) loop_command.top
 
 -- what the words after `check` ask for: texts and numbers
 pub record AskedCheck : Type 0 where
@@ -65,10 +105,40 @@ pub record AskedDecode : Type 0 where
   pub sheet : Option Text
   pub node : Option ℕ
 
+-- what the words say of a device
+pub record AskedDevice : Type 0 where
+  pub node : ℕ
+  pub strings : ℕ
+  pub domains : ℕ
+  pub time : ℕ
+
+-- what the words after `replay` ask for
+pub record AskedReplay : Type 0 where
+  pub sheet : Text
+  pub trace : Text
+  pub device : AskedDevice
+
+-- what the words after `loop` ask for
+pub record AskedLoop : Type 0 where
+  pub sheet : Text
+  pub key : Text
+  pub bytes : Text
+  pub mode : Mode
+  pub device : AskedDevice
+
 -- what the words ask for
 pub data Asked : Type 0 where
   check : AskedCheck → Asked
   decode : AskedDecode → Asked
+  replay : AskedReplay → Asked
+  loop_back : AskedLoop → Asked
+
+-- numbers of a device
+abbrev pub device_with : ℕ → ℕ → ℕ → ℕ → AskedDevice
+device_with node strings domains time = record { node = node; strings = strings; domains = domains; time = time }
+
+abbrev pub device_by : DeviceWords → AskedDevice
+device_by words = device_with words.node words.strings words.domains words.time
 
 -- what a task asks for
 abbrev pub asked_by : Task → Asked
@@ -76,6 +146,16 @@ asked_by (Check sheet node strings domains) =
     check (record { sheet = sheet.now; node = node; strings = strings; domains = domains })
 asked_by (Decode trace sheet node) =
     decode (record { trace = trace.now; sheet = option_copied sheet; node = node })
+asked_by (Replay sheet trace node strings domains time) =
+    replay (record { sheet = sheet.now; trace = trace.now; device = device_with node strings domains time })
+asked_by (LoopBack sheet key bytes node mode strings domains time) =
+    loop_back (record {
+      sheet = sheet.now;
+      key = key.now;
+      bytes = bytes.now;
+      mode = mode;
+      device = device_with node strings domains time;
+    })
 
 -- the number that a word is, of so many bits: decimal digits, perhaps after a plus
 abbrev pub number_of_bits : ℕ → Text → Option ℕ
@@ -101,12 +181,61 @@ asked_decode rows =
     (record { trace = trace; sheet = first_of (codes "sheet") rows; node = number_for 8 (codes "node") rows }))
     (first_of (codes "TRACE") rows)
 
+-- what the matches say of a device
+abbrev pub asked_device : List Row → Option AskedDevice
+asked_device rows =
+    option_and_then (λ node. option_and_then (λ strings. option_and_then (λ domains. option_map (λ time.
+    device_with node strings domains time)
+    (number_for 16 (codes "time") rows)) (number_for 16 (codes "domains") rows))
+    (number_for 16 (codes "strings") rows)) (number_for 8 (codes "node") rows)
+
+-- what the matches of `replay` ask for
+abbrev pub asked_replay : List Row → Option Asked
+asked_replay rows =
+    option_and_then (λ sheet. option_and_then (λ trace. option_map (λ device.
+    replay (record { sheet = sheet; trace = trace; device = device }))
+    (asked_device rows)) (first_of (codes "TRACE") rows)) (first_of (codes "SHEET") rows)
+
+-- the mode that a word names
+abbrev pub mode_of : Text → Option Mode
+mode_of word =
+    if bytes_eq word (codes "plain") then Some Plain
+    else (if bytes_eq word (codes "segmented") then Some Segmented
+    else (if bytes_eq word (codes "block") then Some Block else None))
+
+-- the mode of matches
+abbrev pub mode_for : List Row → Option Mode
+mode_for rows = option_and_then mode_of (first_of (codes "mode") rows)
+
+-- what the matches of `loop` ask for
+abbrev pub asked_loop : List Row → Option Asked
+asked_loop rows =
+    option_and_then (λ sheet. option_and_then (λ key. option_and_then (λ bytes. option_and_then (λ mode.
+    option_map (λ device.
+    loop_back (record { sheet = sheet; key = key; bytes = bytes; mode = mode; device = device }))
+    (asked_device rows)) (mode_for rows)) (first_of (codes "HEX") rows)) (first_of (codes "KEY") rows))
+    (first_of (codes "SHEET") rows)
+
 -- what the matches of a subcommand ask for
 abbrev pub asked_in : Text → List Row → Option Asked
 asked_in name rows =
     if bytes_eq name (codes "check") then asked_check rows
-    else (if bytes_eq name (codes "decode") then asked_decode rows else None)
+    else (if bytes_eq name (codes "decode") then asked_decode rows
+    else (if bytes_eq name (codes "replay") then asked_replay rows
+    else (if bytes_eq name (codes "loop") then asked_loop rows else None)))
 
 -- what the matches of the program's command ask for; nothing without a subcommand
 abbrev pub asked_of : Option (Text × List Row) → Option Asked
 asked_of matches = option_and_then (λ m. asked_in m.0 m.1) matches
+
+-- the matches of `loop` have a mode that is none
+abbrev pub has_other_mode : Option (Text × List Row) → Bool
+has_other_mode matches = option_map_or (λ m. bytes_eq m.0 (codes "loop") && is_none (mode_for m.1)) matches false
+
+-- why matches are refused for their mode
+abbrev pub mode_fault : Option (Text × List Row) → Kinds
+mode_fault matches = if has_other_mode matches then InvalidValue ∷ [] else []
+
+-- why words are refused: by the rules of the command, or for their mode
+abbrev pub task_fault : List Text → Kinds
+task_fault words = or_else (fault_of conode_command words) (mode_fault (subcommand_of conode_command words))

@@ -1,61 +1,134 @@
-//! The longer texts of help.
+//! The longer texts of help, in lines of at most 80 columns.
+
+/// What `--version` prints after the program's name: its version, and the kit that proves it.
+pub const VERSION: &str = "0.1.0, proved with rattle-kit-13b logic dac8208d650f15bf";
 
 /// What the program does without a command.
 pub const TRACES: &str = "\
-Without a command, standard input is read as a CAN trace, as `candump -L` writes it. Each SDO request in it to node 5
-is answered on standard output, as a line of a trace, from two entries:
-  1000:00  UNSIGNED32, read only, 191h
-  2002:00  UNSIGNED32, writable, 0
-Uploads and expedited downloads are answered; any other request is aborted.
+Without a command, standard input is read as a CAN trace, as `candump -L` writes
+it, and played to node 5 of a small stored sheet: 1000:00, 1001:00 and 1018h.
+What the node sends is printed as lines of a trace, and at last the numbers of
+frames received and sent and of ms:
 
-Status: 0 if all of the trace was answered, 1 if not; then the last line says why, as `stopped: BadLine 3`.";
+  conode < trace.log
+
+Status: 0 if all of the trace was played, 1 if not; then the last line says why,
+as `stopped: BadLine 3`.";
 
 /// What `check` prints, and what to do about each fault.
 pub const FAULTS: &str = "\
-Prints `ok: 3 objects, 4 entries, 0 notes` and a line for each note, or the sheet's first fault: its number, its name
-and its line (0 where no line is to blame). With --node the last line is the sheet's build fault for that node-ID, if it
-has one. Status: 0 if there is no fault, 1 if there is one, 2 if the words are wrong.
+Prints `ok: 3 objects, 4 entries, 0 notes` and a line for each note, or the
+sheet's first fault: its number, its name and its line (0 where no line is to
+blame). With --node the last line is the sheet's build fault for that node-ID,
+if it has one.
+
+  conode check sensor.eds --node 5
+
+Status: 0 if there is no fault, 1 if there is one, 2 if the words are wrong.
 
 Faults, and what to do:
-   1 TooLarge           a text of more than 1,048,576 bytes, or a line of more than 512: shorten it
-   2 BadLine            a section line without `]`, or a line without `=` or key: complete it, or put `;` before it
-   3 KeyOutsideSection  a line before the first section: move it into a section; save UTF-16 as UTF-8
-   4 DuplicateSection   a section that was there before: remove one, or correct its index
+   1 TooLarge           more than 1,048,576 bytes, or a line of more than 512:
+                        shorten it
+   2 BadLine            a section line without `]`, or a line without `=` or
+                        key: complete it, or put `;` before it
+   3 KeyOutsideSection  a line before the first section: move it into one. A
+                        comment begins with `;`, not `#`; save UTF-16 as UTF-8
+   4 DuplicateSection   a section that was there before: remove one, or correct
+                        its index
    5 DuplicateKey       a key that was there before in its section: remove one
-   6 MissingSection     no [MandatoryObjects], or a listed object without section: add it, or take it off the list
-   7 BadNumber          a value that is not a number: write it as 10 or 0x0A, a negative one as -10
-   8 AmbiguousNumber    a decimal number with a leading 0, which some tools read as octal: write 10 or 0x08
-   9 BadList            SupportedObjects is missing, too high, or counts a missing key, or an index is above FFFFh:
-                        number the list from 1 without a gap, and count it
-  10 ListedTwice        an index that the lists have before: remove one, and number the list again
-  11 MissingKey         an entry without DataType or AccessType: add it, or the ObjectType of an ARRAY or RECORD
-  12 BadType            an ObjectType or DataType that is unknown or not the required one: give the device's code
-  13 LeftOutType        a data type that is not supported: take the object off its list
-  14 BadAccess          an AccessType other than ro, wo, rw, rwr, rww and const: choose one of these
-  15 BadLimits          a limit outside the type's range, or a LowLimit above the HighLimit: correct it
-  16 BadDefault         a default outside the type or the limits, or not of the type's form: correct it
-  17 MissingSub0        an ARRAY or RECORD without sub-index 0: describe it, or make the object a VAR
-  18 CompactForm        CompactSubObj or CompactPDO is not 0: describe each sub-index in a section of its own
-  19 MissingMandatory   1000h, 1001h or 1018h is in no list: list them, with their sections
-  20 Memory             memory ran out, and nothing is known of the sheet: run it again with more memory
+   6 MissingSection     no [MandatoryObjects], or a listed object without
+                        section: add it, or take it off the list. Its name is
+                        the bare index: [1000], not [0x1000]
+   7 BadNumber          a value that is not a number: write it as 10 or 0x0A, a
+                        negative one as -10
+   8 AmbiguousNumber    a decimal number with a leading 0, which some tools read
+                        as octal: write 10 or 0x08
+   9 BadList            SupportedObjects is missing, too high, or counts a
+                        missing key, or an index is above FFFFh: number the
+                        keys 1, 2, 3 (not 01=0x1005) without a gap, count them
+  10 ListedTwice        an index that the lists have before: remove one, and
+                        number the list again
+  11 MissingKey         an entry without DataType or AccessType: add it, or the
+                        ObjectType of an ARRAY or RECORD
+  12 BadType            an ObjectType or DataType that is unknown or not the
+                        required one: give the device's code
+  13 LeftOutType        a data type that is not supported: take the object off
+                        its list
+  14 BadAccess          an AccessType other than ro, wo, rw, rwr, rww and const:
+                        choose one of these
+  15 BadLimits          a limit outside the type's range, or a LowLimit above
+                        the HighLimit: correct it
+  16 BadDefault         a default outside the type or the limits, or not of the
+                        type's form: correct it
+  17 MissingSub0        an ARRAY or RECORD without sub-index 0: describe it, or
+                        make the object a VAR
+  18 CompactForm        CompactSubObj or CompactPDO is not 0: describe each
+                        sub-index in a section of its own
+  19 MissingMandatory   1000h, 1001h or 1018h is in no list: list them, with
+                        their sections
+  20 Memory             memory ran out, and nothing is known of the sheet: run
+                        it again with more memory
 
 Notes are no faults:
-  SubNumber             it is not the number of the object's sub-index sections
+  SubNumber             it is not the number of the object's sub-index sections;
+                        one spelled otherwise, as [1018Sub 1], isn't read: write
+                        [1018sub1]
   Unlisted              an object's section that no list names
 
 Build faults, each with an index or an index and a sub-index:
-   2 ValueRange         a default with $NODEID that is outside the type or the limits for this node-ID: correct either
-   3 BadCobId           a COB-ID that is reserved, belongs to an SDO channel or has wrong bits: give a free one
-   4 PdoPair            a PDO without its other object, or without a sub-index that it needs: list or describe it
-   5 BadMapping         a PDO that counts a missing or unmappable entry, a wrong length, or more than 64 bits: correct
-                        the mapping, or set PDOMapping=1 for the entry
-   6 TooMany            over 16,384 entries, or 16,777,216 bytes of room: lower --domains or --strings";
+   2 ValueRange         a default with $NODEID that is outside the type or the
+                        limits for this node-ID: correct either
+   3 BadCobId           a COB-ID that is reserved, belongs to an SDO channel or
+                        has wrong bits: give a free one
+   4 PdoPair            a PDO without its other object, or without a sub-index
+                        that it needs: list or describe it
+   5 BadMapping         a PDO that counts a missing or unmappable entry, a wrong
+                        length, or more than 64 bits: correct the mapping, or
+                        set PDOMapping=1 for the entry
+   6 TooMany            over 16,384 entries: take objects out of the lists; or
+                        over 16,777,216 bytes of room: lower --domains or
+                        --strings";
+
+/// What `replay` prints.
+pub const REPLAYED: &str = "\
+Makes the device of the sheet, plays the trace to it, and prints each frame that
+it sends as a line of a trace: first its boot-up. A frame of the trace is one
+that the device receives; event lines (`!write 2001:00 05`, `!tick 1000`, ..)
+are what its application does, and time. An event that is refused is printed as
+`; line 7 refused 06090030`. The last line has the numbers of frames received
+and sent and of ms: `; in 1, out 3, ticks 1000`. `-` as TRACE is standard input:
+
+  candump -L can0 | conode replay sensor.eds - --node 5 | canplayer
+
+Status: 0 if all of the trace was played, 1 if not; then the last line says why,
+as `stopped: BadLine 3`, `fault 9 BadList line 1` or `build fault 3 BadCobId
+1800:01`; 2 if the words are wrong.";
+
+/// What `loop` prints.
+pub const LOOPED: &str = "\
+Makes the device of the sheet, lets an SDO client download HEX to its entry KEY,
+and prints the frames of both as lines of a trace, and how it ended: `; done, 3
+requests`, `; failed 06070012, 1 requests`, or `; gave up`. KEY is an index and
+a sub-index, HEX pairs of digits, or `-` for no bytes.
+
+  conode loop sensor.eds 2000:00 F401 --node 5 --mode block
+
+Status: 0 if it is done, 1 if it isn't or the sheet has a fault, 2 if the words
+are wrong.";
+
+/// What is said of a mode that is none.
+pub const MODES: &str = "invalid value for '--mode <MODE>': plain, segmented or block";
 
 /// What `decode` prints.
 pub const DECODED: &str = "\
-Prints a line for each data frame with an 11-bit identifier: the number of its line in the trace, the frame and what it
-says, as `12 605#4017100000000000 SDO request node 5 upload 1017:00`. With --sheet the entry's name follows in quotes.
+Prints a line for each data frame with an 11-bit identifier: the number of its
+line in the trace, the frame and what it says, as `12 605#4017100000000000 SDO
+request node 5 upload 1017:00`. With --sheet the entry's name follows in quotes.
 Empty lines, comments (`;`), event lines (`!`) and other frames print nothing.
+`-` as TRACE is standard input.
 
-Status: 0 if all of the trace was decoded, 1 if not; then the last line says why, as `stopped: BadLine 3`, or `fault 9
-BadList line 1` for the sheet; 2 if the words are wrong.";
+  candump -L can0 | conode decode - --sheet sensor.eds
+
+Status: 0 if all of the trace was decoded, 1 if not; then the last line says
+why, as `stopped: BadLine 3`, or `fault 9 BadList line 1` for the sheet; 2 if
+the words are wrong.";

@@ -1,10 +1,11 @@
 -- What is checked of one entry, and what is read of it on the way (CiA 306, object description).
-use Rattle.std.specs.Prelude.{◌≡◌, ℕ, ◌∷◌, [], ◌++◌, Bool, false, ◌&&◌, not, List, ℤ, Option, Some, None, map, option_map, option_and_then, unwrap_or, Ok}
+use Rattle.std.specs.Prelude.{◌≡◌, ℕ, ◌∷◌, [], ◌++◌, Bool, false, ◌&&◌, not, List, ℤ, Option, Some, None, map, option_map, Ok}
 use Rattle.std.specs.Option.{option_map_or, option_or}
 use Rattle.co_value.specs.declared.data_type.DataType.{DataType}
 use Rattle.co_value.specs.Types.{least_of, greatest_of}
 use Rattle.co_sheet_rows.specs.declared.entry.Preset.{Preset}
 use Rattle.co_sheet.specs.declared.checks.entries.Limit.{Limit}
+use Rattle.co_sheet.specs.declared.checks.entries.Stated.{Stated}
 use Rattle.co_sheet_rows.specs.declared.fault.FaultKind.TheVariants.{BadLimits}
 use Rattle.co_sheet_rows.specs.declared.fault.SheetFault.{SheetFault}
 use Rattle.co_sheet.specs.declared.checks.findings.Finding.{Finding}
@@ -19,7 +20,7 @@ use Rattle.co_sheet_text.specs.Numerals.{unsigned_number}
 use Rattle.co_sheet.specs.Entries.{Entry}
 use Rattle.co_sheet.specs.declared.checks.entries.Values.{Values}
 use Rattle.co_sheet_rows.specs.declared.fault.FaultKind.TheVariants.{BadDefault}
-use Rattle.co_sheet.specs.Limits.{Default, absent, number, pairs, number_at_type, numeric_default, default_with, default_of, low_limit, high_limit, is_pairs, at_most, is_in_type}
+use Rattle.co_sheet.specs.Limits.{Default, absent, number, pairs, number_at_type, numeric_default, stated_default, default_of, low_limit, high_limit, is_pairs, at_most, is_in_type}
 use Rattle.co_sheet.specs.Checks.{fault_if, entry_checks, bad_type, left_out_type, in_numeric, unread_limits, bad_limits, bad_default}
 use Rattle.co_sheet.specs.private.Findings.{first_finding, soonest}
 use Rattle.co_sheet.specs.Views.{default_view}
@@ -68,10 +69,17 @@ IsLimitAt t key limit =
     IsReadAt
     (λ k (l : Limit). (number_at_type t k.value ≡ Ok l.value) × (k.line ≡ l.line)) key limit
 
--- the default of a numeric type
-abbrev pub IsDefaultAt : DataType → Option Property → Preset → Type 0
-IsDefaultAt t None preset = default_view preset ≡ absent
-IsDefaultAt t (Some k) preset = numeric_default t k.value ≡ Ok (default_view preset)
+-- the default of a numeric type, and of any, with its line
+abbrev pub IsDefaultAt : DataType → Option Property → Option Stated → Type 0
+IsDefaultAt t key stated =
+    IsReadAt
+    (λ k (s : Stated). (numeric_default t k.value ≡ Ok (default_view s.preset)) × (k.line ≡ s.line))
+    key stated
+
+abbrev pub IsStatedAt : DataType → Option Property → Option Stated → Type 0
+IsStatedAt t key stated =
+    IsReadAt
+    (λ k (s : Stated). (stated_default t k ≡ default_view s.preset) × (k.line ≡ s.line)) key stated
 
 -- the number of a limit
 abbrev pub value_of : Option Limit → Option ℤ
@@ -94,9 +102,9 @@ limits_found t low high =
     option_map_or (outside t) low [] ++ option_map_or (outside t) high []
     ++ option_map_or (crossed t low high) (option_or high low) []
 
--- the default at a key, where it is given
-abbrev pub default_with_key : DataType → Option Property → Default
-default_with_key t key = unwrap_or (option_and_then (λ k. default_with t k.value) key) absent
+-- a default that is stated, absent where none is
+abbrev pub preset_of : Option Stated → Default
+preset_of stated = option_map_or (λ s. default_view s.preset) stated absent
 
 -- a default outside the type or the limits, or no pairs of digits
 abbrev pub is_outside : DataType → Option ℤ → Option ℤ → Default → Bool
@@ -105,16 +113,23 @@ is_outside t low high (number value) =
 is_outside t low high (pairs digits) = not (is_pairs digits)
 is_outside t low high default = false
 
-abbrev pub is_other_default : DataType → Values → Bool
-is_other_default t values =
-    is_outside t (value_of values.low) (value_of values.high) (default_view values.default)
+abbrev pub is_other_default : DataType → Values → Preset → Bool
+is_other_default t values preset =
+    is_outside t (value_of values.low) (value_of values.high) (default_view preset)
 
-abbrev pub default_found : DataType → Values → Property → List SheetFault
-default_found t values k = fault_if (is_other_default t values) BadDefault k.line
+abbrev pub default_found : DataType → Values → Stated → List SheetFault
+default_found t values s = fault_if (is_other_default t values s.preset) BadDefault s.line
 
--- the limits and the default of an entry, and what is wrong with the limits
+-- what is wrong with defaults
+abbrev pub defaults_found : DataType → Values → List SheetFault
+defaults_found t values =
+    option_map_or (default_found t values) values.default []
+    ++ option_map_or (default_found t values) values.parameter []
+
+-- the limits and the default of an entry, and what is wrong with them
 pub record AreValues (t : DataType) (e : Entry) (values : Values) : Type 0 where
   pub low : low_limit t e ≡ value_of values.low
   pub high : high_limit t e ≡ value_of values.high
-  pub default : default_of t e ≡ default_view values.default
+  pub default : default_of t e ≡ preset_of (option_or values.parameter values.default)
   pub limits : in_numeric bad_limits e ≡ limits_found t values.low values.high
+  pub defaults : bad_default e ≡ defaults_found t values

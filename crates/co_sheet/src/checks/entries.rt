@@ -1,16 +1,17 @@
 //! An entry, read from its section.
 
-ghost use Rattle.std.specs.Prelude.{◌≡◌, ◌==◌, not, true, false, codes, map, option_map, Some, None, IfOk, OnOk, IfErr, []};
+ghost use Rattle.std.specs.Prelude.{◌≡◌, ◌==◌, ◌++◌, not, true, false, codes, map, option_map, Some, None, IfOk, OnOk, IfErr, []};
 ghost use Rattle.std.specs.Option.{option_map_or, option_or};
 ghost use Rattle.std.specs.Result.{result_err};
 ghost use Rattle.co_value.specs.Types.{code_of};
 ghost use Rattle.co_profile.specs.FixedTypes.{fixed_type_of};
 ghost use Rattle.co_sheet.specs.Entries.{is_domain, type_code, data_type_of, access_of, is_mappable};
 ghost use Rattle.co_sheet.specs.Limits.{at_most, is_in_type, is_numeric};
-ghost use Rattle.co_sheet.specs.Checks.{missing_key, unread_number, unread_limit, unread_default, unread_entry_numbers, type_line, is_bad_type, in_numeric, unread_limits, bad_access};
+ghost use Rattle.co_sheet.specs.Checks.{at_key, missing_key, unread_number, unread_limit, unread_default, unread_defaults, unread_entry_numbers, type_line, is_bad_type, in_numeric, unread_limits, bad_access};
 ghost use Rattle.co_sheet.specs.Accepted.{least_fault, IsAnswered};
-ghost use Rattle.co_sheet.specs.private.EntryReadings.{IsGiven, fault_in, HaveRows, entry_finding, first_in, type_finding, value_finding, IsNumberAt, IsLimitAt, IsDefaultAt, AreValues, value_of, outside, crossed, limits_found, default_with_key, is_other_default, default_found};
+ghost use Rattle.co_sheet.specs.private.EntryReadings.{IsGiven, fault_in, HaveRows, entry_finding, first_in, type_finding, value_finding, IsNumberAt, IsLimitAt, IsDefaultAt, IsStatedAt, AreValues, value_of, outside, crossed, limits_found, preset_of, is_other_default, default_found, defaults_found};
 ghost use Rattle.co_sheet.specs.Content.{row_of};
+ghost use Rattle.co_sheet_text.specs.Sections.{property_at};
 ghost use Rattle.co_sheet_text.specs.Views.{property_view};
 ghost use Rattle.co_sheet.specs.SectionViews.{entry_view};
 ghost use Rattle.co_sheet.specs.SheetViews.{row_view};
@@ -35,12 +36,22 @@ pub(crate) struct Limit {
     line: usize,
 }
 
+/// The value that DefaultValue or ParameterValue states, and its line.
+#[derive(Clone, Copy)]
+pub(crate) struct Stated<'a> {
+    preset: Preset<'a>,
+    line: usize,
+}
+
 /// What an entry states of its values.
 #[derive(Clone, Copy)]
 pub(crate) struct Values<'a> {
     low: Option<Limit>,
     high: Option<Limit>,
-    default: Preset<'a>,
+    /// DefaultValue.
+    default: Option<Stated<'a>>,
+    /// ParameterValue.
+    parameter: Option<Stated<'a>>,
 }
 
 // two numbers, where both are there, are in order
@@ -91,15 +102,21 @@ fn limit_at(data_type: DataType, given: Option<Property>) -> Result<Option<Limit
 }
 
 // the default at a key of a numeric entry, where it is given
-fn default_at(data_type: DataType, given: Option<Property>) -> Result<Preset<'static>, SheetFault>
+fn default_at(
+    data_type: DataType,
+    given: Option<Property>,
+) -> Result<Option<Stated<'static>>, SheetFault>
     ensures fault { result_err result ≡ fault_in (unread_default data_type) given.entry }
     ensures value { IfOk result (IsDefaultAt data_type (option_map property_view given.entry)) }
 {
     let Some(given) = given else {
-        return Ok(Preset::Absent);
+        return Ok(None);
     };
     match numeric_default(data_type, given.value) {
-        Ok(default) => Ok(default),
+        Ok(preset) => Ok(Some(Stated {
+            preset,
+            line: given.line,
+        })),
         Err(fault) => Err(unread(fault, given.line)),
     }
 }
@@ -130,22 +147,33 @@ fn crossed(data_type: DataType, low: Option<Limit>, high: Option<Limit>) -> Opti
 }
 
 // the default at a key of a string or a domain; a domain's is passed over
-fn text_default(data_type: DataType, given: Option<Property<'_>>) -> Preset<'_>
+fn text_default(data_type: DataType, given: Option<Property<'_>>) -> Option<Stated<'_>>
     requires { is_numeric data_type ≡ false }
-    ensures { default_view result
-        ≡ default_with_key data_type (option_map property_view given.entry) }
+    ensures { IsStatedAt data_type (option_map property_view given.entry) result }
 {
-    let Some(given) = given else {
-        return Preset::Absent;
-    };
-    match data_type {
+    let given = given?;
+    let preset = match data_type {
         DataType::VisibleString => Preset::Text(given.value),
         DataType::OctetString => Preset::Pairs(given.value),
         _ => Preset::Absent,
-    }
+    };
+    Some(Stated {
+        preset,
+        line: given.line,
+    })
 }
 
-impl Values<'_> {
+impl<'a> Values<'a> {
+    // the value that the entry begins with: ParameterValue's, or where it is absent DefaultValue's
+    fn preset(&self) -> Preset<'a>
+        ensures { default_view result ≡ preset_of (option_or self.now.parameter self.now.default) }
+    {
+        match self.parameter.or(self.default) {
+            Some(stated) => stated.preset,
+            None => Preset::Absent,
+        }
+    }
+
     // a limit outside the type's range, or a low limit above the high one
     fn limits_fault(&self, data_type: DataType) -> Option<SheetFault>
         ensures { result ≡ least_fault (limits_found data_type self.now.low self.now.high) }
@@ -157,11 +185,11 @@ impl Values<'_> {
         earlier(of_each, of_both)
     }
 
-    // whether the default is a number outside the type or the limits, or no pairs of digits
-    fn is_default_bad(&self, data_type: DataType) -> bool
-        ensures { result ≡ is_other_default data_type self.now }
+    // whether a default is a number outside the type or the limits, or no pairs of digits
+    fn is_default_bad(&self, data_type: DataType, preset: Preset) -> bool
+        ensures { result ≡ is_other_default data_type self.now preset.entry }
     {
-        match self.default {
+        match preset {
             Preset::Number(value) => {
                 !(is_in_type(data_type, value)
                     && at_most(value_of(self.low), Some(value))
@@ -172,15 +200,22 @@ impl Values<'_> {
         }
     }
 
-    fn default_fault(&self, data_type: DataType, given: Option<Property>) -> Option<SheetFault>
-        ensures { result ≡ fault_in (default_found data_type self.now) given.entry }
+    fn default_fault(&self, data_type: DataType, stated: Option<Stated>) -> Option<SheetFault>
+        ensures { result
+            ≡ least_fault (option_map_or (default_found data_type self.now) stated.entry []) }
     {
-        let given = given?;
-        fault_if(
-            self.is_default_bad(data_type),
-            FaultKind::BadDefault,
-            given.line,
-        )
+        let stated = stated?;
+        let is_bad = self.is_default_bad(data_type, stated.preset);
+        fault_if(is_bad, FaultKind::BadDefault, stated.line)
+    }
+
+    // a bad default, of both the one with the smaller line
+    fn defaults_fault(&self, data_type: DataType) -> Option<SheetFault>
+        ensures { result ≡ least_fault (defaults_found data_type self.now) }
+    {
+        let of_default = self.default_fault(data_type, self.default);
+        let of_parameter = self.default_fault(data_type, self.parameter);
+        earlier(of_default, of_parameter)
     }
 }
 
@@ -288,45 +323,90 @@ impl<'s, 'a> EntrySection<'s, 'a> {
         })
     }
 
-    // the limits and the default of an entry; a string or a domain has no limits
-    fn stated(
+    // the limits of a numeric entry
+    fn limits(&self, data_type: DataType) -> Result<(Option<Limit>, Option<Limit>), SheetFault>
+        ensures fault { let section = (entry_view self.now).section in
+            result_err result ≡ least_fault (at_key (unread_limit data_type) (codes "LowLimit") section
+            ++ at_key (unread_limit data_type) (codes "HighLimit") section) }
+        ensures low { IfOk result (λ v. IsLimitAt data_type
+            (property_at (codes "LowLimit") (entry_view self.now).section) v.0) }
+        ensures high { IfOk result (λ v. IsLimitAt data_type
+            (property_at (codes "HighLimit") (entry_view self.now).section) v.1) }
+    {
+        let low_given = self.section.property(b"LowLimit");
+        let high_given = self.section.property(b"HighLimit");
+        both(
+            limit_at(data_type, low_given),
+            limit_at(data_type, high_given),
+        )
+    }
+
+    // DefaultValue and ParameterValue of a numeric entry
+    fn defaults(
         &self,
         data_type: DataType,
-        given: Option<Property<'a>>,
-    ) -> Result<Values<'a>, SheetFault>
-        requires given { IsGiven (codes "DefaultValue") given (entry_view self.now) }
+    ) -> Result<(Option<Stated<'static>>, Option<Stated<'static>>), SheetFault>
+        ensures fault { result_err result
+            ≡ least_fault (unread_defaults data_type (entry_view self.now)) }
+        ensures default { IfOk result (λ v. IsDefaultAt data_type
+            (property_at (codes "DefaultValue") (entry_view self.now).section) v.0) }
+        ensures parameter { IfOk result (λ v. IsDefaultAt data_type
+            (property_at (codes "ParameterValue") (entry_view self.now).section) v.1) }
+    {
+        let default_given = self.section.property(b"DefaultValue");
+        let parameter_given = self.section.property(b"ParameterValue");
+        both(
+            default_at(data_type, default_given),
+            default_at(data_type, parameter_given),
+        )
+    }
+
+    // what the entry of a string or a domain states; it has no limits
+    fn text_values(&self, data_type: DataType) -> Values<'a>
+        requires other { is_numeric data_type ≡ false }
         requires read { data_type_of (entry_view self.now) ≡ Some data_type }
+        ensures { AreValues data_type (entry_view self.now) result }
+    {
+        let default_given = self.section.property(b"DefaultValue");
+        let parameter_given = self.section.property(b"ParameterValue");
+        Values {
+            low: None,
+            high: None,
+            default: text_default(data_type, default_given),
+            parameter: text_default(data_type, parameter_given),
+        }
+    }
+
+    // the limits and the defaults of an entry
+    fn stated(&self, data_type: DataType) -> Result<Values<'a>, SheetFault>
+        requires { data_type_of (entry_view self.now) ≡ Some data_type }
         ensures fault { result_err result
             ≡ least_fault (in_numeric unread_limits (entry_view self.now)) }
         ensures values { IfOk result (AreValues data_type (entry_view self.now)) }
     {
         if data_type.width().is_none() {
-            return Ok(Values {
-                low: None,
-                high: None,
-                default: text_default(data_type, given),
-            });
+            return Ok(self.text_values(data_type));
         }
-        let low_given = self.section.property(b"LowLimit");
-        let high_given = self.section.property(b"HighLimit");
-        let limits = both(
-            limit_at(data_type, low_given),
-            limit_at(data_type, high_given),
-        );
-        let ((low, high), default) = both(limits, default_at(data_type, given))?;
-        Ok(Values { low, high, default })
+        let limits = self.limits(data_type);
+        let defaults = self.defaults(data_type);
+        let ((low, high), (default, parameter)) = both(limits, defaults)?;
+        Ok(Values {
+            low,
+            high,
+            default,
+            parameter,
+        })
     }
 
-    // the limits and the default, within the type and in order
+    // the limits and the defaults, within the type and in order
     fn values(&self, data_type: DataType) -> Result<Values<'a>, Finding>
         requires { data_type_of (entry_view self.now) ≡ Some data_type }
         ensures finding { result_err result ≡ value_finding (entry_view self.now) }
         ensures values { IfOk result (AreValues data_type (entry_view self.now)) }
     {
-        let given = self.section.property(b"DefaultValue");
-        let values = checked(15, self.stated(data_type, given))?;
+        let values = checked(15, self.stated(data_type))?;
         found(16, values.limits_fault(data_type))?;
-        found(17, values.default_fault(data_type, given))?;
+        found(17, values.defaults_fault(data_type))?;
         Ok(values)
     }
 
@@ -351,7 +431,7 @@ impl<'s, 'a> EntrySection<'s, 'a> {
             access,
             low: value_of(values.low),
             high: value_of(values.high),
-            default: values.default,
+            default: values.preset(),
             mappable,
             name: name_of(section),
             line: section.line,

@@ -103,7 +103,11 @@ fn read_list(listings: &mut Vec<Listing>, section: &TextSection) -> Result<bool,
 fn has_numbers(kind: SectionKind) -> bool
     ensures { result ≡ has_numbers kind }
 {
-    kind.is_list() || matches!(kind, SectionKind::DummyUsage | SectionKind::DeviceInfo)
+    kind.is_list()
+        || matches!(
+            kind,
+            SectionKind::DummyUsage | SectionKind::DeviceInfo | SectionKind::DeviceCommissioning
+        )
 }
 
 fn unread_numbers(section: &TextSection) -> Option<SheetFault>
@@ -135,7 +139,7 @@ fn read_section(
 }
 
 /// What the object lists name from 1000h on, in the order of the text (CiA 306, object lists), or
-/// the fault that is found first in the lists and in DummyUsage and DeviceInfo by themselves.
+/// the fault that is found first in the lists, DummyUsage, DeviceInfo and the device commissioning by themselves.
 pub(crate) fn read_lists(
     alloc: Global,
     sections: &[TextSection],

@@ -7,7 +7,8 @@ use Rattle.co_node_history.specs.Moments.{Constants}
 use Rattle.co_node_history.specs.Histories.{after_all}
 use Rattle.co_node.specs.Nodes.{Stands}
 use Rattle.co_node.specs.Records.{HasRoom}
-use Rattle.co_node.proofs.Runs.{next_view, room_for, frames_more, ends_more, stands_more}
+use Rattle.co_node.specs.Runs.{most_frames, recorded_after}
+use Rattle.co_node.proofs.Runs.{below_next, next_view, room_after, room_for, frames_more, ends_more, stands_more}
 use Rattle.co_node.proofs.node.Node.run.Goals as goal
 
 pub loop-input-preserved : goal.loop-input-preserved
@@ -28,5 +29,11 @@ loop-input-preserved c =
           next (inv.frames k before stands) (c.step.ensures.frames k _ (inv.stands k before stands)) c.deref.ensures.0 (c.add.ensures.added (fits k before stands));
       ends = λ k before stands. ends_more k before _ _ (input_view c.in-Some.input) _ _ c.loop-input.kept c.add.new.self c.deref.result.now c.step.new.outbox.items
           next (inv.frames k before stands) (inv.ends k before stands) (c.step.ensures.frames k _ (inv.stands k before stands)) c.deref.ensures.0 (c.add.ensures.added (fits k before stands));
+      roomy = λ k before stands. below_next
+          (λ n. HasRoom (most_frames k) (recorded_after k before (take n (map input_view c.args.inputs.now)) c.args.kept.now))
+          c.loop-input.taken (inv.roomy k before stands)
+          (room_after k before (take c.loop-input.taken (map input_view c.args.inputs.now)) c.args.kept.now c.loop-input.kept _
+          (c.most_frames-most.ensures.most k before stands) (inv.frames k before stands) (inv.ends k before stands)
+          inv.frame_room inv.input_room (c.has_room.ensures.yes yes));
       stands = λ k before stands. stands_more k before _ _ (input_view c.in-Some.input) (record { device = c.step.new.self }) next (c.step.ensures.stands k _ (inv.stands k before stands));
     }

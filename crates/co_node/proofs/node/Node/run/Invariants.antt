@@ -1,9 +1,10 @@
-use Rattle.std.proofs.Common.{◌≡◌, ◌≤◌, ◌++◌, length, map, take}
+use Rattle.std.proofs.Common.{◌≡◌, ℕ, ◌≤◌, ◌<◌, ◌++◌, length, map, take}
 use Rattle.co_node_inputs.specs.Inputs.{Inputs, input_view}
 use Rattle.co_node_history.specs.Moments.{Constants}
 use Rattle.co_node_history.specs.Histories.{after_all, all_frames}
 use Rattle.co_node.specs.Nodes.{Stands}
-use Rattle.co_node.specs.Runs.{all_ends}
+use Rattle.co_node.specs.Records.{HasRoom}
+use Rattle.co_node.specs.Runs.{all_ends, most_frames, recorded_after}
 use Rattle.co_node.proofs.node.Node.run.Given as goal
 
 -- after the inputs so far
@@ -17,6 +18,8 @@ invariant-loop-input l = record {
       l.kept.frames ≡ l.fn.kept.frames ++ all_frames k before (take l.taken (map input_view l.inputs));
   ends : (k : Constants) (before : Inputs) → Stands k l.fn.self before →
       l.kept.ends ≡ l.fn.kept.ends ++ all_ends k before (length l.fn.kept.frames) (take l.taken (map input_view l.inputs));
+  roomy : (k : Constants) (before : Inputs) → Stands k l.fn.self before → (n : ℕ) → n < l.taken →
+      HasRoom (most_frames k) (recorded_after k before (take n (map input_view l.inputs)) l.fn.kept);
   stands : (k : Constants) (before : Inputs) → Stands k l.fn.self before →
       Stands k l.self (after_all before (take l.taken (map input_view l.inputs)));
 }

@@ -1,4 +1,4 @@
-use Rattle.std.proofs.Common.{◌≡◌, ◌+◌, true, ◌≤◌, List, ◌∷◌, ◌++◌, length, refl, sym, ap, ◌∙◌, subst, arith}
+use Rattle.std.proofs.Common.{◌≡◌, ◌+◌, true, false, ◌≤◌, List, ◌∷◌, ◌++◌, length, refl, sym, ap, ◌∙◌, subst, arith}
 use Rattle.std.proofs.lemmas.List.{length-map}
 use Rattle.std.specs.Prelude.{ℕ, ◌<◌, map}
 use Rattle.std.specs.List.{slice_index_or}
@@ -11,6 +11,10 @@ use Rattle.co_node_parts.specs.RpdoSlots.{SlotsStand}
 use Rattle.co_node_parts.specs.declared.nmt_state.Transition.{Transition}
 use Rattle.co_node_parts.specs.EmergencyQueues.{EmergenciesStand, with_queued}
 use Rattle.co_node_inputs.specs.Inputs.{Inputs, InputView}
+use Rattle.co_node_inputs.specs.Rpdos.{may_change_rpdos}
+use Rattle.co_node_rpdos.specs.RpdoTables.{AgreeOnRpdos, IsTableOf}
+use Rattle.co_node_mappings.specs.MappingChanges.{may_change_mappings}
+use Rattle.co_node_mappings.specs.MappingTables.{AgreeOnMappings, AreMappings}
 use Rattle.co_node_receive.specs.Given.{given_view}
 use Rattle.co_node_receive.specs.Befores.{IsBefore, logs_received}
 use Rattle.co_node_history.specs.Moments.{Constants, Moment, History, channels}
@@ -19,6 +23,7 @@ use Rattle.co_node_history.specs.Phases.{moment}
 use Rattle.co_node_history.specs.Histories.{moments, prescribed, frames, frame_bound, emergency_frames, life_frames, tpdo_frame}
 use Rattle.co_node_laws.specs.Calls.{is_asked}
 use Rattle.co_node_laws.specs.Lengths.{HasParts}
+use Rattle.co_dict.specs.Rows.{Contents}
 use Rattle.co_dict.specs.Stores.{Description, IsDictionary}
 use Rattle.co_node_step.specs.NodeStanding.{NodeStands}
 use Rattle.co_node_step.proofs.Steps as steps
@@ -41,8 +46,8 @@ module _ (g : given.Over) (c : After-self-5-1 g) (k : Constants) (inputs : Input
   state_before : c.get-before.result ≡ state_at h
   state_before = c.get-before.ensures ∙ ns.state
 
-  before : IsBefore k h (g.S.ObjectStore.description c.args.self.now.store) (g.S.ObjectStore.contents c.args.self.now.store) c.args.self.now.parts.bank c.get-before.result
-  before = record { description = ns.description; contents = ns.contents; channels = ns.channels; state = state_before }
+  before : IsBefore k h (g.S.ObjectStore.description c.args.self.now.store) (g.S.ObjectStore.contents c.args.self.now.store) c.args.self.now.parts.bank c.args.self.now.parts.rpdos c.get-before.result
+  before = record { description = ns.description; contents = ns.contents; channels = ns.channels; rpdos = ns.rpdos; state = state_before }
 
   -- the phases
   d1 : g.S.ObjectStore.description c.receive-received.new.store ≡ k.description
@@ -85,6 +90,28 @@ module _ (g : given.Over) (c : After-self-5-1 g) (k : Constants) (inputs : Input
   channels_stand : BankStands (g.S.ObjectStore.description c.args.self.now.store) (channels k) c.drop_if.new.bank (channel_logs (m ∷ h))
   channels_stand = steps.dropped k h m is _ _ _ _ marks transition (subst (λ b. BankStands (g.S.ObjectStore.description c.args.self.now.store) (channels k) c.drop_if.new.bank (with_drop b (logs_received m h))) c.drops.ensures (c.drop_if.ensures.stands _ _ _ (c.receive-received.ensures.channels k h before)))
 
+  same_parameters : may_change_rpdos c.receive-received.result.marks ≡ false
+      → AgreeOnRpdos (g.S.ObjectStore.contents c.args.self.now.store) (g.S.ObjectStore.contents c.take_pdos.new.store)
+  same_parameters off = λ key low high.
+      ap (λ (entries : Contents). entries key) ns.contents
+      ∙ c.rpdos_kept.ensures k inputs (given_view c.args.given c.args.frame.now) (ap may_change_rpdos (sym marks) ∙ off) key low high
+      ∙ ap (λ (entries : Contents). entries key) (sym contents)
+
+  rpdos : IsTableOf (g.S.ObjectStore.contents c.take_pdos.new.store) c.note-2.new.self
+  rpdos = c.note-2.ensures (g.S.ObjectStore.contents c.args.self.now.store) ns.rpdos same_parameters
+
+  same_mappings : may_change_mappings c.receive-received.result.marks ≡ false
+      → AgreeOnMappings (g.S.ObjectStore.contents c.args.self.now.store) (g.S.ObjectStore.contents c.take_pdos.new.store)
+  same_mappings off = λ key there.
+      ap (λ (entries : Contents). entries key) ns.contents
+      ∙ c.mappings_kept.ensures k inputs (given_view c.args.given c.args.frame.now) (ap may_change_mappings (sym marks) ∙ off) key there
+      ∙ ap (λ (entries : Contents). entries key) (sym contents)
+
+  mappings : AreMappings (g.S.ObjectStore.description c.take_pdos.new.store) (g.S.ObjectStore.contents c.take_pdos.new.store) c.note-3.new.self
+  mappings = c.note-3.ensures (g.S.ObjectStore.contents c.args.self.now.store)
+      (subst (λ (d : Description). AreMappings d (g.S.ObjectStore.contents c.args.self.now.store) c.args.self.now.parts.mappings)
+      (ns.description ∙ sym d3) ns.mappings) same_mappings
+
   slots : SlotsStand 512 c.take_pdos.new.slots (slot_log k (m ∷ h))
   slots = steps.slots k h m is _ _ _ _ d2 marks watched transition _ (c.take_pdos.ensures.slots (slot_log k h) ns.slots)
 
@@ -97,8 +124,8 @@ module _ (g : given.Over) (c : After-self-5-1 g) (k : Constants) (inputs : Input
   queued_by_pdo : EmergenciesStand c.take_pdos.new.emergencies (with_queued m.raised_by_pdo (with_queued m.raised_by_loss (with_queued m.raised_by_app (emergency_log h))))
   queued_by_pdo = steps.pdo_queued k h m is _ _ _ _ d2 marks watched transition _ _ (c.take_pdos.ensures.emergencies (slot_log k h) _ ns.slots queued_by_loss)
 
-  unsent : EmergenciesStand c.note-2.new.self (unsent_log m (emergency_log h))
-  unsent = steps.unsent k h m is _ _ marks contents _ _ c.emergency_event.ensures (c.note-2.ensures _ queued_by_pdo)
+  unsent : EmergenciesStand c.note-4.new.self (unsent_log m (emergency_log h))
+  unsent = steps.unsent k h m is _ _ marks contents _ _ c.emergency_event.ensures (c.note-4.ensures _ queued_by_pdo)
 
   emergency : c.send-emergency.result ≡ m.emergency
   emergency = steps.emergency k h m is _ _ marks contents _ _ _ after c.may_send-may.ensures (c.send-emergency.ensures.due _ unsent)
@@ -171,6 +198,8 @@ returns-clause-stands g c = λ k inputs ns. record {
   contents = contents g c k inputs ns;
   state = state_after_all g c k inputs ns;
   channels = subst (λ d. BankStands d (channels k) c.drop_if.new.bank (channel_logs (m g c k inputs ns ∷ h g c k inputs ns))) (ns.description ∙ sym (d3 g c k inputs ns)) (channels_stand g c k inputs ns);
+  rpdos = rpdos g c k inputs ns;
+  mappings = mappings g c k inputs ns;
   consumers = consumers g c k inputs ns;
   emergencies = emergencies g c k inputs ns;
   slots = slots g c k inputs ns;

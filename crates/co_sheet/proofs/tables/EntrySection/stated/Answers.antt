@@ -1,14 +1,10 @@
-use Rattle.std.proofs.Common.{◌≡◌, [], Ok, true, ap, ◌∙◌, subst, rules}
-use Rattle.std.specs.Option.{option_map_or}
-use Rattle.std.specs.Prelude.{option_map}
+use Rattle.std.proofs.Common.{◌≡◌, Option, true, codes, ◌∙◌, rules}
 use Rattle.std.specs.Result.{result_err}
-use Rattle.co_sheet.specs.Accepted.{least_fault}
-use Rattle.co_sheet.specs.Checks.{unread}
-use Rattle.co_sheet.specs.Limits.{number_at_type, numeric_default, is_numeric}
-use Rattle.co_sheet.specs.private.LeastFaults.{earlier}
+use Rattle.co_sheet.specs.declared.checks.entries.Limit.{Limit}
+use Rattle.co_sheet.specs.declared.checks.entries.Stated.{Stated}
+use Rattle.co_sheet.specs.Limits.{is_numeric}
 use Rattle.co_sheet.specs.private.EntryReadings.{IsLimitAt, IsDefaultAt}
-use Rattle.co_sheet_text.specs.Sections.{Property}
-use Rattle.co_sheet_text.specs.Views.{property_view}
+use Rattle.co_sheet_text.specs.Sections.{property_at}
 use Rattle.co_sheet.specs.SectionViews.{entry_view}
 use Rattle.co_sheet.proofs.EntryReadingLemmas.{at_ok, unread-read, numeric-unread, numeric-values}
 use Rattle.co_sheet.proofs.tables.EntrySection.stated.Goals as goal
@@ -19,24 +15,33 @@ returns-in_err-low-clause-fault c =
     let e = entry_view c.args.self.now in
     let numeric : is_numeric t ≡ true = search rules in
     let failed : result_err c.from_residual.result ≡ result_err c.both.result = search rules in
-    failed ∙ c.both.ensures.fault ∙ ap (λ o. earlier o (result_err c.default_at.result)) c.both-limits.ensures.fault
-    ∙ unread-read t e (result_err c.limit_at.result) (result_err c.limit_at-2.result) (result_err c.default_at.result)
-    (c.limit_at.ensures.fault ∙ ap (λ k. least_fault (option_map_or (λ (j : Property). unread (number_at_type t j.value) j.line) k [])) c.property-low_given.ensures)
-    (c.limit_at-2.ensures.fault ∙ ap (λ k. least_fault (option_map_or (λ (j : Property). unread (number_at_type t j.value) j.line) k [])) c.property-high_given.ensures)
-    (c.default_at.ensures.fault ∙ ap (λ k. least_fault (option_map_or (λ (j : Property). unread (numeric_default t j.value) j.line) k [])) c.requires.given)
-    ∙ numeric-unread t e c.requires.read numeric
+    failed ∙ c.both.ensures.fault
+    ∙ unread-read t e (result_err c.limits-limits.result) (result_err c.defaults-defaults.result) c.limits-limits.ensures.fault c.defaults-defaults.ensures.fault
+    ∙ numeric-unread t e c.requires numeric
+
+pub returns-clause-fault : goal.returns-clause-fault
+returns-clause-fault c =
+    let t = c.args.data_type in
+    let e = entry_view c.args.self.now in
+    let numeric : is_numeric t ≡ true = search rules in
+    c.in_ok-low.ensures.fault
+    ∙ unread-read t e (result_err c.limits-limits.result) (result_err c.defaults-defaults.result) c.limits-limits.ensures.fault c.defaults-defaults.ensures.fault
+    ∙ numeric-unread t e c.requires numeric
 
 pub returns-clause-values : goal.returns-clause-values
 returns-clause-values c =
     let t = c.args.data_type in
     let e = entry_view c.args.self.now in
     let numeric : is_numeric t ≡ true = search rules in
+    let limits : Option Limit × Option Limit = (c.in_ok-low.low, c.in_ok-low.high) in
+    let defaults : Option Stated × Option Stated = (c.in_ok-low.default, c.in_ok-low.parameter) in
     let all = c.in_ok-low.ensures.values in
-    let limits = at_ok (λ v. (c.limit_at.result ≡ Ok v.0) × (c.limit_at-2.result ≡ Ok v.1)) c.both-limits.result (c.in_ok-low.low, c.in_ok-low.high) all.0 c.both-limits.ensures.values in
-    let low = at_ok (IsLimitAt t (option_map property_view c.property-low_given.result)) c.limit_at.result c.in_ok-low.low limits.0 c.limit_at.ensures.value in
-    let high = at_ok (IsLimitAt t (option_map property_view c.property-high_given.result)) c.limit_at-2.result c.in_ok-low.high limits.1 c.limit_at-2.ensures.value in
-    let default = at_ok (IsDefaultAt t (option_map property_view c.args.given)) c.default_at.result c.in_ok-low.default all.1 c.default_at.ensures.value in
-    numeric-values t e _ c.requires.read numeric
-    (subst (λ k. IsLimitAt t k c.in_ok-low.low) c.property-low_given.ensures low)
-    (subst (λ k. IsLimitAt t k c.in_ok-low.high) c.property-high_given.ensures high)
-    (subst (λ k. IsDefaultAt t k c.in_ok-low.default) c.requires.given default)
+    let low_key = property_at (codes "LowLimit") e.section in
+    let high_key = property_at (codes "HighLimit") e.section in
+    let default_key = property_at (codes "DefaultValue") e.section in
+    let parameter_key = property_at (codes "ParameterValue") e.section in
+    numeric-values t e _ c.requires numeric
+    (at_ok (λ v. IsLimitAt t low_key v.0) c.limits-limits.result limits all.0 c.limits-limits.ensures.low)
+    (at_ok (λ v. IsLimitAt t high_key v.1) c.limits-limits.result limits all.0 c.limits-limits.ensures.high)
+    (at_ok (λ v. IsDefaultAt t default_key v.0) c.defaults-defaults.result defaults all.1 c.defaults-defaults.ensures.default)
+    (at_ok (λ v. IsDefaultAt t parameter_key v.1) c.defaults-defaults.result defaults all.1 c.defaults-defaults.ensures.parameter)

@@ -1,13 +1,12 @@
-use Rattle.std.proofs.Common.{◌≡◌, [], Some, None, sym, ap, ◌∙◌, refl, rules}
+use Rattle.std.proofs.Common.{◌≡◌, Some, None, sym, ap, ◌∙◌, refl, rules}
 use Rattle.std.specs.Prelude.{option_map}
-use Rattle.std.specs.Option.{option_map_or}
 use Rattle.std.specs.Result.{result_err}
 use Rattle.co_sheet.specs.Accepted.{least_fault}
 use Rattle.co_sheet.specs.Checks.{in_numeric, bad_limits, bad_default}
 use Rattle.co_sheet.specs.private.Findings.{found_by}
-use Rattle.co_sheet.specs.private.EntryReadings.{AreValues, default_found}
+use Rattle.co_sheet.specs.private.EntryReadings.{AreValues}
 use Rattle.co_sheet.specs.SectionViews.{entry_view}
-use Rattle.co_sheet.proofs.EntryReadingLemmas.{at_ok, checked-ok, checked-err, passed, stops, value-steps, bad_default-read}
+use Rattle.co_sheet.proofs.EntryReadingLemmas.{at_ok, checked-ok, checked-err, passed, stops, value-steps}
 use Rattle.co_sheet.proofs.tables.EntrySection.values.Goals as goal
 
 pub returns-in_err-values-clause-finding : goal.returns-in_err-values-clause-finding
@@ -39,9 +38,8 @@ returns-in_err-found-2-clause-finding c =
     let are = at_ok (AreValues t e) c.stated.result values is c.stated.ensures.values in
     let limits = sym (passed 16 c.limits_fault.result c.in_ok-found.ensures) ∙ c.limits_fault.ensures ∙ ap least_fault (sym are.limits) in
     let failed : result_err c.from_residual-in_err-found-2.result ≡ Some g = search rules in
-    failed ∙ stops g (option_map (found_by 17) c.default_fault.result) None c.in_err-found-2.ensures
-    ∙ value-steps e None None c.default_fault.result (sym (ap result_err is) ∙ c.stated.ensures.fault) limits
-    (c.default_fault.ensures ∙ ap (λ k. least_fault (option_map_or (default_found t values) k [])) c.property-given.ensures ∙ ap least_fault (sym (bad_default-read t e values c.requires are)))
+    failed ∙ stops g (option_map (found_by 17) c.defaults_fault.result) None c.in_err-found-2.ensures
+    ∙ value-steps e None None c.defaults_fault.result (sym (ap result_err is) ∙ c.stated.ensures.fault) limits (c.defaults_fault.ensures ∙ ap least_fault (sym are.defaults))
 
 pub returns-clause-finding : goal.returns-clause-finding
 returns-clause-finding c =
@@ -51,6 +49,5 @@ returns-clause-finding c =
     let is = checked-ok 15 c.stated.result values c.in_ok-values.ensures in
     let are = at_ok (AreValues t e) c.stated.result values is c.stated.ensures.values in
     let limits = sym (passed 16 c.limits_fault.result c.in_ok-found.ensures) ∙ c.limits_fault.ensures ∙ ap least_fault (sym are.limits) in
-    let default = sym (passed 17 c.default_fault.result c.in_ok-found-2.ensures) ∙ c.default_fault.ensures in
-    value-steps e None None None (sym (ap result_err is) ∙ c.stated.ensures.fault) limits
-    (default ∙ ap (λ k. least_fault (option_map_or (default_found t values) k [])) c.property-given.ensures ∙ ap least_fault (sym (bad_default-read t e values c.requires are)))
+    let defaults = sym (passed 17 c.defaults_fault.result c.in_ok-found-2.ensures) ∙ c.defaults_fault.ensures ∙ ap least_fault (sym are.defaults) in
+    value-steps e None None None (sym (ap result_err is) ∙ c.stated.ensures.fault) limits defaults

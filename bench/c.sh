@@ -1,0 +1,189 @@
+#!/bin/sh
+# Gives a device a million frames and a million ticks through the calls of bafokun.h, and the same by Node::step in Rattle:
+# an SDO upload of 1000h, and a SYNC where no TPDO waits for it. The best of five runs of each, in nanoseconds for one
+# input; status 1 where a call from C takes more than 1.1 times as long. Before it, the memory that a device holds, and the
+# most that its build held, of three sheets.
+set -eu
+root=$(CDPATH='' cd -- "$(dirname -- "$(readlink -f -- "$0")")/.." && pwd)
+folder=$(mktemp -d)
+trap 'rm -rf "$folder"' EXIT
+
+"$root/bin/libbafokun" "$folder"
+cat > "$folder/million.c" << 'END'
+#define _POSIX_C_SOURCE 199309L
+#include <bafokun.h>
+#include <stdio.h>
+#include <string.h>
+#include <time.h>
+
+static bafokun_node node = BAFOKUN_EMPTY;
+static bafokun_frame frames[BAFOKUN_MOST_FRAMES];
+static char text[65536];
+
+static double now(void)
+{
+    struct timespec at;
+    clock_gettime(CLOCK_MONOTONIC, &at);
+    return at.tv_sec * 1e9 + at.tv_nsec;
+}
+
+int main(void)
+{
+    static const bafokun_config config = { 16, 889, 65535 };
+    static const bafokun_frame upload = { 0x605, 8, { 0x40, 0x00, 0x10, 0x00, 0, 0, 0, 0 } }, sync = { 0x80, 0, { 0 } };
+    bafokun_fault fault;
+    double begin;
+    long i;
+    if (!bafokun_build(&node, text, fread(text, 1, sizeof text, stdin), 5, &config, &fault)) return 1;
+    begin = now();
+    for (i = 0; i < 1000000; i++) if (bafokun_take(&node, &upload, frames, BAFOKUN_MOST_FRAMES) != 1) return 1;
+    printf("upload %.0f\n", (now() - begin) / 1e6);
+    begin = now();
+    for (i = 0; i < 1000000; i++) if (bafokun_take(&node, &sync, frames, BAFOKUN_MOST_FRAMES) != 0) return 1;
+    printf("sync %.0f\n", (now() - begin) / 1e6);
+    begin = now();
+    for (i = 0; i < 1000000; i++) if (bafokun_tick(&node, frames, BAFOKUN_MOST_FRAMES) != 0) return 1;
+    printf("tick %.0f\n", (now() - begin) / 1e6);
+    bafokun_free(&node);
+    return 0;
+}
+END
+${CC:-cc} -std=c99 -O2 -Wall -Wextra -pedantic -I "$folder" -o "$folder/in_c" "$folder/million.c" "$folder/libbafokun.a"
+
+cat > "$folder/memory.c" << 'END'
+#include <bafokun.h>
+#include <malloc.h>
+#include <stdio.h>
+
+void *__real_malloc(size_t size);
+void *__real_realloc(void *block, size_t size);
+void __real_free(void *block);
+void *__wrap_malloc(size_t size);
+void *__wrap_realloc(void *block, size_t size);
+void __wrap_free(void *block);
+
+static size_t held, most, calls;
+
+static void *count(void *block)
+{
+    if (block) held += malloc_usable_size(block), calls++;
+    if (held > most) most = held;
+    return block;
+}
+
+void *__wrap_malloc(size_t size) { return count(__real_malloc(size)); }
+
+void *__wrap_realloc(void *block, size_t size)
+{
+    size_t had = block ? malloc_usable_size(block) : 0;
+    void *moved = __real_realloc(block, size);
+    if (moved) held -= had;
+    return count(moved);
+}
+
+void __wrap_free(void *block)
+{
+    if (block) held -= malloc_usable_size(block);
+    __real_free(block);
+}
+
+int main(void)
+{
+    static char text[1048577];
+    static const bafokun_config config = { 16, 889, 1000 };
+    bafokun_node node = BAFOKUN_EMPTY;
+    bafokun_fault fault;
+    size_t length = fread(text, 1, sizeof text, stdin), of_device;
+    held = most = calls = 0;
+    if (!bafokun_build(&node, text, length, 5, &config, &fault)) return 1;
+    of_device = held;
+    bafokun_free(&node);
+    printf("%zu bytes, %zu at most in the build, %zu allocations; %zu left after it was given back\n", of_device, most, calls, held);
+    return held != 0;
+}
+END
+${CC:-cc} -std=c99 -O2 -Wall -Wextra -I "$folder" -Wl,--wrap=malloc,--wrap=realloc,--wrap=free -o "$folder/memory" \
+    "$folder/memory.c" "$folder/libbafokun.a"
+eval "$(sed -n '/^greatest_sheet() {/,/^}/p' "$root/bench/node.sh")"
+greatest_sheet > "$folder/greatest.eds"
+for sheet in "$root/examples/device/sensor.eds" "$root/examples/io-module.eds" "$folder/greatest.eds"; do
+    printf '%s: ' "$(basename "$sheet" .eds)"
+    "$folder/memory" < "$sheet"
+done
+
+mkdir -p "$folder/crates/million/src"
+cp "$root/HANDLES" "$folder"
+{ "$root/bench/below.sh" co_node; echo 'million: co_node co_node_inputs co_dict_list co_sheet co_frame'; } > "$folder/crates.txt"
+"$root/bench/below.sh" co_node | cut -d: -f1 | while read -r crate; do cp -R "$root/crates/$crate" "$folder/crates"; done
+cat > "$folder/crates/million/src/main.rt" << 'END'
+//! A million inputs of each kind to the device of a data sheet.
+#![tactic(auto)]
+
+use anyhow::{Context, Result};
+use co_dict_list::Limits;
+use co_frame::{Frame, Outbox};
+use co_node::{Config, Node};
+use co_node_inputs::{AppEvent, Input};
+use co_sheet::read;
+use std::alloc::Global;
+use std::io;
+use std::time::Instant;
+
+// a frame, else an event of the application, else a tick
+fn step(node: &mut Node, frame: Option<Frame>, event: Option<AppEvent<'_>>, sent: &mut Outbox) {
+    match (frame, event) {
+        (Some(frame), _) => node.step(Input::Frame(frame), sent),
+        (None, Some(event)) => node.step(Input::App(event), sent),
+        (None, None) => node.step(Input::Tick, sent),
+    }
+}
+
+fn repeat(node: &mut Node, frame: Option<Frame>, sent: &mut Outbox) {
+    for _ in 0..1_000_000 {
+        step(node, frame, None, sent);
+    }
+}
+
+fn measure(rt: &HostRuntime, name: &str, node: &mut Node, frame: Option<Frame>, sent: &mut Outbox) -> Result<()> {
+    let begin = Instant::now(rt)?;
+    repeat(node, frame, sent);
+    println!(rt; "{name} {}", begin.elapsed(rt)?.as_nanos() / 1_000_000)?;
+    Ok(())
+}
+
+fn run(rt: &HostRuntime) -> Result<()> {
+    let alloc: Global = rt.alloc();
+    let text = io::read_to_string(alloc, rt.stdin())?;
+    let sheet = read(alloc, text.as_bytes()).ok().context("no sheet")?;
+    let config = Config {
+        limits: Limits {
+            strings: 16,
+            domains: 889,
+            own: &[],
+        },
+        time: 65535,
+    };
+    let mut node = Node::build(alloc, &sheet, 5, &config).ok().context("no device")?;
+    let mut sent = Outbox::new();
+    let upload = Frame::new(0x605, &[0x40, 0x00, 0x10, 0x00, 0, 0, 0, 0]).ok().context("no frame")?;
+    let sync = Frame::new(0x80, &[]).ok().context("no frame")?;
+    measure(rt, "upload", &mut node, Some(upload), &mut sent)?;
+    measure(rt, "sync", &mut node, Some(sync), &mut sent)?;
+    measure(rt, "tick", &mut node, None, &mut sent)
+}
+
+fn main(rt: HostRuntime) -> Result<()> {
+    run(&rt)
+}
+END
+sed -i 's/^million: /&anyhow /' "$folder/crates.txt"
+(cd "$folder/crates/million" && rt run < "$root/bench/pdo-device.eds" > "$folder/log" 2>&1) || { cat "$folder/log" >&2; exit 1; }
+
+for program in "$folder/in_c" "$folder/crates/million/out/million"; do
+    for _ in 1 2 3 4 5; do "$program" < "$root/bench/pdo-device.eds"; done |
+        awk '!($1 in best) || $2 < best[$1] { best[$1] = $2 } END { for (name in best) print name, best[name] }' |
+        sort > "$program.best"
+done
+join "$folder/in_c.best" "$folder/crates/million/out/million.best" |
+    awk '{ ratio = $2 / $3; if (ratio > 1.1) bad = 1; printf "%-7s %5d ns from C, %5d ns in Rattle: %.2f\n", $1, $2, $3, ratio }
+         END { exit bad }'

@@ -1,0 +1,80 @@
+-- `none` owns nothing.
+use mathlib.Core.Path.{refl, sym, subst}
+use mathlib.Core.List.{List, [], ◌∷◌, ◌++◌}
+use lib.Dec.{lit<}
+use seplogic.Ra.Ura.{Ura}
+use mir.Val.{Val, vptr, vstruct, vcons, vnil, of_list, vint}
+use mir.Syntax.{w64}
+use base.Logic.{SProp, ent, emp, id⊢, never, fst∗}
+use base.Fml.{ftrue, fsep}
+use prog.Memory.{Memory}
+use prog.Routine.{Routine}
+use prog.Wp.{WpFn, Tables}
+use types.Logic.{Logic, sem}
+use contract.Monad.{Fun, fact}
+use contract.Running.{tables, tables_of}
+use sound.WpLaws.{WpFn-mono}
+use types.Kit.{Item, ‵, raw, ◌⊛◌, ◌$◌, ◌∵◌, !, qed, by, move, keep, drop, use1, join, split, fsplit, fjoin, fpick, fpack, feq_i, feq_l, rewrite, suffices, done}
+use types.Part.{whole, sub, agg}
+use types.Run.{stop, fld, lit, no_more, and_then, of_opd, returns, enter}
+use types.ByLocal.{alloc_all, pass_all, free_all, look_at, get, get_in, sets}
+use denote.Exit.{yes}
+use denote.RattleType.{Valss}
+use denote.RawPtr.{Ptr, RawPtr, block_ptr, null_ptr, ptr_val, in_a_block}
+use denote.Signature.{type_at}
+use denote.Steps.{nothing, heard}
+use denote.Struct.Struct.{within}
+use denote.Struct.Owning.{shape}
+use denote.Triple.Spec.{triple_of}
+use denote.Triple.Table.{entered}
+use denote.Triple.Walked.{says, Stays, stay_dropped, walk_of, ends_at, Goes-dropped, walk_Meets}
+use Rattle.std.specs.Prelude.{Some, None, Option, ◌≡◌}
+use Rattle.std_alloc.specs.Box.Ownership.{box_owns}
+use Rattle.std_alloc.proofs.BoxSteps.Form.{D, B, word, box_typed}
+use Rattle.std_alloc.proofs.BoxSteps.Steps.{box_out, box_in}
+use Rattle.bafokun.specs.Seals.{seal_owns}
+use Rattle.bafokun.specs.contracts.seal.Seal as Seal
+use Rattle.core.proofs.alloc.Calls.{handle_tells}
+use Rattle.std_heap.specs.contracts.Global as Heap
+use Rattle.bafokun.proofs.AsBox.{E, FromGlobal}
+use Rattle.bafokun.specs.contracts.seal.Seal.none as F
+use Rattle.bafokun.specs.contracts.seal.Seal.none.Key.{name as #self}
+use Rattle.bafokun.proofs.seal.Seal.none.Statement as stated
+use Rattle.bafokun.proofs.seal.Seal.none.Code as code
+
+abbrev stayed : Stays (F.ended).signature.params (F.ended).kept
+stayed = (stay_dropped FromGlobal yes, tt)
+
+module _ {M : Type 1} {𝓤 : Ura M} (𝓛 : Logic 𝓤) (at_mem : Memory → SProp 𝓤) (run : Routine → Fun 𝓤) (𝓣 : Tables 𝓤 𝓛.H) where
+  open 𝓛 use {H}
+
+  walk : (z : (walk_of 𝓛 F.ended stayed (F.clauses 𝓛 at_mem run)).Ghost)
+      → ent 𝓤 ((walk_of 𝓛 F.ended stayed (F.clauses 𝓛 at_mem run)).pre z) (WpFn 𝓤 H 𝓣.C 𝓣.Λ code.function (z.0.4.0 ++ []) ((walk_of 𝓛 F.ended stayed (F.clauses 𝓛 at_mem run)).post z))
+  walk z =
+      let Post = (walk_of 𝓛 F.ended stayed (F.clauses 𝓛 at_mem run)).post z in
+      let a = z.0.3.0 in
+      let To = type_at (F.signature).result tt in
+      let made : To.Denot = record { at = null_ptr; alloc = a; value = None } in
+      let u : Val = vstruct (vcons (vint w64 0) vnil) in
+      qed 𝓛 ((‵ ftrue ⊛ ‵ (fsep (Heap.the_row.own_val a z.0.4.0) ftrue)) ∷ raw (emp 𝓤) ∷ []) ∵ split ! $ drop ! $
+      fsplit ! $ handle_tells E.al ! a z.0.4.0 (λ hv ea fa. drop ! $
+      nothing ! $ nothing ! $ feq_i ! (List Val) (vint w64 0 ∷ []) (vint w64 0 ∷ []) refl $ fjoin ! $
+      feq_i ! (List Val) (u ∷ []) (u ∷ []) refl $ fjoin ! $
+      fpack ! (Valss (RawPtr ∷ [])) (within (shape Seal.the_type) (null_ptr, tt) (u ∷ [])) (vint w64 0 ∷ [], tt) $
+      fjoin ! $
+      use1 𝓛 (‵ (To.own_val made (u ∷ []))) (id⊢ 𝓤 _) $ keep ! (0 ∷ []) $
+      let Γ : List (Item 𝓤) = ‵ (To.own_val made (u ∷ [])) ∷ [] in
+      by ! (subst (λ (us : List Val). ent 𝓤 (types.Kit.⋆ 𝓛 Γ) (WpFn 𝓤 H 𝓣.C 𝓣.Λ code.function (us ++ []) Post)) (sym ea)
+      (qed 𝓛 Γ ∵ enter ! 𝓣.C 𝓣.Λ code.function (hv ∷ []) _ $ alloc_all ! (λ ls. pass_all ! refl (fa, tt) $
+      sets ! (agg ! (and_then ! (lit ! tt) (no_more !))) refl (tt, (record { fits = lit< tt }, tt)) $
+      returns ! (look_at ! 0 refl) $ free_all ! refl $
+      suffices ! _ (ends_at 𝓛 F.ended stayed (F.clauses 𝓛 at_mem run) z u made (tt, tt) (tt, tt)) $ says ! refl $
+      nothing ! $ nothing ! $ fjoin ! $ join ! $ nothing ! $ join ! $ done !))))
+
+pub none_spec : {M : Type 1} → stated.statement M
+unfolding tables_of
+none_spec 𝓤 𝓛 𝓜 𝓡 wired =
+    let 𝓣 : Tables 𝓤 𝓛.H = tables_of 𝓤 𝓛.H 𝓜 (tables 𝓤 𝓛.H 𝓜 𝓡 𝓡.env) in
+    entered 𝓤 𝓛.H (triple_of 𝓛 F.signature (F.spec 𝓛 𝓜.mem 𝓡.returns)) 𝓣.C 𝓣.Λ #self code.function (code.unfolded 𝓤 𝓛.H 𝓜 𝓡 wired)
+    (walk_Meets 𝓛 F.ended stayed (Goes-dropped 𝓛 0 FromGlobal yes (λ κs x f. refl), tt) (F.clauses 𝓛 𝓜.mem 𝓡.returns) (WpFn 𝓤 𝓛.H 𝓣.C 𝓣.Λ code.function) (WpFn-mono 𝓤 𝓛.H 𝓛.laws 𝓣 code.function)
+    (walk 𝓛 𝓜.mem 𝓡.returns 𝓣))

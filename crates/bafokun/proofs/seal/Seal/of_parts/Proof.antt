@@ -1,0 +1,82 @@
+-- `of_parts` moves the pointer, and what it owns goes with it.
+use mathlib.Core.Path.{refl, sym, subst}
+use mathlib.Core.List.{List, [], ◌∷◌, ◌++◌}
+use seplogic.Ra.Ura.{Ura}
+use mir.Val.{Val, vptr, vstruct, vcons, vnil, of_list, vint}
+use mir.Syntax.{w64}
+use base.Logic.{SProp, ent, emp, id⊢, never, fst∗}
+use base.Fml.{ftrue, fsep}
+use prog.Memory.{Memory}
+use prog.Routine.{Routine}
+use prog.Wp.{WpFn, Tables}
+use types.Logic.{Logic, sem}
+use contract.Monad.{Fun, fact}
+use contract.Running.{tables, tables_of}
+use sound.WpLaws.{WpFn-mono}
+use types.Kit.{Item, ‵, raw, ◌⊛◌, ◌$◌, ◌∵◌, !, qed, by, move, keep, drop, use1, join, split, fsplit, fjoin, fpick, fpack, feq_i, feq_l, rewrite, suffices, done}
+use types.Part.{whole, sub, agg}
+use types.Run.{stop, fld, lit, no_more, and_then, of_opd, returns, enter}
+use types.ByLocal.{alloc_all, pass_all, free_all, look_at, get, get_in, sets}
+use denote.Exit.{yes}
+use denote.RattleType.{Valss}
+use denote.RawPtr.{Ptr, RawPtr, block_ptr, null_ptr, ptr_val, in_a_block}
+use denote.Signature.{type_at}
+use denote.Steps.{nothing, heard}
+use denote.Struct.Struct.{within}
+use denote.Struct.Owning.{shape}
+use denote.Triple.Spec.{triple_of}
+use denote.Triple.Table.{entered}
+use denote.Triple.Walked.{says, Stays, stay_dropped, walk_of, ends_at, Goes-dropped, walk_Meets}
+use Rattle.std.specs.Prelude.{Some, None, Option, ◌≡◌}
+use Rattle.std_alloc.specs.Box.Ownership.{box_owns}
+use Rattle.std_alloc.proofs.BoxSteps.Form.{D, B, word, box_typed}
+use Rattle.std_alloc.proofs.BoxSteps.Steps.{box_out, box_in}
+use Rattle.bafokun.specs.Seals.{seal_owns}
+use Rattle.bafokun.specs.contracts.seal.Seal as Seal
+use Rattle.bafokun.proofs.AsBox.{E, FromParts as From}
+use Rattle.bafokun.specs.contracts.seal.Seal.of_parts as F
+use Rattle.bafokun.specs.contracts.seal.Seal.of_parts.Key.{name as #self}
+use Rattle.bafokun.proofs.seal.Seal.of_parts.Statement as stated
+use Rattle.bafokun.proofs.seal.Seal.of_parts.Code as code
+
+abbrev stayed : Stays (F.ended).signature.params (F.ended).kept
+stayed = (stay_dropped From yes, tt)
+
+module _ {M : Type 1} {𝓤 : Ura M} (𝓛 : Logic 𝓤) (at_mem : Memory → SProp 𝓤) (run : Routine → Fun 𝓤) (𝓣 : Tables 𝓤 𝓛.H) where
+  open 𝓛 use {H}
+
+  walk : (z : (walk_of 𝓛 F.ended stayed (F.clauses 𝓛 at_mem run)).Ghost)
+      → ent 𝓤 ((walk_of 𝓛 F.ended stayed (F.clauses 𝓛 at_mem run)).pre z) (WpFn 𝓤 H 𝓣.C 𝓣.Λ code.function (z.0.4.0 ++ []) ((walk_of 𝓛 F.ended stayed (F.clauses 𝓛 at_mem run)).post z))
+  walk z =
+      let Post = (walk_of 𝓛 F.ended stayed (F.clauses 𝓛 at_mem run)).post z in
+      let v : D E = record { ptr = z.0.3.0.ptr; alloc = z.0.3.0.alloc; value = z.0.3.0.value } in
+      let To = type_at (F.signature).result tt in
+      qed 𝓛 ((‵ ftrue ⊛ ‵ (fsep ((B E).own_val v z.0.4.0) ftrue)) ∷ raw (emp 𝓤) ∷ []) ∵ split ! $ drop ! $ fsplit ! $
+      box_out E ! v z.0.4.0 (λ b o hv e ws fa. fjoin ! $ keep ! (0 ∷ []) $
+      let made : To.Denot = record { at = block_ptr b o; alloc = v.alloc; value = Some v.value } in
+      let w = word E hv b o in
+      let u : Val = vstruct (vcons (vptr b o) vnil) in
+      use1 𝓛 (‵ (seal_owns v.alloc (block_ptr b o) (Some v.value))) (id⊢ 𝓤 _) $
+      nothing ! $ feq_i ! (List Val) (vptr b o ∷ []) (vptr b o ∷ []) refl $ fjoin ! $
+      feq_i ! (List Val) (u ∷ []) (u ∷ []) refl $ fjoin ! $
+      fpack ! (Valss (RawPtr ∷ [])) (within (shape Seal.the_type) (block_ptr b o, tt) (u ∷ [])) (vptr b o ∷ [], tt) $
+      fjoin ! $
+      use1 𝓛 (‵ (To.own_val made (u ∷ []))) (id⊢ 𝓤 _) $
+      let Γ : List (Item 𝓤) = ‵ (To.own_val made (u ∷ [])) ∷ [] in
+      by ! (subst (λ (us : List Val). ent 𝓤 (types.Kit.⋆ 𝓛 Γ) (WpFn 𝓤 H 𝓣.C 𝓣.Λ code.function (us ++ []) Post)) (sym ws)
+      (qed 𝓛 Γ ∵ enter ! 𝓣.C 𝓣.Λ code.function (w ∷ []) _ $
+      alloc_all ! (λ ls. pass_all ! refl (box_typed E hv b o fa, tt) $
+      sets ! (of_opd ! (get_in ! (fld ! refl (stop !)) (sub ! 0 refl (whole !)))) refl (tt, tt) $
+      sets ! (of_opd ! (get ! refl)) refl (tt, tt) $
+      sets ! (agg ! (and_then ! (get ! refl) (no_more !))) refl (tt, (tt, tt)) $ returns ! (look_at ! 0 refl) $
+      free_all ! refl $
+      suffices ! _ (ends_at 𝓛 F.ended stayed (F.clauses 𝓛 at_mem run) z u made (tt, tt) (tt, tt)) $ says ! refl $
+      nothing ! $ nothing ! $ fjoin ! $ join ! $ nothing ! $ join ! $ done !))))
+
+pub of_parts_spec : {M : Type 1} → stated.statement M
+unfolding tables_of
+of_parts_spec 𝓤 𝓛 𝓜 𝓡 wired =
+    let 𝓣 : Tables 𝓤 𝓛.H = tables_of 𝓤 𝓛.H 𝓜 (tables 𝓤 𝓛.H 𝓜 𝓡 𝓡.env) in
+    entered 𝓤 𝓛.H (triple_of 𝓛 F.signature (F.spec 𝓛 𝓜.mem 𝓡.returns)) 𝓣.C 𝓣.Λ #self code.function (code.unfolded 𝓤 𝓛.H 𝓜 𝓡 wired)
+    (walk_Meets 𝓛 F.ended stayed (Goes-dropped 𝓛 0 From yes (λ κs x f. refl), tt) (F.clauses 𝓛 𝓜.mem 𝓡.returns) (WpFn 𝓤 𝓛.H 𝓣.C 𝓣.Λ code.function) (WpFn-mono 𝓤 𝓛.H 𝓛.laws 𝓣 code.function)
+    (walk 𝓛 𝓜.mem 𝓡.returns 𝓣))

@@ -1,0 +1,69 @@
+-- The device that a place has, and what an input gives.
+use Rattle.std.specs.Prelude.{◌≡◌, ℕ, ◌≤◌, List, [], ◌∷◌, length, Option, Some, None}
+use Rattle.co_frame.specs.FrameContent.{FrameContent}
+use Rattle.co_node_inputs.specs.declared.input.AppEvent.{AppEvent}
+use Rattle.co_node_inputs.specs.Inputs.{InputView, Inputs, Framed, Ticked, Applied, app_view}
+use Rattle.co_node_history.specs.Moments.{Constants}
+use Rattle.co_node_history.specs.Histories.{prescribed, frame_bound}
+use Rattle.co_node_history.specs.Laws.{boot_up}
+use Rattle.co_node.specs.Nodes.{Stands}
+use Rattle.bafokun.specs.declared.frames.CanFrame.{CanFrame}
+use Rattle.bafokun.specs.declared.held.Held.{Held}
+use Rattle.bafokun.specs.declared.handle.Handle.{Handle}
+use Rattle.bafokun.specs.Frames.{ArePut}
+
+-- this held device stands after these inputs, the newest first
+abbrev pub HasStood : Constants → Option Held → Inputs → Type 0
+HasStood k None before = ⊥
+HasStood k (Some held) before = Stands k held.node before
+
+-- the place has a device that stands after these inputs
+abbrev pub IsDevice : Constants → Handle → Inputs → Type 0
+IsDevice k place before = HasStood k place.seal.value before
+
+-- the place has no device
+abbrev pub IsEmpty : Handle → Type 0
+IsEmpty place = place.seal.value ≡ None
+
+abbrev pub frames_of : Option Held → List FrameContent
+frames_of None = []
+frames_of (Some held) = held.sent.items
+
+-- the frames that the last input of its device gave
+abbrev pub sent_of : Handle → List FrameContent
+sent_of place = frames_of place.seal.value
+
+-- a frame, else an event of the application, else a tick
+abbrev pub given : Option FrameContent → Option AppEvent → InputView
+given (Some frame) event = Framed frame
+given None (Some event) = Applied (app_view event)
+given None None = Ticked
+
+-- after one more input
+pub record Gave (k : Constants) (before : Inputs) (input : InputView) (held : Held) : Type 0 where
+  pub stands : Stands k held.node (input ∷ before)
+  pub sent : held.sent.items ≡ prescribed k before input
+  pub few : length held.sent.items ≤ frame_bound k before input
+
+-- one more input gives this many frames, exactly those that it prescribes, which are put into an array
+pub record Gives (k : Constants) (before : Inputs) (input : InputView)
+    (place : Handle) (array filled : List CanFrame) (count : ℕ) : Type 0 where
+  pub stands : IsDevice k place (input ∷ before)
+  pub sent : sent_of place ≡ prescribed k before input
+  pub put : ArePut (prescribed k before input) array filled
+  pub number : count ≡ length (prescribed k before input)
+  pub few : count ≤ frame_bound k before input
+
+-- nothing happens where there is no device
+pub record IsQuiet (place : Handle) (array filled : List CanFrame) (count : ℕ) : Type 0 where
+  pub empty : IsEmpty place
+  pub same : filled ≡ array
+  pub number : count ≡ 0
+
+-- the boot-up, and nothing else; the device stands as before
+pub record GivesBootUp (k : Constants) (before : Inputs)
+    (place : Handle) (array filled : List CanFrame) (count : ℕ) : Type 0 where
+  pub stands : IsDevice k place before
+  pub sent : sent_of place ≡ boot_up k ∷ []
+  pub put : ArePut (boot_up k ∷ []) array filled
+  pub number : count ≡ 1

@@ -1,0 +1,5 @@
+pub mod Answers
+pub mod Builds
+pub mod Devices
+pub mod Frames
+pub mod Seals

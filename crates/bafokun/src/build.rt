@@ -1,0 +1,151 @@
+//! How C builds a device.
+
+ghost use Rattle.std.specs.Prelude.{◌≡◌, true, false, IfErr, IfOk};
+ghost use Rattle.bafokun.specs.Builds.{IsBuilt, IsPlaced, IsRefused, device_fault, no_fault, sheet_fault};
+ghost use Rattle.bafokun.specs.Devices.{IsEmpty};
+
+use crate::handle::Handle;
+use crate::held::Held;
+use co_dict_list::{BuildFault, Limits};
+use co_frame::Outbox;
+use co_node::{Config, Node};
+use co_sheet::{SheetFault, read};
+use co_value::Key;
+use std::alloc::Global;
+
+/// What a data sheet leaves open, 6 bytes without padding: `struct bafokun_config`.
+#[repr(C)]
+#[derive(Clone, Copy)]
+pub struct Settings {
+    /// How many bytes a string that may be written has room for. A longer default makes more room.
+    pub strings: u16,
+    /// How many bytes a domain has room for.
+    pub domains: u16,
+    /// The SDO timeout in ms; 0 disables it.
+    pub time: u16,
+}
+
+/// Why there is no device, 16 bytes without padding: `struct bafokun_fault`.
+#[repr(C)]
+#[derive(Clone, Copy)]
+pub struct Fault {
+    /// The line of a fault of the data sheet, from 1; 0 where no line is to blame.
+    pub line: u64,
+    /// 0 none, 1 the data sheet, 2 the device that is built of it.
+    pub stage: u16,
+    /// The fault's number: 1 to 20 of a data sheet, 1 to 7 of a device.
+    pub number: u16,
+    /// Index and sub-index of the entry that a fault of a device names, else 0.
+    pub index: u16,
+    pub sub_index: u16,
+}
+
+impl Fault {
+    fn none() -> Fault
+        ensures { result ≡ no_fault }
+    {
+        Fault {
+            line: 0,
+            stage: 0,
+            number: 0,
+            index: 0,
+            sub_index: 0,
+        }
+    }
+
+    fn of_sheet(fault: SheetFault) -> Fault
+        ensures { result ≡ sheet_fault fault }
+    {
+        Fault {
+            line: fault.line as u64,
+            stage: 1,
+            number: u16::from(fault.kind.number()),
+            index: 0,
+            sub_index: 0,
+        }
+    }
+
+    fn of_build(fault: BuildFault) -> Fault
+        ensures { result ≡ device_fault fault }
+    {
+        let key = match fault {
+            BuildFault::ValueRange(key) | BuildFault::BadCobId(key) | BuildFault::BadMapping(key) =>
+                key,
+            BuildFault::PdoPair(index) => Key { index, sub: 0 },
+            BuildFault::NodeId | BuildFault::TooMany | BuildFault::Memory => Key {
+                index: 0,
+                sub: 0,
+            },
+        };
+        Fault {
+            line: 0,
+            stage: 2,
+            number: u16::from(fault.number()),
+            index: key.index,
+            sub_index: u16::from(key.sub),
+        }
+    }
+}
+
+// The device of a data sheet.
+fn build(alloc: Global, text: &[u8], node_id: u8, settings: &Settings) -> Result<Box<Held>, Fault>
+    ensures ok { IfOk result (λ held. IsBuilt text.now node_id settings.now held.value) }
+    ensures err { IfErr result (IsRefused text.now node_id settings.now) }
+{
+    let sheet = match read(alloc, text) {
+        Ok(sheet) => sheet,
+        Err(fault) => return Err(Fault::of_sheet(fault)),
+    };
+    let config = Config {
+        limits: Limits {
+            strings: settings.strings,
+            domains: settings.domains,
+            own: &[],
+        },
+        time: settings.time,
+    };
+    let node = match Node::build(alloc, &sheet, node_id, &config) {
+        Ok(node) => node,
+        Err(fault) => return Err(Fault::of_build(fault)),
+    };
+    let held = Held {
+        node,
+        sent: Outbox::new(),
+    };
+    match Box::new(alloc, held) {
+        Ok(held) => Ok(held),
+        Err(_) => Err(Fault::of_build(BuildFault::Memory)),
+    }
+}
+
+/// Builds the device of a data sheet (CiA 306) at a node-ID, in NMT state pre-operational, and puts it into a place, whose
+/// device, if it has one, is given back first. The result is whether there is a device; else `fault` says why not. This
+/// call alone asks for memory. C owes a place, empty or filled by this call, as many bytes of text as it says, settings and
+/// a fault, all apart. The text isn't needed any more after the call.
+#[unsafe(no_mangle)]
+pub extern "C" fn bafokun_build(
+    alloc: Global,
+    node: &mut Handle,
+    text: &[u8],
+    node_id: u8,
+    settings: &Settings,
+    fault: &mut Fault,
+) -> bool
+    ensures ok { result ≡ true → IsPlaced text.now node_id settings.now node.new }
+    ensures no_fault { result ≡ true → fault.new ≡ no_fault }
+    ensures err { result ≡ false → IsRefused text.now node_id settings.now fault.new }
+    ensures empty { result ≡ false → IsEmpty node.new }
+{
+    drop(node.take(alloc));
+    match build(alloc, text, node_id, settings) {
+        Ok(held) => {
+            *node = Handle::of(held);
+            *fault = Fault::none();
+            true
+        }
+        Err(why) => {
+            *fault = why;
+            false
+        }
+    }
+}

@@ -1,0 +1,165 @@
+//! What comes to a device.
+
+ghost use Rattle.std.specs.Prelude.{◌≡◌, [], ◌∷◌};
+ghost use Rattle.co_frame.specs.FrameContent.{FrameContent};
+ghost use Rattle.co_node_inputs.specs.Inputs.{Inputs, Framed, Ticked, Applied, Written, EventOn, ChangedAt, Raised, Cleared};
+ghost use Rattle.co_node_history.specs.Moments.{Constants};
+ghost use Rattle.bafokun.specs.Devices.{Gives, GivesBootUp, IsDevice, IsEmpty, IsQuiet};
+ghost use Rattle.bafokun.specs.Frames.{IsCan, content_of};
+
+use crate::frames::{CanFrame, put};
+use crate::handle::Handle;
+use co_node_inputs::AppEvent;
+use co_value::Key;
+use std::alloc::Global;
+
+/// The boot-up of a device (CiA 301, 7.2.8.3.3): to be sent once, after it was built. C owes what `bafokun_tick` says.
+#[unsafe(no_mangle)]
+pub extern "C" fn bafokun_boot(alloc: Global, node: &mut Handle, frames: &mut [CanFrame]) -> usize
+    ensures gives { (k : Constants) (before : Inputs) → IsDevice k node.old before →
+        GivesBootUp k before node.new frames.old frames.new result }
+    ensures empty { IsEmpty node.old → IsQuiet node.new frames.old frames.new result }
+{
+    match node.take(alloc) {
+        Some(mut held) => {
+            held.boot();
+            put(&held.sent, frames);
+            let count = held.sent.len();
+            *node = Handle::of(held);
+            count
+        }
+        None => 0,
+    }
+}
+
+/// A frame is received. Nothing happens where it is no CAN frame: an identifier above 7FFh, or more than 8 bytes. C owes
+/// what `bafokun_tick` says, and a frame, which isn't part of the array.
+#[unsafe(no_mangle)]
+pub extern "C" fn bafokun_take(
+    alloc: Global,
+    node: &mut Handle,
+    frame: &CanFrame,
+    frames: &mut [CanFrame],
+) -> usize
+    ensures gives { (k : Constants) (before : Inputs) → IsDevice k node.old before → IsCan frame.now →
+        Gives k before (Framed (content_of frame.now)) node.new frames.old frames.new result }
+    ensures empty { IsEmpty node.old → IsQuiet node.new frames.old frames.new result }
+    ensures no_frame { (IsCan frame.now → ⊥) → node.new ≡ node.old }
+    ensures nothing { (IsCan frame.now → ⊥) → result ≡ 0 }
+    ensures untouched { (IsCan frame.now → ⊥) → frames.new ≡ frames.old }
+{
+    match frame.read() {
+        Some(frame) => node.step(alloc, Some(frame), None, frames),
+        None => 0,
+    }
+}
+
+/// 1 ms elapsed. The frames that the device then sends are put into the array, as many as it has room for; the result is
+/// how many there are, and `bafokun_sent` gives the others. C owes the place of a device, empty or filled by
+/// `bafokun_build`, an array of as many frames as it says, and no other call for this place at the same time.
+#[unsafe(no_mangle)]
+pub extern "C" fn bafokun_tick(alloc: Global, node: &mut Handle, frames: &mut [CanFrame]) -> usize
+    ensures gives { (k : Constants) (before : Inputs) → IsDevice k node.old before →
+        Gives k before Ticked node.new frames.old frames.new result }
+    ensures empty { IsEmpty node.old → IsQuiet node.new frames.old frames.new result }
+{
+    node.step(alloc, None, None, frames)
+}
+
+/// The application writes an entry, also one that a client may only read. C owes what `bafokun_tick` says, and as many
+/// bytes as it says, which aren't part of the array.
+#[unsafe(no_mangle)]
+pub extern "C" fn bafokun_write(
+    alloc: Global,
+    node: &mut Handle,
+    index: u16,
+    sub_index: u8,
+    bytes: &[u8],
+    frames: &mut [CanFrame],
+) -> usize
+    ensures gives { (k : Constants) (before : Inputs) → IsDevice k node.old before →
+        Gives k before (Applied (Written (record { index = index; sub = sub_index }) bytes.now))
+        node.new frames.old frames.new result }
+    ensures empty { IsEmpty node.old → IsQuiet node.new frames.old frames.new result }
+{
+    let key = Key {
+        index,
+        sub: sub_index,
+    };
+    node.step(alloc, None, Some(AppEvent::Write(key, bytes)), frames)
+}
+
+/// An event on a TPDO, by its number from 0. C owes what `bafokun_tick` says.
+#[unsafe(no_mangle)]
+pub extern "C" fn bafokun_event(
+    alloc: Global,
+    node: &mut Handle,
+    tpdo: u16,
+    frames: &mut [CanFrame],
+) -> usize
+    ensures gives { (k : Constants) (before : Inputs) → IsDevice k node.old before →
+        Gives k before (Applied (EventOn tpdo)) node.new frames.old frames.new result }
+    ensures empty { IsEmpty node.old → IsQuiet node.new frames.old frames.new result }
+{
+    node.step(alloc, None, Some(AppEvent::Event(tpdo)), frames)
+}
+
+/// The value of an entry changed: an event on each active TPDO that maps it. C owes what `bafokun_tick` says.
+#[unsafe(no_mangle)]
+pub extern "C" fn bafokun_changed(
+    alloc: Global,
+    node: &mut Handle,
+    index: u16,
+    sub_index: u8,
+    frames: &mut [CanFrame],
+) -> usize
+    ensures gives { (k : Constants) (before : Inputs) → IsDevice k node.old before →
+        Gives k before (Applied (ChangedAt (record { index = index; sub = sub_index })))
+        node.new frames.old frames.new result }
+    ensures empty { IsEmpty node.old → IsQuiet node.new frames.old frames.new result }
+{
+    let key = Key {
+        index,
+        sub: sub_index,
+    };
+    node.step(alloc, None, Some(AppEvent::Changed(key)), frames)
+}
+
+/// An error: its emergency error code, the bits that it sets in the error register besides bit 0, and the manufacturer's
+/// five bytes (CiA 301, 7.2.7). C owes what `bafokun_tick` says, and the five bytes, which aren't part of the array.
+#[unsafe(no_mangle)]
+pub extern "C" fn bafokun_raise(
+    alloc: Global,
+    node: &mut Handle,
+    code: u16,
+    bits: u8,
+    manufacturer: &[u8; 5],
+    frames: &mut [CanFrame],
+) -> usize
+    ensures gives { (k : Constants) (before : Inputs) → IsDevice k node.old before →
+        Gives k before (Applied (Raised code bits manufacturer.now))
+        node.new frames.old frames.new result }
+    ensures empty { IsEmpty node.old → IsQuiet node.new frames.old frames.new result }
+{
+    node.step(
+        alloc,
+        None,
+        Some(AppEvent::Raise(code, bits, *manufacturer)),
+        frames,
+    )
+}
+
+/// Errors have ended: these bits of the error register are cleared. C owes what `bafokun_tick` says.
+#[unsafe(no_mangle)]
+pub extern "C" fn bafokun_clear(
+    alloc: Global,
+    node: &mut Handle,
+    bits: u8,
+    frames: &mut [CanFrame],
+) -> usize
+    ensures gives { (k : Constants) (before : Inputs) → IsDevice k node.old before →
+        Gives k before (Applied (Cleared bits)) node.new frames.old frames.new result }
+    ensures empty { IsEmpty node.old → IsQuiet node.new frames.old frames.new result }
+{
+    node.step(alloc, None, Some(AppEvent::Clear(bits)), frames)
+}

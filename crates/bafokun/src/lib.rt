@@ -1,0 +1,23 @@
+//! A CANopen device for programs in C: the static library of `include/bafokun.h`. Each export is one call of `co_node`.
+#![tactic(auto)]
+
+mod build;
+mod frames;
+mod handle;
+mod held;
+mod inputs;
+mod parts;
+mod questions;
+mod seal;
+
+pub use build::{Fault, Settings, bafokun_build};
+pub use frames::CanFrame;
+pub use handle::Handle;
+pub use inputs::{
+    bafokun_boot, bafokun_changed, bafokun_clear, bafokun_event, bafokun_raise, bafokun_take,
+    bafokun_tick, bafokun_write,
+};
+pub use questions::{
+    bafokun_answer, bafokun_free, bafokun_held, bafokun_node_id, bafokun_sent, bafokun_state,
+    bafokun_value,
+};

@@ -1,0 +1,192 @@
+//! What C asks of a device.
+
+ghost use Rattle.std.specs.Prelude.{◌≡◌, ◌≤◌, None, drop, length};
+ghost use Rattle.co_node_inputs.specs.Inputs.{Inputs};
+ghost use Rattle.co_node_history.specs.Moments.{Constants};
+ghost use Rattle.co_node_history.specs.Histories.{app_after, contents_of, held_of, room_of, state_of};
+ghost use Rattle.bafokun.specs.Answers.{IsCopied, IsRead, answer_code, refusal_code, state_code};
+ghost use Rattle.bafokun.specs.Devices.{IsDevice, IsEmpty, sent_of};
+ghost use Rattle.bafokun.specs.Frames.{ArePut};
+
+use crate::frames::{CanFrame, put};
+use crate::handle::Handle;
+use co_node_inputs::AppAnswer;
+use co_node_parts::NodeState;
+use co_value::Key;
+use std::alloc::Global;
+
+/// The frames that the last input gave, from one of them on: for an array that had no room for all. They are put into
+/// the array, as many as it has room for; the result is how many there are from that one on, 0 where there is no device.
+/// C owes what `bafokun_tick` says.
+#[unsafe(no_mangle)]
+pub extern "C" fn bafokun_sent(
+    alloc: Global,
+    node: &mut Handle,
+    from: usize,
+    frames: &mut [CanFrame],
+) -> usize
+    ensures same { node.new.seal.value ≡ node.old.seal.value }
+    ensures put { ArePut (drop from (sent_of node.old)) frames.old frames.new }
+    ensures count { result ≡ length (drop from (sent_of node.old)) }
+{
+    match node.take(alloc) {
+        Some(held) => {
+            let count = match held.sent.get(from..) {
+                Some(rest) => {
+                    put(rest, frames);
+                    rest.len()
+                }
+                None => 0,
+            };
+            *node = Handle::of(held);
+            count
+        }
+        None => 0,
+    }
+}
+
+/// Whether there is an entry. Its bytes are put into the array, as many as it has room for, and `length` is how many they
+/// are. C owes what `bafokun_tick` says, and that the array and `length` are apart.
+#[unsafe(no_mangle)]
+pub extern "C" fn bafokun_value(
+    alloc: Global,
+    node: &mut Handle,
+    index: u16,
+    sub_index: u8,
+    bytes: &mut [u8],
+    length: &mut usize,
+) -> bool
+    ensures same { node.new.seal.value ≡ node.old.seal.value }
+    ensures value { (k : Constants) (before : Inputs) → IsDevice k node.old before →
+        IsRead (contents_of k before (record { index = index; sub = sub_index }))
+        bytes.old bytes.new length.old length.new result }
+    ensures empty { IsEmpty node.old → IsRead None bytes.old bytes.new length.old length.new result }
+{
+    let key = Key {
+        index,
+        sub: sub_index,
+    };
+    match node.take(alloc) {
+        Some(held) => {
+            let found = match held.node.value(key) {
+                Some(value) => {
+                    copy(value, bytes);
+                    *length = value.len();
+                    true
+                }
+                None => false,
+            };
+            *node = Handle::of(held);
+            found
+        }
+        None => false,
+    }
+}
+
+// Copies bytes, as many as there is room for.
+fn copy(value: &[u8], bytes: &mut [u8])
+    ensures { IsCopied value.now bytes.old bytes.new }
+{
+    for i in 0..value.len().min(bytes.len()) {
+        bytes[i] = value[i];
+    }
+}
+
+/// The node-ID, 1 to 127; 0 where there is no device. C owes what `bafokun_tick` says.
+#[unsafe(no_mangle)]
+pub extern "C" fn bafokun_node_id(alloc: Global, node: &mut Handle) -> u8
+    ensures same { node.new.seal.value ≡ node.old.seal.value }
+    ensures id { (k : Constants) (before : Inputs) → IsDevice k node.old before →
+        result ≡ k.description.node }
+    ensures empty { IsEmpty node.old → result ≡ 0 }
+{
+    match node.take(alloc) {
+        Some(held) => {
+            let id = held.node.node_id();
+            *node = Handle::of(held);
+            id
+        }
+        None => 0,
+    }
+}
+
+/// The NMT state (CiA 301, 7.3.2), as the byte of a heartbeat: 4 stopped, 5 operational, 127 pre-operational; 0 where
+/// there is no device. C owes what `bafokun_tick` says.
+#[unsafe(no_mangle)]
+pub extern "C" fn bafokun_state(alloc: Global, node: &mut Handle) -> u8
+    ensures same { node.new.seal.value ≡ node.old.seal.value }
+    ensures state { (k : Constants) (before : Inputs) → IsDevice k node.old before →
+        result ≡ state_code (state_of k before) }
+    ensures empty { IsEmpty node.old → result ≡ 0 }
+{
+    match node.take(alloc) {
+        Some(held) => {
+            let state = held.node.state();
+            *node = Handle::of(held);
+            match state {
+                NodeState::Stopped => 4,
+                NodeState::Operational => 5,
+                NodeState::PreOperational => 127,
+            }
+        }
+        None => 0,
+    }
+}
+
+/// The answer to the last input, where that was an event of the application: 0 none, 1 done, 2 refused, and then `abort`
+/// is the abort code, else 0. C owes what `bafokun_tick` says.
+#[unsafe(no_mangle)]
+pub extern "C" fn bafokun_answer(alloc: Global, node: &mut Handle, abort: &mut u32) -> u8
+    ensures same { node.new.seal.value ≡ node.old.seal.value }
+    ensures answer { (k : Constants) (before : Inputs) → IsDevice k node.old before →
+        result ≡ answer_code (app_after k before) }
+    ensures abort { (k : Constants) (before : Inputs) → IsDevice k node.old before →
+        abort.new ≡ refusal_code (app_after k before) }
+    ensures empty { IsEmpty node.old → result ≡ 0 }
+{
+    *abort = 0;
+    match node.take(alloc) {
+        Some(held) => {
+            let answer = held.node.last_app();
+            *node = Handle::of(held);
+            match answer {
+                AppAnswer::None => 0,
+                AppAnswer::Done => 1,
+                AppAnswer::Refused(code) => {
+                    *abort = code.0;
+                    2
+                }
+            }
+        }
+        None => 0,
+    }
+}
+
+/// How many bytes are held for the transfer of an SDO channel; 0 where there is no such channel or no device. They are at
+/// most 889 more than the entry that is transferred has room for. C owes what `bafokun_tick` says.
+#[unsafe(no_mangle)]
+pub extern "C" fn bafokun_held(alloc: Global, node: &mut Handle, channel: u8) -> usize
+    ensures same { node.new.seal.value ≡ node.old.seal.value }
+    ensures held { (k : Constants) (before : Inputs) → IsDevice k node.old before →
+        result ≡ held_of k before channel }
+    ensures room { (k : Constants) (before : Inputs) → IsDevice k node.old before →
+        result ≤ room_of k before channel }
+    ensures empty { IsEmpty node.old → result ≡ 0 }
+{
+    match node.take(alloc) {
+        Some(held) => {
+            let count = held.node.held(channel);
+            *node = Handle::of(held);
+            count
+        }
+        None => 0,
+    }
+}
+
+/// Gives the device back, with its memory: the place is then empty. C owes what `bafokun_tick` says.
+#[unsafe(no_mangle)]
+pub extern "C" fn bafokun_free(alloc: Global, node: &mut Handle)
+    ensures { IsEmpty node.new }
+{
+    drop(node.take(alloc));
+}

@@ -1,0 +1,55 @@
+//! A device behind a pointer.
+
+ghost use Rattle.std.specs.Prelude.{◌≡◌, Some, None, Option};
+ghost use Rattle.std.specs.Global.{Global};
+ghost use Rattle.bafokun.specs.declared.held.Held.{Held};
+ghost use Rattle.bafokun.specs.Seals.{seal_coded, seal_owns};
+
+use crate::held::Held;
+use crate::parts::Parts;
+use std::alloc::Global;
+use std::marker::Model;
+use std::ptr::null_mut;
+
+/// A box of a device as a pointer whose type C can have, or null. What is dropped is not freed.
+#[repr(C)]
+#[derive(Drop)]
+pub struct Seal {
+    at: *mut u8,
+    ghost alloc: { Global },
+    pub ghost value: { Option Held } by { seal_coded },
+}
+
+impl Model for Seal {
+    ghost also_owns = { λ s. seal_owns s.alloc s.at s.value };
+}
+
+impl Seal {
+    /// Of a box.
+    pub(crate) fn of_parts(parts: Parts<Held, Global>) -> Seal
+        ensures { result.value ≡ Some parts.value }
+    {
+        let Parts { ptr, alloc: _ } = parts;
+        Seal { at: ptr as *mut u8 }
+    }
+
+    /// The box again, where there is one.
+    pub(crate) fn into_parts(self, alloc: Global) -> Parts<Held, Global>
+        requires { self.value ≡ None → ⊥ }
+        ensures { Some result.value ≡ self.value }
+    {
+        let Seal { at } = self;
+        Parts {
+            ptr: at as *mut Held,
+            alloc,
+        }
+    }
+
+    /// Of nothing.
+    pub(crate) fn none(alloc: Global) -> Seal
+        ensures { result.value ≡ None }
+    {
+        let _ = alloc;
+        Seal { at: null_mut() }
+    }
+}

@@ -1,0 +1,4 @@
+pub mod Channel
+pub mod Requests
+pub mod InTurns
+pub mod Segmented

@@ -1,0 +1,6 @@
+//! An SDO client and a node over its default channel, in rounds: laws alone, no device. A call of one changes nothing.
+#![tactic(auto)]
+
+mod downloads;
+
+pub use downloads::segmented_download_ends;

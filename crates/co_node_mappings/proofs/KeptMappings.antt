@@ -1,0 +1,51 @@
+-- An input that is no reset and writes no mapping parameter leaves all of them as they are.
+use Rattle.std.proofs.Common.{◌≡◌, ◌<◌, ◌≤◌, Bool, true, false, ◌∷◌, Option, Some, None, refl, sym, ◌∙◌, arith}
+use Rattle.std.specs.Prelude.{◌||◌}
+use Rattle.std.proofs.lemmas.Bool.Decides.{nat_tests}
+use Rattle.co_value.specs.declared.key.Key.{Key}
+use Rattle.co_value.specs.Keys.{same_key}
+use Rattle.co_dict.specs.Rows.{Contents}
+use Rattle.co_dict.specs.Stores.{Description}
+use Rattle.co_node_inputs.specs.Inputs.{InputView, Inputs}
+use Rattle.co_node_inputs.specs.Words.{is_reset}
+use Rattle.co_node_history.specs.Moments.{Constants}
+use Rattle.co_node_history.specs.Logs.{contents_at}
+use Rattle.co_node_history.specs.Phases.{moment}
+use Rattle.co_node_history.specs.Histories.{moments, contents_of}
+use Rattle.co_node_laws.proofs.Below.{Below}
+use Rattle.co_node_laws.proofs.Received.{MayBecome, changed}
+use Rattle.co_node_laws.proofs.SameSettings.{written_other}
+use Rattle.co_node_mappings.specs.MappingChanges.{is_mapping_key, is_mapping_set, may_change_mappings}
+use Rattle.co_node_mappings.specs.MappingTables.{AgreeOnMappings}
+
+both_off : (a b : Bool) → a || b ≡ false → (a ≡ false) × (b ≡ false)
+both_off true b off = absurd (cc)
+both_off false b off = (refl, off)
+
+from_1600 : (key : Key) → is_mapping_key key ≡ true → 0x1600 ≤ key.index
+from_1600 key there = grind (arith, nat_tests)
+
+to_1BFF : (key : Key) → is_mapping_key key ≡ true → key.index ≤ 0x1BFF
+to_1BFF key there = grind (arith, nat_tests)
+
+apart : (set key : Key) → is_mapping_key set ≡ false → is_mapping_key key ≡ true → same_key set key ≡ false
+apart set key off there = grind (arith, nat_tests)
+
+by_set : (d : Description) (set : Option Key) (c e : Contents) → MayBecome d set c e → is_mapping_set set ≡ false → AgreeOnMappings c e
+by_set d None c e may off key there =
+    let low : 0x1600 ≤ key.index = from_1600 key there in
+    let high : key.index ≤ 0x1BFF = to_1BFF key there in
+    may.same key (omega arith) (omega arith)
+by_set d (Some set) c e may off key there =
+    let low : 0x1600 ≤ key.index = from_1600 key there in
+    let high : key.index ≤ 0x1BFF = to_1BFF key there in
+    sym (written_other c set key may.0 (apart set key off there)) ∙ may.1.same.same key (omega arith) (omega arith)
+
+pub kept_mappings : Below → (k : Constants) (inputs : Inputs) (input : InputView)
+    → may_change_mappings (moment k (moments k inputs) input).marks ≡ false
+    → AgreeOnMappings (contents_of k inputs) (contents_of k (input ∷ inputs))
+kept_mappings below k inputs input off key there =
+    let history = moments k inputs in
+    let m = moment k history input in
+    let both = both_off (is_reset m.marks) (is_mapping_set m.marks.set) off in
+    by_set k.description m.marks.set (contents_at k history) m.contents (changed below k history input both.0) both.1 key there

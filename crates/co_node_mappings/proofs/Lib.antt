@@ -1,0 +1,2 @@
+mod KeptMappings
+mod Tables

@@ -1,0 +1,2 @@
+pub mod MappingChanges
+pub mod MappingTables

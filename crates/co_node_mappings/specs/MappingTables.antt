@@ -1,0 +1,36 @@
+-- The compiled mappings of the PDOs of a side, at some contents of the dictionary (CiA 301, 7.5.2.36 and 7.5.2.38).
+use Rattle.std.specs.Prelude.{◌≡◌, ℕ, ◌<◌, ◌≤◌, true, List, length}
+use Rattle.std.specs.List.{slice_index_or}
+use Rattle.co_value.specs.declared.key.Key.{Key}
+use Rattle.co_dict.specs.declared.side.Side.{Side}
+use Rattle.co_dict.specs.declared.side.Side.TheVariants.{Rpdo, Tpdo}
+use Rattle.co_dict.specs.Rows.{Contents}
+use Rattle.co_dict.specs.Stores.{Description}
+use Rattle.co_pdo.specs.Mappings.{has_pdo, mapping_of}
+use Rattle.co_pdo_compiled.specs.declared.part.Part.{Part}
+use Rattle.co_pdo_compiled.specs.CompiledMappings.{IsCompiledForm}
+use Rattle.co_node_mappings.specs.MappingChanges.{is_mapping_key}
+use Rattle.co_node_mappings.specs.declared.mappings.CompiledMappings.{CompiledMappings}
+
+-- each PDO up to the last one that the dictionary has is compiled: what it maps at these contents
+abbrev pub AreForms : Side → Description → Contents → List (List Part) → Type 0
+AreForms side d contents table = (k : ℕ) (parts : List Part) → k < length table
+    → IsCompiledForm d (mapping_of side d contents k) (slice_index_or table k parts)
+
+-- each PDO that the dictionary has is in the table
+abbrev pub Covers : Side → Description → ℕ → Type 0
+Covers side d count = (k : ℕ) → k < 512 → has_pdo side d.rows k ≡ true → k < count
+
+-- a table of a dictionary at some contents
+pub record IsMappingTable (side : Side) (d : Description) (contents : Contents) (table : List (List Part)) : Type 0 where
+  pub forms : AreForms side d contents table
+  pub covers : Covers side d (length table)
+
+-- the mapping parameters of all PDOs are the same: 1600h to 17FFh and 1A00h to 1BFFh
+abbrev pub AgreeOnMappings : Contents → Contents → Type 0
+AgreeOnMappings contents others = (key : Key) → is_mapping_key key ≡ true → contents key ≡ others key
+
+-- the compiled mappings of a dictionary at some contents, of both sides
+pub record AreMappings (d : Description) (contents : Contents) (mappings : CompiledMappings) : Type 0 where
+  pub rpdos : IsMappingTable Rpdo d contents mappings.rpdos
+  pub tpdos : IsMappingTable Tpdo d contents mappings.tpdos

@@ -1,0 +1,106 @@
+//! The compiled mappings of the PDOs of a side.
+
+ghost use Rattle.std.specs.Prelude.{◌≡◌, ◌<◌, ◌≤◌, false, length, IfOk, IfSome, IsSome};
+ghost use Rattle.std.specs.List.{slice_index_or};
+ghost use Rattle.co_dict.specs.Rows.{Contents};
+ghost use Rattle.co_pdo.specs.Mappings.{mapping_of};
+ghost use Rattle.co_pdo_compiled.specs.CompiledMappings.{IsCompiledForm};
+ghost use Rattle.co_node_mappings.specs.MappingChanges.{may_change_mappings};
+ghost use Rattle.co_node_mappings.specs.MappingTables.{AreForms, AgreeOnMappings, Covers, IsMappingTable};
+
+use crate::marks::may_change_mappings;
+use co_dict::{ObjectStore, Side};
+use co_node_inputs::Marks;
+use co_pdo::has_pdo;
+use co_pdo_compiled::{Compiled, mapping_by_words};
+use std::alloc::{AllocError, Global};
+use std::boxed::BoxedSlice;
+use std::marker::Model;
+
+/// How many PDOs of a side there are up to the last one that the dictionary has.
+fn count_of<S: ObjectStore>(store: &S, side: Side) -> u16
+    ensures covers { Covers side (S.description store.now) result }
+    ensures few { result ≤ 512 }
+{
+    let mut count = 0;
+    for k in 0..512u16 {
+        if has_pdo(store, side, k) {
+            count = k + 1;
+        }
+    }
+    count
+}
+
+/// Compiles each of them anew.
+fn compile_all<S: ObjectStore>(pdos: &mut [Compiled], store: &S, side: Side)
+    requires { length pdos.old ≤ 512 }
+    ensures { AreForms side (S.description store.now) (S.contents store.now) pdos.new }
+{
+    for k in 0..pdos.len() {
+        pdos[k] = Compiled::of(store, side, k as u16);
+    }
+}
+
+/// The compiled mappings of the PDOs of a side, up to the last PDO that the dictionary has. It asks for no memory after
+/// `new`. Contracts see the parts of each.
+#[derive(Drop)]
+pub struct MappingTable {
+    pdos: BoxedSlice<Compiled>,
+}
+
+impl Model for MappingTable {
+    ghost use Rattle.std.specs.Prelude.{◌≤◌, List, length};
+    ghost use Rattle.std.specs.Box.{boxed_slice_items};
+    ghost use Rattle.co_pdo_compiled.specs.declared.part.Part.{Part};
+
+    ghost Value = { List (List Part) };
+
+    ghost view = { λ t. boxed_slice_items t.pdos };
+
+    ghost invariant = { λ t. length (boxed_slice_items t.pdos) ≤ 512 };
+}
+
+impl MappingTable {
+    /// The compiled mappings of a side as the dictionary is now. `AllocError` where there is no memory.
+    pub fn new<S: ObjectStore>(
+        alloc: Global,
+        store: &S,
+        side: Side,
+    ) -> Result<MappingTable, AllocError>
+        ensures { IfOk result (λ table.
+            IsMappingTable side (S.description store.now) (S.contents store.now) table) }
+    {
+        let count = count_of(store, side);
+        let mut pdos = Vec::with_capacity(alloc, usize::from(count))?;
+        for k in 0..count {
+            pdos.push_reserved(Compiled::of(store, side, k));
+        }
+        Ok(MappingTable {
+            pdos: pdos.into_boxed_slice(),
+        })
+    }
+
+    /// Follows the dictionary over an input: the mappings are compiled anew where that may have changed what a PDO maps, at a
+    /// reset and where a mapping parameter was written.
+    pub fn note<S: ObjectStore>(&mut self, marks: &Marks, store: &S, side: Side)
+        ensures { (before : Contents) →
+            IsMappingTable side (S.description store.now) before self.old →
+            (may_change_mappings marks.now ≡ false → AgreeOnMappings before (S.contents store.now)) →
+            IsMappingTable side (S.description store.now) (S.contents store.now) self.new }
+    {
+        if may_change_mappings(marks) {
+            compile_all(&mut self.pdos, store, side);
+        } else {
+            mapping_by_words();
+        }
+    }
+
+    /// The compiled mapping of PDO k; `None` where k is past the last PDO of the side.
+    pub fn compiled(&self, k: u16) -> Option<&Compiled>
+        ensures there { k < length self.now → IsSome result }
+        ensures form { IfSome result (λ compiled. (k < length self.now) ×
+            (compiled.now ≡ slice_index_or self.now k compiled.now)) }
+    {
+        self.pdos.get(usize::from(k))
+    }
+}

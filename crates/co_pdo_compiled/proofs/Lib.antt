@@ -1,0 +1,4 @@
+mod CompiledExamples
+mod Parameters
+mod Parts
+pub mod Props

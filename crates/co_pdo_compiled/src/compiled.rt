@@ -1,0 +1,88 @@
+//! A compiled mapping.
+
+ghost use Rattle.std.specs.Prelude.{◌≡◌, ◌≤◌, ◌<◌, true, length};
+ghost use Rattle.co_pdo.specs.Mappings.{mapping_of, total_of, all_there};
+ghost use Rattle.co_pdo_compiled.specs.CompiledMappings.{mapping_in, IsCompiledForm, HasParts};
+
+use crate::part::Part;
+use arrayvec::ArrayVec;
+use co_dict::{ObjectStore, Side};
+use co_pdo::{Mapped, Mapping};
+use std::marker::Model;
+
+/// What a PDO maps, in the order of its data, with the places and the rows of the entries (CiA 301, 7.5.2.36,
+/// 7.5.2.38). It is of use as long as the mapping parameter isn't written: no call of a dictionary changes places or rows.
+#[derive(Drop)]
+pub struct Compiled {
+    parts: ArrayVec<Part, 8>,
+    // how many bytes are mapped in all
+    width: usize,
+}
+
+impl Model for Compiled {
+    ghost use Rattle.std.specs.Prelude.{List};
+    ghost use Rattle.co_pdo_compiled.specs.declared.part.Part.{Part};
+    ghost use Rattle.co_pdo_compiled.specs.CompiledMappings.{IsWithWidth};
+
+    ghost Value = { List Part };
+
+    ghost view = { λ c. c.parts.items };
+
+    ghost invariant = { λ c. IsWithWidth c.parts.items c.width };
+}
+
+/// The parts of a mapping.
+fn parts_of<S: ObjectStore>(store: &S, entries: &[Mapped]) -> ArrayVec<Part, 8>
+    requires there { all_there (S.description store.now).rows entries.now ≡ true }
+    requires few { length entries.now ≤ 8 }
+    ensures mapping { mapping_in result.items ≡ entries.now }
+    ensures has { HasParts (S.description store.now) result.items }
+{
+    let mut parts = ArrayVec::new();
+    for mapped in entries {
+        parts.push(Part::of(store, *mapped));
+    }
+    parts
+}
+
+impl Compiled {
+    /// The compiled form of what PDO k, 0 to 511, of a side maps: of `Mapping::read` as the dictionary is now.
+    pub fn of<S: ObjectStore>(store: &S, side: Side, k: u16) -> Compiled
+        requires { k < 512 }
+        ensures { IsCompiledForm (S.description store.now)
+            (mapping_of side (S.description store.now) (S.contents store.now) k) result }
+    {
+        let mapping = Mapping::read(store, side, k);
+        let parts = parts_of(store, mapping.entries());
+        let width = mapping.width();
+        Compiled { parts, width }
+    }
+
+    /// What is mapped, in the order of the data.
+    pub fn mapped(&self) -> ArrayVec<Mapped, 8>
+        ensures { result.items ≡ mapping_in self.now }
+    {
+        let mut mapped = ArrayVec::new();
+        for part in self.parts() {
+            mapped.push(part.mapped());
+        }
+        mapped
+    }
+
+    /// How many bytes are mapped in all, 0 to 8.
+    pub fn width(&self) -> usize
+        ensures value { result ≡ total_of (mapping_in self.now) }
+        ensures small { result ≤ 8 }
+    {
+        self.width
+    }
+
+    /// The parts, in the order of the data.
+    pub(crate) fn parts(&self) -> &[Part]
+        ensures parts { result.now ≡ self.now }
+        ensures few { length self.now ≤ 8 }
+        ensures small { total_of (mapping_in self.now) ≤ 8 }
+    {
+        &self.parts
+    }
+}

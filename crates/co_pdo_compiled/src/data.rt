@@ -1,0 +1,161 @@
+//! The data of a PDO by its compiled mapping.
+
+ghost use Rattle.std.specs.Prelude.{◌≡◌, ◌≤◌, ◌+◌, ◌++◌, ◌∷◌, [], Some, length};
+ghost use Rattle.co_pdo.specs.Mappings.{width_in, total_of};
+ghost use Rattle.co_pdo.specs.Images.{bytes_in, image_of, with_parts, is_outside, any_outside, written_in_order, fault_of, contents_after, answered};
+ghost use Rattle.co_pdo_compiled.specs.CompiledMappings.{mapped_in, mapping_in, HasEntry, HasPart, HasParts};
+
+use crate::compiled::Compiled;
+use crate::part::{Part, PlacedEntry};
+use arrayvec::ArrayVec;
+use co_dict::{ObjectStore, place_laws, store_laws};
+use co_pdo::PdoFault;
+
+/// The bytes of an entry.
+fn bytes_of<'a, S: ObjectStore>(store: &'a S, entry: &PlacedEntry) -> &'a [u8]
+    requires { HasEntry (S.description store.now) entry.now }
+    ensures bytes { S.contents store.now entry.now.key ≡ Some result.now }
+    ensures width { length result.now ≡ entry.now.width }
+{
+    store_laws(store);
+    place_laws(store);
+    match store.bytes_at(entry.place) {
+        Some(bytes) => bytes,
+        None => unreachable!(),
+    }
+}
+
+/// Appends bytes, for which there is room.
+fn extend(image: &mut ArrayVec<u8, 8>, bytes: &[u8])
+    requires { length image.old.items + length bytes.now ≤ 8 }
+    ensures { image.new.items ≡ image.old.items ++ bytes.now }
+{
+    let _ = image.try_extend_from_slice(bytes);
+}
+
+/// Appends the bytes of what is mapped.
+fn append<S: ObjectStore>(store: &S, part: &Part, image: &mut ArrayVec<u8, 8>)
+    requires has { HasPart (S.description store.now) part.now }
+    requires room { length image.old.items + width_in (mapped_in part.now) ≤ 8 }
+    ensures image { image.new.items ≡
+        image.old.items ++ bytes_in (S.contents store.now) (mapped_in part.now) }
+    ensures width { length (bytes_in (S.contents store.now) (mapped_in part.now)) ≡
+        width_in (mapped_in part.now) }
+{
+    match part {
+        Part::Placed(entry) => extend(image, bytes_of(store, entry)),
+        Part::PassedOver(width) => extend(image, &[0; 8][..usize::from(*width)]),
+    }
+}
+
+/// The bytes of what is mapped, joined.
+fn joined<S: ObjectStore>(store: &S, parts: &[Part]) -> ArrayVec<u8, 8>
+    requires has { HasParts (S.description store.now) parts.now }
+    requires small { total_of (mapping_in parts.now) ≤ 8 }
+    ensures { result.items ≡ image_of (S.contents store.now) (mapping_in parts.now) }
+{
+    let mut image = ArrayVec::new();
+    for part in parts {
+        append(store, part, &mut image);
+    }
+    image
+}
+
+/// The data of a PDO: what `image` gives of the mapping that was compiled. The dictionary has to have the mapped entries,
+/// with the rows and at the places that they were compiled with, as it has after every call of its own.
+pub fn image_at<S: ObjectStore>(store: &S, compiled: &Compiled) -> ArrayVec<u8, 8>
+    requires { HasParts (S.description store.now) compiled.now }
+    ensures { result.items ≡ image_of (S.contents store.now) (mapping_in compiled.now) }
+{
+    joined(store, compiled.parts())
+}
+
+/// Whether a part of the data is outside the limits of its entry.
+fn is_outside<S: ObjectStore>(_store: &S, part: &Part, bytes: &[u8]) -> bool
+    requires has { HasPart (S.description _store.now) part.now }
+    requires width { length bytes.now ≡ width_in (mapped_in part.now) }
+    ensures { result ≡ is_outside (S.description _store.now).rows (mapped_in part.now) bytes.now }
+{
+    match part {
+        Part::Placed(entry) => entry.row.check_limits(bytes).is_err(),
+        Part::PassedOver(_) => false,
+    }
+}
+
+/// Whether any part of the data is outside the limits of its entry.
+fn any_outside<S: ObjectStore>(store: &S, parts: &[Part], bytes: &[u8]) -> bool
+    requires has { HasParts (S.description store.now) parts.now }
+    requires enough { total_of (mapping_in parts.now) ≤ length bytes.now }
+    ensures { result ≡
+        any_outside (S.description store.now).rows (mapping_in parts.now) bytes.now }
+{
+    let mut rest = bytes;
+    for part in parts {
+        let width = usize::from(part.width());
+        if is_outside(store, part, &rest[..width]) {
+            return true;
+        }
+        rest = &rest[width..];
+    }
+    false
+}
+
+/// Writes a part of the data into its entry.
+fn write_part<S: ObjectStore>(store: &mut S, part: &Part, bytes: &[u8])
+    requires has { HasPart (S.description store.old) part.now }
+    requires width { length bytes.now ≡ width_in (mapped_in part.now) }
+    ensures contents { S.contents store.new ≡
+        written_in_order (S.contents store.old) ((mapped_in part.now, bytes.now) ∷ []) }
+    ensures description { S.description store.new ≡ S.description store.old }
+{
+    place_laws(store);
+    if let Part::Placed(entry) = part {
+        store.set_at(entry.place, bytes);
+    }
+}
+
+/// Writes each part of the data into its entry, in order.
+fn write_parts<S: ObjectStore>(store: &mut S, parts: &[Part], bytes: &[u8])
+    requires has { HasParts (S.description store.old) parts.now }
+    requires enough { total_of (mapping_in parts.now) ≤ length bytes.now }
+    ensures contents { S.contents store.new ≡
+        written_in_order (S.contents store.old) (with_parts (mapping_in parts.now) bytes.now) }
+    ensures description { S.description store.new ≡ S.description store.old }
+{
+    let mut rest = bytes;
+    for part in parts {
+        let width = usize::from(part.width());
+        write_part(store, part, &rest[..width]);
+        rest = &rest[width..];
+    }
+}
+
+/// Takes the data of an RPDO as `apply` does with the mapping that was compiled: writes each part into the entry that it
+/// is mapped to, in the mapping's order, and passes over those of dummy entries. `Short` where there are fewer bytes than
+/// are mapped and `OutOfLimits` where a value is outside the limits of its entry: nothing is written then. `Long` where
+/// there are more: the first ones are written. The dictionary has to have the mapped entries, with the rows and at the
+/// places that they were compiled with, as it has after every call of its own.
+pub fn apply_at<S: ObjectStore>(
+    store: &mut S,
+    compiled: &Compiled,
+    bytes: &[u8],
+) -> Result<(), PdoFault>
+    requires { HasParts (S.description store.old) compiled.now }
+    ensures fault { answered result ≡
+        fault_of (S.description store.old).rows (mapping_in compiled.now) bytes.now }
+    ensures contents { S.contents store.new ≡ contents_after (S.description store.old).rows
+        (mapping_in compiled.now) bytes.now (S.contents store.old) }
+    ensures description { S.description store.new ≡ S.description store.old }
+{
+    if bytes.len() < compiled.width() {
+        return Err(PdoFault::Short);
+    }
+    if any_outside(store, compiled.parts(), bytes) {
+        return Err(PdoFault::OutOfLimits);
+    }
+    write_parts(store, compiled.parts(), bytes);
+    if bytes.len() > compiled.width() {
+        return Err(PdoFault::Long);
+    }
+    Ok(())
+}

@@ -1,0 +1,5 @@
+pub mod Takes
+pub mod RoundLemmas
+pub mod Lines
+pub mod Exchanges
+pub mod AllRounds

@@ -1,0 +1,75 @@
+//! Frames that are printed, and that come to the client.
+
+ghost use Rattle.std.specs.Prelude.{◌≡◌, ◌⊎◌, ◌++◌, ◌∷◌, ℕ, List, OnOk, IfErr, Err};
+ghost use Rattle.co_sdo_client.specs.Calls.{Call, Event, Ticked, frames_on};
+ghost use Rattle.co_sdo_client.specs.Outcomes.{asked_by};
+ghost use Rattle.co_sdo_client.specs.Standing.{ClientStands};
+ghost use Rattle.conode_io.specs.Written.{WritesFront, WritesLines, WritesSome};
+ghost use Rattle.conode_loop.specs.Printed.{frame_lines};
+ghost use Rattle.co_node_loop.specs.Rounds.{asked_after, events_after};
+
+use co_frame::{Frame, Outbox};
+use co_sdo_client::Client;
+use conode_io::{CmdFault, hand_over};
+use conode_trace::set_frame_line;
+use std::alloc::AllocError;
+use std::io::Write;
+
+/// Writes the line of each frame, at time 0.
+pub(crate) fn write_frames<W: Write>(
+    line: &mut String,
+    frames: &[Frame],
+    writer: &mut W,
+) -> Result<(), CmdFault>
+    ensures ok { OnOk result
+        (WritesLines (W.contents writer.old) (W.contents writer.new) (frame_lines frames.now)) }
+    ensures write { result ≡ Err CmdFault.Write →
+        WritesFront (W.contents writer.old) (W.contents writer.new) (frame_lines frames.now) }
+    ensures memory { result ≡ Err CmdFault.Memory →
+        WritesSome (W.contents writer.old) (W.contents writer.new) (frame_lines frames.now) }
+    ensures err { IfErr result (λ fault. (fault ≡ CmdFault.Write) ⊎ (fault ≡ CmdFault.Memory)) }
+{
+    for frame in frames {
+        set_frame_line(line, 0, frame)?;
+        hand_over(line.as_bytes(), writer)?;
+    }
+    Ok(())
+}
+
+/// Gives frames of the node to the client. What it then sends waits.
+pub(crate) fn take_frames(
+    client: &mut Client<'_>,
+    frames: &[Frame],
+    waiting: &mut Vec<Frame>,
+) -> Result<(), AllocError>
+    ensures stands { (call : Call) (events : List Event) → ClientStands call events client.old →
+        OnOk result (ClientStands call (events_after client.old.answer events frames.now) client.new) }
+    ensures asked { (call : Call) (events : List Event) → ClientStands call events client.old →
+        OnOk result (waiting.new.items ≡ waiting.old.items ++ asked_after client.old.request
+        client.old.answer call events frames.now) }
+    ensures request { client.new.request ≡ client.old.request }
+    ensures answer { client.new.answer ≡ client.old.answer }
+{
+    let mut asked = Outbox::new();
+    for frame in frames {
+        asked.clear();
+        client.take(frame, &mut asked);
+        waiting.extend_from_slice(&asked)?;
+    }
+    Ok(())
+}
+
+/// A tick of 1 ms at the client. What it then sends waits.
+pub(crate) fn take_tick(client: &mut Client<'_>, waiting: &mut Vec<Frame>) -> Result<(), AllocError>
+    ensures stands { (call : Call) (events : List Event) → ClientStands call events client.old →
+        OnOk result (ClientStands call (Ticked ∷ events) client.new) }
+    ensures asked { (call : Call) (events : List Event) → ClientStands call events client.old →
+        OnOk result (waiting.new.items ≡ waiting.old.items
+        ++ frames_on client.old.request (asked_by call events Ticked)) }
+    ensures request { client.new.request ≡ client.old.request }
+    ensures answer { client.new.answer ≡ client.old.answer }
+{
+    let mut asked = Outbox::new();
+    client.tick(&mut asked);
+    waiting.extend_from_slice(&asked)
+}

@@ -1,0 +1,197 @@
+//! A download looped against the node of a data sheet's file.
+
+ghost use Rattle.std.specs.Prelude.{◌≡◌, ◌⊎◌, ◌≤◌, ◌++◌, length, None, Some, IfOk, IfSome, option_map};
+ghost use Rattle.std.specs.Process.{exit_status};
+ghost use Rattle.co_value.specs.KeyTexts.{key_in};
+ghost use Rattle.conode_loop.specs.Words.{bytes_in};
+
+use crate::looped::loop_back;
+use co_dict_list::BuildFault;
+use co_node::{Config, Node};
+use co_sdo_client::{ClientState, Mode};
+use co_sheet::{SheetFault, read};
+use co_text::HexPairs;
+use co_value::Key;
+use conode_io::{CmdFault, Message, file_text, flushed, out_of_memory, say, stopped};
+use std::alloc::{AllocError, Global};
+use std::io;
+use std::io::Write;
+use std::process::ExitCode;
+use std::rt::Files;
+
+/// How many bytes a client downloads at most.
+const MOST_BYTES: usize = 65_535;
+
+// All bytes of pairs of digits.
+fn collected(alloc: Global, pairs: HexPairs<'_>) -> Result<Vec<u8>, AllocError>
+    ensures { IfOk result (λ bytes. bytes.items ≡ pairs.entry) }
+{
+    let mut left = pairs;
+    let mut bytes = Vec::new(alloc);
+    while let Some(byte) = left.next() {
+        bytes.push(byte)?;
+    }
+    Ok(bytes)
+}
+
+// The bytes that a word spells in pairs of hexadecimal digits, at most 65,535, or `-` for none; `None` for every other word.
+#[tactic(auto, unfolding(crate::specs::Words::bytes_in))]
+fn bytes_in(alloc: Global, word: &str) -> Result<Option<Vec<u8>>, AllocError>
+    ensures spelled { IfOk result (λ bytes. option_map (λ b. b.items) bytes ≡ bytes_in word.now) }
+    ensures few { IfOk result (λ bytes. IfSome bytes (λ b. length b.items ≤ 65535)) }
+{
+    let Some(pairs) = HexPairs::read(word.as_bytes()) else {
+        return Ok(None);
+    };
+    if pairs.len() > MOST_BYTES {
+        return Ok(None);
+    }
+    Ok(Some(collected(alloc, pairs)?))
+}
+
+// Says what is wrong with a word. The status is 2.
+fn bad_word<E: Write>(what: &str, err: &mut E) -> ExitCode
+    ensures { exit_status result ≡ 2 }
+{
+    let _ = writeln!(err, "{what}");
+    ExitCode::from(2)
+}
+
+// Names a file that can't be read.
+fn cannot_read<E: Write>(path: &str, err: &mut E) -> ExitCode
+    ensures { exit_status result ≡ 1 }
+{
+    let _ = say(Message::CannotRead(path), err);
+    ExitCode::FAILURE
+}
+
+// Says why a text is no data sheet.
+fn faulty_sheet<O: Write>(fault: SheetFault, out: &mut O) -> ExitCode
+    ensures { exit_status result ≡ 1 }
+{
+    let _ = say(Message::Fault(fault), out);
+    ExitCode::FAILURE
+}
+
+fn say_build_fault<O: Write>(fault: BuildFault, out: &mut O) -> io::Result<()> {
+    let text = fault.text();
+    let text = text.as_str();
+    writeln!(out, "{text}")?;
+    out.flush()
+}
+
+// Says why a data sheet makes no device, as `build fault 3 BadCobId 1800:01`.
+fn faulty_build<O: Write>(fault: BuildFault, out: &mut O) -> ExitCode
+    ensures { exit_status result ≡ 1 }
+{
+    let _ = say_build_fault(fault, out);
+    ExitCode::FAILURE
+}
+
+/// A download that a client loops against a node.
+#[derive(Drop)]
+struct Job<'a> {
+    key: Key,
+    bytes: &'a [u8],
+    mode: Mode,
+}
+
+// Loops a download against a node on `out`, and says why it stopped where it did.
+fn loop_node<O: Write, E: Write>(
+    alloc: Global,
+    node: &mut Node,
+    job: &Job<'_>,
+    out: &mut O,
+    err: &mut E,
+) -> ExitCode
+    requires { length job.now.bytes.now ≤ 65535 }
+    ensures { (exit_status result ≡ 0) ⊎ (exit_status result ≡ 1) }
+{
+    let outcome = loop_back(alloc, node, job.key, job.bytes, job.mode, out);
+    match flushed(out, outcome) {
+        Ok(ClientState::Done) => ExitCode::SUCCESS,
+        Ok(_) => ExitCode::FAILURE,
+        Err(fault) => stopped(fault, out, err).status(),
+    }
+}
+
+// Loops a download against the node of a data sheet's text, if the text is one.
+fn loop_sheet<O: Write, E: Write>(
+    alloc: Global,
+    text: &[u8],
+    job: &Job<'_>,
+    node_id: u8,
+    config: &Config<'_>,
+    out: &mut O,
+    err: &mut E,
+) -> ExitCode
+    requires { length job.now.bytes.now ≤ 65535 }
+    ensures { (exit_status result ≡ 0) ⊎ (exit_status result ≡ 1) }
+{
+    let sheet = match read(alloc, text) {
+        Ok(sheet) => sheet,
+        Err(fault) => return faulty_sheet(fault, out),
+    };
+    match Node::build(alloc, &sheet, node_id, config) {
+        Ok(mut node) => loop_node(alloc, &mut node, job, out, err),
+        Err(fault) => faulty_build(fault, out),
+    }
+}
+
+// Loops a download against the node of the data sheet of a path.
+fn loop_path<R: Files + AllocGlobal, O: Write, E: Write>(
+    rt: &R,
+    path: &str,
+    job: &Job<'_>,
+    node_id: u8,
+    config: &Config<'_>,
+    out: &mut O,
+    err: &mut E,
+) -> ExitCode
+    requires { length job.now.bytes.now ≤ 65535 }
+    ensures { (exit_status result ≡ 0) ⊎ (exit_status result ≡ 1) }
+{
+    match file_text(rt, path) {
+        Ok(text) => loop_sheet(rt.alloc(), text.as_slice(), job, node_id, config, out, err),
+        Err(CmdFault::Memory) => out_of_memory(out),
+        Err(_) => cannot_read(path, err),
+    }
+}
+
+/// Loops a download against the node of the data sheet of a path at a node-ID, as `loop_back` does, on `out`. `key` is a key as
+/// `2001:00`; `hex` are the bytes in pairs of hexadecimal digits, or `-` for none.
+///
+/// `bad key` and then `bad bytes`, also for more than 65,535 bytes, go to `err` before the file is opened; the status is then 2. A
+/// file that can't be read is named on `err`; a fault of the sheet and one of its build go to `out`. The status is 0 where the
+/// client is done, else 1.
+pub fn loop_files<R: Files + AllocGlobal, O: Write, E: Write>(
+    rt: &R,
+    sheet: &str,
+    key: &str,
+    hex: &str,
+    node: u8,
+    mode: Mode,
+    config: &Config<'_>,
+    out: &mut O,
+    err: &mut E,
+) -> ExitCode
+    ensures bad_key { key_in key.now ≡ None → exit_status result ≡ 2 }
+    ensures bad_bytes { bytes_in hex.now ≡ None → (exit_status result ≡ 1) ⊎ (exit_status result ≡ 2) }
+    ensures status { (exit_status result ≡ 0) ⊎ (exit_status result ≡ 1) ⊎ (exit_status result ≡ 2) }
+{
+    let Some(key) = Key::parse(key.as_bytes()) else {
+        return bad_word("bad key", err);
+    };
+    match bytes_in(rt.alloc(), hex) {
+        Ok(Some(bytes)) => {
+            let job = Job {
+                key,
+                bytes: bytes.as_slice(),
+                mode,
+            };
+            loop_path(rt, sheet, &job, node, config, out, err)
+        }
+        Ok(None) => bad_word("bad bytes", err),
+        Err(_) => stopped(CmdFault::Memory, out, err).status(),
+    }
+}

@@ -1,0 +1,125 @@
+//! A download looped against a node.
+
+ghost use Rattle.std.specs.Prelude.{◌≡◌, ◌⊎◌, ◌≤◌, length, OnOk, IfOk, IfErr, Err, string_bytes};
+ghost use Rattle.co_node_history.specs.Moments.{Constants};
+ghost use Rattle.co_node_inputs.specs.Inputs.{Inputs};
+ghost use Rattle.co_node.specs.Nodes.{Stands};
+ghost use Rattle.co_node_loop.specs.Rounds.{Loop, BothEnds, download_of, first_ends, last_ends, rounds, state_at};
+ghost use Rattle.conode_io.specs.Written.{WritesFront, WritesLines, WritesSome};
+ghost use Rattle.conode_loop.specs.Printed.{last_line, lines_from, loop_lines};
+ghost use Rattle.conode_loop.specs.Standing.{EndsStand, StandsAfterSome};
+
+use crate::rounds::all_rounds;
+use co_frame::{Frame, Ids, Outbox};
+use co_node::Node;
+use co_sdo_client::{Client, ClientState, Mode};
+use co_text::{push_decimal, push_u32};
+use co_value::Key;
+use conode_io::{CmdFault, hand_over};
+use std::alloc::{AllocError, Global};
+use std::io::Write;
+
+// Makes the text the last line: how the client stands, and how many frames it sent. On an `Err` memory ran out, and the text
+// holds a part of the line.
+#[tactic(auto, unfolding(crate::specs::Printed::last_line))]
+fn set_last_line(text: &mut String, state: ClientState, sent: u64) -> Result<(), AllocError>
+    ensures { OnOk result (string_bytes text.new ≡ last_line state sent) }
+{
+    text.clear();
+    match state {
+        ClientState::Waiting => return text.push_str("; gave up\n"),
+        ClientState::Done => text.push_str("; done, ")?,
+        ClientState::Failed(code) => {
+            text.push_str("; failed ")?;
+            push_u32(text, code.0)?;
+            text.push_str(", ")?;
+        }
+    }
+    push_decimal(text, sent)?;
+    text.push_str(" requests\n")
+}
+
+// All rounds of a client that has begun, and the last line.
+fn loop_client<W: Write>(
+    node: &mut Node,
+    client: &mut Client<'_>,
+    waiting: &mut Vec<Frame>,
+    line: &mut String,
+    writer: &mut W,
+) -> Result<ClientState, CmdFault>
+    ensures state { (l : Loop) (e : BothEnds) → EndsStand l e node.old client.old waiting.old.items →
+        IfOk result (λ state. state ≡ state_at l (rounds 20000 l e)) }
+    ensures text { (l : Loop) (e : BothEnds) → EndsStand l e node.old client.old waiting.old.items →
+        OnOk result (WritesLines (W.contents writer.old) (W.contents writer.new) (lines_from l e)) }
+    ensures node { (l : Loop) (e : BothEnds) → EndsStand l e node.old client.old waiting.old.items →
+        OnOk result (Stands l.node node.new (rounds 20000 l e).inputs) }
+    ensures write { (l : Loop) (e : BothEnds) → EndsStand l e node.old client.old waiting.old.items →
+        result ≡ Err CmdFault.Write →
+        WritesFront (W.contents writer.old) (W.contents writer.new) (lines_from l e) }
+    ensures memory { (l : Loop) (e : BothEnds) → EndsStand l e node.old client.old waiting.old.items →
+        result ≡ Err CmdFault.Memory →
+        WritesSome (W.contents writer.old) (W.contents writer.new) (lines_from l e) }
+    ensures some { (l : Loop) (e : BothEnds) → EndsStand l e node.old client.old waiting.old.items →
+        StandsAfterSome l e node.new }
+    ensures err { IfErr result (λ fault. (fault ≡ CmdFault.Write) ⊎ (fault ≡ CmdFault.Memory)) }
+{
+    all_rounds(node, client, waiting, line, writer)?;
+    let state = client.state();
+    set_last_line(line, state, client.sent())?;
+    hand_over(line.as_bytes(), writer)?;
+    Ok(state)
+}
+
+/// Downloads bytes, at most 65,535, to an entry of a node by an SDO client over the node's default channel (CiA 301, 7.2.4.3):
+/// 600h + node-ID and 580h + node-ID. The client indicates their number and waits for each answer for ever.
+///
+/// In a round one request of the client is given to the node; where none waits, 1 ms passes at both. All frames that the node
+/// then sends come to the client. Rounds go on as long as the client waits for an answer, or a request of it to be given to
+/// the node, and at most 20,000. So an abort that the client sends is given to the node, too.
+///
+/// Each frame is written as the line of a trace at time 0: a request, and after it what the node sends; of a tick the latter
+/// alone. The last line is `; done, 3 requests` or `; failed 06070012, 1 requests`, with the number of frames that the client
+/// sent, or `; gave up` where it still waits after the last round. The answer is how the client stands.
+///
+/// `Write` where the writer failed: then some of the lines have been written, and perhaps a part of the next one. `Memory` where
+/// memory ran out: some of the lines have been written, never all. The node has then taken the inputs of some of the rounds.
+pub fn loop_back<W: Write>(
+    alloc: Global,
+    node: &mut Node,
+    key: Key,
+    bytes: &[u8],
+    mode: Mode,
+    writer: &mut W,
+) -> Result<ClientState, CmdFault>
+    requires { length bytes.now ≤ 65535 }
+    ensures state { (k : Constants) (before : Inputs) → Stands k node.old before → IfOk result (λ state.
+        state ≡ state_at (download_of k key bytes.now mode) (last_ends (download_of k key bytes.now mode) before)) }
+    ensures text { (k : Constants) (before : Inputs) → Stands k node.old before → OnOk result
+        (WritesLines (W.contents writer.old) (W.contents writer.new)
+        (loop_lines (download_of k key bytes.now mode) before)) }
+    ensures node { (k : Constants) (before : Inputs) → Stands k node.old before → OnOk result
+        (Stands k node.new (last_ends (download_of k key bytes.now mode) before).inputs) }
+    ensures write { (k : Constants) (before : Inputs) → Stands k node.old before →
+        result ≡ Err CmdFault.Write → WritesFront (W.contents writer.old) (W.contents writer.new)
+        (loop_lines (download_of k key bytes.now mode) before) }
+    ensures memory { (k : Constants) (before : Inputs) → Stands k node.old before →
+        result ≡ Err CmdFault.Memory → WritesSome (W.contents writer.old) (W.contents writer.new)
+        (loop_lines (download_of k key bytes.now mode) before) }
+    ensures some { (k : Constants) (before : Inputs) → Stands k node.old before → StandsAfterSome
+        (download_of k key bytes.now mode) (first_ends (download_of k key bytes.now mode) before)
+        node.new }
+    ensures err { IfErr result (λ fault. (fault ≡ CmdFault.Write) ⊎ (fault ≡ CmdFault.Memory)) }
+{
+    let node_id = u16::from(node.node_id());
+    let ids = Ids {
+        request: 0x600 + node_id,
+        answer: 0x580 + node_id,
+    };
+    let mut client = Client::download(ids, key, bytes, mode, true, 0);
+    let mut sent = Outbox::new();
+    client.begin(&mut sent);
+    let mut waiting = Vec::new(alloc);
+    waiting.extend_from_slice(&sent)?;
+    let mut line = String::new(alloc);
+    loop_client(node, &mut client, &mut waiting, &mut line, writer)
+}

@@ -1,0 +1,188 @@
+//! The rounds of a client and a node.
+
+ghost use Rattle.std.specs.Prelude.{◌≡◌, ◌⊎◌, ◌<◌, ◌≤◌, ◌||◌, ◌++◌, ◌∷◌, [], length, List, ℕ, OnOk, IfOk, IfErr, Err};
+ghost use Rattle.co_sdo_client.specs.Calls.{Call, Event, frames_on};
+ghost use Rattle.co_sdo_client.specs.Calls as client;
+ghost use Rattle.co_sdo_client.specs.Outcomes.{asked_by};
+ghost use Rattle.co_sdo_client.specs.Standing.{ClientStands, waits};
+ghost use Rattle.co_frame.specs.FrameContent.{FrameContent};
+ghost use Rattle.co_node_inputs.specs.Inputs.{InputView, Inputs, Framed, Ticked, input_view};
+ghost use Rattle.co_node_history.specs.Histories.{prescribed};
+ghost use Rattle.co_node_history.specs.Moments.{Constants};
+ghost use Rattle.co_node.specs.Nodes.{Stands};
+ghost use Rattle.conode_io.specs.Written.{WritesFront, WritesLines, WritesSome};
+ghost use Rattle.co_node_loop.specs.Rounds.{Loop, BothEnds, after_round, asked_after, events_after, first_ends, frames_of, frames_in, rounds, goes_on, some_wait};
+ghost use Rattle.conode_loop.specs.Printed.{frame_lines, WritesFirst};
+ghost use Rattle.conode_loop.specs.Standing.{EndsStand, StandsAfterSome};
+
+use crate::frames::{take_frames, take_tick, write_frames};
+use co_frame::{Frame, Outbox};
+use co_node::Node;
+use co_node_inputs::{AppEvent, Input};
+use co_node_loop::most_rounds;
+use co_sdo_client::{Client, ClientState};
+use conode_io::CmdFault;
+use std::io::Write;
+
+// Whether another round follows: the client waits for an answer, or a request of it to be given to the node.
+fn goes_on(client: &Client<'_>, waiting: &[Frame]) -> bool
+    ensures { (l : Loop) (e : BothEnds) → ClientStands l.call e.events client.now →
+        waiting.now ≡ e.waiting → result ≡ goes_on l e }
+{
+    match client.state() {
+        ClientState::Waiting => true,
+        _ => !waiting.is_empty(),
+    }
+}
+
+// The node takes a frame: the outbox then holds what it sends.
+fn give_frame(node: &mut Node, frame: Frame, sent: &mut Outbox)
+    ensures frames { (k : Constants) (before : Inputs) → Stands k node.old before →
+        sent.new.items ≡ prescribed k before (Framed frame) }
+    ensures stands { (k : Constants) (before : Inputs) → Stands k node.old before →
+        Stands k node.new (Framed frame ∷ before) }
+{
+    let _event: Option<AppEvent<'_>> = None;
+    node.step(Input::Frame(frame), sent);
+}
+
+// The same of a tick.
+fn give_tick(node: &mut Node, sent: &mut Outbox)
+    ensures frames { (k : Constants) (before : Inputs) → Stands k node.old before →
+        sent.new.items ≡ prescribed k before Ticked }
+    ensures stands { (k : Constants) (before : Inputs) → Stands k node.old before →
+        Stands k node.new (Ticked ∷ before) }
+{
+    let _event: Option<AppEvent<'_>> = None;
+    node.step(Input::Tick, sent);
+}
+
+// A round in which no request waits: a tick at both.
+fn tick<W: Write>(
+    node: &mut Node,
+    client: &mut Client<'_>,
+    waiting: &mut Vec<Frame>,
+    line: &mut String,
+    writer: &mut W,
+) -> Result<(), CmdFault>
+    requires { waiting.old.items ≡ [] }
+    ensures ends { (l : Loop) (e : BothEnds) → EndsStand l e node.old client.old waiting.old.items →
+        OnOk result (EndsStand l (after_round l e) node.new client.new waiting.new.items) }
+    ensures node { (l : Loop) (e : BothEnds) → EndsStand l e node.old client.old waiting.old.items →
+        Stands l.node node.new (after_round l e).inputs }
+    ensures ok { (l : Loop) (e : BothEnds) → EndsStand l e node.old client.old waiting.old.items →
+        OnOk result (WritesLines (W.contents writer.old) (W.contents writer.new)
+        (frame_lines (frames_of l e.waiting e.inputs))) }
+    ensures write { (l : Loop) (e : BothEnds) → EndsStand l e node.old client.old waiting.old.items →
+        result ≡ Err CmdFault.Write → WritesFront (W.contents writer.old) (W.contents writer.new)
+        (frame_lines (frames_of l e.waiting e.inputs)) }
+    ensures memory { (l : Loop) (e : BothEnds) → EndsStand l e node.old client.old waiting.old.items →
+        result ≡ Err CmdFault.Memory → WritesFirst (W.contents writer.old) (W.contents writer.new)
+        (frame_lines (frames_of l e.waiting e.inputs)) }
+    ensures err { IfErr result (λ fault. (fault ≡ CmdFault.Write) ⊎ (fault ≡ CmdFault.Memory)) }
+{
+    let mut sent = Outbox::new();
+    give_tick(node, &mut sent);
+    write_frames(line, &sent, writer)?;
+    take_tick(client, waiting)?;
+    take_frames(client, &sent, waiting)?;
+    Ok(())
+}
+
+// A round in which a request waits: the oldest is given to the node.
+fn exchange<W: Write>(
+    node: &mut Node,
+    client: &mut Client<'_>,
+    waiting: &mut Vec<Frame>,
+    line: &mut String,
+    writer: &mut W,
+) -> Result<(), CmdFault>
+    requires { 0 < length waiting.old.items }
+    ensures ends { (l : Loop) (e : BothEnds) → EndsStand l e node.old client.old waiting.old.items →
+        OnOk result (EndsStand l (after_round l e) node.new client.new waiting.new.items) }
+    ensures node { (l : Loop) (e : BothEnds) → EndsStand l e node.old client.old waiting.old.items →
+        Stands l.node node.new (after_round l e).inputs }
+    ensures ok { (l : Loop) (e : BothEnds) → EndsStand l e node.old client.old waiting.old.items →
+        OnOk result (WritesLines (W.contents writer.old) (W.contents writer.new)
+        (frame_lines (frames_of l e.waiting e.inputs))) }
+    ensures write { (l : Loop) (e : BothEnds) → EndsStand l e node.old client.old waiting.old.items →
+        result ≡ Err CmdFault.Write → WritesFront (W.contents writer.old) (W.contents writer.new)
+        (frame_lines (frames_of l e.waiting e.inputs)) }
+    ensures memory { (l : Loop) (e : BothEnds) → EndsStand l e node.old client.old waiting.old.items →
+        result ≡ Err CmdFault.Memory → WritesFirst (W.contents writer.old) (W.contents writer.new)
+        (frame_lines (frames_of l e.waiting e.inputs)) }
+    ensures err { IfErr result (λ fault. (fault ≡ CmdFault.Write) ⊎ (fault ≡ CmdFault.Memory)) }
+{
+    let request = waiting.remove(0);
+    let mut sent = Outbox::new();
+    give_frame(node, request, &mut sent);
+    write_frames(line, &[request], writer)?;
+    write_frames(line, &sent, writer)?;
+    take_frames(client, &sent, waiting)?;
+    Ok(())
+}
+
+// A round.
+fn round<W: Write>(
+    node: &mut Node,
+    client: &mut Client<'_>,
+    waiting: &mut Vec<Frame>,
+    line: &mut String,
+    writer: &mut W,
+) -> Result<(), CmdFault>
+    ensures ends { (l : Loop) (e : BothEnds) → EndsStand l e node.old client.old waiting.old.items →
+        OnOk result (EndsStand l (after_round l e) node.new client.new waiting.new.items) }
+    ensures node { (l : Loop) (e : BothEnds) → EndsStand l e node.old client.old waiting.old.items →
+        Stands l.node node.new (after_round l e).inputs }
+    ensures ok { (l : Loop) (e : BothEnds) → EndsStand l e node.old client.old waiting.old.items →
+        OnOk result (WritesLines (W.contents writer.old) (W.contents writer.new)
+        (frame_lines (frames_of l e.waiting e.inputs))) }
+    ensures write { (l : Loop) (e : BothEnds) → EndsStand l e node.old client.old waiting.old.items →
+        result ≡ Err CmdFault.Write → WritesFront (W.contents writer.old) (W.contents writer.new)
+        (frame_lines (frames_of l e.waiting e.inputs)) }
+    ensures memory { (l : Loop) (e : BothEnds) → EndsStand l e node.old client.old waiting.old.items →
+        result ≡ Err CmdFault.Memory → WritesFirst (W.contents writer.old) (W.contents writer.new)
+        (frame_lines (frames_of l e.waiting e.inputs)) }
+    ensures err { IfErr result (λ fault. (fault ≡ CmdFault.Write) ⊎ (fault ≡ CmdFault.Memory)) }
+{
+    if waiting.is_empty() {
+        tick(node, client, waiting, line, writer)
+    } else {
+        exchange(node, client, waiting, line, writer)
+    }
+}
+
+/// All rounds.
+pub(crate) fn all_rounds<W: Write>(
+    node: &mut Node,
+    client: &mut Client<'_>,
+    waiting: &mut Vec<Frame>,
+    line: &mut String,
+    writer: &mut W,
+) -> Result<(), CmdFault>
+    ensures ends { (l : Loop) (e : BothEnds) → EndsStand l e node.old client.old waiting.old.items →
+        OnOk result (EndsStand l (rounds 20000 l e) node.new client.new waiting.new.items) }
+    ensures node { (l : Loop) (e : BothEnds) → EndsStand l e node.old client.old waiting.old.items →
+        StandsAfterSome l e node.new }
+    ensures ok { (l : Loop) (e : BothEnds) → EndsStand l e node.old client.old waiting.old.items →
+        OnOk result (WritesLines (W.contents writer.old) (W.contents writer.new)
+        (frame_lines (frames_in 20000 l e))) }
+    ensures write { (l : Loop) (e : BothEnds) → EndsStand l e node.old client.old waiting.old.items →
+        result ≡ Err CmdFault.Write → WritesFront (W.contents writer.old) (W.contents writer.new)
+        (frame_lines (frames_in 20000 l e)) }
+    ensures memory { (l : Loop) (e : BothEnds) → EndsStand l e node.old client.old waiting.old.items →
+        result ≡ Err CmdFault.Memory → WritesFirst (W.contents writer.old) (W.contents writer.new)
+        (frame_lines (frames_in 20000 l e)) }
+    ensures err { IfErr result (λ fault. (fault ≡ CmdFault.Write) ⊎ (fault ≡ CmdFault.Memory)) }
+{
+    let mut done = 0;
+    let most = most_rounds();
+    while done < most {
+        if !goes_on(client, waiting) {
+            return Ok(());
+        }
+        round(node, client, waiting, line, writer)?;
+        done += 1;
+    }
+    Ok(())
+}

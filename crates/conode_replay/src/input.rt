@@ -1,0 +1,117 @@
+//! One input of a trace: the device takes it, and what comes of it is printed.
+
+ghost use Rattle.std.specs.Prelude.{◌≡◌, ◌⊎◌, ◌∷◌, IfErr, OnOk, Err, Some, None};
+ghost use Rattle.std.specs.Option.{option_map};
+ghost use Rattle.co_node_inputs.specs.Inputs.{Inputs, Framed, Ticked, Applied, app_view};
+ghost use Rattle.co_node_history.specs.Moments.{Constants};
+ghost use Rattle.co_node_history.specs.Histories.{prescribed};
+ghost use Rattle.co_node.specs.Nodes.{Stands};
+ghost use Rattle.conode_trace.specs.declared.event_line.EventLine.TheVariants.{App};
+ghost use Rattle.conode_trace.specs.Events.{HasFewBytes};
+ghost use Rattle.conode_trace.specs.Traces.{tick};
+ghost use Rattle.conode_io.specs.Written.{WritesFront, WritesLines, WritesSome};
+ghost use Rattle.conode_replay.specs.Lines.{app_of, given_of, input_lines};
+
+use crate::lines::print_input;
+use co_frame::{Frame, Outbox};
+use co_node::Node;
+use co_node_inputs::{AppEvent, Input};
+use conode_io::CmdFault;
+use conode_trace::AppLine;
+use std::io::Write;
+
+// The device takes a frame; else an event of its application; else a tick.
+fn step(node: &mut Node, frame: Option<Frame>, event: Option<AppEvent<'_>>, sent: &mut Outbox)
+    ensures frames { (k : Constants) (before : Inputs) → Stands k node.old before →
+        sent.new.items ≡ prescribed k before (given_of frame (option_map app_view event.entry)) }
+    ensures stands { (k : Constants) (before : Inputs) → Stands k node.old before →
+        Stands k node.new (given_of frame (option_map app_view event.entry) ∷ before) }
+{
+    match (frame, event) {
+        (Some(frame), _) => node.step(Input::Frame(frame), sent),
+        (None, Some(event)) => node.step(Input::App(event), sent),
+        (None, None) => node.step(Input::Tick, sent),
+    }
+}
+
+/// The device takes a frame. The outbox then holds the frames that it sends, and no others.
+pub(crate) fn take(node: &mut Node, frame: Frame, sent: &mut Outbox)
+    ensures frames { (k : Constants) (before : Inputs) → Stands k node.old before →
+        sent.new.items ≡ prescribed k before (Framed frame) }
+    ensures stands { (k : Constants) (before : Inputs) → Stands k node.old before →
+        Stands k node.new (Framed frame ∷ before) }
+{
+    step(node, Some(frame), None, sent);
+}
+
+// the same of a tick
+fn elapse(node: &mut Node, sent: &mut Outbox)
+    ensures frames { (k : Constants) (before : Inputs) → Stands k node.old before →
+        sent.new.items ≡ prescribed k before Ticked }
+    ensures stands { (k : Constants) (before : Inputs) → Stands k node.old before →
+        Stands k node.new (Ticked ∷ before) }
+{
+    step(node, None, None, sent);
+}
+
+/// The same of what an event line says.
+pub(crate) fn apply(node: &mut Node, event: &AppLine<'_>, sent: &mut Outbox)
+    requires { HasFewBytes (App event.now) }
+    ensures frames { (k : Constants) (before : Inputs) → Stands k node.old before →
+        sent.new.items ≡ prescribed k before (Applied (app_of event.now)) }
+    ensures stands { (k : Constants) (before : Inputs) → Stands k node.old before →
+        Stands k node.new (Applied (app_of event.now) ∷ before) }
+{
+    match event {
+        AppLine::Write(key, bytes) => {
+            let bytes = bytes.bytes();
+            step(
+                node,
+                None,
+                Some(AppEvent::Write(*key, bytes.as_slice())),
+                sent,
+            );
+        }
+        AppLine::Event(number) => step(node, None, Some(AppEvent::Event(*number)), sent),
+        AppLine::Changed(key) => step(node, None, Some(AppEvent::Changed(*key)), sent),
+        AppLine::Raise(code, bits, extra) => {
+            step(
+                node,
+                None,
+                Some(AppEvent::Raise(*code, *bits, *extra)),
+                sent,
+            );
+        }
+        AppLine::Clear(bits) => step(node, None, Some(AppEvent::Clear(*bits)), sent),
+    }
+}
+
+/// The device takes the tick of a line at a time in ms, and what it sends is printed.
+pub(crate) fn tick<W: Write>(
+    text: &mut String,
+    node: &mut Node,
+    number: usize,
+    ms: u128,
+    sent: &mut Outbox,
+    writer: &mut W,
+) -> Result<(), CmdFault>
+    ensures frames { (k : Constants) (before : Inputs) → Stands k node.old before →
+        sent.new.items ≡ prescribed k before Ticked }
+    ensures stands { (k : Constants) (before : Inputs) → Stands k node.old before →
+        Stands k node.new (Ticked ∷ before) }
+    ensures ok { OnOk result ((k : Constants) (before : Inputs) → Stands k node.old before →
+        WritesLines (W.contents writer.old) (W.contents writer.new)
+        (input_lines k before (record { line = number; ms = ms; input = tick }))) }
+    ensures write { result ≡ Err CmdFault.Write →
+        (k : Constants) (before : Inputs) → Stands k node.old before →
+        WritesFront (W.contents writer.old) (W.contents writer.new)
+        (input_lines k before (record { line = number; ms = ms; input = tick })) }
+    ensures memory { result ≡ Err CmdFault.Memory →
+        (k : Constants) (before : Inputs) → Stands k node.old before →
+        WritesSome (W.contents writer.old) (W.contents writer.new)
+        (input_lines k before (record { line = number; ms = ms; input = tick })) }
+    ensures err { IfErr result (λ fault. (fault ≡ CmdFault.Write) ⊎ (fault ≡ CmdFault.Memory)) }
+{
+    elapse(node, sent);
+    print_input(text, number, ms, node.last_app(), sent.as_slice(), writer)
+}

@@ -1,0 +1,130 @@
+//! The lines that are printed of a replay.
+
+ghost use Rattle.std.specs.Prelude.{◌≡◌, ◌⊎◌, [], ◌∷◌, ◌++◌, map, IfErr, OnOk, Err, string_bytes};
+ghost use Rattle.conode_trace.specs.Printed.{frame_line};
+ghost use Rattle.conode_io.specs.Written.{WritesFront, WritesLines, WritesSome};
+ghost use Rattle.conode_replay.specs.Lines.{refused_line, refused_lines, totals_line};
+
+use crate::totals::Totals;
+use co_frame::{AbortCode, Frame};
+use co_node_inputs::AppAnswer;
+use co_text::{push_decimal, push_u32};
+use conode_io::{CmdFault, hand_over};
+use conode_trace::set_frame_line;
+use std::alloc::AllocError;
+use std::io::Write;
+
+/// Makes the text the line of an event that is refused, as `; line 7 refused 06090030`. On an `Err` memory ran out, and
+/// the text holds a part of the line.
+#[tactic(auto, unfolding(crate::specs::Lines::refused_line))]
+fn set_refused_line(text: &mut String, number: usize, code: AbortCode) -> Result<(), AllocError>
+    ensures { OnOk result (string_bytes text.new ≡ refused_line number code.0) }
+{
+    text.clear();
+    text.push_str("; line ")?;
+    push_decimal(text, number as u64)?;
+    text.push_str(" refused ")?;
+    push_u32(text, code.0)?;
+    text.push('\n')
+}
+
+/// Makes the text the line of the totals, as `; in 1, out 3, ticks 1000`. On an `Err` memory ran out, and the text holds a
+/// part of the line.
+#[tactic(auto, unfolding(crate::specs::Lines::totals_line))]
+fn set_totals_line(text: &mut String, totals: Totals) -> Result<(), AllocError>
+    ensures { OnOk result (string_bytes text.new ≡ totals_line totals) }
+{
+    let handed = totals.handed;
+    let printed = totals.printed;
+    let ticks = totals.ticks;
+    text.clear();
+    writeln!(text, "; in {handed}, out {printed}, ticks {ticks}")
+}
+
+/// Prints the line of the totals.
+#[tactic(auto, using(conode_io::proofs::WriteLemmas::line_alone, conode_io::proofs::WriteLemmas::front_alone, conode_io::proofs::WriteLemmas::no_lines))]
+pub(crate) fn print_totals<W: Write>(
+    text: &mut String,
+    totals: Totals,
+    writer: &mut W,
+) -> Result<(), CmdFault>
+    ensures ok { OnOk result (WritesLines (W.contents writer.old) (W.contents writer.new)
+        (totals_line totals ∷ [])) }
+    ensures write { result ≡ Err CmdFault.Write → WritesFront (W.contents writer.old)
+        (W.contents writer.new) (totals_line totals ∷ []) }
+    ensures memory { result ≡ Err CmdFault.Memory → WritesSome (W.contents writer.old)
+        (W.contents writer.new) (totals_line totals ∷ []) }
+    ensures err { IfErr result (λ fault. (fault ≡ CmdFault.Write) ⊎ (fault ≡ CmdFault.Memory)) }
+{
+    set_totals_line(text, totals)?;
+    hand_over(text.as_bytes(), writer)
+}
+
+/// Prints frames that are sent at a time in ms.
+pub(crate) fn print_frames<W: Write>(
+    text: &mut String,
+    ms: u128,
+    frames: &[Frame],
+    writer: &mut W,
+) -> Result<(), CmdFault>
+    ensures ok { OnOk result (WritesLines (W.contents writer.old) (W.contents writer.new)
+        (map (frame_line ms) frames.now)) }
+    ensures write { result ≡ Err CmdFault.Write → WritesFront (W.contents writer.old)
+        (W.contents writer.new) (map (frame_line ms) frames.now) }
+    ensures memory { result ≡ Err CmdFault.Memory → WritesSome (W.contents writer.old)
+        (W.contents writer.new) (map (frame_line ms) frames.now) }
+    ensures err { IfErr result (λ fault. (fault ≡ CmdFault.Write) ⊎ (fault ≡ CmdFault.Memory)) }
+{
+    for frame in frames {
+        set_frame_line(text, ms, frame)?;
+        hand_over(text.as_bytes(), writer)?;
+    }
+    Ok(())
+}
+
+// prints that an event is refused, if it is
+#[tactic(auto, using(conode_io::proofs::WriteLemmas::line_alone, conode_io::proofs::WriteLemmas::front_alone, conode_io::proofs::WriteLemmas::no_lines))]
+fn print_refusal<W: Write>(
+    text: &mut String,
+    number: usize,
+    answer: AppAnswer,
+    writer: &mut W,
+) -> Result<(), CmdFault>
+    ensures ok { OnOk result (WritesLines (W.contents writer.old) (W.contents writer.new)
+        (refused_lines number answer)) }
+    ensures write { result ≡ Err CmdFault.Write → WritesFront (W.contents writer.old)
+        (W.contents writer.new) (refused_lines number answer) }
+    ensures memory { result ≡ Err CmdFault.Memory → WritesSome (W.contents writer.old)
+        (W.contents writer.new) (refused_lines number answer) }
+    ensures err { IfErr result (λ fault. (fault ≡ CmdFault.Write) ⊎ (fault ≡ CmdFault.Memory)) }
+{
+    match answer {
+        AppAnswer::Refused(code) => {
+            set_refused_line(text, number, code)?;
+            hand_over(text.as_bytes(), writer)
+        }
+        AppAnswer::None | AppAnswer::Done => Ok(()),
+    }
+}
+
+/// Prints what came of the input of a line at a time in ms: that it was refused, and then the frames that are sent.
+#[tactic(auto, using(conode_io::proofs::WriteLemmas::lines_after, conode_io::proofs::WriteLemmas::front_of_more, conode_io::proofs::WriteLemmas::some_of_more, conode_io::proofs::WriteLemmas::front_after_lines, conode_io::proofs::WriteLemmas::some_after_lines))]
+pub(crate) fn print_input<W: Write>(
+    text: &mut String,
+    number: usize,
+    ms: u128,
+    answer: AppAnswer,
+    frames: &[Frame],
+    writer: &mut W,
+) -> Result<(), CmdFault>
+    ensures ok { OnOk result (WritesLines (W.contents writer.old) (W.contents writer.new)
+        (refused_lines number answer ++ map (frame_line ms) frames.now)) }
+    ensures write { result ≡ Err CmdFault.Write → WritesFront (W.contents writer.old)
+        (W.contents writer.new) (refused_lines number answer ++ map (frame_line ms) frames.now) }
+    ensures memory { result ≡ Err CmdFault.Memory → WritesSome (W.contents writer.old)
+        (W.contents writer.new) (refused_lines number answer ++ map (frame_line ms) frames.now) }
+    ensures err { IfErr result (λ fault. (fault ≡ CmdFault.Write) ⊎ (fault ≡ CmdFault.Memory)) }
+{
+    print_refusal(text, number, answer, writer)?;
+    print_frames(text, ms, frames, writer)
+}

@@ -1,0 +1,169 @@
+//! The file of a trace, replayed against the device of a data sheet.
+
+ghost use Rattle.std.specs.Prelude.{◌≡◌, ◌⊎◌};
+ghost use Rattle.std.specs.Process.{exit_status};
+
+use crate::replayed_trace::replay;
+use co_dict_list::{BuildFault, Limits};
+use co_node::{Config, Node};
+use co_sheet::{Sheet, SheetFault, read};
+use conode_io::{CmdFault, Ending, Message, file_text, flushed, out_of_memory, say, stopped};
+use std::alloc::Global;
+use std::io::{Input, Read, Write};
+use std::process::ExitCode;
+use std::rt::Files;
+use std::{fs, io};
+
+/// The path that stands for standard input.
+const STANDARD_INPUT: &str = "-";
+
+/// The data sheet of a device with the mandatory objects alone: device type 191h, error register, and identity.
+const STORED_SHEET: &[u8] =
+    b"[MandatoryObjects]\nSupportedObjects=3\n1=0x1000\n2=0x1001\n3=0x1018\n\
+    [1000]\nDataType=7\nAccessType=ro\nDefaultValue=0x191\n\
+    [1001]\nDataType=5\nAccessType=ro\n\
+    [1018]\nObjectType=9\n\
+    [1018sub0]\nDataType=5\nAccessType=ro\nDefaultValue=1\n\
+    [1018sub1]\nDataType=7\nAccessType=ro\n";
+
+/// The node-ID of that device.
+const STORED_NODE_ID: u8 = 5;
+
+/// Its configuration: no strings and no domains that may be written, and an SDO timeout of 1000 ms.
+const STORED_CONFIG: Config<'static> = Config {
+    limits: Limits {
+        strings: 0,
+        domains: 0,
+        own: &[],
+    },
+    time: 1000,
+};
+
+// names a file that can't be read
+fn cannot_read<E: Write>(path: &str, err: &mut E) -> ExitCode
+    ensures { exit_status result ≡ 1 }
+{
+    let _ = say(Message::CannotRead(path), err);
+    ExitCode::FAILURE
+}
+
+// says why a text is no data sheet
+fn faulty_sheet<O: Write>(fault: SheetFault, out: &mut O) -> ExitCode
+    ensures { exit_status result ≡ 1 }
+{
+    let _ = say(Message::Fault(fault), out);
+    ExitCode::FAILURE
+}
+
+fn say_build_fault<O: Write>(fault: BuildFault, out: &mut O) -> io::Result<()> {
+    let text = fault.text();
+    let text = text.as_str();
+    writeln!(out, "{text}")?;
+    out.flush()
+}
+
+// says why a data sheet makes no device, as `build fault 3 BadCobId 1800:01`
+fn faulty_build<O: Write>(fault: BuildFault, out: &mut O) -> ExitCode
+    ensures { exit_status result ≡ 1 }
+{
+    let _ = say_build_fault(fault, out);
+    ExitCode::FAILURE
+}
+
+/// Replays an input, a trace, against a device on `out`, and says why it stopped where it did: on `out`, after what was
+/// printed before, or where that can't be written on `err`.
+fn replay_input<R: Read, O: Write, E: Write>(
+    alloc: Global,
+    node: &mut Node,
+    input: &mut R,
+    out: &mut O,
+    err: &mut E,
+) -> Ending {
+    let outcome = replay(alloc, node, input, out);
+    match flushed(out, outcome) {
+        Ok(_) => Ending::Whole,
+        Err(fault) => stopped(fault, out, err),
+    }
+}
+
+// replays the trace of a path, or where that is `-` standard input
+fn replay_trace<R: Files + AllocGlobal + Input, O: Write, E: Write>(
+    rt: &R,
+    node: &mut Node,
+    path: &str,
+    out: &mut O,
+    err: &mut E,
+) -> ExitCode
+    ensures { (exit_status result ≡ 0) ⊎ (exit_status result ≡ 1) }
+{
+    if path == STANDARD_INPUT {
+        return replay_input(rt.alloc(), node, &mut rt.reader(), out, err).status();
+    }
+    match fs::open(rt, path) {
+        Ok(mut file) => replay_input(rt.alloc(), node, &mut file, out, err).status(),
+        Err(_) => cannot_read(path, err),
+    }
+}
+
+// replays the trace of a path against the device of a data sheet's text, if the text is one
+fn replay_sheet<R: Files + AllocGlobal + Input, O: Write, E: Write>(
+    rt: &R,
+    text: &[u8],
+    trace: &str,
+    node_id: u8,
+    config: &Config<'_>,
+    out: &mut O,
+    err: &mut E,
+) -> ExitCode
+    ensures { (exit_status result ≡ 0) ⊎ (exit_status result ≡ 1) }
+{
+    let sheet = match read(rt.alloc(), text) {
+        Ok(sheet) => sheet,
+        Err(fault) => return faulty_sheet(fault, out),
+    };
+    match Node::build(rt.alloc(), &sheet, node_id, config) {
+        Ok(mut node) => replay_trace(rt, &mut node, trace, out, err),
+        Err(fault) => faulty_build(fault, out),
+    }
+}
+
+/// Replays the trace of a path, or of standard input where that is `-`, against the device of the data sheet of another
+/// path at a node-ID, as `replay` does. What it prints, a fault of the sheet and one of its build go to `out`, as does the
+/// line that says why it stopped; a file that can't be read is named on `err`. The sheet is read before the trace is opened.
+/// The status is 1 after a fault, also of the trace, else 0; an event that is refused is none.
+pub fn replay_files<R: Files + AllocGlobal + Input, O: Write, E: Write>(
+    rt: &R,
+    sheet: &str,
+    trace: &str,
+    node: u8,
+    config: &Config<'_>,
+    out: &mut O,
+    err: &mut E,
+) -> ExitCode
+    ensures { (exit_status result ≡ 0) ⊎ (exit_status result ≡ 1) }
+{
+    match file_text(rt, sheet) {
+        Ok(text) => replay_sheet(rt, text.as_slice(), trace, node, config, out, err),
+        Err(CmdFault::Memory) => out_of_memory(out),
+        Err(_) => cannot_read(sheet, err),
+    }
+}
+
+/// Replays an input, a trace, against a device with the mandatory objects alone: device type 191h at node-ID 5.
+pub fn replay_stored<R: Read, O: Write, E: Write>(
+    alloc: Global,
+    input: &mut R,
+    out: &mut O,
+    err: &mut E,
+) -> ExitCode
+    ensures { (exit_status result ≡ 0) ⊎ (exit_status result ≡ 1) }
+{
+    let sheet = match read(alloc, STORED_SHEET) {
+        Ok(sheet) => sheet,
+        Err(fault) => return faulty_sheet(fault, out),
+    };
+    match Node::build(alloc, &sheet, STORED_NODE_ID, &STORED_CONFIG) {
+        Ok(mut node) => replay_input(alloc, &mut node, input, out, err).status(),
+        Err(fault) => faulty_build(fault, out),
+    }
+}

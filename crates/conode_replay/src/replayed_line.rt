@@ -1,0 +1,149 @@
+//! The inputs of one line of a trace.
+
+ghost use Rattle.std.specs.Prelude.{◌≡◌, ◌⊎◌, ◌+◌, ◌^◌, ◌<◌, ◌≤◌, IfErr, IfOk, Err, None, true, false};
+ghost use Rattle.co_node_inputs.specs.Inputs.{Inputs};
+ghost use Rattle.co_node_history.specs.Moments.{Constants};
+ghost use Rattle.co_node.specs.Nodes.{Stands};
+ghost use Rattle.conode_trace.specs.declared.trace_line.TraceLine.TheVariants.{Event};
+ghost use Rattle.conode_trace.specs.Events.{HasFewBytes};
+ghost use Rattle.conode_trace.specs.FrameLines.{WritesFewBytes};
+ghost use Rattle.conode_trace.specs.Traces.{inputs_of, own_input, ticks_after};
+ghost use Rattle.conode_replay.specs.Lines.{own_inputs};
+ghost use Rattle.conode_replay.specs.Runs.{HasPrinted, StopsIn, TakesOwn, WritesPart, WritesWhole};
+
+use crate::input::{apply, take, tick};
+use crate::lines::print_input;
+use co_frame::Outbox;
+use co_node::Node;
+use conode_io::CmdFault;
+use conode_trace::{EventLine, TimedLine, TraceLine};
+use std::io::Write;
+
+// the ticks of a line: how many frames are printed
+fn replay_ticks<W: Write>(
+    text: &mut String,
+    node: &mut Node,
+    timed: &TimedLine<'_>,
+    writer: &mut W,
+) -> Result<u64, CmdFault>
+    requires { timed.now.before + 2 ^ 32 < 2 ^ 128 }
+    ensures ok { IfOk result (λ printed. (k : Constants) (before : Inputs) → Stands k node.old before →
+        HasPrinted k before (W.contents writer.old) (W.contents writer.new) node.new printed
+        (ticks_after timed.now.number timed.now.before timed.now.ticks)) }
+    ensures write { result ≡ Err CmdFault.Write →
+        (k : Constants) (before : Inputs) → Stands k node.old before → StopsIn k before node.new
+        (WritesPart (W.contents writer.old) (W.contents writer.new))
+        (ticks_after timed.now.number timed.now.before timed.now.ticks) }
+    ensures memory { result ≡ Err CmdFault.Memory →
+        (k : Constants) (before : Inputs) → Stands k node.old before → StopsIn k before node.new
+        (WritesWhole (W.contents writer.old) (W.contents writer.new))
+        (ticks_after timed.now.number timed.now.before timed.now.ticks) }
+    ensures err { IfErr result (λ fault. (fault ≡ CmdFault.Write) ⊎ (fault ≡ CmdFault.Memory)) }
+    ensures few { IfOk result (λ printed. printed < 2 ^ 42) }
+{
+    let mut sent = Outbox::new();
+    let mut printed: u64 = 0;
+    for elapsed in 0..timed.ticks {
+        let ms = timed.before + 1 + u128::from(elapsed);
+        tick(text, node, timed.number, ms, &mut sent, writer)?;
+        printed += sent.len() as u64;
+    }
+    Ok(printed)
+}
+
+// the device takes an event of the application, if an event line is one
+fn take_event(node: &mut Node, event: &EventLine<'_>, sent: &mut Outbox) -> bool
+    requires { HasFewBytes event.now }
+    ensures some { result ≡ true →
+        TakesOwn node.old node.new (Event event.now) sent.new.items }
+    ensures none { result ≡ false → own_input (Event event.now) ≡ None }
+    ensures same { result ≡ false → node.new ≡ node.old }
+{
+    match event {
+        EventLine::App(applied) => {
+            apply(node, applied, sent);
+            true
+        }
+        EventLine::Ticks(_) => false,
+    }
+}
+
+// the device takes the own input of what a line says, if it has one
+fn take_own(node: &mut Node, said: &TraceLine<'_>, sent: &mut Outbox) -> bool
+    requires { WritesFewBytes said.now }
+    ensures some { result ≡ true → TakesOwn node.old node.new said.now sent.new.items }
+    ensures none { result ≡ false → own_input said.now ≡ None }
+    ensures same { result ≡ false → node.new ≡ node.old }
+{
+    match said {
+        TraceLine::Data { frame, .. } => {
+            take(node, *frame, sent);
+            true
+        }
+        TraceLine::Event(event) => take_event(node, event, sent),
+        TraceLine::Skipped => false,
+        TraceLine::PassedOver { .. } => false,
+    }
+}
+
+// the own input of a line, if it has one: how many frames are printed
+fn replay_own<W: Write>(
+    text: &mut String,
+    node: &mut Node,
+    timed: &TimedLine<'_>,
+    writer: &mut W,
+) -> Result<u64, CmdFault>
+    requires { WritesFewBytes timed.now.said }
+    ensures ok { IfOk result (λ printed. (k : Constants) (before : Inputs) → Stands k node.old before →
+        HasPrinted k before (W.contents writer.old) (W.contents writer.new) node.new printed
+        (own_inputs timed.now)) }
+    ensures write { result ≡ Err CmdFault.Write →
+        (k : Constants) (before : Inputs) → Stands k node.old before → StopsIn k before node.new
+        (WritesPart (W.contents writer.old) (W.contents writer.new)) (own_inputs timed.now) }
+    ensures memory { result ≡ Err CmdFault.Memory →
+        (k : Constants) (before : Inputs) → Stands k node.old before → StopsIn k before node.new
+        (WritesWhole (W.contents writer.old) (W.contents writer.new)) (own_inputs timed.now) }
+    ensures err { IfErr result (λ fault. (fault ≡ CmdFault.Write) ⊎ (fault ≡ CmdFault.Memory)) }
+    ensures few { IfOk result (λ printed. printed ≤ 514) }
+{
+    let mut sent = Outbox::new();
+    let taken = take_own(node, &timed.said, &mut sent);
+    if !taken {
+        return Ok(0);
+    }
+    print_input(
+        text,
+        timed.number,
+        timed.ms,
+        node.last_app(),
+        sent.as_slice(),
+        writer,
+    )?;
+    Ok(sent.len() as u64)
+}
+
+/// The device takes the inputs of a line, and what comes of each is printed at once. How many frames are printed.
+pub(crate) fn replay_line<W: Write>(
+    text: &mut String,
+    node: &mut Node,
+    timed: &TimedLine<'_>,
+    writer: &mut W,
+) -> Result<u64, CmdFault>
+    requires early { timed.now.before + 2 ^ 32 < 2 ^ 128 }
+    requires few { WritesFewBytes timed.now.said }
+    ensures ok { IfOk result (λ printed. (k : Constants) (before : Inputs) → Stands k node.old before →
+        HasPrinted k before (W.contents writer.old) (W.contents writer.new) node.new printed
+        (inputs_of timed.now)) }
+    ensures write { result ≡ Err CmdFault.Write →
+        (k : Constants) (before : Inputs) → Stands k node.old before → StopsIn k before node.new
+        (WritesPart (W.contents writer.old) (W.contents writer.new)) (inputs_of timed.now) }
+    ensures memory { result ≡ Err CmdFault.Memory →
+        (k : Constants) (before : Inputs) → Stands k node.old before → StopsIn k before node.new
+        (WritesWhole (W.contents writer.old) (W.contents writer.new)) (inputs_of timed.now) }
+    ensures err { IfErr result (λ fault. (fault ≡ CmdFault.Write) ⊎ (fault ≡ CmdFault.Memory)) }
+    ensures few { IfOk result (λ printed. printed < 2 ^ 43) }
+{
+    let ticked = replay_ticks(text, node, timed, writer)?;
+    let own = replay_own(text, node, timed, writer)?;
+    Ok(ticked + own)
+}

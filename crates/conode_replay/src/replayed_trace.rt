@@ -1,0 +1,140 @@
+//! A trace replayed: a device takes its inputs, and what it sends is printed.
+
+ghost use Rattle.std.specs.Prelude.{◌≡◌, ◌⊎◌, ℕ, [], ◌∷◌, OnOk, IfOk, IfErr, IfSome, Err, Some, None};
+ghost use Rattle.conode_trace.specs.Traces.{trace_of};
+ghost use Rattle.conode_io.specs.Written.{WritesFront, WritesLines, WritesSome};
+ghost use Rattle.conode_lines.specs.TraceTexts.{trace_in, FailsWithinLine};
+ghost use Rattle.co_node_inputs.specs.Inputs.{Inputs};
+ghost use Rattle.co_node_history.specs.Moments.{Constants};
+ghost use Rattle.co_node.specs.Nodes.{Stands};
+ghost use Rattle.conode_replay.specs.Lines.{boot_line};
+ghost use Rattle.conode_replay.specs.Runs.{AfterAny, BreaksOff, FailsToWrite, HasCounted, HasEnded, HasRun, Replayed, WritesWhole};
+
+use crate::lines::{print_frames, print_totals};
+use crate::replayed_line::replay_line;
+use crate::totals::Totals;
+use co_frame::Outbox;
+use co_node::Node;
+use co_stream::LineReader;
+use conode_io::CmdFault;
+use conode_lines::{let_out, line_fault};
+use conode_trace::{BadLine, TraceProgress};
+use std::alloc::Global;
+use std::io::{Read, Write};
+
+// prints the boot-up, at clock 0
+fn print_boot<W: Write>(text: &mut String, node: &Node, writer: &mut W) -> Result<(), CmdFault>
+    ensures ok { OnOk result ((k : Constants) (before : Inputs) → Stands k node.now before →
+        WritesLines (W.contents writer.old) (W.contents writer.new) (boot_line k ∷ [])) }
+    ensures write { result ≡ Err CmdFault.Write →
+        (k : Constants) (before : Inputs) → Stands k node.now before →
+        WritesFront (W.contents writer.old) (W.contents writer.new) (boot_line k ∷ []) }
+    ensures memory { result ≡ Err CmdFault.Memory →
+        (k : Constants) (before : Inputs) → Stands k node.now before →
+        WritesSome (W.contents writer.old) (W.contents writer.new) (boot_line k ∷ []) }
+    ensures err { IfErr result (λ fault. (fault ≡ CmdFault.Write) ⊎ (fault ≡ CmdFault.Memory)) }
+{
+    let mut sent = Outbox::new();
+    node.boot(&mut sent);
+    print_frames(text, 0, sent.as_slice(), writer)
+}
+
+// the boot-up, and all inputs
+fn replay_lines<R: Read, W: Write>(
+    text: &mut String,
+    node: &mut Node,
+    reader: &mut R,
+    writer: &mut W,
+) -> Result<Totals, CmdFault>
+    ensures { Replayed (λ k before.
+        HasCounted k before (W.contents writer.old) (W.contents writer.new) node.new)
+        node.old node.new (R.remaining reader.old) (R.remaining reader.new)
+        (W.contents writer.old) (W.contents writer.new) result }
+{
+    print_boot(text, node, writer)?;
+    let mut totals = Totals::new();
+    let mut lines = LineReader::new();
+    let mut progress = TraceProgress::new();
+    'trace: loop {
+        let_out(&lines, writer)?;
+        match lines.next(reader) {
+            Ok(Some(line)) => match progress.read(line) {
+                Ok(timed) => {
+                    let printed = replay_line(text, node, &timed, writer)?;
+                    totals.count(&timed, printed);
+                }
+                Err(BadLine(number)) => return Err(CmdFault::BadLine(number)),
+            },
+            Ok(None) => return Ok(totals),
+            Err(fault) => return Err(line_fault(fault, &progress)),
+        }
+    }
+}
+
+// the boot-up, all inputs, and the totals
+fn replay_whole<R: Read, W: Write>(
+    alloc: Global,
+    node: &mut Node,
+    reader: &mut R,
+    writer: &mut W,
+) -> Result<Totals, CmdFault>
+    ensures { Replayed (λ k before.
+        HasEnded k before (W.contents writer.old) (W.contents writer.new) node.new)
+        node.old node.new (R.remaining reader.old) (R.remaining reader.new)
+        (W.contents writer.old) (W.contents writer.new) result }
+{
+    let mut text = String::new(alloc);
+    let totals = replay_lines(&mut text, node, reader, writer)?;
+    print_totals(&mut text, totals, writer)?;
+    Ok(totals)
+}
+
+/// Replays a trace as `candump -L` writes it against a device, line by line and in constant memory. What the device sends
+/// is printed as such a trace: first its boot-up, at clock 0 (CiA 301, 7.2.8.3.3); then of each input in its turn, which is
+/// a tick of 1 ms, a data frame or an event line, the frames that it sends, with the clock of that input; last the totals,
+/// as `; in 1, out 3, ticks 1000`. An event that is refused is printed first, as `; line 7 refused 06090030`, with the number
+/// of its line and the abort code. Frames that are passed over move the clock.
+///
+/// The writer is flushed before each read that could wait, and not while a whole line is held: so what is due for a line
+/// has gone out before the next one is waited for.
+///
+/// `BadLine` is the first line that is no line of a trace, that has more than 512 bytes, or whose stamp is more than a day
+/// past the clock. After `BadLine`, `Read` and `NeverEnds` the device has taken all inputs of the lines before, and what is
+/// due for these has been written; the totals have not. After `Write` and `Memory` the input whose line it was has been
+/// taken as well, and the lines before this one have been written; of this one a part at most, after `Memory` nothing.
+pub fn replay<R: Read, W: Write>(
+    alloc: Global,
+    node: &mut Node,
+    reader: &mut R,
+    writer: &mut W,
+) -> Result<Totals, CmdFault>
+    // All of the trace is good; the device has taken its inputs; their lines are written, and last the totals.
+    ensures good { OnOk result
+        (IfSome (R.remaining reader.old) (λ text. (trace_in text).bad ≡ None)) }
+    ensures ended { IfOk result (λ totals. IfSome (R.remaining reader.old) (λ text.
+        AfterAny node.old (λ k before. HasEnded k before
+        (W.contents writer.old) (W.contents writer.new) node.new totals (trace_in text).inputs))) }
+
+    // A line is the first bad one; the device has taken the inputs before it, and their lines are written.
+    ensures bad_line { (number : ℕ) → result ≡ Err (CmdFault.BadLine number) →
+        IfSome (R.remaining reader.old) (λ text. (trace_in text).bad ≡ Some number) }
+    ensures until_bad { (number : ℕ) → result ≡ Err (CmdFault.BadLine number) →
+        IfSome (R.remaining reader.old) (λ text. AfterAny node.old (λ k before. HasRun k before
+        (W.contents writer.old) (W.contents writer.new) node.new (trace_in text).inputs)) }
+
+    // The reader fails within a line; the device has taken the inputs before it, and their lines are written.
+    ensures unread { IfErr result (λ fault. (fault ≡ CmdFault.Read) ⊎ (fault ≡ CmdFault.NeverEnds) →
+        FailsWithinLine (R.remaining reader.old) (R.remaining reader.new) (λ taken.
+        AfterAny node.old (λ k before. HasRun k before
+        (W.contents writer.old) (W.contents writer.new) node.new (trace_of taken).inputs))) }
+
+    // A line can't be written, or made: the device has taken the input whose line it is, and those before it.
+    ensures write { result ≡ Err CmdFault.Write → IfSome (R.remaining reader.old) (λ text.
+        AfterAny node.old (λ k before. FailsToWrite k before
+        (W.contents writer.old) (W.contents writer.new) node.new (trace_in text).inputs)) }
+    ensures memory { result ≡ Err CmdFault.Memory → IfSome (R.remaining reader.old) (λ text.
+        AfterAny node.old (λ k before. BreaksOff k before node.new
+        (WritesWhole (W.contents writer.old) (W.contents writer.new)) (trace_in text).inputs)) }
+{
+    replay_whole(alloc, node, reader, writer)
+}

@@ -1,0 +1,33 @@
+use Rattle.std.proofs.Common.{rules, ◌≡◌, ◌∙◌, ap, ap₂, codes, false, Bool}
+use Rattle.std.specs.Prelude.{◌||◌}
+use Rattle.std.proofs.lemmas.Result.{IfOk-weaker}
+use Rattle.clap.specs.Words.{App, app_of, new_app, rule_of, with_rule}
+use Rattle.clap.specs.declared.builder.command.Command.TheViews.{out-Command}
+use Rattle.conode_words.specs.Tasks.{wanted, wanted_node, with_rooms}
+use Rattle.conode_words.proofs.command_line.replay_command.Goals as goal
+
+abbrev none : App
+none = new_app (codes "replay")
+
+pub returns-clause-shape : goal.returns-clause-shape
+returns-clause-shape c =
+    let new : app_of c.after_help.result ≡ none = search rules in
+    let sheet : rule_of c.wanted-sheet.result ≡ wanted (codes "SHEET") = search rules in
+    let trace : rule_of c.wanted-trace.result ≡ wanted (codes "TRACE") = search rules in
+    let node : rule_of c.node_arg-node.result ≡ wanted_node = c.node_arg-node.ensures.rule in
+    let one = c.in_ok-arg.ensures.shape c.wanted-sheet.ensures.local ∙ ap₂ with_rule new sheet in
+    let two = c.in_ok-arg-2.ensures.shape c.wanted-trace.ensures.local ∙ ap₂ with_rule one trace in
+    let three = c.in_ok-command.ensures.shape c.node_arg-node.ensures.local ∙ ap₂ with_rule two node in
+    IfOk-weaker c.with_rooms.result _ _ (λ r h. h ∙ ap with_rooms three) c.with_rooms.ensures.shape
+
+pub returns-clause-local : goal.returns-clause-local
+returns-clause-local c =
+    let new : (out-Command c.after_help.result).has_globals ≡ false = search rules in
+    let either : Bool → Bool → Bool = λ a b. a || b in
+    let sheet : c.wanted-sheet.result.global ≡ false = c.wanted-sheet.ensures.local in
+    let trace : c.wanted-trace.result.global ≡ false = c.wanted-trace.ensures.local in
+    let node : c.node_arg-node.result.global ≡ false = c.node_arg-node.ensures.local in
+    let one = c.in_ok-arg.ensures.globals ∙ ap₂ either new sheet in
+    let two = c.in_ok-arg-2.ensures.globals ∙ ap₂ either one trace in
+    let three = c.in_ok-command.ensures.globals ∙ ap₂ either two node in
+    IfOk-weaker c.with_rooms.result _ _ (λ r h. h three) c.with_rooms.ensures.local

@@ -1,0 +1,410 @@
+/*
+ * The calls of bafokun.h, one after the other: whole sequences of frames, byte for byte, faults, small and empty arrays, and
+ * each allocation refused in turn. The last line is "N passed, 0 failed".
+ *
+ * A line of a sequence is an input and, after "=", the frames that are then sent and no other; of several ticks the last
+ * alone may send something. A line that begins with "value" or "state" is a question.
+ */
+#include <bafokun.h>
+
+#include <stdio.h>
+#include <stdlib.h>
+#include <string.h>
+
+static unsigned passed, failed;
+
+static void check(bool right, const char *name, const char *line)
+{
+    if (right) {
+        passed++;
+    } else {
+        failed++;
+        printf("FAILED %s: %s\n", name, line);
+    }
+}
+
+/* ---- memory: counted, and refused by number. The linker's --wrap puts these into the place of malloc and realloc. */
+
+void *__real_malloc(size_t size);
+void *__real_realloc(void *block, size_t size);
+void *__wrap_malloc(size_t size);
+void *__wrap_realloc(void *block, size_t size);
+
+static unsigned long asked, refused;
+
+void *__wrap_malloc(size_t size)
+{
+    return ++asked == refused ? NULL : __real_malloc(size);
+}
+
+void *__wrap_realloc(void *block, size_t size)
+{
+    return ++asked == refused ? NULL : __real_realloc(block, size);
+}
+
+/* ---- the sheet, with other defaults */
+
+static char *sheet;
+static const bafokun_config config = { 16, 889, 1000 };
+
+static char *read_file(const char *name)
+{
+    FILE *file = fopen(name, "rb");
+    char *text = calloc(1, 65536);
+    if (!file || !text || fread(text, 1, 65535, file) == 0) {
+        fprintf(stderr, "cannot read %s\n", name);
+        exit(1);
+    }
+    fclose(file);
+    return text;
+}
+
+/* The sheet with "SECTION=DEFAULT" for each word. */
+static char *sheet_with(const char *words)
+{
+    static char text[65536];
+    char section[32], value[32];
+    int length;
+    strcpy(text, sheet);
+    for (; sscanf(words, " %31[^=]=%31s%n", section, value, &length) == 2; words += length) {
+        char head[48], *at, *end, *line, rest[65536];
+        sprintf(head, "[%s]\n", section);
+        at = strstr(text, head);
+        if (!at) exit(1);
+        at += strlen(head);
+        end = strstr(at, "\n[");
+        end = end ? end + 1 : at + strlen(at);
+        line = strstr(at, "DefaultValue=");
+        if (line && line < end) {
+            strcpy(rest, strchr(line, '\n') + 1);
+        } else {
+            line = at;
+            strcpy(rest, at);
+        }
+        sprintf(line, "DefaultValue=%s\n", value);
+        strcat(line, rest);
+    }
+    return text;
+}
+
+/* ---- frames as text */
+
+static bafokun_frame frame_of(const char *text)
+{
+    bafokun_frame frame = { 0, 0, { 0 } };
+    unsigned id, byte;
+    int used;
+    if (sscanf(text, "%3x#%n", &id, &used) != 1) exit(1);
+    frame.id = (uint16_t)id;
+    for (text += used; frame.length < 8 && sscanf(text, "%2x", &byte) == 1; text += 2)
+        frame.bytes[frame.length++] = (uint8_t)byte;
+    return frame;
+}
+
+static void put_frame(char *text, const bafokun_frame *frame)
+{
+    int i;
+    text += sprintf(text, "%03X#", frame->id);
+    for (i = 0; i < frame->length; i++) text += sprintf(text, "%02X", frame->bytes[i]);
+}
+
+static bool are_frames(const bafokun_frame *frames, size_t count, const char *text)
+{
+    char want[64], have[64];
+    int used;
+    size_t i = 0;
+    for (; sscanf(text, " %63s%n", want, &used) == 1; text += used, i++) {
+        if (i >= count) return false;
+        put_frame(have, &frames[i]);
+        if (strcmp(want, have) != 0) return false;
+    }
+    return i == count;
+}
+
+/* ---- sequences */
+
+static size_t give(bafokun_node *node, const char *input, bafokun_frame *frames)
+{
+    unsigned long number;
+    unsigned index, sub, code, bits;
+    if (sscanf(input, "ticks %lu", &number) == 1) {
+        while (number-- > 1)
+            if (bafokun_tick(node, frames, BAFOKUN_MOST_FRAMES) != 0) return BAFOKUN_MOST_FRAMES + 1;
+        return bafokun_tick(node, frames, BAFOKUN_MOST_FRAMES);
+    }
+    if (sscanf(input, "event %lu", &number) == 1)
+        return bafokun_event(node, (uint16_t)number, frames, BAFOKUN_MOST_FRAMES);
+    if (sscanf(input, "changed %x:%x", &index, &sub) == 2)
+        return bafokun_changed(node, (uint16_t)index, (uint8_t)sub, frames, BAFOKUN_MOST_FRAMES);
+    if (sscanf(input, "raise %x %x", &code, &bits) == 2) {
+        static const uint8_t none[5] = { 0, 0, 0, 0, 0 };
+        return bafokun_raise(node, (uint16_t)code, (uint8_t)bits, none, frames, BAFOKUN_MOST_FRAMES);
+    }
+    if (sscanf(input, "clear %x", &bits) == 1) return bafokun_clear(node, (uint8_t)bits, frames, BAFOKUN_MOST_FRAMES);
+    if (sscanf(input, "write %x:%x %lx", &index, &sub, &number) == 3) {
+        uint8_t bytes[2];
+        bytes[0] = (uint8_t)number;
+        bytes[1] = (uint8_t)(number >> 8);
+        return bafokun_write(node, (uint16_t)index, (uint8_t)sub, bytes, 2, frames, BAFOKUN_MOST_FRAMES);
+    }
+    if (strcmp(input, "boot") == 0) return bafokun_boot(node, frames, BAFOKUN_MOST_FRAMES);
+    {
+        bafokun_frame frame = frame_of(input);
+        return bafokun_take(node, &frame, frames, BAFOKUN_MOST_FRAMES);
+    }
+}
+
+static bool has_value(bafokun_node *node, const char *words)
+{
+    unsigned index, sub, byte;
+    int used;
+    uint8_t bytes[16];
+    size_t length = 0, i = 0;
+    if (sscanf(words, "%x:%x%n", &index, &sub, &used) != 2) return false;
+    if (!bafokun_value(node, (uint16_t)index, (uint8_t)sub, bytes, sizeof bytes, &length)) return false;
+    for (words += used; sscanf(words, " %2x%n", &byte, &used) == 1; words += used, i++)
+        if (i >= length || bytes[i] != byte) return false;
+    return i == length;
+}
+
+static bool run_line(bafokun_node *node, const char *line)
+{
+    static bafokun_frame frames[BAFOKUN_MOST_FRAMES];
+    char input[64];
+    const char *sent = strchr(line, '=');
+    size_t length = sent ? (size_t)(sent - line) : strlen(line), count;
+    uint32_t code;
+    if (strncmp(line, "value ", 6) == 0) return has_value(node, line + 6);
+    if (strncmp(line, "state ", 6) == 0) return bafokun_state(node) == atoi(line + 6);
+    if (strncmp(line, "held ", 5) == 0) return bafokun_held(node, 0) == (size_t)atoi(line + 5);
+    if (strcmp(line, "done") == 0) return bafokun_answer(node, &code) == BAFOKUN_DONE && code == 0;
+    if (strncmp(line, "refused ", 8) == 0)
+        return bafokun_answer(node, &code) == BAFOKUN_REFUSED && code == strtoul(line + 8, NULL, 16);
+    while (length > 0 && line[length - 1] == ' ') length--;
+    memcpy(input, line, length);
+    input[length] = 0;
+    count = give(node, input, frames);
+    return count <= BAFOKUN_MOST_FRAMES && are_frames(frames, count, sent ? sent + 1 : "");
+}
+
+static void run(const char *name, const char *defaults, const char *const *lines)
+{
+    bafokun_node node = BAFOKUN_EMPTY;
+    bafokun_fault fault;
+    const char *text = sheet_with(defaults);
+    unsigned long before;
+    check(bafokun_build(&node, text, strlen(text), 5, &config, &fault), name, "build");
+    before = asked;
+    for (; *lines; lines++) check(run_line(&node, *lines), name, *lines);
+    check(asked == before, name, "no memory is asked for after the build");
+    bafokun_free(&node);
+}
+
+static const char *const boot_up[] = { "boot = 705#00", "state 127", NULL };
+static const char *const expedited_upload[] = { "605#4000100000000000 = 585#4300100091010000", NULL };
+static const char *const segmented_download[] = {
+    "605#210120000A000000 = 585#6001200000000000",
+    "605#0030313233343536 = 585#2000000000000000",
+    "held 7",
+    "605#1937383900000000 = 585#3000000000000000",
+    "value 2001:00 30 31 32 33 34 35 36 37 38 39",
+    "held 0",
+    NULL
+};
+static const char *const rpdos[] = {
+    "000#0105",
+    "state 5",
+    "205#010203 = 085#1082110000000000",
+    "value 2002:00 00 00 00 00",
+    "605#4003100100000000 = 585#4303100110820000",
+    "205#0102030405 = 085#2082110000000000",
+    "value 2002:00 01 02 03 04",
+    NULL
+};
+static const char *const every_third_sync[] = { "000#0105", "080#", "080#", "080# = 185#00000000", "080#", NULL };
+static const char *const event_at_sync[] = {
+    "000#0105", "080#", "080#", "event 0", "done", "080# = 185#00000000", "080#", NULL
+};
+static const char *const lost_heartbeat[] = {
+    "605#2316100164000700 = 585#6016100100000000",
+    "605#23161002C8000700 = 585#8016100243000406",
+    "000#0105",
+    "707#05",
+    "ticks 100 = 085#3081110000000000",
+    "state 127",
+    NULL
+};
+static const char *const sync_and_reset[] = {
+    "080#01 = 085#4082110000000000",
+    "605#23022000EFBEADDE = 585#6002200000000000",
+    "000#8105 = 705#00",
+    "value 2002:00 00 00 00 00",
+    "value 1001:00 00",
+    "value 1003:00 00",
+    NULL
+};
+static const char *const application[] = {
+    "write 2003:00 1E8",
+    "done",
+    "value 2003:00 E8 01",
+    "write 2003:00 3E9",
+    "refused 06090031",
+    "changed 3000:00",
+    "refused 06020000",
+    "event 7",
+    "refused 06020000",
+    "000#0105",
+    "changed 2003:00 = 285#E801",
+    "raise 1000 01 = 085#0010010000000000",
+    "clear 01 = 085#0000000000000000",
+    "raise 0000 01",
+    "refused 06090030",
+    "000#0205",
+    "state 4",
+    NULL
+};
+
+/* ---- faults, small arrays, empty places */
+
+static bool is_fault(const bafokun_fault *fault, uint64_t line, int stage, int number, int index, int sub_index)
+{
+    return fault->line == line && fault->stage == stage && fault->number == number && fault->index == index
+        && fault->sub_index == sub_index;
+}
+
+static void test_faults(void)
+{
+    bafokun_node node = BAFOKUN_EMPTY;
+    bafokun_fault fault;
+    const char cut[] = "[MandatoryObjects]\nSupportedObjects=3\n1=0x1000\n";
+    const char *text;
+    check(!bafokun_build(&node, cut, 0, 5, &config, &fault), "faults", "no text");
+    check(is_fault(&fault, 0, BAFOKUN_FAULT_SHEET, 6, 0, 0), "faults", "MissingSection");
+    check(!bafokun_build(&node, cut, sizeof cut - 1, 5, &config, &fault), "faults", "a cut text");
+    check(is_fault(&fault, 1, BAFOKUN_FAULT_SHEET, 9, 0, 0), "faults", "BadList line 1");
+    check(!bafokun_build(&node, sheet, strlen(sheet), 0, &config, &fault), "faults", "node-ID 0");
+    check(is_fault(&fault, 0, BAFOKUN_FAULT_DEVICE, 1, 0, 0), "faults", "NodeId");
+    check(!bafokun_build(&node, sheet, strlen(sheet), 128, &config, &fault), "faults", "node-ID 128");
+    text = sheet_with("1800sub1=0x80000000000");
+    check(!bafokun_build(&node, text, strlen(text), 5, &config, &fault), "faults", "a default out of range");
+    text = sheet_with("1800sub1=0x585");
+    check(!bafokun_build(&node, text, strlen(text), 5, &config, &fault), "faults", "a COB-ID that isn't free");
+    check(is_fault(&fault, 0, BAFOKUN_FAULT_DEVICE, 3, 0x1800, 1), "faults", "BadCobId 1800:01");
+    check(bafokun_state(&node) == 0, "faults", "the place is empty");
+    check(bafokun_build(&node, sheet, strlen(sheet), 127, &config, &fault), "faults", "node-ID 127");
+    check(is_fault(&fault, 0, BAFOKUN_FAULT_NONE, 0, 0, 0), "faults", "none");
+    check(bafokun_node_id(&node) == 127, "faults", "the node-ID");
+    check(bafokun_build(&node, sheet, strlen(sheet), 1, &config, &fault), "faults", "built again");
+    check(bafokun_node_id(&node) == 1, "faults", "the other node-ID");
+    check(!bafokun_build(&node, sheet, strlen(sheet), 0, &config, &fault), "faults", "built again with a fault");
+    check(bafokun_node_id(&node) == 0, "faults", "the place is empty then");
+}
+
+static void test_small_arrays(void)
+{
+    bafokun_node node = BAFOKUN_EMPTY;
+    bafokun_fault fault;
+    bafokun_frame frames[3], sync = { 0x80, 0, { 0 } }, start = { 0, 2, { 1, 5 } }, wrong = { 0x800, 0, { 0 } };
+    const char *text = sheet_with("1800sub2=1 1801sub2=1");
+    uint8_t bytes[4] = { 9, 9, 9, 9 };
+    size_t length = 77;
+    check(bafokun_build(&node, text, strlen(text), 5, &config, &fault), "arrays", "build");
+    check(bafokun_take(&node, &start, frames, 3) == 0, "arrays", "start");
+    memset(frames, 0xEE, sizeof frames);
+    check(bafokun_take(&node, &sync, frames, 3) == 2, "arrays", "two frames");
+    check(are_frames(frames, 2, "185#00000000 285#0000"), "arrays", "both");
+    check(frames[2].id == 0xEEEE, "arrays", "the third place is left");
+    memset(frames, 0xEE, sizeof frames);
+    check(bafokun_take(&node, &sync, frames, 1) == 2, "arrays", "two frames, room for one");
+    check(are_frames(frames, 1, "185#00000000") && frames[1].id == 0xEEEE, "arrays", "the first");
+    check(bafokun_sent(&node, 1, frames, 3) == 1 && are_frames(frames, 1, "285#0000"), "arrays", "the second");
+    check(bafokun_sent(&node, 2, frames, 3) == 0, "arrays", "none after it");
+    check(bafokun_sent(&node, SIZE_MAX, frames, 3) == 0, "arrays", "none far past it");
+    check(bafokun_take(&node, &sync, frames, 0) == 2, "arrays", "room for none");
+    check(bafokun_sent(&node, 0, frames, 3) == 2, "arrays", "both afterwards");
+    check(bafokun_take(&node, &wrong, frames, 3) == 0, "arrays", "no CAN identifier");
+    wrong.id = 0x80;
+    wrong.length = 9;
+    check(bafokun_take(&node, &wrong, frames, 3) == 0, "arrays", "too long");
+    check(bafokun_sent(&node, 0, frames, 3) == 2, "arrays", "which was no input");
+    check(bafokun_value(&node, 0x2002, 0, bytes, 2, &length) && length == 4, "arrays", "a value, room for two");
+    check(bytes[0] == 0 && bytes[1] == 0 && bytes[2] == 9, "arrays", "its first bytes");
+    check(bafokun_value(&node, 0x2002, 0, bytes, 0, &length) && length == 4, "arrays", "a value, room for none");
+    length = 77;
+    check(!bafokun_value(&node, 0x3000, 0, bytes, 4, &length) && length == 77, "arrays", "no entry");
+    check(bafokun_write(&node, 0x2001, 0, bytes, 0, frames, 3) == 0, "arrays", "a write of no bytes");
+    check(bafokun_value(&node, 0x2001, 0, bytes, 4, &length) && length == 0, "arrays", "an empty string");
+    bafokun_free(&node);
+    bafokun_free(&node);
+}
+
+static void test_empty_place(void)
+{
+    bafokun_node node = BAFOKUN_EMPTY;
+    bafokun_frame frame = { 0, 0, { 0 } };
+    const uint8_t none[5] = { 0, 0, 0, 0, 0 };
+    uint8_t byte = 0;
+    size_t length = 0;
+    uint32_t code = 1;
+    check(bafokun_boot(&node, &frame, 1) == 0, "empty", "boot");
+    check(bafokun_tick(&node, &frame, 1) == 0, "empty", "tick");
+    check(bafokun_take(&node, &frame, &frame + 1, 0) == 0, "empty", "take");
+    check(bafokun_write(&node, 0x2001, 0, &byte, 1, &frame, 1) == 0, "empty", "write");
+    check(bafokun_event(&node, 0, &frame, 1) == 0, "empty", "event");
+    check(bafokun_changed(&node, 0x2001, 0, &frame, 1) == 0, "empty", "changed");
+    check(bafokun_raise(&node, 0x1000, 1, none, &frame, 1) == 0, "empty", "raise");
+    check(bafokun_clear(&node, 1, &frame, 1) == 0, "empty", "clear");
+    check(bafokun_sent(&node, 0, &frame, 1) == 0, "empty", "sent");
+    check(!bafokun_value(&node, 0x1000, 0, &byte, 1, &length), "empty", "value");
+    check(bafokun_answer(&node, &code) == BAFOKUN_NO_EVENT && code == 0, "empty", "answer");
+    check(bafokun_state(&node) == 0 && bafokun_node_id(&node) == 0 && bafokun_held(&node, 0) == 0, "empty", "questions");
+    bafokun_free(&node);
+    check(node.built == 0, "empty", "free");
+}
+
+/* Each allocation of the build refused in turn: the answer is that memory is out, and the next build is right. */
+static void test_refused_memory(void)
+{
+    unsigned long number;
+    bool built = false;
+    for (number = 1; !built && number < 100000; number++) {
+        bafokun_node node = BAFOKUN_EMPTY;
+        bafokun_fault fault;
+        asked = 0;
+        refused = number;
+        built = bafokun_build(&node, sheet, strlen(sheet), 5, &config, &fault);
+        refused = 0;
+        if (!built && !is_fault(&fault, 0, BAFOKUN_FAULT_SHEET, BAFOKUN_SHEET_MEMORY, 0, 0)
+            && !is_fault(&fault, 0, BAFOKUN_FAULT_DEVICE, BAFOKUN_DEVICE_MEMORY, 0, 0)) {
+            check(false, "memory", "a wrong fault");
+            return;
+        }
+        bafokun_free(&node);
+    }
+    check(built && number > 2, "memory", "each allocation refused");
+}
+
+int main(int argc, char **argv)
+{
+    if (argc != 2) return 2;
+    sheet = read_file(argv[1]);
+    check(sizeof(bafokun_frame) == 12, "layout", "frame");
+    check(sizeof(bafokun_config) == 6, "layout", "config");
+    check(sizeof(bafokun_fault) == 16, "layout", "fault");
+    run("boot-up", "", boot_up);
+    run("expedited upload", "", expedited_upload);
+    run("segmented download", "", segmented_download);
+    run("RPDOs", "", rpdos);
+    run("every third SYNC", "1800sub2=3", every_third_sync);
+    run("event at SYNC", "1800sub2=0", event_at_sync);
+    run("lost heartbeat", "", lost_heartbeat);
+    run("SYNC length and reset", "", sync_and_reset);
+    run("application", "", application);
+    test_faults();
+    test_small_arrays();
+    test_empty_place();
+    test_refused_memory();
+    free(sheet);
+    printf("%u passed, %u failed\n", passed, failed);
+    return failed != 0;
+}
