@@ -1,4 +1,4 @@
-//! A device behind a pointer.
+//! A device that a pointer owns.
 
 ghost use Rattle.std.specs.Prelude.{◌≡◌, Some, None, Option};
 ghost use Rattle.std.specs.Global.{Global};

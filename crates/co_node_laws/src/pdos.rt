@@ -61,10 +61,10 @@ pub fn tpdo_due()
         is_sent k n inputs Ticked ≡ (ticks_of_timer k n inputs + 1 == settings.event_timer) }
 {}
 
-/// In operational the frame of an RPDO of type 0 to 240, where it isn't short, waits from when it comes; it waits on while
-/// no SYNC comes, operational isn't left, nothing resets the device, the RPDO isn't written and no other frame of it
-/// comes. The next SYNC in operational takes all frames that wait, by number: their data take effect then (7.2.2.2 and
-/// 7.5.2.35).
+/// In operational the frame of an RPDO of type 0 to 240, where it isn't short, waits from when it comes; it waits on
+/// while no SYNC comes, operational isn't left, nothing resets the device, the RPDO isn't written and no other frame
+/// of it comes. The next SYNC in operational takes all frames that wait, by number: their data take effect then
+/// (7.2.2.2 and 7.5.2.35).
 pub fn takes_effect_at_sync()
     ensures waits { (k : Constants) (inputs later : Inputs) (n : ℕ) (frame : FrameContent) →
         address_at k (moments k inputs) frame.id ≡ Rpdo n → state_of k inputs ≡ Operational →

@@ -19,8 +19,8 @@ use conode_io::{CmdFault, hand_over};
 use std::alloc::{AllocError, Global};
 use std::io::Write;
 
-// Makes the text the last line: how the client stands, and how many frames it sent. On an `Err` memory ran out, and the text
-// holds a part of the line.
+// Makes the text the last line: how the client stands, and how many frames it sent. On an `Err` memory ran out, and
+// the text holds a part of the line.
 #[tactic(auto, unfolding(crate::specs::Printed::last_line))]
 fn set_last_line(text: &mut String, state: ClientState, sent: u64) -> Result<(), AllocError>
     ensures { OnOk result (string_bytes text.new ≡ last_line state sent) }
@@ -70,19 +70,21 @@ fn loop_client<W: Write>(
     Ok(state)
 }
 
-/// Downloads bytes, at most 65,535, to an entry of a node by an SDO client over the node's default channel (CiA 301, 7.2.4.3):
-/// 600h + node-ID and 580h + node-ID. The client indicates their number and waits for each answer for ever.
+/// Downloads bytes, at most 65,535, to an entry of a node by an SDO client over the node's default channel (CiA 301,
+/// 7.2.4.3): 600h + node-ID and 580h + node-ID. The client indicates their number and waits for each answer for ever.
 ///
-/// In a round one request of the client is given to the node; where none waits, 1 ms passes at both. All frames that the node
-/// then sends come to the client. Rounds go on as long as the client waits for an answer, or a request of it to be given to
-/// the node, and at most 20,000. So an abort that the client sends is given to the node, too.
+/// In a round one request of the client is given to the node; where none waits, 1 ms passes at both. All frames that
+/// the node then sends come to the client. Rounds go on as long as the client waits for an answer, or a request of it
+/// to be given to the node, and at most 20,000. So an abort that the client sends is given to the node, too.
 ///
-/// Each frame is written as the line of a trace at time 0: a request, and after it what the node sends; of a tick the latter
-/// alone. The last line is `; done, 3 requests` or `; failed 06070012, 1 requests`, with the number of frames that the client
-/// sent, or `; gave up` where it still waits after the last round. The answer is how the client stands.
+/// Each frame is written as the line of a trace at time 0: a request, and after it what the node sends; of a tick the
+/// latter alone. The last line is `; done, 3 requests` or `; failed 06070012, 1 requests`, with the number of frames
+/// that the client sent, or `; gave up` where it still waits after the last round. The answer is how the client
+/// stands.
 ///
-/// `Write` where the writer failed: then some of the lines have been written, and perhaps a part of the next one. `Memory` where
-/// memory ran out: some of the lines have been written, never all. The node has then taken the inputs of some of the rounds.
+/// `Write` where the writer failed: then some of the lines have been written, and perhaps a part of the next one.
+/// `Memory` where memory ran out: some of the lines have been written, never all. The node has then taken the inputs
+/// of some of the rounds.
 pub fn loop_back<W: Write>(
     alloc: Global,
     node: &mut Node,

@@ -28,8 +28,8 @@ fn set_refused_line(text: &mut String, number: usize, code: AbortCode) -> Result
     text.push('\n')
 }
 
-/// Makes the text the line of the totals, as `; in 1, out 3, ticks 1000`. On an `Err` memory ran out, and the text holds a
-/// part of the line.
+/// Makes the text the line of the totals, as `; in 1, out 3, ticks 1000`. On an `Err` memory ran out, and the text
+/// holds a part of the line.
 #[tactic(auto, unfolding(crate::specs::Lines::totals_line))]
 fn set_totals_line(text: &mut String, totals: Totals) -> Result<(), AllocError>
     ensures { OnOk result (string_bytes text.new ≡ totals_line totals) }

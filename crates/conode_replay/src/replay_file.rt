@@ -127,10 +127,11 @@ fn replay_sheet<R: Files + AllocGlobal + Input, O: Write, E: Write>(
     }
 }
 
-/// Replays the trace of a path, or of standard input where that is `-`, against the device of the data sheet of another
-/// path at a node-ID, as `replay` does. What it prints, a fault of the sheet and one of its build go to `out`, as does the
-/// line that says why it stopped; a file that can't be read is named on `err`. The sheet is read before the trace is opened.
-/// The status is 1 after a fault, also of the trace, else 0; an event that is refused is none.
+/// Replays the trace of a path, or of standard input where that is `-`, against the device of the data sheet of
+/// another path at a node-ID, as `replay` does. What it prints, a fault of the sheet and one of its build go to
+/// `out`, as does the line that says why it stopped; a file that can't be read is named on `err`. The sheet is read
+/// before the trace is opened. The status is 1 after a fault, also of the trace, else 0; an event that is refused is
+/// none.
 pub fn replay_files<R: Files + AllocGlobal + Input, O: Write, E: Write>(
     rt: &R,
     sheet: &str,

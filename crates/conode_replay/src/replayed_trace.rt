@@ -89,19 +89,21 @@ fn replay_whole<R: Read, W: Write>(
     Ok(totals)
 }
 
-/// Replays a trace as `candump -L` writes it against a device, line by line and in constant memory. What the device sends
-/// is printed as such a trace: first its boot-up, at clock 0 (CiA 301, 7.2.8.3.3); then of each input in its turn, which is
-/// a tick of 1 ms, a data frame or an event line, the frames that it sends, with the clock of that input; last the totals,
-/// as `; in 1, out 3, ticks 1000`. An event that is refused is printed first, as `; line 7 refused 06090030`, with the number
-/// of its line and the abort code. Frames that are passed over move the clock.
+/// Replays a trace as `candump -L` writes it against a device, line by line and in constant memory. What the device
+/// sends is printed as such a trace: first its boot-up, at clock 0 (CiA 301, 7.2.8.3.3); then of each input in its
+/// turn, which is a tick of 1 ms, a data frame or an event line, the frames that it sends, with the clock of that
+/// input; last the totals, as `; in 1, out 3, ticks 1000`. An event that is refused is printed first, as
+/// `; line 7 refused 06090030`, with the number of its line and the abort code. Frames that are passed over move the
+/// clock.
 ///
-/// The writer is flushed before each read that could wait, and not while a whole line is held: so what is due for a line
-/// has gone out before the next one is waited for.
+/// The writer is flushed before each read that could wait, and not while a whole line is held: so what is due for a
+/// line has gone out before the next one is waited for.
 ///
-/// `BadLine` is the first line that is no line of a trace, that has more than 512 bytes, or whose stamp is more than a day
-/// past the clock. After `BadLine`, `Read` and `NeverEnds` the device has taken all inputs of the lines before, and what is
-/// due for these has been written; the totals have not. After `Write` and `Memory` the input whose line it was has been
-/// taken as well, and the lines before this one have been written; of this one a part at most, after `Memory` nothing.
+/// `BadLine` is the first line that is no line of a trace, that has more than 512 bytes, or whose stamp is more than
+/// a day past the clock. After `BadLine`, `Read` and `NeverEnds` the device has taken all inputs of the lines before,
+/// and what is due for these has been written; the totals have not. After `Write` and `Memory` the input whose line
+/// it was has been taken as well, and the lines before this one have been written; of this one a part at most, after
+/// `Memory` nothing.
 pub fn replay<R: Read, W: Write>(
     alloc: Global,
     node: &mut Node,
