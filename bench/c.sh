@@ -110,31 +110,34 @@ for sheet in "$root/examples/device/sensor.eds" "$root/examples/io-module.eds" "
 done
 
 new_crate million co_node 'co_node co_node_inputs co_dict_list co_sheet co_frame anyhow'
-cp "$root/bench/device.rt" "$folder/crates/million/src"
+cp "$root/bench/device.rt" "$root/bench/repeat.rt" "$folder/crates/million/src"
 cat > "$folder/crates/million/src/main.rt" << 'END'
 //! A million inputs of each kind to the device of a data sheet.
 #![tactic(auto)]
 
 mod device;
+mod repeat;
 
 use anyhow::{Context, Result};
 use co_frame::{Frame, Outbox};
 use co_node::Node;
-use device::{built, step};
+use device::built;
+use repeat::{repeat_frame, repeat_tick};
 use std::io;
 use std::time::Instant;
 
-fn repeat(node: &mut Node, frame: Option<Frame>, sent: &mut Outbox) {
-    for _ in 0..1_000_000 {
-        step(node, frame, None, sent);
-    }
+const COUNT: u32 = 1_000_000;
+
+// prints the nanoseconds that one of so many took, since then
+fn print_time(rt: &HostRuntime, name: &str, begin: &Instant) -> Result<()> {
+    println!(rt; "{name} {}", begin.elapsed(rt)?.as_nanos() / u128::from(COUNT))?;
+    Ok(())
 }
 
-fn measure(rt: &HostRuntime, name: &str, node: &mut Node, frame: Option<Frame>, sent: &mut Outbox) -> Result<()> {
+fn measure(rt: &HostRuntime, name: &str, node: &mut Node, frame: &Frame, sent: &mut Outbox) -> Result<()> {
     let begin = Instant::now(rt)?;
-    repeat(node, frame, sent);
-    println!(rt; "{name} {}", begin.elapsed(rt)?.as_nanos() / 1_000_000)?;
-    Ok(())
+    repeat_frame(node, frame, COUNT, sent);
+    print_time(rt, name, &begin)
 }
 
 fn run(rt: &HostRuntime) -> Result<()> {
@@ -143,9 +146,11 @@ fn run(rt: &HostRuntime) -> Result<()> {
     let mut sent = Outbox::new();
     let upload = Frame::new(0x605, &[0x40, 0x00, 0x10, 0x00, 0, 0, 0, 0]).ok().context("no frame")?;
     let sync = Frame::new(0x80, &[]).ok().context("no frame")?;
-    measure(rt, "upload", &mut node, Some(upload), &mut sent)?;
-    measure(rt, "sync", &mut node, Some(sync), &mut sent)?;
-    measure(rt, "tick", &mut node, None, &mut sent)
+    measure(rt, "upload", &mut node, &upload, &mut sent)?;
+    measure(rt, "sync", &mut node, &sync, &mut sent)?;
+    let begin = Instant::now(rt)?;
+    repeat_tick(&mut node, COUNT, &mut sent);
+    print_time(rt, "tick", &begin)
 }
 
 fn main(rt: HostRuntime) -> Result<()> {

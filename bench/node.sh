@@ -65,7 +65,7 @@ greatest_sheet() {
 
 new_crate node_time 'co_node conode_trace' \
     'co_node co_node_inputs co_dict_list co_sheet conode_trace co_frame co_text arrayvec anyhow'
-cp "$root/bench/device.rt" "$folder/crates/node_time/src"
+cp "$root/bench/device.rt" "$root/bench/repeat.rt" "$folder/crates/node_time/src"
 cat > "$folder/crates/node_time/src/main.rt" << 'END'
 //! Runs a device on the data sheet on standard input. A line `;!NAME COUNT FRAME` of the sheet, which is a comment to its
 //! reader, hands that frame so often to the device, or `tick` so many ticks, and prints the nanoseconds that one took, unless
@@ -73,13 +73,15 @@ cat > "$folder/crates/node_time/src/main.rt" << 'END'
 #![tactic(auto)]
 
 mod device;
+mod repeat;
 
 use anyhow::{Context, Result};
 use co_frame::{Frame, Outbox};
 use co_node::Node;
 use co_text::HexPairs;
 use conode_trace::push_frame;
-use device::{built, step};
+use device::built;
+use repeat::{repeat_frame, repeat_tick};
 use std::io;
 use std::time::Instant;
 
@@ -95,18 +97,6 @@ fn frame_of(text: &str) -> Option<Frame> {
         }
     }
     Frame::new(id, bytes.get(..length)?).ok()
-}
-
-fn repeat_frame(node: &mut Node, frame: &Frame, count: u32, sent: &mut Outbox) {
-    for _ in 0..count {
-        step(node, Some(*frame), None, sent);
-    }
-}
-
-fn repeat_tick(node: &mut Node, count: u32, sent: &mut Outbox) {
-    for _ in 0..count {
-        step(node, None, None, sent);
-    }
 }
 
 // the nanoseconds that one takes of so many frames or ticks
