@@ -4,8 +4,8 @@
 # input; status 1 where a call from C takes more than 1.1 times as long. Before it, the memory that a device holds, and the
 # most that its build held, of three sheets.
 set -eu
-# shellcheck source=bench/crate.sh
-. "$(dirname "$(readlink -f "$0")")/crate.sh"
+# shellcheck source=bench/device.sh
+. "$(dirname "$(readlink -f "$0")")/device.sh"
 
 "$root/bin/libbafokun" "$folder"
 cat > "$folder/million.c" << 'END'
@@ -110,7 +110,8 @@ for sheet in "$root/examples/device/sensor.eds" "$root/examples/io-module.eds" "
 done
 
 new_crate million co_node 'co_node co_node_inputs co_dict_list co_sheet co_frame anyhow'
-cp "$root/bench/device.rt" "$root/bench/repeat.rt" "$folder/crates/million/src"
+add_device million
+add_repeat million
 cat > "$folder/crates/million/src/main.rt" << 'END'
 //! A million inputs of each kind to the device of a data sheet.
 #![tactic(auto)]

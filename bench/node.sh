@@ -3,8 +3,8 @@
 # and a tick, on the sheet of the I/O module and on one with 128 SDO channels, 512 TPDOs and 127 monitored nodes; beside the
 # device in node_by_hand, in safe Rust. Status 1 where the two send different frames.
 set -eu
-# shellcheck source=bench/crate.sh
-. "$(dirname "$(readlink -f "$0")")/crate.sh"
+# shellcheck source=bench/device.sh
+. "$(dirname "$(readlink -f "$0")")/device.sh"
 
 # Five runs of a program on a sheet; of each number that it prints the smallest, as `name number` on a line. The frames that
 # the last run sent are left in a file.
@@ -65,7 +65,8 @@ greatest_sheet() {
 
 new_crate node_time 'co_node conode_trace' \
     'co_node co_node_inputs co_dict_list co_sheet conode_trace co_frame co_text arrayvec anyhow'
-cp "$root/bench/device.rt" "$root/bench/repeat.rt" "$folder/crates/node_time/src"
+add_device node_time
+add_repeat node_time
 cat > "$folder/crates/node_time/src/main.rt" << 'END'
 //! Runs a device on the data sheet on standard input. A line `;!NAME COUNT FRAME` of the sheet, which is a comment to its
 //! reader, hands that frame so often to the device, or `tick` so many ticks, and prints the nanoseconds that one took, unless

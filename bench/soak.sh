@@ -7,11 +7,11 @@
 set -eu
 inputs=${1:-100000000}
 seed=${2:-1}
-# shellcheck source=bench/crate.sh
-. "$(dirname "$(readlink -f "$0")")/crate.sh"
+# shellcheck source=bench/device.sh
+. "$(dirname "$(readlink -f "$0")")/device.sh"
 
 new_crate soak co_node 'co_node co_node_inputs co_dict_list co_sheet co_frame co_value arrayvec anyhow'
-cp "$root/bench/device.rt" "$folder/crates/soak/src"
+add_device soak
 cat > "$folder/crates/soak/src/main.rt" << 'END'
 //! Gives the device of the data sheet on standard input random inputs. The sheet's last line, a comment, is
 //! `;!soak INPUTS SEED`.
