@@ -4,7 +4,9 @@
 mod data;
 mod laws;
 mod mapping;
+mod numbers;
 mod pdos;
+mod places;
 mod schedule;
 mod settings;
 mod tpdo;
