@@ -4,13 +4,13 @@
 mod data;
 mod laws;
 mod mapping;
-mod numbers;
 mod pdos;
 mod places;
 mod schedule;
 mod settings;
 mod tpdo;
 mod tpdos;
+mod unsigned;
 
 pub use co_dict::{CobId, Side};
 pub use data::{PdoFault, apply, image, parts_joined};

@@ -6,11 +6,14 @@ ghost use Rattle.co_value.specs.declared.data_type.DataType.TheVariants.{Unsigne
 ghost use Rattle.co_profile.specs.FixedTypes.{fixed_type_of};
 ghost use Rattle.co_dict.specs.Rows.{number_at};
 ghost use Rattle.co_dict.specs.Places.{place_of};
+ghost use Rattle.co_dict.specs.declared.side.Side.{Side};
+ghost use Rattle.co_pdo.specs.Mappings.{count_of};
+ghost use Rattle.co_pdo.specs.Pdos.{cob_id_of};
 ghost use Rattle.co_pdo.specs.Tpdos.{tpdo_key, tpdo_count_key, counter_overflow_key, is_active, places_of, settings_of};
 
-use crate::numbers::{number_of_1, number_of_2, number_of_4};
 use crate::pdos::is_supported;
 use crate::settings::Settings;
+use crate::unsigned::{number_of_1, number_of_2, number_of_4};
 use co_dict::{CobId, ObjectStore, place_laws, store_laws};
 use co_profile::{IndexRange, SYNC_COUNTER_OVERFLOW};
 use co_value::Key;
@@ -118,14 +121,42 @@ impl Places {
         }
     }
 
+    /// The COB-ID word.
+    fn cob_id<S: ObjectStore>(&self, store: &S) -> CobId
+        ensures { (k : ℕ) → k < 512 → self.now ≡ places_of (S.description store.now) k →
+            result.0 ≡ cob_id_of Side.Tpdo (S.contents store.now) k }
+    {
+        CobId(number_u32(store, self.cob_id))
+    }
+
+    /// How many objects are mapped.
+    fn mapped<S: ObjectStore>(&self, store: &S) -> u8
+        ensures { (k : ℕ) → k < 512 → self.now ≡ places_of (S.description store.now) k →
+            result ≡ count_of Side.Tpdo (S.contents store.now) k }
+    {
+        number_u8(store, self.mapped)
+    }
+
+    /// The transmission type.
+    fn transmission_type<S: ObjectStore>(&self, store: &S) -> u8
+        ensures { (k : ℕ) → k < 512 → self.now ≡ places_of (S.description store.now) k →
+            result ≡ number_at (S.contents store.now) (tpdo_key k 2) }
+    {
+        number_u8(store, self.transmission_type)
+    }
+
     /// Whether the TPDO of these places is active. One that is not valid costs one read.
     pub(crate) fn is_active<S: ObjectStore>(&self, store: &S) -> bool
         ensures { (k : ℕ) → k < 512 → self.now ≡ places_of (S.description store.now) k →
             result ≡ is_active (S.contents store.now) k }
     {
-        CobId(number_u32(store, self.cob_id)).is_valid()
-            && number_u8(store, self.mapped) != 0
-            && is_supported(number_u8(store, self.transmission_type))
+        if !self.cob_id(store).is_valid() {
+            return false;
+        }
+        if self.mapped(store) == 0 {
+            return false;
+        }
+        is_supported(self.transmission_type(store))
     }
 
     /// What the dictionary says of the TPDO of these places.
@@ -135,7 +166,7 @@ impl Places {
     {
         Settings {
             is_active: self.is_active(store),
-            transmission_type: number_u8(store, self.transmission_type),
+            transmission_type: self.transmission_type(store),
             inhibit_time: number_u16(store, self.inhibit_time),
             event_timer: number_u16(store, self.event_timer),
             start_value: number_u8(store, self.start_value),

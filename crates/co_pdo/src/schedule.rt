@@ -77,8 +77,9 @@ impl Schedule {
         ensures size { length self.new ≡ length self.old }
     {
         if let Some(i) = place_of(&self.tpdos, k) {
-            let settings = self.tpdos[i].places.settings(store);
-            self.tpdos[i].start(&settings, part);
+            let tpdo = &mut self.tpdos[i];
+            let settings = tpdo.places.settings(store);
+            tpdo.start(&settings, part);
         }
     }
 

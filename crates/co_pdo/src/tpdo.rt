@@ -86,9 +86,8 @@ impl Tpdo {
     /// Starts all of it, or its event timer alone.
     pub(crate) fn start(&mut self, settings: &Settings, part: Part)
         ensures number { self.new.number ≡ self.old.number }
-        ensures places { self.new.places ≡ self.old.places }
-        ensures after { (log : Log) → IsAfter self.old log →
-            IsAfter self.new (Started part settings.now ∷ log) }
+        ensures after { (d : Description) (log : Log) → IsPlacedAfter d self.old log →
+            IsPlacedAfter d self.new (Started part settings.now ∷ log) }
     {
         match part {
             Part::Whole => {

@@ -1,4 +1,4 @@
-//! The numbers of bytes.
+//! Bytes as unsigned numbers, the lowest byte first.
 
 ghost use Rattle.std.specs.Prelude.{◌≡◌, length};
 ghost use Rattle.co_value.specs.Numbers.{unsigned_of};
