@@ -148,7 +148,7 @@ module _ (g : given.Over) (c : After-self-5-1 g) (k : Constants) (inputs : Input
   current : is_asked c.turn-turn.result ≡ true → AllCurrent (g.S.ObjectStore.contents c.take_pdos.new.store) (schedule_log k h)
   current asked = subst (λ contents. AllCurrent contents (schedule_log k h)) (sym contents) (c.schedule_ready.ensures k inputs (given_view c.args.given c.args.frame.now) (ap is_asked (sym turn) ∙ asked))
 
-  due : c.take_turn.new.due.items ≡ m.due
+  due : c.take_turn.new.sent.items ≡ m.due
   due = steps.due k h m is _ _ marks contents _ _ transition c.turn-turn.ensures.turn _ _ d3 (c.take_turn.ensures.due (schedule_log k h) schedule_before current)
 
   schedule : IsScheduleAfter (g.S.ObjectStore.description c.take_pdos.new.store) c.take_turn.new.schedule (schedule_log k (m ∷ h))
