@@ -121,7 +121,7 @@ fn node_arg<'a>(alloc: Global) -> Arg<'a>
     ensures local { result.global ≡ false }
 {
     numbered(alloc, "node", 1, 127).help(
-        "The device's node-ID, 1 to 127; if not given, the sheet's own",
+        "The device's node-ID, 1 to 127; if not given, the sheet's",
     )
 }
 
