@@ -15,11 +15,15 @@ new_crate() {
     echo "$1: $3" >> "$folder/crates.txt"
 }
 
-# proves and builds it, and runs it once on an input; it is $program then
+# Proves and builds it, and runs it once on an input; it is $program then: build_crate NAME INPUT [WORD..]
 build_crate() {
     # shellcheck disable=SC2034 # for the script that sources this
     program=$folder/crates/$1/out/$1
-    (cd "$folder/crates/$1" && rt run < "$2" > "$folder/log" 2>&1) || { cat "$folder/log" >&2; exit 1; }
+    crate=$1
+    input=$2
+    shift 2
+    [ $# -eq 0 ] || set -- -- "$@"
+    (cd "$folder/crates/$crate" && rt run "$@" < "$input" > "$folder/log" 2>&1) || { cat "$folder/log" >&2; exit 1; }
 }
 
 # of lines `name number` the smallest number of each name, in the order in which the names come first
