@@ -28,10 +28,6 @@ timed() {
     awk -v ns=$((end - begin)) 'BEGIN { printf "%.4f\n", ns / 1e9 }' >> "$file"
 }
 
-best() { sort -n "$folder/$1" | head -n 1; }
-
-ratio() { awk -v a="$1" -v b="$2" 'BEGIN { printf "%.2f\n", a / (b > 0 ? b : 0.0001) }'; }
-
 # whether the first number is at most the second; else an aim is missed
 within() {
     if awk -v a="$1" -v b="$2" 'BEGIN { exit a <= b }'; then
