@@ -138,16 +138,29 @@ fn step(node: &mut Node, frame: Option<Frame>, event: Option<AppEvent<'_>>, sent
     }
 }
 
-fn repeat(node: &mut Node, frame: Option<Frame>, sent: &mut Outbox) {
+fn repeat_frame(node: &mut Node, frame: &Frame, sent: &mut Outbox) {
     for _ in 0..1_000_000 {
-        step(node, frame, None, sent);
+        step(node, Some(*frame), None, sent);
     }
 }
 
-fn measure(rt: &HostRuntime, name: &str, node: &mut Node, frame: Option<Frame>, sent: &mut Outbox) -> Result<()> {
+fn repeat_tick(node: &mut Node, sent: &mut Outbox) {
+    for _ in 0..1_000_000 {
+        step(node, None, None, sent);
+    }
+}
+
+fn measure_frame(rt: &HostRuntime, name: &str, node: &mut Node, frame: &Frame, sent: &mut Outbox) -> Result<()> {
     let begin = Instant::now(rt)?;
-    repeat(node, frame, sent);
+    repeat_frame(node, frame, sent);
     println!(rt; "{name} {}", begin.elapsed(rt)?.as_nanos() / 1_000_000)?;
+    Ok(())
+}
+
+fn measure_tick(rt: &HostRuntime, node: &mut Node, sent: &mut Outbox) -> Result<()> {
+    let begin = Instant::now(rt)?;
+    repeat_tick(node, sent);
+    println!(rt; "tick {}", begin.elapsed(rt)?.as_nanos() / 1_000_000)?;
     Ok(())
 }
 
@@ -167,9 +180,9 @@ fn run(rt: &HostRuntime) -> Result<()> {
     let mut sent = Outbox::new();
     let upload = Frame::new(0x605, &[0x40, 0x00, 0x10, 0x00, 0, 0, 0, 0]).ok().context("no frame")?;
     let sync = Frame::new(0x80, &[]).ok().context("no frame")?;
-    measure(rt, "upload", &mut node, Some(upload), &mut sent)?;
-    measure(rt, "sync", &mut node, Some(sync), &mut sent)?;
-    measure(rt, "tick", &mut node, None, &mut sent)
+    measure_frame(rt, "upload", &mut node, &upload, &mut sent)?;
+    measure_frame(rt, "sync", &mut node, &sync, &mut sent)?;
+    measure_tick(rt, &mut node, &mut sent)
 }
 
 fn main(rt: HostRuntime) -> Result<()> {
