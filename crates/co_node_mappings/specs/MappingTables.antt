@@ -1,5 +1,5 @@
 -- The compiled mappings of the PDOs of a side, at some contents of the dictionary (CiA 301, 7.5.2.36 and 7.5.2.38).
-use Rattle.std.specs.Prelude.{◌≡◌, ℕ, ◌<◌, ◌≤◌, true, List, length}
+use Rattle.std.specs.Prelude.{◌≡◌, ℕ, ◌<◌, true, List, length}
 use Rattle.std.specs.List.{slice_index_or}
 use Rattle.co_value.specs.declared.key.Key.{Key}
 use Rattle.co_dict.specs.declared.side.Side.{Side}
@@ -8,7 +8,7 @@ use Rattle.co_dict.specs.Rows.{Contents}
 use Rattle.co_dict.specs.Stores.{Description}
 use Rattle.co_pdo.specs.Mappings.{has_pdo, mapping_of}
 use Rattle.co_pdo_compiled.specs.declared.part.Part.{Part}
-use Rattle.co_pdo_compiled.specs.CompiledMappings.{IsCompiledForm}
+use Rattle.co_pdo_compiled.specs.CompiledMappings.{HasParts, IsCompiledForm}
 use Rattle.co_node_mappings.specs.MappingChanges.{is_mapping_key}
 use Rattle.co_node_mappings.specs.declared.mappings.CompiledMappings.{CompiledMappings}
 
@@ -25,6 +25,10 @@ Covers side d count = (k : ℕ) → k < 512 → has_pdo side d.rows k ≡ true �
 pub record IsMappingTable (side : Side) (d : Description) (contents : Contents) (table : List (List Part)) : Type 0 where
   pub forms : AreForms side d contents table
   pub covers : Covers side d (length table)
+
+-- a dictionary has what each PDO of a table maps, at the places and with the rows that it was compiled with
+abbrev pub HaveParts : Description → List (List Part) → Type 0
+HaveParts d table = (k : ℕ) (parts : List Part) → k < length table → HasParts d (slice_index_or table k parts)
 
 -- the mapping parameters of all PDOs are the same: 1600h to 17FFh and 1A00h to 1BFFh
 abbrev pub AgreeOnMappings : Contents → Contents → Type 0
