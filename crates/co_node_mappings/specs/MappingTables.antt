@@ -25,6 +25,7 @@ Covers side d count = (k : ℕ) → k < 512 → has_pdo side d.rows k ≡ true �
 pub record IsMappingTable (side : Side) (d : Description) (contents : Contents) (table : List (List Part)) : Type 0 where
   pub forms : AreForms side d contents table
   pub covers : Covers side d (length table)
+  pub few : length table ≤ 512
 
 -- a dictionary has what each PDO of a table maps, at the places and with the rows that it was compiled with
 abbrev pub HaveParts : Description → List (List Part) → Type 0

@@ -1,6 +1,6 @@
 //! On what compiled mappings depend. A law is the contract of a function that does nothing when it is called.
 
-ghost use Rattle.std.specs.Prelude.{◌≤◌, List, length};
+ghost use Rattle.std.specs.Prelude.{List};
 ghost use Rattle.co_dict.specs.declared.side.Side.{Side};
 ghost use Rattle.co_dict.specs.Rows.{Contents};
 ghost use Rattle.co_dict.specs.Stores.{Description};
@@ -13,7 +13,7 @@ use co_pdo_compiled::mapping_by_words;
 /// to 17FFh and 1A00h to 1BFFh.
 pub fn mappings_stay()
     ensures { (side : Side) (d : Description) (before now : Contents) (table : List (List Part)) →
-        length table ≤ 512 → AgreeOnMappings before now →
+        AgreeOnMappings before now →
         IsMappingTable side d before table → IsMappingTable side d now table }
 {
     mapping_by_words();
