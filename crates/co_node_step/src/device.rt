@@ -25,6 +25,7 @@ use co_node_parts::{NodeState, Transition};
 use co_node_phases::{take_pdos, watch};
 use co_node_receive::{Given, receive};
 use co_node_turns::{send_emergency, send_life, send_tpdos, take_turn};
+use co_pdo::Due;
 use co_profile::EMERGENCY_INHIBIT_TIME;
 use co_sdo_bank::Bank;
 use co_value::Key;
@@ -156,7 +157,8 @@ impl<S: ObjectStore> Device<S> {
         let life = marks.life(transition.after, is_due);
         send_life(&self.store, life, outbox);
         let turn = marks.turn(transition);
-        let due = take_turn(&mut self.parts.schedule, &self.store, turn);
+        let mut due = Due::new();
+        take_turn(&mut self.parts.schedule, &self.store, turn, &mut due);
         send_tpdos(&self.store, &due, outbox);
         // what follows holds of every device, and does nothing
         rpdos_kept();

@@ -148,11 +148,11 @@ module _ (g : given.Over) (c : After-self-5-1 g) (k : Constants) (inputs : Input
   current : is_asked c.turn-turn.result ≡ true → AllCurrent (g.S.ObjectStore.contents c.take_pdos.new.store) (schedule_log k h)
   current asked = subst (λ contents. AllCurrent contents (schedule_log k h)) (sym contents) (c.schedule_ready.ensures k inputs (given_view c.args.given c.args.frame.now) (ap is_asked (sym turn) ∙ asked))
 
-  due : c.take_turn-due.result.items ≡ m.due
-  due = steps.due k h m is _ _ marks contents _ _ transition c.turn-turn.ensures.turn _ _ d3 (c.take_turn-due.ensures.due (schedule_log k h) schedule_before current)
+  due : c.take_turn.new.due.items ≡ m.due
+  due = steps.due k h m is _ _ marks contents _ _ transition c.turn-turn.ensures.turn _ _ d3 (c.take_turn.ensures.due (schedule_log k h) schedule_before current)
 
-  schedule : IsScheduleAfter (g.S.ObjectStore.description c.take_pdos.new.store) c.take_turn-due.new.schedule (schedule_log k (m ∷ h))
-  schedule = steps.schedule k h m is _ _ marks contents _ _ transition c.turn-turn.ensures.turn _ _ _ d3 due (c.take_turn-due.ensures.after (schedule_log k h) schedule_before current)
+  schedule : IsScheduleAfter (g.S.ObjectStore.description c.take_pdos.new.store) c.take_turn.new.schedule (schedule_log k (m ∷ h))
+  schedule = steps.schedule k h m is _ _ marks contents _ _ transition c.turn-turn.ensures.turn _ _ _ d3 due (c.take_turn.ensures.after (schedule_log k h) schedule_before current)
 
   -- the frames
   first_sent : c.receive-received.new.outbox.items ≡ frames_at m.exchange ++ frames_at m.timed_out
@@ -217,4 +217,4 @@ returns-clause-few g c = λ k inputs ns.
 
 pub send_tpdos-requires : goal.send_tpdos-requires
 send_tpdos-requires g c = λ i e lt.
-    subst (λ (ns : List ℕ). slice_index_or ns i e < 512) (sym c.deref.ensures.0) (c.take_turn-due.ensures.small i e (subst (λ (ns : List ℕ). i < length ns) c.deref.ensures.0 lt))
+    subst (λ (ns : List ℕ). slice_index_or ns i e < 512) (sym c.deref.ensures.0) (c.take_turn.ensures.small i e (subst (λ (ns : List ℕ). i < length ns) c.deref.ensures.0 lt))
