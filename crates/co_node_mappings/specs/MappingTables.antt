@@ -1,5 +1,5 @@
 -- The compiled mappings of the PDOs of a side, at some contents of the dictionary (CiA 301, 7.5.2.36 and 7.5.2.38).
-use Rattle.std.specs.Prelude.{◌≡◌, ℕ, ◌<◌, true, List, length}
+use Rattle.std.specs.Prelude.{◌≡◌, ℕ, ◌<◌, ◌≤◌, true, List, length}
 use Rattle.std.specs.List.{slice_index_or}
 use Rattle.co_value.specs.declared.key.Key.{Key}
 use Rattle.co_dict.specs.declared.side.Side.{Side}
