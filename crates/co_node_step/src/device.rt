@@ -1,7 +1,9 @@
 //! A device over a dictionary.
 
 ghost use Rattle.std.specs.Prelude.{◌≡◌, ℕ, ◌≤◌, ◌∷◌, ◌||◌, List, length};
+ghost use Rattle.std.proofs.Props.{props};
 ghost use Rattle.co_dict.specs.Stores.{Description};
+ghost use Rattle.co_pdo_compiled.proofs.Props.{part_prop};
 ghost use Rattle.co_sdo.specs.Log.{Log};
 ghost use Rattle.co_sdo_bank.specs.Banks.{BankStands, all_settings};
 ghost use Rattle.co_sdo_bank.specs.Channels.{ChannelSettings, HaveRoom};
@@ -53,8 +55,8 @@ pub struct Device<S: ObjectStore> {
     pub(crate) store: S,
     pub(crate) parts: Parts,
     ghost fits: { HaveRoom (S.description store).rows (all_settings parts.bank) },
-    ghost rpdos: { HaveParts (S.description store) parts.mappings.rpdos },
-    ghost tpdos: { HaveParts (S.description store) parts.mappings.tpdos },
+    ghost rpdos: { HaveParts (S.description store) parts.mappings.rpdos } by { Prim.hlevel (props, part_prop) },
+    ghost tpdos: { HaveParts (S.description store) parts.mappings.tpdos } by { Prim.hlevel (props, part_prop) },
 }
 
 impl<S: ObjectStore> Device<S> {

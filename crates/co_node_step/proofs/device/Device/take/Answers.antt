@@ -10,7 +10,7 @@ use Rattle.co_node_parts.specs.Producers.{ProducerStands}
 use Rattle.co_node_parts.specs.RpdoSlots.{SlotsStand}
 use Rattle.co_node_parts.specs.declared.nmt_state.Transition.{Transition}
 use Rattle.co_node_parts.specs.EmergencyQueues.{EmergenciesStand, with_queued}
-use Rattle.co_node_inputs.specs.Inputs.{Inputs, InputView}
+use Rattle.co_node_inputs.specs.Inputs.{Inputs}
 use Rattle.co_node_inputs.specs.Rpdos.{may_change_rpdos}
 use Rattle.co_node_rpdos.specs.RpdoTables.{AgreeOnRpdos, IsTableOf}
 use Rattle.co_node_mappings.specs.MappingChanges.{may_change_mappings}
