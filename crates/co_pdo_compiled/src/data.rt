@@ -30,7 +30,12 @@ fn extend(image: &mut ArrayVec<u8, 8>, bytes: &[u8])
     requires { length image.old.items + length bytes.now ≤ 8 }
     ensures { image.new.items ≡ image.old.items ++ bytes.now }
 {
-    let _ = image.try_extend_from_slice(bytes);
+    // most entries that are mapped have one byte, which needs no call of a copy
+    if bytes.len() == 1 {
+        image.push(bytes[0]);
+    } else {
+        let _ = image.try_extend_from_slice(bytes);
+    }
 }
 
 /// Appends the bytes of what is mapped.
