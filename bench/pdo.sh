@@ -4,10 +4,8 @@
 # TPDO, on a device with 4 TPDOs and on one with 512. Status 1 where the data take more than 8 times the copy, or a TPDO of
 # 512 more than 1.5 times one of 4.
 set -eu
-root=$(CDPATH='' cd -- "$(dirname -- "$(readlink -f -- "$0")")/.." && pwd)
-folder=$(mktemp -d)
-trap 'rm -rf "$folder"' EXIT
-program=$folder/crates/pdo_time/out/pdo_time
+# shellcheck source=bench/crate.sh
+. "$(dirname "$(readlink -f "$0")")/crate.sh"
 runs=${1:-9}
 
 # A data sheet with so many TPDOs, sent by an event timer, and an RPDO. The RPDO and the first TPDO have eight bytes.
@@ -53,18 +51,10 @@ best() {
         "$program" 4 < "$folder/4.eds"
         "$program" 512 < "$folder/512.eds"
         "$folder/in_rust"
-    done | awk '
-        !($1 in best) || $2 < best[$1] { best[$1] = $2 }
-        END { for (name in best) print name, best[name] }'
+    done | smallest
 }
 
-mkdir -p "$folder/crates/pdo_time/src"
-cp "$root/HANDLES" "$folder"
-{
-    "$root/bench/below.sh" co_pdo_compiled co_dict_image
-    echo 'pdo_time: co_sheet co_dict co_dict_list co_dict_image co_pdo co_pdo_compiled anyhow'
-} > "$folder/crates.txt"
-"$root/bench/below.sh" co_pdo_compiled co_dict_image | cut -d: -f1 | while read -r crate; do cp -R "$root/crates/$crate" "$folder/crates"; done
+new_crate pdo_time 'co_pdo_compiled co_dict_image' 'co_sheet co_dict co_dict_list co_dict_image co_pdo co_pdo_compiled anyhow'
 cat > "$folder/in_rust.rs" << 'END'
 //! Copies of eight bytes from and to eight places of a list.
 use std::hint::black_box;
@@ -214,7 +204,7 @@ fn main(rt: HostRuntime) -> Result<()> {
 END
 make_sheet 4 > "$folder/4.eds"
 make_sheet 512 > "$folder/512.eds"
-(cd "$folder/crates/pdo_time" && rt run -- 4 < "$folder/4.eds" > "$folder/log" 2>&1) || { cat "$folder/log" >&2; exit 1; }
+build_crate pdo_time "$folder/4.eds" 4
 
 best > "$folder/best"
 awk '
