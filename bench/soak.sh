@@ -3,7 +3,7 @@
 # state at the end, how many frames it sent with a sum of all their bytes, and the memory at its peak, after a hundredth of the
 # inputs and after all of them. Status 1 where a run halts, an input gives more frames than it may, a channel holds more than it
 # may, or the memory grows.
-#     soak.sh [INPUTS [SEED]]      100,000,000 inputs if not given, which takes hours
+#     soak.sh [INPUTS [SEED]]      100,000,000 inputs if not given, which takes minutes
 set -eu
 inputs=${1:-100000000}
 seed=${2:-1}

@@ -1,6 +1,6 @@
 //! Traces decoded: a row is a trace, and after ` => ` what is written; `|` ends a line.
 
-use crate::fakes::{Narrow, Source, expect_lines, lines_of};
+use crate::fakes::{LineFeeds, Narrow, Source, expect_lines, lines_of};
 use conode_decode::{decode, decode_files, decode_input};
 use conode_io::{CmdFault, Ending};
 use std::fs;
@@ -97,6 +97,17 @@ fn never_ends(rt: HostRuntime) -> Result<(), Fail> {
     let outcome = decode(rt.alloc(), &mut reader, None, None, &mut written);
     assert_eq!(rt; outcome, Err(CmdFault::NeverEnds));
     assert_eq!(rt; written.as_slice(), &TWO_TEXTS[..24]);
+    Ok(())
+}
+
+/// After two frames, a line feed in each read for ever.
+#[test]
+fn line_feeds_for_ever(rt: HostRuntime) -> Result<(), Fail> {
+    let mut written = Vec::new(rt.alloc());
+    let mut input = TWO_FRAMES.chain(LineFeeds);
+    let outcome = decode(rt.alloc(), &mut input, None, None, &mut written);
+    assert_eq!(rt; outcome, Err(CmdFault::NeverEnds));
+    assert_eq!(rt; written.as_slice(), TWO_TEXTS.as_slice());
     Ok(())
 }
 

@@ -48,6 +48,17 @@ impl Read for Source {
     }
 }
 
+/// Gives a line feed in each call, for ever.
+#[derive(Drop)]
+pub struct LineFeeds;
+
+impl Read for LineFeeds {
+    fn read(&mut self, buf: &mut [u8]) -> io::Result<usize> {
+        let mut feed: &[u8] = b"\n";
+        feed.read(buf)
+    }
+}
+
 /// Takes so many bytes, at most ten at a time, and then fails. Its first write is interrupted by a signal, and each
 /// flush fails where it is to.
 #[derive(Drop)]

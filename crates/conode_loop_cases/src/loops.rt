@@ -7,12 +7,11 @@ use co_value::Key;
 use conode_io::CmdFault;
 use conode_loop::loop_back;
 use std::alloc::Global;
-use std::io;
 use std::io::Write;
 use std::process::Abort;
-use std::str;
 use std::string::String;
 use std::test::Fail;
+use std::{io, str};
 
 // A download a line: the mode, the key and the bytes (`-` where there are none), the frames that are printed, and after `; `
 // the last line.
@@ -85,7 +84,10 @@ fn check(rt: &(impl AllocGlobal + Abort), line: &str) -> Result<(), Fail> {
     let mut printed = Vec::new(rt.alloc());
     let ended = loop_new(rt.alloc(), key, bytes, mode_of(mode), &mut printed)?;
     let is_done = ended.outcome == Ok(ClientState::Done);
-    assert!(rt; ended.outcome.is_ok() && is_done == last.starts_with("done"), "{line}");
+    assert!(rt;
+        ended.outcome.is_ok() && is_done == last.starts_with("done"),
+        "{line}"
+    );
     assert!(rt; ended.has_bytes == is_done, "{line}");
     let wanted = lines_of(rt.alloc(), frames, last)?;
     assert_eq!(rt; str::from_utf8(printed.as_slice())?, wanted.as_str());
@@ -108,7 +110,14 @@ fn gives_up(rt: HostRuntime) -> Result<(), Fail> {
     let mut sent = Vec::new(alloc);
     give(&mut node, Frame::new(0, &[2, 5])?, &mut sent)?;
     let mut printed = Vec::new(alloc);
-    let outcome = loop_back(alloc, &mut node, STRING, b"0123456789", Mode::Plain, &mut printed);
+    let outcome = loop_back(
+        alloc,
+        &mut node,
+        STRING,
+        b"0123456789",
+        Mode::Plain,
+        &mut printed,
+    );
     assert_eq!(rt; outcome, Ok(ClientState::Waiting));
     let wanted = lines_of(alloc, "605#210120000A000000", "gave up")?;
     assert_eq!(rt; str::from_utf8(printed.as_slice())?, wanted.as_str());
@@ -159,7 +168,11 @@ fn a_write_fails(rt: HostRuntime) -> Result<(), Fail> {
         };
         let ended = loop_new(rt.alloc(), STRING, b"0123456789", Mode::Plain, &mut writer)?;
         assert_eq!(rt; ended.outcome, Err(CmdFault::Write), "at {room}");
-        assert_eq!(rt; Some(writer.text.as_slice()), PRINTED.get(..room), "at {room}");
+        assert_eq!(rt;
+            Some(writer.text.as_slice()),
+            PRINTED.get(..room),
+            "at {room}"
+        );
         assert_eq!(rt; ended.has_bytes, room >= 4 * 46, "at {room}");
     }
     Ok(())

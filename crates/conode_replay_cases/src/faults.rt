@@ -40,7 +40,11 @@ fn a_read_fails(rt: HostRuntime) -> Result<(), Fail> {
             _ => 110,
         };
         assert_eq!(rt; ended.outcome, Err(CmdFault::Read), "at {calls}");
-        assert_eq!(rt; Some(printed.as_slice()), PRINTED.get(..length), "at {calls}");
+        assert_eq!(rt;
+            Some(printed.as_slice()),
+            PRINTED.get(..length),
+            "at {calls}"
+        );
         assert_eq!(rt; ended.has_time, calls >= 46, "at {calls}");
     }
     Ok(())
@@ -67,7 +71,11 @@ fn a_write_fails(rt: HostRuntime) -> Result<(), Fail> {
         let mut writer = Sink::new(rt.alloc(), room, 9);
         let ended = play(rt.alloc(), 1000, &mut TRACE.as_slice(), &mut writer)?;
         assert_eq!(rt; ended.outcome, Err(CmdFault::Write), "at {room}");
-        assert_eq!(rt; Some(writer.text.as_slice()), PRINTED.get(..room), "at {room}");
+        assert_eq!(rt;
+            Some(writer.text.as_slice()),
+            PRINTED.get(..room),
+            "at {room}"
+        );
         assert_eq!(rt; ended.has_time, room >= 32, "at {room}");
     }
     Ok(())
@@ -89,7 +97,11 @@ fn a_flush_fails(rt: HostRuntime) -> Result<(), Fail> {
             _ => 110,
         };
         assert_eq!(rt; ended.outcome, Err(CmdFault::Write), "at {flushes}");
-        assert_eq!(rt; Some(writer.text.as_slice()), PRINTED.get(..length), "at {flushes}");
+        assert_eq!(rt;
+            Some(writer.text.as_slice()),
+            PRINTED.get(..length),
+            "at {flushes}"
+        );
         assert_eq!(rt; ended.has_time, flushes > 0, "at {flushes}");
     }
     Ok(())
@@ -126,7 +138,9 @@ const BAD: &str = "x| !tick 1|!tick 0|!tock 1|!write 2001:00|(86401.001000) can0
 #[test]
 fn bad_lines(rt: HostRuntime) -> Result<(), Fail> {
     for line in BAD.split('|') {
-        let trace = format!(in rt.alloc(); "(1.000000) can0 605#2B171000E8030000\n{line}\n!tick 1000\n")?;
+        let trace = format!(in rt.alloc();
+            "(1.000000) can0 605#2B171000E8030000\n{line}\n!tick 1000\n"
+        )?;
         let mut printed = Vec::new(rt.alloc());
         let ended = play(rt.alloc(), 1000, &mut trace.as_bytes(), &mut printed)?;
         assert_eq!(rt; ended.outcome, Err(CmdFault::BadLine(2)), "{line}");

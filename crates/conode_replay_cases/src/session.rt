@@ -88,7 +88,11 @@ fn check_session(rt: &(impl AllocGlobal + Abort), text: &str) -> Result<(), Fail
     let mut printed = Vec::new(alloc);
     let ended = play(alloc, time, &mut session.trace.as_bytes(), &mut printed)?;
     assert!(rt; ended.outcome.is_ok(), "{text}");
-    assert_eq!(rt; str::from_utf8(printed.as_slice())?, session.printed.as_str(), "{text}");
+    assert_eq!(rt;
+        str::from_utf8(printed.as_slice())?,
+        session.printed.as_str(),
+        "{text}"
+    );
     Ok(())
 }
 
