@@ -1,12 +1,10 @@
 //! Devices with as many TPDOs, and as many SDO channels, as there may be.
 
-use crate::device::{are_frames, elapse, frame_of, node_of, shows, take};
-use crate::sheet::sheet_of;
-use co_frame::{Frame, Outbox};
+use crate::scripts::shows;
 use co_node::Node;
+use co_node_scripts::{node_of, sheet_of};
 use co_text::word_digits;
-use std::alloc::Global;
-use std::process::Abort;
+use std::alloc::{AllocError, Global};
 use std::string::String;
 use std::test::Fail;
 
@@ -34,25 +32,24 @@ fn with_tpdos(alloc: Global) -> Result<Node, Fail> {
         )?;
     }
     let text = sheet_of(alloc, table.as_str(), WITH_NUMBER, "")?;
-    node_of(alloc, text.as_str(), 1)
+    Ok(node_of(alloc, text.as_str(), 1)?)
 }
 
-// The abort of a transfer whose time is over, a heartbeat, and all TPDOs, in one tick.
+// The abort of a transfer whose time is over, a heartbeat, and all TPDOs, in one tick: 514 frames.
+const TICK: &str = "\
+000#0105
+605#2000210000000000 = 585#6000210000000000
+!tick 1 = 585#8000210000000405 705#05";
+
 #[test]
 fn most_frames_of_a_tick(rt: HostRuntime) -> Result<(), Fail> {
-    let mut node = with_tpdos(rt.alloc())?;
-    shows(
-        &rt,
-        &mut node,
-        "000#0105\n605#2000210000000000 = 585#6000210000000000",
-    )?;
-    let mut sent = Outbox::new();
-    elapse(&mut node, &mut sent);
-    assert_eq!(rt; sent.len(), 514);
-    let first = sent.as_slice().get(..2).ok_or("too few")?;
-    assert!(rt; are_frames(first, "585#8000210000000405 705#05")?);
-    let tpdo = frame_of("185#00000000")?;
-    assert!(rt; sent.iter().skip(2).all(|frame| *frame == tpdo));
+    let mut script = format!(in rt.alloc(); "{TICK}")?;
+    for _ in 0..512u16 {
+        script.push_str(" 185#00000000")?;
+    }
+    let mut devices = Vec::new(rt.alloc());
+    devices.push(with_tpdos(rt.alloc())?)?;
+    shows(&rt, devices.as_mut_slice(), script.as_str());
     Ok(())
 }
 
@@ -71,69 +68,63 @@ fn with_channels(alloc: Global) -> Result<Node, Fail> {
         )?;
     }
     let text = sheet_of(alloc, table.as_str(), "2100 2", "")?;
-    node_of(alloc, text.as_str(), 1)
+    Ok(node_of(alloc, text.as_str(), 1)?)
 }
 
 // The identifiers of a channel's requests and answers.
-fn ids_of(channel: u8) -> (u16, u16) {
-    match u16::from(channel) {
+fn ids_of(channel: u16) -> (u16, u16) {
+    match channel {
         0 => (0x605, 0x585),
-        number => (0x200 + number, 0x300 + number),
+        number => (number.saturating_add(0x200), number.saturating_add(0x300)),
     }
 }
 
-// A frame of a block download on each channel in turn. What answers it has these data bytes, or nothing answers it.
-fn send_on_all(
-    rt: &impl Abort,
-    node: &mut Node,
-    data: [u8; 8],
-    answer: Option<[u8; 8]>,
-) -> Result<(), Fail> {
-    let mut sent = Outbox::new();
-    for channel in 0..128u8 {
+// A frame with these data on each channel in turn, and what answers it.
+fn push_on_all(script: &mut String, data: &str, answer: &str) -> Result<(), AllocError> {
+    for channel in 0..128u16 {
         let (request, id) = ids_of(channel);
-        take(node, Frame::new(request, &data)?, &mut sent);
-        let is_right = match answer {
-            Some(bytes) => sent.as_slice() == [Frame::new(id, &bytes)?].as_slice(),
-            None => sent.is_empty(),
-        };
-        assert!(rt; is_right, "channel {channel}, {data:?}: {sent:?}");
+        if answer.is_empty() {
+            write!(script, "{request:03X}#{data}\n")?;
+        } else {
+            write!(script, "{request:03X}#{data} = {id:03X}#{answer}\n")?;
+        }
     }
     Ok(())
 }
 
-const ACKNOWLEDGED: Option<[u8; 8]> = Some([0xA2, 127, 127, 0, 0, 0, 0, 0]);
+const ACKNOWLEDGED: &str = "A27F7F0000000000";
 
-// The segments of a sub-block on each channel; `last` is the first byte of the last one.
-fn send_sub_block(rt: &impl Abort, node: &mut Node, last: u8) -> Result<(), Fail> {
+// The segments of a sub-block on each channel; these are the data of the last one.
+fn push_sub_block(alloc: Global, script: &mut String, last: &str) -> Result<(), AllocError> {
     for sequence in 1..=126u8 {
-        send_on_all(rt, node, [sequence, 0, 0, 0, 0, 0, 0, 0], None)?;
+        let data = format!(in alloc; "{sequence:02X}00000000000000")?;
+        push_on_all(script, data.as_str(), "")?;
     }
-    send_on_all(rt, node, [last, 0, 0, 0, 0, 0, 0, 0], ACKNOWLEDGED)
+    push_on_all(script, last, ACKNOWLEDGED)
 }
 
 // All channels hold two sub-blocks at once, and then give up one after another.
+fn push_time_outs(script: &mut String) -> Result<(), AllocError> {
+    for channel in 0..128u16 {
+        write!(script, "held {channel} 1778\n")?;
+    }
+    for channel in 0..128u16 {
+        let (_, id) = ids_of(channel);
+        write!(script, "!tick 1 = {id:03X}#8000210000000405\n")?;
+    }
+    script.push_str("!tick 1\nheld 0 0\nheld 127 0\n")
+}
+
 #[test]
 fn all_channels(rt: HostRuntime) -> Result<(), Fail> {
-    let mut node = with_channels(rt.alloc())?;
-    let begun = Some([0xA0, 0, 0x21, 0, 127, 0, 0, 0]);
-    send_on_all(&rt, &mut node, [0xC0, 0, 0x21, 0, 0, 0, 0, 0], begun)?;
-    send_sub_block(&rt, &mut node, 127)?;
-    send_sub_block(&rt, &mut node, 0xFF)?;
-    for channel in 0..128u8 {
-        assert_eq!(rt; node.held(channel), 1778, "channel {channel}");
-    }
-    let mut sent = Outbox::new();
-    for channel in 0..128u8 {
-        elapse(&mut node, &mut sent);
-        let (_, id) = ids_of(channel);
-        let abort = Frame::new(id, &[0x80, 0, 0x21, 0, 0, 0, 4, 5])?;
-        assert!(rt;
-            sent.as_slice() == [abort].as_slice(),
-            "channel {channel}: {sent:?}"
-        );
-    }
-    elapse(&mut node, &mut sent);
-    assert!(rt; sent.is_empty());
+    let alloc = rt.alloc();
+    let mut script = String::new(alloc);
+    push_on_all(&mut script, "C000210000000000", "A00021007F000000")?;
+    push_sub_block(alloc, &mut script, "7F00000000000000")?;
+    push_sub_block(alloc, &mut script, "FF00000000000000")?;
+    push_time_outs(&mut script)?;
+    let mut devices = Vec::new(alloc);
+    devices.push(with_channels(alloc)?)?;
+    shows(&rt, devices.as_mut_slice(), script.as_str());
     Ok(())
 }

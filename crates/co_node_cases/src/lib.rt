@@ -4,14 +4,8 @@
 #[cfg(test)]
 mod bounds;
 #[cfg(test)]
-mod device;
-#[cfg(test)]
 mod large;
 #[cfg(test)]
-mod pdo;
+mod resets;
 #[cfg(test)]
-mod sdo;
-#[cfg(test)]
-mod sheet;
-#[cfg(test)]
-mod states;
+mod scripts;

@@ -1,0 +1,23 @@
+//! Worked sequences of a whole device, as texts: what comes to it, and what it then sends. The tests of a device run them, and
+//! so does the program that a test refuses memory to.
+#![tactic(auto)]
+
+mod bad_script;
+mod device;
+mod frames;
+mod input_lines;
+mod pdo;
+mod questions;
+mod script;
+mod sdo;
+mod sheet;
+mod states;
+
+pub use bad_script::BadScript;
+pub use device::{elapse, node_by, node_of, sheet_by, take, write};
+pub use frames::{are_frames, frame_of};
+pub use pdo::{RPDOS, TPDOS};
+pub use script::{devices_of, first_wrong};
+pub use sdo::{BLOCKS, SEGMENTED};
+pub use sheet::sheet_of;
+pub use states::{APPLICATION, EMERGENCIES};
