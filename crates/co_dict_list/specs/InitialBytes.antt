@@ -1,4 +1,5 @@
--- The bytes that an entry holds after the start and after a reset (CiA 301, 7.3.2.2.1; CiA 306, DefaultValue and $NODEID).
+-- The bytes that an entry holds after the start and after a reset (CiA 301, 7.3.2.2.1; CiA 306,
+-- DefaultValue, ParameterValue and $NODEID).
 use Rattle.std.specs.Prelude.{ℕ, ◌+◌, ℤ, pos, int_lt, if◌then◌else◌, List, []}
 use Rattle.co_value.specs.Keys.{same_key}
 use Rattle.co_value.specs.declared.data_type.DataType.{DataType}

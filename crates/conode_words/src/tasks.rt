@@ -9,7 +9,7 @@ pub enum Task<'a> {
     Check {
         /// The sheet's path.
         sheet: &'a str,
-        /// The node-ID that the sheet's dictionary is built for, 1 to 127; `None`: it isn't built.
+        /// The node-ID that the sheet's dictionary is built for, 1 to 127; `None`: the sheet's own, if it has one.
         node: Option<u8>,
         /// The room of each string that may be written, in bytes.
         strings: u16,
