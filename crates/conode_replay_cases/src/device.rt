@@ -72,6 +72,7 @@ const SECTIONS: &str = "\
 2002 7 rw PDOMapping=1
 2003 6 rw PDOMapping=1 HighLimit=1000
 2004 6 wo
+2005 7 rw 1 ParameterValue=0x99
 2100 2
 ";
 

@@ -3,13 +3,19 @@
 use crate::session::check;
 use std::test::Fail;
 
-// What one frame answers, and segmented transfers on one channel and on two at once.
+// What one frame answers, an entry that begins with its ParameterValue, and segmented transfers on one channel and on two at once.
 const SEGMENTED: &str = "\
 new 1000
 ; in 0, out 1, ticks 0
 new 1000
 605#4000100000000000 = 585#4300100091010000
 ; in 1, out 2, ticks 0
+new 1000
+605#4005200000000000 = 585#4305200099000000
+605#2305200007000000 = 585#6005200000000000
+000#8105 = 705#00
+605#4005200000000000 = 585#4305200099000000
+; in 4, out 5, ticks 0
 new 1000
 605#210120000A000000 = 585#6001200000000000
 605#0030313233343536 = 585#2000000000000000
