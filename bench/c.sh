@@ -1,12 +1,11 @@
 #!/bin/sh
 # Gives a device a million frames and a million ticks through the calls of bafokun.h, and the same by Node::step in Rattle:
-# an SDO upload of 1000h, and a SYNC where no TPDO waits for it. The best of five runs of each, in nanoseconds for one
+# an SDO upload of 1000h, and a SYNC where no TPDO waits for it. In turn, the best of nine runs of each, in nanoseconds for one
 # input; status 1 where a call from C takes more than 1.1 times as long. Before it, the memory that a device holds, and the
 # most that its build held, of three sheets.
 set -eu
-root=$(CDPATH='' cd -- "$(dirname -- "$(readlink -f -- "$0")")/.." && pwd)
-folder=$(mktemp -d)
-trap 'rm -rf "$folder"' EXIT
+# shellcheck source=bench/device.sh
+. "$(dirname "$(readlink -f "$0")")/device.sh"
 
 "$root/bin/libbafokun" "$folder"
 cat > "$folder/million.c" << 'END'
@@ -104,86 +103,67 @@ int main(void)
 END
 ${CC:-cc} -std=c99 -O2 -Wall -Wextra -I "$folder" -Wl,--wrap=malloc,--wrap=realloc,--wrap=free -o "$folder/memory" \
     "$folder/memory.c" "$folder/libbafokun.a"
-eval "$(sed -n '/^greatest_sheet() {/,/^}/p' "$root/bench/node.sh")"
-greatest_sheet > "$folder/greatest.eds"
+"$root/bench/greatest_device.sh" > "$folder/greatest.eds"
 for sheet in "$root/examples/device/sensor.eds" "$root/examples/io-module.eds" "$folder/greatest.eds"; do
     printf '%s: ' "$(basename "$sheet" .eds)"
     "$folder/memory" < "$sheet"
 done
 
-mkdir -p "$folder/crates/million/src"
-cp "$root/HANDLES" "$folder"
-{ "$root/bench/below.sh" co_node; echo 'million: co_node co_node_inputs co_dict_list co_sheet co_frame'; } > "$folder/crates.txt"
-"$root/bench/below.sh" co_node | cut -d: -f1 | while read -r crate; do cp -R "$root/crates/$crate" "$folder/crates"; done
+new_crate million co_node 'co_node co_node_inputs co_dict_list co_sheet co_frame anyhow'
+add_device million
+add_repeat million
 cat > "$folder/crates/million/src/main.rt" << 'END'
 //! A million inputs of each kind to the device of a data sheet.
 #![tactic(auto)]
 
+mod device;
+mod repeat;
+
 use anyhow::{Context, Result};
-use co_dict_list::Limits;
 use co_frame::{Frame, Outbox};
-use co_node::{Config, Node};
-use co_node_inputs::{AppEvent, Input};
-use co_sheet::read;
-use std::alloc::Global;
+use co_node::Node;
+use device::built;
+use repeat::{repeat_frame, repeat_tick};
 use std::io;
 use std::time::Instant;
 
-// a frame, else an event of the application, else a tick
-fn step(node: &mut Node, frame: Option<Frame>, event: Option<AppEvent<'_>>, sent: &mut Outbox) {
-    match (frame, event) {
-        (Some(frame), _) => node.step(Input::Frame(frame), sent),
-        (None, Some(event)) => node.step(Input::App(event), sent),
-        (None, None) => node.step(Input::Tick, sent),
-    }
-}
+const COUNT: u32 = 1_000_000;
 
-fn repeat(node: &mut Node, frame: Option<Frame>, sent: &mut Outbox) {
-    for _ in 0..1_000_000 {
-        step(node, frame, None, sent);
-    }
-}
-
-fn measure(rt: &HostRuntime, name: &str, node: &mut Node, frame: Option<Frame>, sent: &mut Outbox) -> Result<()> {
-    let begin = Instant::now(rt)?;
-    repeat(node, frame, sent);
-    println!(rt; "{name} {}", begin.elapsed(rt)?.as_nanos() / 1_000_000)?;
+// prints the nanoseconds that one of so many took, since then
+fn print_time(rt: &HostRuntime, name: &str, begin: &Instant) -> Result<()> {
+    println!(rt; "{name} {}", begin.elapsed(rt)?.as_nanos() / u128::from(COUNT))?;
     Ok(())
 }
 
+fn measure(rt: &HostRuntime, name: &str, node: &mut Node, frame: &Frame, sent: &mut Outbox) -> Result<()> {
+    let begin = Instant::now(rt)?;
+    repeat_frame(node, frame, COUNT, sent);
+    print_time(rt, name, &begin)
+}
+
 fn run(rt: &HostRuntime) -> Result<()> {
-    let alloc: Global = rt.alloc();
-    let text = io::read_to_string(alloc, rt.stdin())?;
-    let sheet = read(alloc, text.as_bytes()).ok().context("no sheet")?;
-    let config = Config {
-        limits: Limits {
-            strings: 16,
-            domains: 889,
-            own: &[],
-        },
-        time: 65535,
-    };
-    let mut node = Node::build(alloc, &sheet, 5, &config).ok().context("no device")?;
+    let text = io::read_to_string(rt.alloc(), rt.stdin())?;
+    let mut node = built(rt.alloc(), text.as_str(), 65535)?;
     let mut sent = Outbox::new();
     let upload = Frame::new(0x605, &[0x40, 0x00, 0x10, 0x00, 0, 0, 0, 0]).ok().context("no frame")?;
     let sync = Frame::new(0x80, &[]).ok().context("no frame")?;
-    measure(rt, "upload", &mut node, Some(upload), &mut sent)?;
-    measure(rt, "sync", &mut node, Some(sync), &mut sent)?;
-    measure(rt, "tick", &mut node, None, &mut sent)
+    measure(rt, "upload", &mut node, &upload, &mut sent)?;
+    measure(rt, "sync", &mut node, &sync, &mut sent)?;
+    let begin = Instant::now(rt)?;
+    repeat_tick(&mut node, COUNT, &mut sent);
+    print_time(rt, "tick", &begin)
 }
 
 fn main(rt: HostRuntime) -> Result<()> {
     run(&rt)
 }
 END
-sed -i 's/^million: /&anyhow /' "$folder/crates.txt"
-(cd "$folder/crates/million" && rt run < "$root/bench/pdo-device.eds" > "$folder/log" 2>&1) || { cat "$folder/log" >&2; exit 1; }
+build_crate million "$root/bench/pdo-device.eds"
 
-for program in "$folder/in_c" "$folder/crates/million/out/million"; do
-    for _ in 1 2 3 4 5; do "$program" < "$root/bench/pdo-device.eds"; done |
-        awk '!($1 in best) || $2 < best[$1] { best[$1] = $2 } END { for (name in best) print name, best[name] }' |
-        sort > "$program.best"
+for _ in 1 2 3 4 5 6 7 8 9; do
+    for name in "$folder/in_c" "$program"; do "$name" < "$root/bench/pdo-device.eds" >> "$name.all"; done
 done
-join "$folder/in_c.best" "$folder/crates/million/out/million.best" |
+for name in "$folder/in_c" "$program"; do smallest < "$name.all" | sort > "$name.best"; done
+join "$folder/in_c.best" "$program.best" |
     awk '{ ratio = $2 / $3; if (ratio > 1.1) bad = 1; printf "%-7s %5d ns from C, %5d ns in Rattle: %.2f\n", $1, $2, $3, ratio }
          END { exit bad }'

@@ -2,25 +2,10 @@
 # Downloads 65,535 bytes through an SDO channel, segmented and by blocks, and copies the same frames into a list. Prints
 # nanoseconds a segment. Status 1 where a transfer fails.
 set -eu
-root=$(CDPATH='' cd -- "$(dirname -- "$(readlink -f -- "$0")")/.." && pwd)
-folder=$(mktemp -d)
-trap 'rm -rf "$folder"' EXIT
-program=$folder/crates/channel_time/out/channel_time
+# shellcheck source=bench/crate.sh
+. "$(dirname "$(readlink -f "$0")")/crate.sh"
 
-# five runs of the program on a sheet; of each number that it prints the smallest, as `name number` on a line
-best_of_five() {
-    for _ in 1 2 3 4 5; do "$program" < "$1"; done | awk '
-        { for (i = 1; i < NF; i += 2) if (!($i in best) || $(i + 1) < best[$i]) best[$i] = $(i + 1) }
-        END { for (name in best) print name, best[name] }'
-}
-
-mkdir -p "$folder/crates/channel_time/src"
-cp "$root/HANDLES" "$folder"
-{
-    "$root/bench/below.sh" co_sdo co_dict_list
-    echo 'channel_time: co_value co_frame co_sheet co_dict co_dict_list co_sdo arrayvec anyhow'
-} > "$folder/crates.txt"
-"$root/bench/below.sh" co_sdo co_dict_list | cut -d: -f1 | while read -r crate; do cp -R "$root/crates/$crate" "$folder/crates"; done
+new_crate channel_time 'co_sdo co_dict_list' 'co_value co_frame co_sheet co_dict co_dict_list co_sdo arrayvec anyhow'
 cat > "$folder/crates/channel_time/src/main.rt" << 'END'
 //! Downloads 65,535 bytes into the domain 2000h of the data sheet on standard input, segmented and by blocks, and copies
 //! the same frames into a list. Prints how many nanoseconds each took, and how many segments that were.
@@ -108,7 +93,7 @@ fn segment_bytes(at: u16) -> [u8; 7] {
 fn plain(alloc: Global) -> Result<Vec<Frame>, AllocError> {
     let mut frames = Vec::new(alloc);
     let size = Some(u32::from(SIZE));
-    frames.push(SdoRequest::DownloadBegin { key: DATA, size }.write(REQUEST))?;
+    frames.push(SdoRequest::DownloadInitiate { key: DATA, size }.write(REQUEST))?;
     for at in 0..SEGMENTS {
         let last = at == SEGMENTS - 1;
         let mut data = ArrayVec::from(segment_bytes(at));
@@ -124,7 +109,7 @@ fn plain(alloc: Global) -> Result<Vec<Frame>, AllocError> {
 fn block(alloc: Global) -> Result<Vec<Frame>, AllocError> {
     let mut frames = Vec::new(alloc);
     let size = Some(u32::from(SIZE));
-    frames.push(SdoRequest::BlockDownloadBegin { key: DATA, size }.write(REQUEST))?;
+    frames.push(SdoRequest::BlockDownloadInitiate { key: DATA, size }.write(REQUEST))?;
     for at in 0..SEGMENTS {
         let last = at == SEGMENTS - 1;
         let sequence = (at % 127) as u8 + 1;
@@ -221,9 +206,9 @@ ObjectType=2
 DataType=15
 AccessType=rw
 END
-(cd "$folder/crates/channel_time" && rt run < "$folder/domain.eds" > "$folder/log" 2>&1) || { cat "$folder/log" >&2; exit 1; }
+build_crate channel_time "$folder/domain.eds"
 
-best_of_five "$folder/domain.eds" > "$folder/best"
+for _ in 1 2 3 4 5; do "$program" < "$folder/domain.eds"; done | xargs -n 2 | smallest > "$folder/best"
 awk '
     { best[$1] = $2 }
     function per_segment(name) { return best[name] / best["segments"] }

@@ -6,11 +6,8 @@
 #     decode.sh [PROGRAM]      PROGRAM: another conode, as one of an earlier commit, which decodes the same in the same run
 set -eu
 earlier=${1:-}
-root=$(CDPATH='' cd -- "$(dirname -- "$(readlink -f -- "$0")")/.." && pwd)
-folder=$(mktemp -d)
-trap 'rm -rf "$folder"' EXIT
-"$root/bin/conode" --help > /dev/null
-program=$root/crates/conode/out/conode
+# shellcheck source=bench/program.sh
+. "$(dirname "$(readlink -f "$0")")/program.sh"
 sheet=$root/examples/temperature-sensor.eds
 
 # so many frames: of 100 there are 10 SYNC, 66 PDO, 14 SDO, 6 heartbeats, 3 EMCY and an NMT
@@ -55,10 +52,6 @@ timed() {
     end=$(date +%s%N)
     awk -v ns=$((end - start)) 'BEGIN { printf "%.3f\n", ns / 1e9 }' >> "$file"
 }
-
-best() { sort -n "$folder/$1" | head -n 1; }
-
-ratio() { awk -v a="$1" -v b="$2" 'BEGIN { printf "%.2f\n", a / b }'; }
 
 # how many instructions a frame more takes a program: of 100,000 frames and of 200,000
 instructions() {

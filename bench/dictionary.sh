@@ -4,10 +4,8 @@
 # Rust's BTreeMap<Key, Vec<u8>> and in an indexed Vec<Vec<u8>>, in the same run. Status 1 where an image of 16,384 entries takes
 # more than 2.5 times as long to build as one of half as many.
 set -eu
-root=$(CDPATH='' cd -- "$(dirname -- "$(readlink -f -- "$0")")/.." && pwd)
-folder=$(mktemp -d)
-trap 'rm -rf "$folder"' EXIT
-program=$folder/crates/dict_time/out/dict_time
+# shellcheck source=bench/crate.sh
+. "$(dirname "$(readlink -f "$0")")/crate.sh"
 runs=${1:-9}
 
 # A data sheet of so many entries: the four of the mandatory objects, and ARRAYs of at most 256 entries.
@@ -40,18 +38,10 @@ best_of() {
     for _ in $(seq "$runs"); do
         "$program" < "$1"
         "$folder/in_rust" "$2"
-    done | awk '
-        !($1 in best) || $2 < best[$1] { best[$1] = $2 }
-        END { for (name in best) print name, best[name] }'
+    done | smallest
 }
 
-mkdir -p "$folder/crates/dict_time/src"
-cp "$root/HANDLES" "$folder"
-{
-    "$root/bench/below.sh" co_dict_image
-    echo 'dict_time: co_value co_sheet co_dict co_dict_list co_dict_image anyhow'
-} > "$folder/crates.txt"
-"$root/bench/below.sh" co_dict_image | cut -d: -f1 | while read -r crate; do cp -R "$root/crates/$crate" "$folder/crates"; done
+new_crate dict_time co_dict_image 'co_value co_sheet co_dict co_dict_list co_dict_image anyhow'
 cat > "$folder/in_rust.rs" << 'END'
 //! The same calls on Rust's ordered map, and on a plain vector, of numbers of four bytes with the keys of the sheet.
 use std::collections::BTreeMap;
@@ -382,7 +372,7 @@ fn main(rt: HostRuntime) -> Result<()> {
 END
 make_sheet 8192 > "$folder/half.eds"
 make_sheet 16384 > "$folder/whole.eds"
-(cd "$folder/crates/dict_time" && rt run < "$folder/half.eds" > "$folder/log" 2>&1) || { cat "$folder/log" >&2; exit 1; }
+build_crate dict_time "$folder/half.eds"
 
 best_of "$folder/half.eds" 8192 > "$folder/half"
 best_of "$folder/whole.eds" 16384 > "$folder/whole"

@@ -3,10 +3,8 @@
 # and a tick, on the sheet of the I/O module and on one with 128 SDO channels, 512 TPDOs and 127 monitored nodes; beside the
 # device in node_by_hand, in safe Rust. Status 1 where the two send different frames.
 set -eu
-root=$(CDPATH='' cd -- "$(dirname -- "$(readlink -f -- "$0")")/.." && pwd)
-folder=$(mktemp -d)
-trap 'rm -rf "$folder"' EXIT
-program=$folder/crates/node_time/out/node_time
+# shellcheck source=bench/device.sh
+. "$(dirname "$(readlink -f "$0")")/device.sh"
 
 # Five runs of a program on a sheet; of each number that it prints the smallest, as `name number` on a line. The frames that
 # the last run sent are left in a file.
@@ -14,10 +12,7 @@ best_of_five() {
     for _ in 1 2 3 4 5; do
         "$1" < "$2" > "$folder/printed"
         sed '/^;/d' "$folder/printed"
-    done | awk '
-        !($1 in best) { name[++count] = $1 }
-        !($1 in best) || $2 < best[$1] { best[$1] = $2 }
-        END { for (i = 1; i <= count; i++) print name[i], best[name[i]] }' > "$3"
+    done | smallest > "$3"
     sed -n '/^;/p' "$folder/printed" > "$3.frames"
 }
 
@@ -68,28 +63,26 @@ greatest_sheet() {
     echo ";!tick 2000 tick"
 }
 
-mkdir -p "$folder/crates/node_time/src"
-cp "$root/HANDLES" "$folder"
-{
-    "$root/bench/below.sh" co_node conode_trace
-    echo 'node_time: co_node co_node_inputs co_dict_list co_sheet conode_trace co_frame co_text arrayvec anyhow'
-} > "$folder/crates.txt"
-"$root/bench/below.sh" co_node conode_trace | cut -d: -f1 | while read -r crate; do cp -R "$root/crates/$crate" "$folder/crates"; done
+new_crate node_time 'co_node conode_trace' \
+    'co_node co_node_inputs co_dict_list co_sheet conode_trace co_frame co_text arrayvec anyhow'
+add_device node_time
+add_repeat node_time
 cat > "$folder/crates/node_time/src/main.rt" << 'END'
 //! Runs a device on the data sheet on standard input. A line `;!NAME COUNT FRAME` of the sheet, which is a comment to its
 //! reader, hands that frame so often to the device, or `tick` so many ticks, and prints the nanoseconds that one took, unless
 //! the name is `-`, and the frames that the last one gave.
 #![tactic(auto)]
 
+mod device;
+mod repeat;
+
 use anyhow::{Context, Result};
-use co_dict_list::Limits;
 use co_frame::{Frame, Outbox};
-use co_node::{Config, Node};
-use co_node_inputs::{AppEvent, Input};
-use co_sheet::read;
+use co_node::Node;
 use co_text::HexPairs;
 use conode_trace::push_frame;
-use std::alloc::Global;
+use device::built;
+use repeat::{repeat_frame, repeat_tick};
 use std::io;
 use std::time::Instant;
 
@@ -105,27 +98,6 @@ fn frame_of(text: &str) -> Option<Frame> {
         }
     }
     Frame::new(id, bytes.get(..length)?).ok()
-}
-
-// a frame, else an event of the application, else a tick
-fn step(node: &mut Node, frame: Option<Frame>, event: Option<AppEvent<'_>>, sent: &mut Outbox) {
-    match (frame, event) {
-        (Some(frame), _) => node.step(Input::Frame(frame), sent),
-        (None, Some(event)) => node.step(Input::App(event), sent),
-        (None, None) => node.step(Input::Tick, sent),
-    }
-}
-
-fn repeat_frame(node: &mut Node, frame: &Frame, count: u32, sent: &mut Outbox) {
-    for _ in 0..count {
-        step(node, Some(*frame), None, sent);
-    }
-}
-
-fn repeat_tick(node: &mut Node, count: u32, sent: &mut Outbox) {
-    for _ in 0..count {
-        step(node, None, None, sent);
-    }
 }
 
 // the nanoseconds that one takes of so many frames or ticks
@@ -168,18 +140,8 @@ fn run_line(rt: &HostRuntime, node: &mut Node, line: &str, sent: &mut Outbox) ->
 }
 
 fn run(rt: &HostRuntime) -> Result<()> {
-    let alloc: Global = rt.alloc();
-    let text = io::read_to_string(alloc, rt.stdin())?;
-    let sheet = read(alloc, text.as_bytes()).ok().context("no sheet")?;
-    let config = Config {
-        limits: Limits {
-            strings: 16,
-            domains: 889,
-            own: &[],
-        },
-        time: 65535,
-    };
-    let mut node = Node::build(alloc, &sheet, 5, &config).ok().context("no device")?;
+    let text = io::read_to_string(rt.alloc(), rt.stdin())?;
+    let mut node = built(rt.alloc(), text.as_str(), 65535)?;
     let mut sent = Outbox::new();
     for line in text.lines() {
         if let Some(words) = line.strip_prefix(";!") {
@@ -196,7 +158,7 @@ END
 module_sheet > "$folder/module.eds"
 greatest_sheet > "$folder/greatest.eds"
 rustc -O --edition 2024 -o "$folder/by_hand" "$root/bench/node_by_hand/main.rs"
-(cd "$folder/crates/node_time" && rt run < "$folder/module.eds" > "$folder/log" 2>&1) || { cat "$folder/log" >&2; exit 1; }
+build_crate node_time "$folder/module.eds"
 
 for sheet in module greatest; do
     best_of_five "$program" "$folder/$sheet.eds" "$folder/ours"

@@ -2,9 +2,8 @@
 # Checks a data sheet of 1 MiB and one of half its size, and reads the first by the C library inih and by Python's
 # configparser, side by side. Status 1 where the first takes more than 2.5 times as long as the second.
 set -eu
-root=$(CDPATH='' cd -- "$(dirname -- "$(readlink -f -- "$0")")/.." && pwd)
-folder=$(mktemp -d)
-trap 'rm -rf "$folder"' EXIT
+# shellcheck source=bench/program.sh
+. "$(dirname "$(readlink -f "$0")")/program.sh"
 
 # A data sheet of at most so many bytes: the mandatory objects, and ARRAYs with as many sub-indices as there is room for.
 # Its list of ARRAYs stands last. On standard error: its objects and its entries.
@@ -39,22 +38,9 @@ make_sheet() {
         }'
 }
 
-# the best of five runs of a command, in microseconds
-best_of_five() {
-    best=
-    for _ in 1 2 3 4 5; do
-        begin=$(date +%s%N)
-        "$@" > "$folder/out" || true
-        end=$(date +%s%N)
-        spent=$(((end - begin) / 1000))
-        if [ -z "$best" ] || [ "$spent" -lt "$best" ]; then best=$spent; fi
-    done
-    echo "$best"
-}
-
 # checks a sheet, which has to hold what it was made of, and sets `spent_best`
 measure() {
-    spent_best=$(best_of_five "$root/crates/conode/out/conode" check "$2")
+    spent_best=$(best_of 5 "$program" check "$2")
     [ "$(cat "$folder/out")" = "ok: $3, 0 notes" ] || { echo "not ok: $3, but $(cat "$folder/out")" >&2; exit 1; }
     awk -v name="$1" -v spent="$spent_best" -v bytes="$(wc -c < "$2")" -v held="$3" \
         'BEGIN { printf "%-13s %8.1f ms for %d bytes, %s\n", name ":", spent / 1000, bytes, held }'
@@ -66,9 +52,6 @@ tiny=$folder/tiny.eds
 in_whole=$(make_sheet 1048576 2>&1 > "$whole")
 in_half=$(make_sheet $(($(wc -c < "$whole") / 2)) 2>&1 > "$half")
 in_tiny=$(make_sheet 0 2>&1 > "$tiny")
-
-# builds the program if need be
-"$root/bin/conode" check "$tiny" > /dev/null
 
 measure "conode check" "$tiny" "$in_tiny"
 measure "conode check" "$half" "$in_half"
@@ -104,7 +87,7 @@ int main(int argc, char **argv) {
 END
 if cc -O2 -o "$folder/inih" "$folder/inih.c" -linih 2> "$folder/cc"; then
     "$folder/inih" "$whole" > "$folder/out" || { echo "inih refuses the text" >&2; exit 1; }
-    time_of_inih=$(best_of_five "$folder/inih" "$whole")
+    time_of_inih=$(best_of 5 "$folder/inih" "$whole")
     awk -v a="$time_of_whole" -v b="$time_of_inih" \
         'BEGIN { printf "inih:         %8.1f ms for the same text, sections, names and values hashed\nratio:        %8.2f (aim: at most 1.5)\n", b / 1000, a / b }'
 else

@@ -7,34 +7,26 @@
 set -eu
 inputs=${1:-100000000}
 seed=${2:-1}
-root=$(CDPATH='' cd -- "$(dirname -- "$(readlink -f -- "$0")")/.." && pwd)
-folder=$(mktemp -d)
-trap 'rm -rf "$folder"' EXIT
-program=$folder/crates/soak/out/soak
+# shellcheck source=bench/device.sh
+. "$(dirname "$(readlink -f "$0")")/device.sh"
 
-mkdir -p "$folder/crates/soak/src"
-cp "$root/HANDLES" "$folder"
-{
-    "$root/bench/below.sh" co_node
-    echo 'soak: co_node co_node_inputs co_dict_list co_sheet co_frame co_value arrayvec anyhow'
-} > "$folder/crates.txt"
-"$root/bench/below.sh" co_node | cut -d: -f1 | while read -r crate; do cp -R "$root/crates/$crate" "$folder/crates"; done
+new_crate soak co_node 'co_node co_node_inputs co_dict_list co_sheet co_frame co_value arrayvec anyhow'
+add_device soak
 cat > "$folder/crates/soak/src/main.rt" << 'END'
 //! Gives the device of the data sheet on standard input random inputs. The sheet's last line, a comment, is
 //! `;!soak INPUTS SEED`.
 #![tactic(auto)]
 
+mod device;
 mod random;
 
 use anyhow::{Context, Result, bail};
-use co_dict_list::Limits;
 use co_frame::{Frame, Outbox};
-use co_node::{Config, Node};
-use co_node_inputs::{AppEvent, Input};
-use co_sheet::read;
+use co_node::Node;
+use co_node_inputs::AppEvent;
 use co_value::Key;
+use device::{built, step};
 use random::Random;
-use std::alloc::Global;
 use std::io;
 
 // what was sent: how many frames, a sum of their identifiers and bytes, and the most frames of one input
@@ -43,15 +35,6 @@ struct Totals {
     frames: u64,
     sum: u64,
     most: usize,
-}
-
-// a frame, else an event of the application, else a tick
-fn step(node: &mut Node, frame: Option<Frame>, event: Option<AppEvent<'_>>, sent: &mut Outbox) {
-    match (frame, event) {
-        (Some(frame), _) => node.step(Input::Frame(frame), sent),
-        (None, Some(event)) => node.step(Input::App(event), sent),
-        (None, None) => node.step(Input::Tick, sent),
-    }
 }
 
 // a frame with this identifier and as many of these bytes
@@ -172,15 +155,6 @@ fn soak(rt: &HostRuntime, node: &mut Node, inputs: u64, seed: u64) -> Result<()>
     Ok(())
 }
 
-fn device(alloc: Global, text: &str) -> Result<Node> {
-    let sheet = read(alloc, text.as_bytes()).ok().context("no sheet")?;
-    let config = Config {
-        limits: Limits { strings: 16, domains: 889, own: &[] },
-        time: 100,
-    };
-    Node::build(alloc, &sheet, 5, &config).ok().context("no device")
-}
-
 fn run(rt: &HostRuntime) -> Result<()> {
     let text = io::read_to_string(rt.alloc(), rt.stdin())?;
     let line = text.lines().last().context("no line")?;
@@ -188,7 +162,7 @@ fn run(rt: &HostRuntime) -> Result<()> {
     let (inputs, seed) = words.split_once(' ').context("no seed")?;
     let inputs: u64 = inputs.parse().ok().context("no number")?;
     let seed: u64 = seed.parse().ok().context("no number")?;
-    let mut node = device(rt.alloc(), text.as_str())?;
+    let mut node = built(rt.alloc(), text.as_str(), 100)?;
     soak(rt, &mut node, inputs, seed)
 }
 
@@ -290,7 +264,7 @@ run() {
 cp "$root/bench/pdo-device.eds" "$folder/large.eds"
 "$root/bench/greatest_device.sh" > "$folder/greatest.eds"
 { cat "$folder/large.eds"; echo ";!soak 1000 $seed"; } > "$folder/sheet"
-(cd "$folder/crates/soak" && rt run < "$folder/sheet" > "$folder/log" 2>&1) || { cat "$folder/log" >&2; exit 1; }
+build_crate soak "$folder/sheet"
 
 status=0
 for sheet in large greatest; do

@@ -300,6 +300,47 @@ static void test_faults(void)
     check(bafokun_node_id(&node) == 0, "faults", "the place is empty then");
 }
 
+/* The entries of 1000h to 2FFFh with sub-indices up to 8 that two devices have alike; SIZE_MAX where one differs. */
+static size_t same_entries(bafokun_node *one, bafokun_node *other)
+{
+    unsigned index, sub;
+    size_t count = 0;
+    for (index = 0x1000; index < 0x3000; index++)
+        for (sub = 0; sub <= 8; sub++) {
+            uint8_t a[64], b[64];
+            size_t of_a = 0, of_b = 0;
+            bool has_a = bafokun_value(one, (uint16_t)index, (uint8_t)sub, a, sizeof a, &of_a);
+            bool has_b = bafokun_value(other, (uint16_t)index, (uint8_t)sub, b, sizeof b, &of_b);
+            if (has_a != has_b || of_a != of_b || of_a > sizeof a) return SIZE_MAX;
+            if (has_a && memcmp(a, b, of_a) != 0) return SIZE_MAX;
+            count += has_a;
+        }
+    return count;
+}
+
+/* An NMT reset of the node gives all 46 entries of the sheet the bytes that they have after a build. */
+static void test_reset(void)
+{
+    static const char *const lines[] = {
+        "605#23022000EFBEADDE = 585#6002200000000000",
+        "605#2B171000E8030000 = 585#6017100000000000",
+        "write 2003:00 1E8",
+        "080#01 = 085#4082110000000000",
+        NULL
+    };
+    const char *const *line = lines;
+    bafokun_node used = BAFOKUN_EMPTY, fresh = BAFOKUN_EMPTY;
+    bafokun_fault fault;
+    check(bafokun_build(&used, sheet, strlen(sheet), 5, &config, &fault), "reset", "build");
+    check(bafokun_build(&fresh, sheet, strlen(sheet), 5, &config, &fault), "reset", "build another");
+    for (; *line; line++) check(run_line(&used, *line), "reset", *line);
+    check(same_entries(&used, &fresh) == SIZE_MAX, "reset", "entries differ");
+    check(run_line(&used, "000#8105 = 705#00"), "reset", "boot-up");
+    check(same_entries(&used, &fresh) == 46, "reset", "all entries are as after the build");
+    bafokun_free(&used);
+    bafokun_free(&fresh);
+}
+
 static void test_small_arrays(void)
 {
     bafokun_node node = BAFOKUN_EMPTY;
@@ -401,6 +442,7 @@ int main(int argc, char **argv)
     run("SYNC length and reset", "", sync_and_reset);
     run("application", "", application);
     test_faults();
+    test_reset();
     test_small_arrays();
     test_empty_place();
     test_refused_memory();

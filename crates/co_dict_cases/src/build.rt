@@ -1,7 +1,8 @@
 //! Dictionaries that a data sheet makes, and the faults of those that it doesn't.
 
-use crate::sheet::{LARGE, LIMITS, built};
+use crate::sheet::{LARGE, LIMITS, SheetStore, built};
 use co_dict::ObjectStore;
+use co_dict_image::ImageStore;
 use co_dict_list::{Limits, ListStore};
 use co_sheet::read;
 use co_value::Key;
@@ -30,17 +31,26 @@ const BUILDS: &str = "\
 5|build fault 5 BadMapping 1A00:00|[1A00sub0]/DataType=5/AccessType=rw/DefaultValue=1/>[1A00sub0]/DataType=5/AccessType=rw/DefaultValue=2/
 5|build fault 5 BadMapping 1600:00|[1A00sub0]/DataType=5/AccessType=rw/DefaultValue=1/>[1A00sub0]/DataType=5/AccessType=rw/DefaultValue=2/;[1600sub0]/DataType=5/AccessType=rw/DefaultValue=1/>[1600sub0]/DataType=5/AccessType=rw/DefaultValue=3/";
 
-#[test]
-fn faults(rt: HostRuntime) -> Result<(), Fail> {
+/// The first line that a store answers otherwise.
+fn other_build<S: SheetStore>(alloc: Global) -> Result<Option<&'static str>, Fail> {
     for line in BUILDS.lines() {
         let (node_id, rest) = line.split_once('|').ok_or("no node-ID")?;
         let (expected, changes) = rest.split_once('|').ok_or("no answer")?;
-        let answered = match built(rt.alloc(), changes, node_id.parse()?, &LIMITS)? {
-            Ok(_) => format!(in rt.alloc(); "ok")?,
-            Err(fault) => format!(in rt.alloc(); "{fault}")?,
+        let answered = match built::<S>(alloc, changes, node_id.parse()?, &LIMITS)? {
+            Ok(_) => format!(in alloc; "ok")?,
+            Err(fault) => format!(in alloc; "{fault}")?,
         };
-        assert_eq!(rt; answered.as_str(), expected, "{line}");
+        if answered.as_str() != expected {
+            return Ok(Some(line));
+        }
     }
+    Ok(None)
+}
+
+#[test]
+fn faults(rt: HostRuntime) -> Result<(), Fail> {
+    assert_eq!(rt; other_build::<ListStore>(rt.alloc())?, None);
+    assert_eq!(rt; other_build::<ImageStore>(rt.alloc())?, None);
     Ok(())
 }
 
@@ -61,31 +71,42 @@ fn sheet_of(alloc: Global, count: u16, data_type: u8) -> Result<String, Fail> {
     Ok(text)
 }
 
-/// 16,384 entries and 16,777,216 bytes of room are built; more is answered with TooMany, and that without the room.
-#[test]
-fn greatest_dictionaries(rt: HostRuntime) -> Result<(), Fail> {
+/// The number of the fault of a sheet of so many entries more, 0 where it is built.
+fn fault_of<S: SheetStore>(alloc: Global, count: u16, data_type: u8) -> Result<u8, Fail> {
     let limits = Limits {
         strings: 0,
         domains: 65_535,
         own: &[],
     };
+    let text = sheet_of(alloc, count, data_type)?;
+    let sheet = read(alloc, text.as_bytes())?;
+    match S::of_sheet(alloc, &sheet, 1, &limits) {
+        Ok(_) => Ok(0),
+        Err(fault) => Ok(fault.number()),
+    }
+}
+
+/// Four entries are built, and so are 16,384 entries and 16,777,216 bytes of room; more is answered with TooMany, and that
+/// without the room.
+#[test]
+fn greatest_dictionaries(rt: HostRuntime) -> Result<(), Fail> {
     for (count, data_type, number) in [
+        (0, 5, 0),
         (16_380, 5, 0),
         (16_381, 5, 6),
         (256, 15, 0),
         (257, 15, 6),
         (16_000, 15, 6),
     ] {
-        let text = sheet_of(rt.alloc(), count, data_type)?;
-        let sheet = read(rt.alloc(), text.as_bytes())?;
-        let fault = ListStore::build(rt.alloc(), &sheet, 1, &limits).err();
-        assert_eq!(rt; fault.map_or(0, |fault| fault.number()), number, "{count}");
+        let list = fault_of::<ListStore>(rt.alloc(), count, data_type)?;
+        let image = fault_of::<ImageStore>(rt.alloc(), count, data_type)?;
+        assert!(rt; list == number && image == number, "{count}");
     }
     Ok(())
 }
 
 /// The room of an entry.
-fn room(store: &ListStore, index: u16) -> u16 {
+fn room<S: ObjectStore>(store: &S, index: u16) -> u16 {
     store
         .row(Key { index, sub: 0 })
         .map_or(0, |row| row.capacity)
@@ -105,22 +126,34 @@ fn limits_of_strings_and_domains(rt: HostRuntime) -> Result<(), Fail> {
     };
     let longer = "[2001]/DataType=9/>[2001]/DataType=9/DefaultValue=four/";
     for (changes, string) in [("", 3), (longer, 4)] {
-        let store = built(rt.alloc(), changes, 5, &own)??;
-        assert_eq!(rt; room(&store, 0x2001), string);
-        assert!(rt; room(&store, 0x2003) == 2 && room(&store, 0x2100) == 7);
-        assert_eq!(rt; store.greatest_capacity(), 7);
+        let list: ListStore = built(rt.alloc(), changes, 5, &own)??;
+        let image: ImageStore = built(rt.alloc(), changes, 5, &own)??;
+        assert!(rt; room(&list, 0x2001) == string && room(&image, 0x2001) == string);
+        assert!(rt; room(&list, 0x2003) == 2 && room(&list, 0x2100) == 7);
+        assert!(rt; room(&image, 0x2003) == 2 && room(&image, 0x2100) == 7);
+        assert!(rt; list.greatest_capacity() == 7 && image.greatest_capacity() == 7);
     }
     Ok(())
 }
 
-#[test]
-fn a_dictionary_is_made_for_its_node(rt: HostRuntime) -> Result<(), Fail> {
-    let store = built(rt.alloc(), "", 127, &LIMITS)??;
+/// Whether a store of node 127 has its COB-ID, 1FFh, and the dummy entry of the sheet.
+fn is_of_node_127<S: SheetStore>(alloc: Global) -> Result<bool, Fail> {
+    let store: S = built(alloc, "", 127, &LIMITS)??;
     let cob_id = Key {
         index: 0x1800,
         sub: 1,
     };
-    assert!(rt; store.node_id() == 127 && store.dummy(5) && !store.dummy(6));
-    assert_eq!(rt; store.bytes(cob_id), Some([0xFF, 1, 0, 0].as_slice()));
+    Ok(
+        store.node_id() == 127
+            && store.dummy(5)
+            && !store.dummy(6)
+            && store.bytes(cob_id) == Some([0xFF, 1, 0, 0].as_slice()),
+    )
+}
+
+#[test]
+fn a_dictionary_is_made_for_its_node(rt: HostRuntime) -> Result<(), Fail> {
+    assert!(rt; is_of_node_127::<ListStore>(rt.alloc())?);
+    assert!(rt; is_of_node_127::<ImageStore>(rt.alloc())?);
     Ok(())
 }

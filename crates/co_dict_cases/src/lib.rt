@@ -8,6 +8,8 @@ mod configured;
 #[cfg(test)]
 mod image;
 #[cfg(test)]
+mod neighbours;
+#[cfg(test)]
 mod pieces;
 #[cfg(test)]
 mod readers;

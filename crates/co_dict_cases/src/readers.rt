@@ -10,7 +10,7 @@ use co_dict::{
     is_restricted, is_sdo_id, mapping_width, mapping_word, number_u8, number_u16, number_u32,
     sdo_channel, set_u8, usable_dummy, word_width,
 };
-use co_dict_list::BuildFault;
+use co_dict_list::{BuildFault, ListStore};
 use co_value::Key;
 use std::test::Fail;
 
@@ -22,7 +22,7 @@ fn key_of(index: u16, sub: u8) -> Key
 
 #[test]
 fn identifiers(rt: HostRuntime) -> Result<(), Fail> {
-    let store = built(rt.alloc(), "", 5, &LIMITS)??;
+    let store: ListStore = built(rt.alloc(), "", 5, &LIMITS)??;
     let word = CobId(0x4000_0185);
     assert!(rt; word.identifier() == 0x185 && word.has_11_bits() && !word.has_bit_31());
     assert!(rt; word.is_valid() && is_good_word(&store, word) && !is_good_sync_word(&store, word));
@@ -37,7 +37,7 @@ fn identifiers(rt: HostRuntime) -> Result<(), Fail> {
 
 #[test]
 fn mappings(rt: HostRuntime) -> Result<(), Fail> {
-    let store = built(rt.alloc(), "", 5, &LIMITS)??;
+    let store: ListStore = built(rt.alloc(), "", 5, &LIMITS)??;
     let word = MappingWord(0x2003_0010);
     assert!(rt; word.key() == key_of(0x2003, 0) && word.bits() == 16);
     assert_eq!(rt; word_width(&store, Side::Tpdo, word), Some(2));
@@ -52,7 +52,7 @@ fn mappings(rt: HostRuntime) -> Result<(), Fail> {
 
 #[test]
 fn numbers_and_entries(rt: HostRuntime) -> Result<(), Fail> {
-    let mut store = built(rt.alloc(), "", 5, &LIMITS)??;
+    let mut store: ListStore = built(rt.alloc(), "", 5, &LIMITS)??;
     let consumer = heartbeat_consumer(&store, 1);
     assert!(rt; consumer.node() == 7 && consumer.time() == 100 && consumer.is_used());
     assert!(rt;

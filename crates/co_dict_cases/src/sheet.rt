@@ -1,7 +1,9 @@
 //! A data sheet with PDOs, and changes of its text.
 
+use co_dict::ObjectStore;
+use co_dict_image::ImageStore;
 use co_dict_list::{BuildFault, Limits, ListStore};
-use co_sheet::read;
+use co_sheet::{Sheet, read};
 use std::alloc::Global;
 use std::string::String;
 use std::test::Fail;
@@ -38,16 +40,50 @@ fn lines(alloc: Global, text: &str) -> Result<String, Fail> {
     Ok(lines)
 }
 
+/// A store that a data sheet makes: the tables of these tests are for each of them.
+pub(crate) trait SheetStore: ObjectStore + Drop {
+    fn of_sheet(
+        alloc: Global,
+        sheet: &Sheet<'_>,
+        node_id: u8,
+        limits: &Limits<'_>,
+    ) -> Result<Self, BuildFault>
+    where
+        Self: Sized;
+}
+
+impl SheetStore for ListStore {
+    fn of_sheet(
+        alloc: Global,
+        sheet: &Sheet<'_>,
+        node_id: u8,
+        limits: &Limits<'_>,
+    ) -> Result<ListStore, BuildFault> {
+        ListStore::build(alloc, sheet, node_id, limits)
+    }
+}
+
+impl SheetStore for ImageStore {
+    fn of_sheet(
+        alloc: Global,
+        sheet: &Sheet<'_>,
+        node_id: u8,
+        limits: &Limits<'_>,
+    ) -> Result<ImageStore, BuildFault> {
+        ImageStore::build(alloc, sheet, node_id, limits)
+    }
+}
+
 /// What the changed sheet makes.
-pub(crate) fn built(
+pub(crate) fn built<S: SheetStore>(
     alloc: Global,
     changes: &str,
     node_id: u8,
     limits: &Limits<'_>,
-) -> Result<Result<ListStore, BuildFault>, Fail> {
+) -> Result<Result<S, BuildFault>, Fail> {
     let text = text_with(alloc, changes)?;
     let sheet = read(alloc, text.as_bytes())?;
-    Ok(ListStore::build(alloc, &sheet, node_id, limits))
+    Ok(S::of_sheet(alloc, &sheet, node_id, limits))
 }
 
 /// 25 objects and 54 entries.

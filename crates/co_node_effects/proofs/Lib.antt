@@ -1,2 +1,3 @@
 mod Data
 mod Examples
+pub mod SameSettings

@@ -1,2 +1,3 @@
 pub mod Errors
 pub mod RpdoData
+pub mod Settings

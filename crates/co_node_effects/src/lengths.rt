@@ -1,14 +1,16 @@
 //! Errors of the lengths of SYNCs and of the frames of RPDOs.
 
-ghost use Rattle.std.specs.Prelude.{◌≡◌, ◌<◌, [], IfSome};
+ghost use Rattle.std.specs.Prelude.{◌≡◌, []};
 ghost use Rattle.std.specs.List.{cons_option};
+ghost use Rattle.co_dict.specs.Rows.{Contents};
+ghost use Rattle.co_dict.specs.Stores.{Description};
+ghost use Rattle.co_node_inputs.specs.Slots.{IsMappedLength};
 ghost use Rattle.co_node_effects.specs.RpdoData.{sync_length, sync_errors, rpdo_errors};
 
 use crate::device_error::DeviceError;
-use co_dict::{ObjectStore, Side, number_u8};
+use co_dict::{ObjectStore, number_u8};
 use co_frame::Frame;
 use co_node_parts::KeptFrame;
-use co_pdo::Mapping;
 use co_profile::SYNC_COUNTER_OVERFLOW;
 use co_value::Key;
 
@@ -34,7 +36,7 @@ fn sync_length<S: ObjectStore>(store: &S) -> usize
 pub fn sync_error<S: ObjectStore>(store: &S, sync: &Option<Frame>) -> Option<DeviceError>
     ensures { cons_option result [] ≡ sync_errors (S.contents store.now) sync.now }
 {
-    let Some(frame) = *sync else {
+    let Some(frame) = sync else {
         return None;
     };
     if frame.bytes().len() == sync_length(store) {
@@ -44,17 +46,15 @@ pub fn sync_error<S: ObjectStore>(store: &S, sync: &Option<Frame>) -> Option<Dev
     }
 }
 
-/// The error of the length of an RPDO's frame, if one came and has it: 8210h where it has fewer bytes than
-/// are mapped, 8220h where it has more; whatever the transmission type (CiA 301, 7.2.2.5).
-pub fn rpdo_error<S: ObjectStore>(store: &S, rpdo: &Option<KeptFrame>) -> Option<DeviceError>
-    requires { IfSome rpdo.now (λ rpdo. rpdo.number < 512) }
-    ensures { cons_option result [] ≡
-        rpdo_errors (S.description store.now) (S.contents store.now) rpdo.now }
+/// The error of the length of an RPDO's frame, if one came and has it, where the RPDO maps so many bytes: 8210h where it
+/// has fewer than are mapped, 8220h where it has more; whatever the transmission type (CiA 301, 7.2.2.5).
+pub fn rpdo_error(mapped: usize, rpdo: &Option<KeptFrame>) -> Option<DeviceError>
+    ensures { (d : Description) (contents : Contents) → IsMappedLength d contents rpdo.now mapped →
+        cons_option result [] ≡ rpdo_errors d contents rpdo.now }
 {
-    let Some(rpdo) = *rpdo else {
+    let Some(rpdo) = rpdo else {
         return None;
     };
-    let mapped = Mapping::read(store, Side::Rpdo, rpdo.number).width();
     let count = rpdo.frame.bytes().len();
     if count < mapped {
         Some(DeviceError::PDO_TOO_SHORT)

@@ -3,11 +3,13 @@
 #![tactic(auto)]
 
 mod device_error;
+mod laws;
 mod lengths;
 mod register;
 mod rpdo_data;
 
 pub use device_error::DeviceError;
+pub use laws::settings_kept;
 pub use lengths::{rpdo_error, sync_error};
 pub use register::clear;
-pub use rpdo_data::{immediate, take_data};
+pub use rpdo_data::{is_immediate, take_data};

@@ -1,5 +1,5 @@
 -- What an input was to the RPDO frames that wait for a SYNC, by its marks (CiA 301, 7.2.2.2 and 7.5.2.35).
-use Rattle.std.specs.Prelude.{ℕ, ◌-◌, ◌==◌, ◌&&◌, ◌||◌, not, nat_le, nat_lt, is_some, Bool, Option, Some, None, length, if◌then◌else◌}
+use Rattle.std.specs.Prelude.{◌≡◌, ℕ, ◌-◌, ◌==◌, ◌&&◌, ◌||◌, not, nat_le, nat_lt, is_some, Bool, Option, Some, None, IfSome, length, if◌then◌else◌}
 use Rattle.co_value.specs.declared.key.Key.{Key}
 use Rattle.co_dict.specs.declared.side.Side.TheVariants.{Rpdo}
 use Rattle.co_dict.specs.Rows.{Contents}
@@ -23,6 +23,10 @@ is_synchronous kind = nat_le kind 240
 -- how many bytes RPDO k maps
 abbrev pub mapped_length : Description → Contents → ℕ → ℕ
 mapped_length d contents k = total_of (mapping_of Rpdo d contents k)
+
+-- so many bytes does the RPDO map whose frame came, if one came
+abbrev pub IsMappedLength : Description → Contents → Option KeptFrame → ℕ → Type 0
+IsMappedLength d contents rpdo mapped = IfSome rpdo (λ r. mapped ≡ mapped_length d contents r.number)
 
 -- a frame of an RPDO has fewer bytes than are mapped
 abbrev pub is_short : Description → Contents → KeptFrame → Bool

@@ -1,13 +1,14 @@
 //! What an input was to the RPDO frames that wait for a SYNC.
 
 ghost use Rattle.std.specs.Prelude.{◌≡◌, ◌<◌, IfSome};
+ghost use Rattle.co_dict.specs.Rows.{Contents};
+ghost use Rattle.co_dict.specs.Stores.{Description};
 ghost use Rattle.co_node_inputs.specs.Addresses.{rpdo_type};
-ghost use Rattle.co_node_inputs.specs.Slots.{is_short, emptied_by, kept_by, slot_event};
+ghost use Rattle.co_node_inputs.specs.Slots.{IsMappedLength, emptied_by, is_short, kept_by, mapped_length, slot_event};
 
 use crate::marks::Marks;
-use co_dict::{ObjectStore, Side, number_u8};
+use co_dict::{ObjectStore, number_u8};
 use co_node_parts::{KeptFrame, NodeState, SlotEvent, Transition};
-use co_pdo::Mapping;
 use co_profile::{IndexRange, PDO_COB_ID, TRANSMISSION_TYPE};
 use co_value::Key;
 
@@ -26,13 +27,13 @@ pub fn rpdo_type<S: ObjectStore>(store: &S, k: u16) -> u8
     )
 }
 
-/// Whether a frame of an RPDO has fewer bytes than are mapped.
-pub fn is_short<S: ObjectStore>(store: &S, rpdo: &KeptFrame) -> bool
-    requires { rpdo.now.number < 512 }
-    ensures { result ≡ is_short (S.description store.now) (S.contents store.now) rpdo.now }
+/// Whether a frame of an RPDO has fewer bytes than are mapped, which are so many.
+pub fn is_short(mapped: usize, rpdo: &KeptFrame) -> bool
+    ensures { (d : Description) (contents : Contents) →
+        mapped ≡ mapped_length d contents rpdo.now.number →
+        result ≡ is_short d contents rpdo.now }
 {
-    let mapping = Mapping::read(store, Side::Rpdo, rpdo.number);
-    rpdo.frame.bytes().len() < mapping.width()
+    rpdo.frame.bytes().len() < mapped
 }
 
 /// What a write to an entry is to the frames that wait.
@@ -50,15 +51,16 @@ fn emptied_by(set: Option<Key>) -> SlotEvent
     }
 }
 
-/// What a frame of an RPDO is to those that wait.
-fn kept_by<S: ObjectStore>(store: &S, rpdo: &Option<KeptFrame>) -> SlotEvent
+/// What a frame of an RPDO is to those that wait, where its RPDO maps so many bytes.
+fn kept_by<S: ObjectStore>(store: &S, mapped: usize, rpdo: &Option<KeptFrame>) -> SlotEvent
     requires { IfSome rpdo.now (λ rpdo. rpdo.number < 512) }
-    ensures { result ≡ kept_by (S.description store.now) (S.contents store.now) rpdo.now }
+    ensures { (d : Description) → IsMappedLength d (S.contents store.now) rpdo.now mapped →
+        result ≡ kept_by d (S.contents store.now) rpdo.now }
 {
-    let Some(rpdo) = *rpdo else {
+    let Some(rpdo) = rpdo else {
         return SlotEvent::Quiet;
     };
-    if rpdo_type(store, rpdo.number) <= 240 && !is_short(store, &rpdo) {
+    if rpdo_type(store, rpdo.number) <= 240 && !is_short(mapped, rpdo) {
         SlotEvent::Keep(rpdo.number, rpdo.frame)
     } else {
         SlotEvent::Quiet
@@ -66,12 +68,18 @@ fn kept_by<S: ObjectStore>(store: &S, rpdo: &Option<KeptFrame>) -> SlotEvent
 }
 
 impl Marks {
-    /// What the input was to the RPDO frames that wait for a SYNC, by the states before and after it.
-    /// The RPDO whose frame came has a number below 512.
-    pub fn slot_event<S: ObjectStore>(&self, store: &S, transition: Transition) -> SlotEvent
+    /// What the input was to the RPDO frames that wait for a SYNC, by the states before and after it. The RPDO whose frame
+    /// came has a number below 512, and maps so many bytes.
+    pub fn slot_event<S: ObjectStore>(
+        &self,
+        store: &S,
+        mapped: usize,
+        transition: Transition,
+    ) -> SlotEvent
         requires { IfSome self.now.rpdo (λ rpdo. rpdo.number < 512) }
-        ensures { result ≡
-            slot_event (S.description store.now) (S.contents store.now) self.now transition }
+        ensures { (d : Description) →
+            IsMappedLength d (S.contents store.now) self.now.rpdo mapped →
+            result ≡ slot_event d (S.contents store.now) self.now transition }
     {
         if self.is_reset() || transition.leaves(NodeState::Operational) {
             return SlotEvent::EmptyAll;
@@ -82,6 +90,6 @@ impl Marks {
         if self.set.is_some() {
             return emptied_by(self.set);
         }
-        kept_by(store, &self.rpdo)
+        kept_by(store, mapped, &self.rpdo)
     }
 }

@@ -15,7 +15,7 @@ use Rattle.co_node_history.specs.Phases.{moment}
 use Rattle.co_node_history.specs.Histories.{moments, contents_of}
 use Rattle.co_node_laws.proofs.Below.{Below}
 use Rattle.co_node_laws.proofs.Received.{MayBecome, changed}
-use Rattle.co_node_laws.proofs.SameSettings.{written_other}
+use Rattle.co_node_effects.proofs.SameSettings.{written_other}
 
 both_off : (a b : Bool) → a || b ≡ false → (a ≡ false) × (b ≡ false)
 both_off true b off = absurd (cc)

@@ -1,5 +1,4 @@
 pub mod Below
-pub mod SameSettings
 pub mod Writes
 pub mod Calls
 pub mod Received
@@ -24,4 +23,5 @@ pub mod Kept
 pub mod Changed
 pub mod Resets
 pub mod SetExactly
+mod KeptMappings
 mod KeptRpdos

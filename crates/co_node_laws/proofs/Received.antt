@@ -31,7 +31,8 @@ use Rattle.co_node_history.specs.Logs.{contents_at, state_at, channel_logs}
 use Rattle.co_node_history.specs.Received.{service_for, with_service, with_request, with_frame, with_app_event, with_input, nothing_of, address_at, is_heartbeat, app_error}
 use Rattle.co_node_history.specs.Phases.{moment, loss_errors, arrival_errors}
 use Rattle.co_node_laws.proofs.Below.{Below}
-use Rattle.co_node_laws.proofs.SameSettings.{HasSameSettings, same_none, same_both, same_register, same_raised, same_all_raised}
+use Rattle.co_node_effects.specs.Settings.{HasSameSettings}
+use Rattle.co_node_effects.proofs.SameSettings.{same_none, same_both, same_register, same_raised, same_all_raised}
 use Rattle.co_node_laws.proofs.Writes.{IsWrite}
 
 -- the entries may change so, where this key was set or none was
@@ -115,13 +116,24 @@ module _ (below : Below) where
 
   -- ---- at the end of the input
 
+  -- from the lost heartbeats on
+  pub after_watched : (k : Constants) (history : History) (input : InputView) → HasSameSettings (moment k history input).watched (moment k history input).contents
+  after_watched k history input =
+      let m = moment k history input in
+      let d = k.description in
+      same_both m.watched (all_raised d.rows (arrival_errors d m) m.watched) m.contents (same_all_raised d.rows (arrival_errors d m) m.watched)
+      (same_all_data d (all_raised d.rows (arrival_errors d m) m.watched) m.taken)
+
   pub after_received : (k : Constants) (history : History) (input : InputView) → HasSameSettings (moment k history input).received (moment k history input).contents
   after_received k history input =
       let m = moment k history input in
       let d = k.description in
-      same_both m.received m.watched m.contents (same_all_raised d.rows (loss_errors m.lost) m.received)
-      (same_both m.watched (all_raised d.rows (arrival_errors d m) m.watched) m.contents (same_all_raised d.rows (arrival_errors d m) m.watched)
-      (same_all_data d (all_raised d.rows (arrival_errors d m) m.watched) m.taken))
+      same_both m.received m.watched m.contents (same_all_raised d.rows (loss_errors m.lost) m.received) (after_watched k history input)
+
+  pub changed_watched : (k : Constants) (history : History) (input : InputView) → is_reset (moment k history input).marks ≡ false → MayBecome k.description (moment k history input).marks.set (contents_at k history) (moment k history input).watched
+  changed_watched k history input off =
+      let m = moment k history input in
+      and_then k.description m.marks.set (contents_at k history) m.received m.watched (of_input k history (contents_at k history) input input off) (same_all_raised k.description.rows (loss_errors m.lost) m.received)
 
   pub changed : (k : Constants) (history : History) (input : InputView) → is_reset (moment k history input).marks ≡ false → MayBecome k.description (moment k history input).marks.set (contents_at k history) (moment k history input).contents
   changed k history input off =

@@ -1,4 +1,4 @@
-//! What an input changes of the parameters of RPDOs. Each is a law: a call of it changes nothing.
+//! What an input changes of the parameters of RPDOs and of what PDOs map. Each is a law: a call of it changes nothing.
 
 ghost use Rattle.std.specs.Prelude.{◌≡◌, ◌≤◌, ◌<◌, ◌∷◌, false};
 ghost use Rattle.co_value.specs.declared.key.Key.{Key};
@@ -7,6 +7,8 @@ ghost use Rattle.co_node_inputs.specs.Rpdos.{may_change_rpdos};
 ghost use Rattle.co_node_history.specs.Moments.{Constants};
 ghost use Rattle.co_node_history.specs.Phases.{moment};
 ghost use Rattle.co_node_history.specs.Histories.{moments, contents_of};
+ghost use Rattle.co_node_mappings.specs.MappingChanges.{may_change_mappings};
+ghost use Rattle.co_node_mappings.specs.MappingTables.{AgreeOnMappings};
 
 use co_dict::{invalid_pdo_law, own_rule_law};
 use co_pdo::written_from_2000;
@@ -19,6 +21,23 @@ pub fn rpdos_kept()
         may_change_rpdos (moment k (moments k inputs) input).marks ≡ false →
         (key : Key) → 0x1400 ≤ key.index → key.index < 0x1800 →
         contents_of k inputs key ≡ contents_of k (input ∷ inputs) key }
+{
+    own_rule_law();
+    invalid_pdo_law();
+    written_from_2000();
+    Bank::set_is_permitted();
+}
+
+/// An input that is no reset and writes no mapping parameter leaves all of them, 1600h to 17FFh and 1A00h to 1BFFh, as they
+/// are. So mappings have to be compiled anew after the other inputs alone; and from the lost heartbeats on, after which SYNC
+/// and RPDOs take effect, no input changes them any more.
+pub fn mappings_kept()
+    ensures before { (k : Constants) (inputs : Inputs) (input : InputView) →
+        may_change_mappings (moment k (moments k inputs) input).marks ≡ false →
+        AgreeOnMappings (contents_of k inputs) (moment k (moments k inputs) input).watched }
+    ensures after { (k : Constants) (inputs : Inputs) (input : InputView) →
+        AgreeOnMappings (moment k (moments k inputs) input).watched
+        (contents_of k (input ∷ inputs)) }
 {
     own_rule_law();
     invalid_pdo_law();

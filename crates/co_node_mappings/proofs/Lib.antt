@@ -1,2 +1,1 @@
-mod KeptMappings
 mod Tables

@@ -1,19 +1,18 @@
 -- Tables of compiled mappings.
-use Rattle.std.proofs.Common.{◌≡◌, ◌≢◌, ℕ, ◌+◌, ◌<◌, ◌≤◌, Bool, true, false, true≢false, eqb, ltb, List, [], ◌∷◌, ◌++◌, length, get_or, set, refl, sym, ap, ◌∙◌, subst, arith, length-append, get_or-set_same, get_or-set_other, length-set}
+use Rattle.std.proofs.Common.{◌≡◌, ◌≢◌, ℕ, ◌+◌, ◌<◌, ◌≤◌, Bool, true, false, true≢false, eqb, ltb, List, [], ◌∷◌, ◌++◌, length, get_or, set, refl, sym, ap, ◌∙◌, subst, arith, length-append, get_or-set_same, get_or-set_other}
 use Rattle.std.proofs.lemmas.List.{get_or_append_left}
 use Rattle.std.proofs.Math.Seq.{get_or-append_seam}
 use Rattle.std.proofs.lemmas.Bool.Decides.{nat_tests}
-use Rattle.co_value.specs.declared.key.Key.{Key}
 use Rattle.co_dict.specs.declared.side.Side.{Side}
 use Rattle.co_dict.specs.declared.side.Side.TheVariants.{Rpdo, Tpdo}
 use Rattle.co_dict.specs.Rows.{Contents}
 use Rattle.co_dict.specs.Stores.{Description}
 use Rattle.co_pdo.specs.declared.mapping.Mapped.{Mapped}
-use Rattle.co_pdo.specs.Mappings.{mapping_index, mapping_of}
+use Rattle.co_pdo.specs.Mappings.{has_pdo, mapping_index, mapping_of}
 use Rattle.co_pdo_compiled.specs.declared.part.Part.{Part}
-use Rattle.co_pdo_compiled.specs.CompiledMappings.{IsCompiledForm, AgreeOnMapping}
+use Rattle.co_pdo_compiled.specs.CompiledMappings.{IsCompiledForm, HasParts, AgreeOnMapping}
 use Rattle.co_node_mappings.specs.MappingChanges.{is_mapping_key}
-use Rattle.co_node_mappings.specs.MappingTables.{AreForms, AgreeOnMappings}
+use Rattle.co_node_mappings.specs.MappingTables.{AreForms, AgreeOnMappings, Covers, HaveParts, IsMappingTable}
 
 -- one number more, that is not there
 pub covers_more : (has : ℕ → Bool) (n count : ℕ) → ((j : ℕ) → j < n → has j ≡ true → j < count) → has n ≡ false
@@ -64,3 +63,33 @@ pub forms_kept : (side : Side) (d : Description) (before now : Contents) (table 
 forms_kept side d before now table words few agree forms k parts lt =
     let below : k < 512 = omega (arith, few, lt) in
     subst (λ (m : List Mapped). IsCompiledForm d m (get_or table k parts)) (words k (λ sub. agree _ (in_range side k sub below))) (forms k parts lt)
+
+-- ---- one PDO of a table
+
+-- a PDO that isn't there maps nothing
+no_pdo : (side : Side) (d : Description) (contents : Contents) (k : ℕ) → has_pdo side d.rows k ≡ false → mapping_of side d contents k ≡ []
+no_pdo side d contents k off = rw off refl
+
+not_covered : (side : Side) (d : Description) (n k : ℕ) → Covers side d n → k < 512 → n ≤ k → has_pdo side d.rows k ≡ false
+not_covered side d n k covers below past = by_test (has_pdo side d.rows k) refl
+  where
+    by_test : (b : Bool) → has_pdo side d.rows k ≡ b → has_pdo side d.rows k ≡ false
+    by_test true h = let within : k < n = covers k below h in absurd (omega (arith, within, past))
+    by_test false h = h
+
+pub nothing_past : (side : Side) (d : Description) (contents : Contents) (table : List (List Part)) (k : ℕ) → IsMappingTable side d contents table
+    → k < 512 → length table ≤ k → mapping_of side d contents k ≡ []
+nothing_past side d contents table k t below past = no_pdo side d contents k (not_covered side d (length table) k t.covers below past)
+
+-- the parts of a PDO that is in a table
+pub form_at : (side : Side) (d : Description) (contents : Contents) (table : List (List Part)) (k : ℕ) (parts : List Part) → IsMappingTable side d contents table
+    → k < length table → parts ≡ get_or table k parts → IsCompiledForm d (mapping_of side d contents k) parts
+form_at side d contents table k parts t within at = subst (IsCompiledForm d (mapping_of side d contents k)) (sym at) (t.forms k parts within)
+
+pub parts_at : (d : Description) (table : List (List Part)) (k : ℕ) (parts : List Part) → HaveParts d table
+    → k < length table → parts ≡ get_or table k parts → HasParts d parts
+parts_at d table k parts have within at = subst (HasParts d) (sym at) (have k parts within)
+
+-- a dictionary has what compiled forms of it map
+pub forms_have : (side : Side) (d : Description) (contents : Contents) (table : List (List Part)) → AreForms side d contents table → HaveParts d table
+forms_have side d contents table forms k parts within = (forms k parts within).has

@@ -8,7 +8,7 @@ use Rattle.co_dict.specs.Rows.{Contents}
 use Rattle.co_dict.specs.Stores.{Description}
 use Rattle.co_pdo.specs.Mappings.{has_pdo, mapping_of}
 use Rattle.co_pdo_compiled.specs.declared.part.Part.{Part}
-use Rattle.co_pdo_compiled.specs.CompiledMappings.{IsCompiledForm}
+use Rattle.co_pdo_compiled.specs.CompiledMappings.{HasParts, IsCompiledForm}
 use Rattle.co_node_mappings.specs.MappingChanges.{is_mapping_key}
 use Rattle.co_node_mappings.specs.declared.mappings.CompiledMappings.{CompiledMappings}
 
@@ -25,6 +25,11 @@ Covers side d count = (k : ℕ) → k < 512 → has_pdo side d.rows k ≡ true �
 pub record IsMappingTable (side : Side) (d : Description) (contents : Contents) (table : List (List Part)) : Type 0 where
   pub forms : AreForms side d contents table
   pub covers : Covers side d (length table)
+  pub few : length table ≤ 512
+
+-- a dictionary has what each PDO of a table maps, at the places and with the rows that it was compiled with
+abbrev pub HaveParts : Description → List (List Part) → Type 0
+HaveParts d table = (k : ℕ) (parts : List Part) → k < length table → HasParts d (slice_index_or table k parts)
 
 -- the mapping parameters of all PDOs are the same: 1600h to 17FFh and 1A00h to 1BFFh
 abbrev pub AgreeOnMappings : Contents → Contents → Type 0

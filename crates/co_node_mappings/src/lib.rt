@@ -6,7 +6,7 @@ mod mappings;
 mod marks;
 mod table;
 
-pub use laws::mappings_kept;
+pub use laws::mappings_stay;
 pub use mappings::CompiledMappings;
 pub use marks::may_change_mappings;
 pub use table::MappingTable;

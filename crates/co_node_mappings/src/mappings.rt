@@ -6,7 +6,7 @@ ghost use Rattle.co_dict.specs.Stores.{Description};
 ghost use Rattle.co_pdo.specs.Mappings.{has_pdo, mapping_of};
 ghost use Rattle.co_pdo_compiled.specs.CompiledMappings.{IsCompiledForm};
 ghost use Rattle.co_node_mappings.specs.MappingChanges.{may_change_mappings};
-ghost use Rattle.co_node_mappings.specs.MappingTables.{AgreeOnMappings, AreMappings};
+ghost use Rattle.co_node_mappings.specs.MappingTables.{AgreeOnMappings, AreMappings, HaveParts};
 
 use crate::table::MappingTable;
 use co_dict::{ObjectStore, Side};
@@ -26,8 +26,10 @@ pub struct CompiledMappings {
 impl CompiledMappings {
     /// The compiled mappings as the dictionary is now. `AllocError` where there is no memory.
     pub fn new<S: ObjectStore>(alloc: Global, store: &S) -> Result<CompiledMappings, AllocError>
-        ensures { IfOk result (λ mappings.
+        ensures mappings { IfOk result (λ mappings.
             AreMappings (S.description store.now) (S.contents store.now) mappings) }
+        ensures rpdos { IfOk result (λ m. HaveParts (S.description store.now) m.rpdos) }
+        ensures tpdos { IfOk result (λ m. HaveParts (S.description store.now) m.tpdos) }
     {
         let rpdos = MappingTable::new(alloc, store, Side::Rpdo)?;
         let tpdos = MappingTable::new(alloc, store, Side::Tpdo)?;
@@ -37,9 +39,13 @@ impl CompiledMappings {
     /// Follows the dictionary over an input: the mappings are compiled anew at a reset and where a mapping parameter was
     /// written.
     pub fn note<S: ObjectStore>(&mut self, marks: &Marks, store: &S)
-        ensures { (before : Contents) → AreMappings (S.description store.now) before self.old →
+        ensures mappings { (before : Contents) → AreMappings (S.description store.now) before self.old →
             (may_change_mappings marks.now ≡ false → AgreeOnMappings before (S.contents store.now)) →
             AreMappings (S.description store.now) (S.contents store.now) self.new }
+        ensures rpdos { HaveParts (S.description store.now) self.old.rpdos →
+            HaveParts (S.description store.now) self.new.rpdos }
+        ensures tpdos { HaveParts (S.description store.now) self.old.tpdos →
+            HaveParts (S.description store.now) self.new.tpdos }
     {
         self.rpdos.note(marks, store, Side::Rpdo);
         self.tpdos.note(marks, store, Side::Tpdo);

@@ -2,17 +2,21 @@
 
 ghost use Rattle.std.specs.Prelude.{◌≡◌, ◌<◌, ◌≤◌, false, length, IfOk, IfSome, IsSome};
 ghost use Rattle.std.specs.List.{slice_index_or};
+ghost use Rattle.co_dict.specs.declared.side.Side.{Side};
 ghost use Rattle.co_dict.specs.Rows.{Contents};
-ghost use Rattle.co_pdo.specs.Mappings.{mapping_of};
+ghost use Rattle.co_dict.specs.Stores.{Description};
+ghost use Rattle.co_pdo.specs.Images.{answered, contents_after, fault_of, image_of};
+ghost use Rattle.co_pdo.specs.Mappings.{mapping_of, total_of};
 ghost use Rattle.co_pdo_compiled.specs.CompiledMappings.{IsCompiledForm};
 ghost use Rattle.co_node_mappings.specs.MappingChanges.{may_change_mappings};
-ghost use Rattle.co_node_mappings.specs.MappingTables.{AreForms, AgreeOnMappings, Covers, IsMappingTable};
+ghost use Rattle.co_node_mappings.specs.MappingTables.{AreForms, AgreeOnMappings, Covers, HaveParts, IsMappingTable};
 
 use crate::marks::may_change_mappings;
+use arrayvec::ArrayVec;
 use co_dict::{ObjectStore, Side};
 use co_node_inputs::Marks;
-use co_pdo::has_pdo;
-use co_pdo_compiled::{Compiled, mapping_by_words};
+use co_pdo::{PdoFault, has_pdo};
+use co_pdo_compiled::{Compiled, apply_at, image_at, mapping_by_words};
 use std::alloc::{AllocError, Global};
 use std::boxed::BoxedSlice;
 use std::marker::Model;
@@ -67,8 +71,9 @@ impl MappingTable {
         store: &S,
         side: Side,
     ) -> Result<MappingTable, AllocError>
-        ensures { IfOk result (λ table.
+        ensures table { IfOk result (λ table.
             IsMappingTable side (S.description store.now) (S.contents store.now) table) }
+        ensures parts { IfOk result (HaveParts (S.description store.now)) }
     {
         let count = count_of(store, side);
         let mut pdos = Vec::with_capacity(alloc, usize::from(count))?;
@@ -83,15 +88,72 @@ impl MappingTable {
     /// Follows the dictionary over an input: the mappings are compiled anew where that may have changed what a PDO maps, at a
     /// reset and where a mapping parameter was written.
     pub fn note<S: ObjectStore>(&mut self, marks: &Marks, store: &S, side: Side)
-        ensures { (before : Contents) →
+        ensures table { (before : Contents) →
             IsMappingTable side (S.description store.now) before self.old →
             (may_change_mappings marks.now ≡ false → AgreeOnMappings before (S.contents store.now)) →
             IsMappingTable side (S.description store.now) (S.contents store.now) self.new }
+        ensures parts { HaveParts (S.description store.now) self.old →
+            HaveParts (S.description store.now) self.new }
     {
         if may_change_mappings(marks) {
             compile_all(&mut self.pdos, store, side);
         } else {
             mapping_by_words();
+        }
+    }
+
+    /// How many bytes PDO k, 0 to 511, maps.
+    pub fn width(&self, k: u16) -> usize
+        requires { k < 512 }
+        ensures { (side : Side) (d : Description) (contents : Contents) →
+            IsMappingTable side d contents self.now →
+            result ≡ total_of (mapping_of side d contents k) }
+    {
+        match self.pdos.get(usize::from(k)) {
+            Some(compiled) => compiled.width(),
+            None => 0,
+        }
+    }
+
+    /// The data of PDO k, 0 to 511: what `image` gives of its mapping.
+    pub fn image<S: ObjectStore>(&self, store: &S, k: u16) -> ArrayVec<u8, 8>
+        requires number { k < 512 }
+        requires parts { HaveParts (S.description store.now) self.now }
+        ensures { (side : Side) →
+            IsMappingTable side (S.description store.now) (S.contents store.now) self.now →
+            result.items ≡ image_of (S.contents store.now)
+            (mapping_of side (S.description store.now) (S.contents store.now) k) }
+    {
+        match self.pdos.get(usize::from(k)) {
+            Some(compiled) => image_at(store, compiled),
+            None => ArrayVec::new(),
+        }
+    }
+
+    /// Takes the data of PDO k, 0 to 511, as `apply` does with its mapping.
+    pub fn apply<S: ObjectStore>(
+        &self,
+        store: &mut S,
+        k: u16,
+        bytes: &[u8],
+    ) -> Result<(), PdoFault>
+        requires number { k < 512 }
+        requires parts { HaveParts (S.description store.old) self.now }
+        ensures fault { (side : Side) →
+            IsMappingTable side (S.description store.old) (S.contents store.old) self.now →
+            answered result ≡ fault_of (S.description store.old).rows
+            (mapping_of side (S.description store.old) (S.contents store.old) k) bytes.now }
+        ensures contents { (side : Side) →
+            IsMappingTable side (S.description store.old) (S.contents store.old) self.now →
+            S.contents store.new ≡ contents_after (S.description store.old).rows
+            (mapping_of side (S.description store.old) (S.contents store.old) k) bytes.now
+            (S.contents store.old) }
+        ensures description { S.description store.new ≡ S.description store.old }
+    {
+        match self.pdos.get(usize::from(k)) {
+            Some(compiled) => apply_at(store, compiled, bytes),
+            None if bytes.is_empty() => Ok(()),
+            None => Err(PdoFault::Long),
         }
     }
 

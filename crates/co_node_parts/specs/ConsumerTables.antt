@@ -1,6 +1,6 @@
 -- The entries 1 to 127 of 1016h together, and which of them lose their heartbeat
 -- (CiA 301, 7.5.2.19).
-use Rattle.std.specs.Prelude.{◌≡◌, ℕ, ◌+◌, ◌-◌, ◌<◌, ◌==◌, if◌then◌else◌, List, length, map, slice_index}
+use Rattle.std.specs.Prelude.{◌≡◌, ℕ, ◌+◌, ◌-◌, ◌<◌, ◌≤◌, ◌==◌, if◌then◌else◌, None, List, length, map, slice_index}
 use Rattle.std.specs.List.{filter, range_with_len, slice_index_or}
 use Rattle.co_node_parts.specs.declared.heartbeat_consumer.ConsumerEvent.{ConsumerEvent}
 use Rattle.co_node_parts.specs.declared.heartbeat_consumer.ConsumerEvent.TheVariants as one
@@ -50,3 +50,20 @@ AllStand entries logs = (i : ℕ) (d : HeartbeatConsumer) → i < length entries
 pub record ConsumersStand (entries : List HeartbeatConsumer) (log : ConsumersLog) : Type 0 where
   pub count : length entries ≡ 127
   pub all : AllStand entries (λ sub. entry_log sub log)
+
+-- no entry from this place on monitors anything
+abbrev pub AreIdleFrom : ℕ → List HeartbeatConsumer → Type 0
+AreIdleFrom used entries = (i : ℕ) (d : HeartbeatConsumer) → used ≤ i → i < length entries
+    → (slice_index_or entries i d).monitored ≡ None
+
+-- an event passes over an entry: a begin none, another one those that monitor nothing
+abbrev pub IsPassed : ConsumersEvent → HeartbeatConsumer → Type 0
+IsPassed (Begin sub word) entry = ⊥
+IsPassed (Heard node) entry = entry.monitored ≡ None
+IsPassed Tick entry = entry.monitored ≡ None
+IsPassed Quiet entry = entry.monitored ≡ None
+
+-- it passes over each entry from this place on
+abbrev pub ArePassedFrom : ConsumersEvent → ℕ → List HeartbeatConsumer → Type 0
+ArePassedFrom event used entries = (i : ℕ) (d : HeartbeatConsumer) → used ≤ i → i < length entries
+    → IsPassed event (slice_index_or entries i d)

@@ -1,5 +1,5 @@
 -- Which RPDO frames wait for a SYNC (CiA 301, 7.2.2.2 and 7.5.2.35).
-use Rattle.std.specs.Prelude.{◌≡◌, ℕ, ◌<◌, ◌==◌, if◌then◌else◌, Option, Some, None, option_map, List, [], ◌∷◌, length}
+use Rattle.std.specs.Prelude.{◌≡◌, ℕ, ◌<◌, ◌≤◌, ◌==◌, if◌then◌else◌, Option, Some, None, option_map, List, [], ◌∷◌, length}
 use Rattle.std.specs.List.{filter_map, range_with_len, slice_index_or}
 use Rattle.co_frame.specs.FrameContent.{FrameContent}
 use Rattle.co_node_parts.specs.declared.rpdo_slots.SlotEvent.{SlotEvent}
@@ -45,3 +45,7 @@ pub record SlotsStand (count : ℕ) (content : SlotContent) (log : SlotLog) : Ty
   pub size : length content.slots ≡ count
   pub all : (k : ℕ) (d : Option FrameContent) → k < count
       → slice_index_or content.slots k d ≡ kept_of k log
+
+-- no slot from this number on has a frame
+abbrev pub AreEmptyFrom : ℕ → List (Option FrameContent) → Type 0
+AreEmptyFrom used slots = (k : ℕ) (d : Option FrameContent) → used ≤ k → k < length slots → slice_index_or slots k d ≡ None

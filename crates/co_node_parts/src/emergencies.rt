@@ -1,6 +1,6 @@
 //! The emergencies that wait to be sent.
 
-ghost use Rattle.std.specs.Prelude.{◌≡◌, ◌++◌, List, [], ◌∷◌, false, None, IfOk};
+ghost use Rattle.std.specs.Prelude.{◌≡◌, ◌++◌, List, [], ◌∷◌, Bool, false, None, IfOk};
 ghost use Rattle.co_node_parts.specs.EmergencyQueues.{EmergencyLog, Noted, EmergenciesStand, emergency_due, with_sending, with_queued};
 
 use circular_buffer::HeapCircularBuffer;
@@ -85,6 +85,14 @@ impl Emergencies {
         for emergency in emergencies {
             self.note(EmergencyEvent::Queue(*emergency));
         }
+    }
+
+    /// Whether an emergency waits and the inhibit time is over. If not, `send` gives none and changes nothing.
+    pub fn is_ready(&self) -> bool
+        ensures { (may : Bool) (log : EmergencyLog) → EmergenciesStand self.now log →
+            result ≡ false → emergency_due may log ≡ None }
+    {
+        self.left == 0 && !self.queue.is_empty()
     }
 
     /// Takes the emergency that is sent now, if one is: the oldest, where it may be sent and the

@@ -1,9 +1,10 @@
 //! The heartbeats of other nodes: the entries of 1016h.
 
 ghost use Rattle.std.specs.Prelude.{◌≡◌, ℕ, ◌≤◌, [], ◌∷◌, length, slice_index};
-ghost use Rattle.std.specs.List.{filter, range_with_len};
+ghost use Rattle.std.specs.List.{filter, range_with_len, slice_index_or};
+ghost use Rattle.co_node_parts.specs.declared.heartbeat_consumer.HeartbeatConsumer.{HeartbeatConsumer};
 ghost use Rattle.co_node_parts.specs.Consumers.{ConsumerLog, is_lost};
-ghost use Rattle.co_node_parts.specs.ConsumerTables.{ConsumersLog, Noted, AllBegun, ConsumersStand, AllStand, event_of, lost_at};
+ghost use Rattle.co_node_parts.specs.ConsumerTables.{AreIdleFrom, ArePassedFrom, ConsumersLog, Noted, AllBegun, ConsumersStand, AllStand, event_of, lost_at};
 
 use crate::heartbeat_consumer::{ConsumerEvent, HeartbeatConsumer};
 use arrayvec::ArrayVec;
@@ -43,23 +44,42 @@ impl ConsumersEvent {
     }
 }
 
-/// Notes an event for each of some entries, and answers which of them lose their heartbeat.
-fn note_all(entries: &mut [HeartbeatConsumer], event: ConsumersEvent) -> LostHeartbeats
-    requires { length entries.old ≤ 127 }
+/// Notes an event for each of some entries, and answers which of them lose their heartbeat. Those from `used` on are
+/// passed over by it.
+fn note_all(entries: &mut [HeartbeatConsumer], used: usize, event: ConsumersEvent) -> LostHeartbeats
+    requires few { length entries.old ≤ 127 }
+    requires within { used ≤ length entries.old }
+    requires used { ArePassedFrom event used entries.old }
     ensures lost { (logs : ℕ → ConsumerLog) → AllStand entries.old logs →
         result.items ≡ filter (λ sub. is_lost (event_of sub (Noted event)) (logs sub))
         (range_with_len 1 (length entries.old)) }
     ensures stand { (logs : ℕ → ConsumerLog) → AllStand entries.old logs →
         AllStand entries.new (λ sub. event_of sub (Noted event) ∷ logs sub) }
+    ensures rest { (i : ℕ) (d : HeartbeatConsumer) → used ≤ i →
+        slice_index_or entries.new i d ≡ slice_index_or entries.old i d }
 {
     let mut lost = LostHeartbeats::new();
-    for i in 0..entries.len() {
+    for i in 0..used {
         let sub = i as u8 + 1;
         if entries[i].note(event.for_entry(sub)) {
             lost.push(sub);
         }
     }
     lost
+}
+
+/// From which entry on none monitors anything.
+fn used_among(entries: &[HeartbeatConsumer]) -> usize
+    ensures within { result ≤ length entries.now }
+    ensures idle { AreIdleFrom result entries.now }
+{
+    let mut used = 0;
+    for i in 0..entries.len() {
+        if entries[i].monitored.is_some() {
+            used = i + 1;
+        }
+    }
+    used
 }
 
 /// The word at a place, 0 past the last one.
@@ -85,15 +105,20 @@ fn begin_each(entries: &mut [HeartbeatConsumer], words: &[u32])
 #[derive(Drop)]
 pub struct HeartbeatConsumers {
     entries: [HeartbeatConsumer; ENTRIES],
+    // no entry from here on monitors anything, so that a tick looks at few of them
+    used: usize,
 }
 
 impl Model for HeartbeatConsumers {
-    ghost use Rattle.std.specs.Prelude.{List};
+    ghost use Rattle.std.specs.Prelude.{◌≤◌, List};
     ghost use Rattle.co_node_parts.specs.declared.heartbeat_consumer.HeartbeatConsumer.{HeartbeatConsumer};
+    ghost use Rattle.co_node_parts.specs.ConsumerTables.{AreIdleFrom};
 
     ghost Value = { List HeartbeatConsumer };
 
     ghost view = { λ c. c.entries };
+
+    ghost invariant = { λ c. (c.used ≤ 127) × AreIdleFrom c.used c.entries };
 }
 
 impl HeartbeatConsumers {
@@ -104,6 +129,7 @@ impl HeartbeatConsumers {
         let entry = HeartbeatConsumer::new();
         HeartbeatConsumers {
             entries: [entry; ENTRIES],
+            used: 0,
         }
     }
 
@@ -114,6 +140,7 @@ impl HeartbeatConsumers {
             ConsumersStand self.new (AllBegun words.now ∷ log) }
     {
         begin_each(&mut self.entries, words);
+        self.used = used_among(&self.entries);
     }
 
     /// Takes note of an event, and answers which entries lose their heartbeat at it.
@@ -125,7 +152,14 @@ impl HeartbeatConsumers {
     {
         match event {
             ConsumersEvent::Quiet => LostHeartbeats::new(),
-            _ => note_all(&mut self.entries, event),
+            ConsumersEvent::Begin(_, _) => {
+                let lost = note_all(&mut self.entries, ENTRIES, event);
+                self.used = used_among(&self.entries);
+                lost
+            }
+            ConsumersEvent::Heard(_) | ConsumersEvent::Tick => {
+                note_all(&mut self.entries, self.used, event)
+            }
         }
     }
 }

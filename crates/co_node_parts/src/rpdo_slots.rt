@@ -3,7 +3,7 @@
 ghost use Rattle.std.specs.Prelude.{◌≡◌, ℕ, ◌<◌, ◌≤◌, [], ◌∷◌, length, slice_set, slice_index, Option, None, IfOk, vec_capacity};
 ghost use Rattle.std.specs.List.{filter_map, range_with_len, slice_index_or};
 ghost use Rattle.co_frame.specs.FrameContent.{FrameContent};
-ghost use Rattle.co_node_parts.specs.RpdoSlots.{SlotLog, SlotsStand, taken_at, numbered};
+ghost use Rattle.co_node_parts.specs.RpdoSlots.{AreEmptyFrom, SlotLog, SlotsStand, taken_at, numbered};
 
 use co_frame::Frame;
 use std::alloc::{AllocError, Global};
@@ -46,19 +46,23 @@ fn put(slots: &mut [Option<Frame>], k: u16, kept: Option<Frame>)
     }
 }
 
-/// Drops all frames.
-fn empty_all(slots: &mut [Option<Frame>])
+/// Drops all frames, of which none is in a slot from `used` on.
+fn empty_all(slots: &mut [Option<Frame>], used: usize)
+    requires used { AreEmptyFrom used slots.old }
+    requires within { used ≤ length slots.old }
     ensures { (k : ℕ) (d : Option FrameContent) → k < length slots.old →
         slice_index_or slots.new k d ≡ None }
 {
-    for slot in slots.iter_mut() {
-        *slot = None;
+    for k in 0..used {
+        slots[k] = None;
     }
 }
 
-/// Appends all frames, in increasing number.
-fn collect(slots: &[Option<Frame>], taken: &mut Vec<KeptFrame>)
+/// Appends all frames, in increasing number. None is in a slot from `used` on.
+fn collect(slots: &[Option<Frame>], used: usize, taken: &mut Vec<KeptFrame>)
     requires numbers { length slots.now < 65536 }
+    requires used { AreEmptyFrom used slots.now }
+    requires within { used ≤ length slots.now }
     requires empty { taken.old.items ≡ [] }
     requires room { length slots.now ≤ vec_capacity taken.old }
     ensures taken { taken.new.items ≡
@@ -66,7 +70,7 @@ fn collect(slots: &[Option<Frame>], taken: &mut Vec<KeptFrame>)
         (range_with_len 0 (length slots.now)) }
     ensures capacity { vec_capacity taken.new ≡ vec_capacity taken.old }
 {
-    for k in 0..slots.len() {
+    for k in 0..used {
         match slots[k] {
             Some(frame) => taken.push_reserved(KeptFrame {
                 number: k as u16,
@@ -83,18 +87,21 @@ fn collect(slots: &[Option<Frame>], taken: &mut Vec<KeptFrame>)
 pub struct RpdoSlots {
     slots: Vec<Option<Frame>>,
     taken: Vec<KeptFrame>,
+    // no slot from here on has a frame, so that a SYNC looks at few of them
+    used: usize,
 }
 
 impl Model for RpdoSlots {
     ghost use Rattle.std.specs.Prelude.{◌<◌, ◌≤◌, length, vec_capacity};
-    ghost use Rattle.co_node_parts.specs.RpdoSlots.{SlotContent};
+    ghost use Rattle.co_node_parts.specs.RpdoSlots.{AreEmptyFrom, SlotContent};
 
     ghost Value = { SlotContent };
 
     ghost view = { λ s. record { slots = s.slots.items; taken = s.taken.items } };
 
     ghost invariant = { λ s. (length s.slots.items < 65536)
-        × (length s.slots.items ≤ vec_capacity s.taken) };
+        × (length s.slots.items ≤ vec_capacity s.taken)
+        × (s.used ≤ length s.slots.items) × AreEmptyFrom s.used s.slots.items };
 }
 
 impl RpdoSlots {
@@ -105,7 +112,11 @@ impl RpdoSlots {
     {
         let slots = vec![in alloc; None; usize::from(count)]?;
         let taken = Vec::with_capacity(alloc, usize::from(count))?;
-        Ok(RpdoSlots { slots, taken })
+        Ok(RpdoSlots {
+            slots,
+            taken,
+            used: 0,
+        })
     }
 
     /// The frames that the last event took: at a SYNC those that waited, in increasing number, else
@@ -125,12 +136,20 @@ impl RpdoSlots {
     {
         self.taken.clear();
         match event {
-            SlotEvent::Keep(k, frame) => put(&mut self.slots, k, Some(frame)),
+            SlotEvent::Keep(k, frame) => {
+                put(&mut self.slots, k, Some(frame));
+                let next = usize::from(k) + 1;
+                self.used = self.used.max(next).min(self.slots.len());
+            }
             SlotEvent::Empty(k) => put(&mut self.slots, k, None),
-            SlotEvent::EmptyAll => empty_all(&mut self.slots),
+            SlotEvent::EmptyAll => {
+                empty_all(&mut self.slots, self.used);
+                self.used = 0;
+            }
             SlotEvent::Sync => {
-                collect(&self.slots, &mut self.taken);
-                empty_all(&mut self.slots);
+                collect(&self.slots, self.used, &mut self.taken);
+                empty_all(&mut self.slots, self.used);
+                self.used = 0;
             }
             SlotEvent::Quiet => {}
         }

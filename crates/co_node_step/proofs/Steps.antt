@@ -1,5 +1,5 @@
 -- What one more moment of a device is, phase by phase, and how each part is carried on by it.
-use Rattle.std.proofs.Common.{◌≡◌, Bool, List, ◌∷◌, ◌++◌, refl, sym, ap, ◌∙◌, subst}
+use Rattle.std.proofs.Common.{◌≡◌, Bool, List, ◌∷◌, refl, sym, ap, ◌∙◌, subst}
 use Rattle.std.specs.Prelude.{ℕ, ◌||◌, Option}
 use Rattle.co_frame.specs.declared.emergency.Emergency.{Emergency}
 use Rattle.co_frame.specs.declared.heartbeat.Heartbeat.{Heartbeat}
@@ -32,7 +32,7 @@ use Rattle.co_node_inputs.specs.declared.turn.Turn.{Turn}
 use Rattle.co_node_effects.specs.Errors.{all_raised, emergencies_of}
 use Rattle.co_node_history.specs.Moments.{Constants, Moment, History, channels}
 use Rattle.co_node_history.specs.Logs.{channel_logs, consumers_log, emergency_log, producer_log, schedule_log, slot_log, state_at, state_log, transition_of, turn_at, unsent_log, with_drop}
-use Rattle.co_node_history.specs.Phases.{loss_errors, loss_event, lost_by, moment}
+use Rattle.co_node_history.specs.Phases.{loss_errors, loss_event, moment}
 use Rattle.co_node_history.specs.TpdoTurns.{due_at, with_turn}
 use Rattle.co_node_phases.specs.Losses.{lost_now}
 use Rattle.co_node_phases.specs.Effects.{after_effects, effect_emergencies}

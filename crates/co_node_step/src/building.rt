@@ -30,7 +30,7 @@ use co_node_parts::{
 use co_node_phases::consumer_words;
 use co_node_rpdos::RpdoTable;
 use co_node_turns::send_life;
-use co_pdo::{Schedule, has_pdo};
+use co_pdo::{Due, Schedule, has_pdo};
 use co_pdo_compiled::Compiled;
 use co_profile::PRODUCER_HEARTBEAT;
 use co_sdo_bank::Bank;
@@ -92,6 +92,7 @@ impl<S: ObjectStore + Drop> Device<S> {
             slots,
             producer: begun_producer(&store),
             schedule,
+            due: Due::new(),
             last_app: AppAnswer::None,
         };
         Ok(Device { store, parts })

@@ -1,7 +1,9 @@
 //! A device over a dictionary.
 
 ghost use Rattle.std.specs.Prelude.{◌≡◌, ℕ, ◌≤◌, ◌∷◌, ◌||◌, List, length};
+ghost use Rattle.std.proofs.Props.{props};
 ghost use Rattle.co_dict.specs.Stores.{Description};
+ghost use Rattle.co_pdo_compiled.proofs.Props.{part_prop};
 ghost use Rattle.co_sdo.specs.Log.{Log};
 ghost use Rattle.co_sdo_bank.specs.Banks.{BankStands, all_settings};
 ghost use Rattle.co_sdo_bank.specs.Channels.{ChannelSettings, HaveRoom};
@@ -12,28 +14,21 @@ ghost use Rattle.co_node_history.specs.Logs.{with_drop};
 ghost use Rattle.co_node_inputs.specs.Inputs.{Inputs, input_view};
 ghost use Rattle.co_node_history.specs.Moments.{Constants};
 ghost use Rattle.co_node_history.specs.Histories.{prescribed, contents_of, frame_bound};
+ghost use Rattle.co_node_mappings.specs.MappingTables.{HaveParts};
 ghost use Rattle.co_node_receive.specs.Given.{given_view};
 ghost use Rattle.co_node_step.specs.NodeStanding.{NodeStands};
 
 use crate::parts::Parts;
-use co_dict::{ObjectStore, number_u16, store_laws};
+use co_dict::{ObjectStore, store_laws};
 use co_frame::{Frame, Outbox};
 use co_node_inputs::{AppEvent, Input, Marks};
-use co_node_laws::{few, greatest_bound, rpdos_kept, schedule_ready};
-use co_node_mappings::mappings_kept;
+use co_node_laws::{few, greatest_bound, mappings_kept, rpdos_kept, schedule_ready};
+use co_node_mappings::mappings_stay;
 use co_node_parts::{NodeState, Transition};
 use co_node_phases::{take_pdos, watch};
 use co_node_receive::{Given, receive};
-use co_node_turns::{send_emergency, send_life, send_tpdos, take_turn};
-use co_profile::EMERGENCY_INHIBIT_TIME;
+use co_node_turns::{send_emergency, send_life, send_tpdos, take_emergency, take_turn};
 use co_sdo_bank::Bank;
-use co_value::Key;
-
-/// The inhibit time of EMCY (CiA 301, 7.5.2.18).
-const EMERGENCY_INHIBIT: Key = Key {
-    index: EMERGENCY_INHIBIT_TIME,
-    sub: 0,
-};
 
 // A reset, and entering stopped, drop the transfers of all SDO channels.
 fn drops(marks: &Marks, transition: Transition) -> bool
@@ -60,6 +55,8 @@ pub struct Device<S: ObjectStore> {
     pub(crate) store: S,
     pub(crate) parts: Parts,
     ghost fits: { HaveRoom (S.description store).rows (all_settings parts.bank) },
+    ghost rpdos: { HaveParts (S.description store) parts.mappings.rpdos } by { Prim.hlevel (props, part_prop) },
+    ghost tpdos: { HaveParts (S.description store) parts.mappings.tpdos } by { Prim.hlevel (props, part_prop) },
 }
 
 impl<S: ObjectStore> Device<S> {
@@ -138,29 +135,44 @@ impl<S: ObjectStore> Device<S> {
             after: changed.after,
         };
         drop_if(&mut self.parts.bank, drops(marks, transition));
+        self.parts.mappings.note(marks, &self.store);
         take_pdos(
             &mut self.store,
+            &self.parts.mappings.rpdos,
             &mut self.parts.slots,
             &mut self.parts.emergencies,
             marks,
             transition,
         );
         self.parts.rpdos.note(marks, &self.store);
-        self.parts.mappings.note(marks, &self.store);
         self.parts.emergencies.note(marks.emergency_event());
-        let may = marks.may_send(&self.store, transition.after);
-        let inhibit = number_u16(&self.store, EMERGENCY_INHIBIT);
-        let emergency = self.parts.emergencies.send(may, inhibit);
+        let emergency = take_emergency(
+            &self.store,
+            &mut self.parts.emergencies,
+            marks,
+            transition.after,
+        );
         send_emergency(&self.store, emergency, outbox);
         let is_due = self.parts.producer.note(marks.producer_event(&self.store));
         let life = marks.life(transition.after, is_due);
         send_life(&self.store, life, outbox);
         let turn = marks.turn(transition);
-        let due = take_turn(&mut self.parts.schedule, &self.store, turn);
-        send_tpdos(&self.store, &due, outbox);
+        take_turn(
+            &mut self.parts.schedule,
+            &self.store,
+            turn,
+            &mut self.parts.due,
+        );
+        send_tpdos(
+            &self.store,
+            &self.parts.mappings.tpdos,
+            &self.parts.due,
+            outbox,
+        );
         // what follows holds of every device, and does nothing
         rpdos_kept();
         mappings_kept();
+        mappings_stay();
         schedule_ready();
         few();
         greatest_bound();

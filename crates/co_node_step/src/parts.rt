@@ -4,7 +4,7 @@ use co_node_inputs::AppAnswer;
 use co_node_mappings::CompiledMappings;
 use co_node_parts::{Emergencies, HeartbeatConsumers, HeartbeatProducer, NmtState, RpdoSlots};
 use co_node_rpdos::RpdoTable;
-use co_pdo::Schedule;
+use co_pdo::{Due, Schedule};
 use co_sdo_bank::Bank;
 
 /// The parts of a device besides its dictionary: each gets once an input what the input was to it.
@@ -28,6 +28,8 @@ pub struct Parts {
     pub producer: HeartbeatProducer,
     /// When TPDOs are due.
     pub schedule: Schedule,
+    /// The numbers of the TPDOs that the last input sent.
+    pub due: Due,
     /// The answer to the last input, where that was an application event.
     pub last_app: AppAnswer,
 }

@@ -8,5 +8,5 @@ mod sending;
 mod turn;
 
 pub use laws::{schedule_is_few, tpdos_are_few};
-pub use sending::{send_emergency, send_life, send_tpdos};
+pub use sending::{send_emergency, send_life, send_tpdos, take_emergency};
 pub use turn::take_turn;

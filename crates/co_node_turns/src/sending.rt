@@ -3,12 +3,23 @@
 ghost use Rattle.std.specs.Prelude.{◌≡◌, ◌+◌, ◌≤◌, ◌<◌, ℕ, ◌++◌, length, map};
 ghost use Rattle.std.specs.List.{slice_index_or};
 ghost use Rattle.co_frame.specs.Outboxes.{outbox_room};
+ghost use Rattle.co_dict.specs.declared.side.Side.TheVariants.{Tpdo};
+ghost use Rattle.co_dict.specs.CobIds.{identifier_of};
+ghost use Rattle.co_dict.specs.Rows.{number_at};
+ghost use Rattle.co_pdo.specs.Tpdos.{tpdo_key};
+ghost use Rattle.co_node_parts.specs.EmergencyQueues.{EmergenciesStand, EmergencyLog, emergency_due, with_sending};
+ghost use Rattle.co_node_inputs.specs.Keys.{emergency_inhibit_key};
+ghost use Rattle.co_node_inputs.specs.Words.{may_send};
+ghost use Rattle.co_node_mappings.specs.MappingTables.{HaveParts, IsMappingTable};
 ghost use Rattle.co_node_history.specs.Histories.{emergency_frames, life_frames, tpdo_frame};
 
-use co_dict::{CobId, ObjectStore, Side, number_u32};
+use co_dict::{CobId, ObjectStore, Side, number_u16, number_u32};
 use co_frame::{Emergency, Frame, Heartbeat, Outbox};
-use co_pdo::{Mapping, cob_id, image};
-use co_profile::EMERGENCY_COB_ID as EMERGENCY_INDEX;
+use co_node_inputs::Marks;
+use co_node_mappings::MappingTable;
+use co_node_parts::{Emergencies, NodeState};
+use co_pdo::cob_id;
+use co_profile::{EMERGENCY_COB_ID as EMERGENCY_INDEX, EMERGENCY_INHIBIT_TIME};
 use co_value::Key;
 
 /// The COB-ID of EMCY (CiA 301, 7.5.2.17).
@@ -16,6 +27,34 @@ const EMERGENCY_COB_ID: Key = Key {
     index: EMERGENCY_INDEX,
     sub: 0,
 };
+
+/// The inhibit time of EMCY (CiA 301, 7.5.2.18).
+const EMERGENCY_INHIBIT: Key = Key {
+    index: EMERGENCY_INHIBIT_TIME,
+    sub: 0,
+};
+
+/// Takes the emergency that is sent at the end of an input, if one is, by the NMT state after it. The dictionary is read where
+/// one waits and the inhibit time is over.
+pub fn take_emergency<S: ObjectStore>(
+    store: &S,
+    emergencies: &mut Emergencies,
+    marks: &Marks,
+    after: NodeState,
+) -> Option<Emergency>
+    ensures due { (log : EmergencyLog) → EmergenciesStand emergencies.old log →
+        result ≡ emergency_due (may_send marks.now after (S.contents store.now)) log }
+    ensures stands { (log : EmergencyLog) → EmergenciesStand emergencies.old log →
+        EmergenciesStand emergencies.new
+        (with_sending result (number_at (S.contents store.now) emergency_inhibit_key) log) }
+{
+    if !emergencies.is_ready() {
+        return None;
+    }
+    let may = marks.may_send(store, after);
+    let inhibit = number_u16(store, EMERGENCY_INHIBIT);
+    emergencies.send(may, inhibit)
+}
 
 /// Puts an emergency into the outbox, if there is one and room for it.
 pub fn send_emergency<S: ObjectStore>(store: &S, emergency: Option<Emergency>, outbox: &mut Outbox)
@@ -40,24 +79,46 @@ pub fn send_life<S: ObjectStore>(store: &S, life: Option<Heartbeat>, outbox: &mu
     }
 }
 
-/// The frame of a TPDO.
-fn tpdo_frame<S: ObjectStore>(store: &S, number: u16) -> Frame
-    requires { number < 512 }
-    ensures { result ≡ tpdo_frame (S.description store.now) (S.contents store.now) number }
+/// The frame of a TPDO with these bytes.
+fn frame_with<S: ObjectStore>(store: &S, number: u16, bytes: &[u8]) -> Frame
+    requires number { number < 512 }
+    requires few { length bytes.now ≤ 8 }
+    ensures { result ≡ record { id = identifier_of
+        (number_at (S.contents store.now) (tpdo_key number 1)); bytes = bytes.now } }
 {
-    let data = image(store, &Mapping::read(store, Side::Tpdo, number));
     // at most 7FFh, and at most 8 bytes
-    Frame::new(cob_id(store, Side::Tpdo, number).identifier(), &data).unwrap_or_default()
+    Frame::new(cob_id(store, Side::Tpdo, number).identifier(), bytes).unwrap_or_default()
 }
 
-/// Puts the frames of TPDOs into the outbox, where it has room for all of them.
-pub fn send_tpdos<S: ObjectStore>(store: &S, numbers: &[u16], outbox: &mut Outbox)
-    requires { (i e : ℕ) → i < length numbers.now → slice_index_or numbers.now i e < 512 }
-    ensures { length outbox.old.items + length numbers.now ≤ outbox_room →
+/// The frame of a TPDO, by the compiled mappings of the TPDOs.
+fn tpdo_frame<S: ObjectStore>(store: &S, mappings: &MappingTable, number: u16) -> Frame
+    requires number { number < 512 }
+    requires parts { HaveParts (S.description store.now) mappings.now }
+    ensures {
+        IsMappingTable Tpdo (S.description store.now) (S.contents store.now) mappings.now →
+        result ≡ tpdo_frame (S.description store.now) (S.contents store.now) number }
+{
+    let image = mappings.image(store, number);
+    frame_with(store, number, &image)
+}
+
+/// Puts the frames of TPDOs into the outbox, where it has room for all of them. `mappings` are the compiled mappings of the
+/// TPDOs, as the dictionary is now.
+pub fn send_tpdos<S: ObjectStore>(
+    store: &S,
+    mappings: &MappingTable,
+    numbers: &[u16],
+    outbox: &mut Outbox,
+)
+    requires numbers { (i e : ℕ) → i < length numbers.now → slice_index_or numbers.now i e < 512 }
+    requires parts { HaveParts (S.description store.now) mappings.now }
+    ensures {
+        IsMappingTable Tpdo (S.description store.now) (S.contents store.now) mappings.now →
+        length outbox.old.items + length numbers.now ≤ outbox_room →
         outbox.new.items ≡ outbox.old.items
         ++ map (tpdo_frame (S.description store.now) (S.contents store.now)) numbers.now }
 {
     for &number in numbers {
-        let _ = outbox.try_push(tpdo_frame(store, number));
+        let _ = outbox.try_push(tpdo_frame(store, mappings, number));
     }
 }

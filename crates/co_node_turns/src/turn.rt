@@ -12,36 +12,36 @@ use co_dict::ObjectStore;
 use co_node_inputs::Turn;
 use co_pdo::{Due, Schedule};
 
-/// The numbers of the TPDOs that are due at a turn, increasing; they count as sent. What the dictionary says of each TPDO
-/// is current where the schedule is asked.
-pub fn take_turn<S: ObjectStore>(schedule: &mut Schedule, store: &S, turn: Turn) -> Due
+/// Leaves in `sent` the numbers of the TPDOs that are due at a turn, increasing; they count as sent. What the dictionary
+/// says of each TPDO is current where the schedule is asked.
+pub fn take_turn<S: ObjectStore>(schedule: &mut Schedule, store: &S, turn: Turn, sent: &mut Due)
     requires { HasTpdoNumber turn }
     ensures due { (history : History) →
         IsScheduleAfter (S.description store.now) schedule.old history →
         (is_asked turn ≡ true → AllCurrent (S.contents store.now) history) →
-        result.items ≡
+        sent.new.items ≡
         due_at (S.description store.now) turn (S.contents store.now) history }
     ensures after { (history : History) →
         IsScheduleAfter (S.description store.now) schedule.old history →
         (is_asked turn ≡ true → AllCurrent (S.contents store.now) history) →
         IsScheduleAfter (S.description store.now) schedule.new (with_turn
-        (S.description store.now) turn (S.contents store.now) result.items history) }
-    ensures few { length result.items ≤ length schedule.old }
-    ensures small { (i e : ℕ) → i < length result.items → slice_index_or result.items i e < 512 }
+        (S.description store.now) turn (S.contents store.now) sent.new.items history) }
+    ensures few { length sent.new.items ≤ length schedule.old }
+    ensures small { (i e : ℕ) → i < length sent.new.items → slice_index_or sent.new.items i e < 512 }
     ensures size { length schedule.new ≡ length schedule.old }
 {
     match turn {
-        Turn::Quiet => Due::new(),
+        Turn::Quiet => sent.clear(),
         Turn::StartAll => {
             schedule.start_all(store);
-            Due::new()
+            sent.clear();
         }
         Turn::Start(number, part) => {
             schedule.start(store, number, part);
-            Due::new()
+            sent.clear();
         }
-        Turn::Sync(counter) => schedule.on_sync(store, counter),
-        Turn::Asked(asked) => schedule.on_events(store, &numbers_asked(store, asked)),
-        Turn::Tick => schedule.on_tick(store),
+        Turn::Sync(counter) => schedule.on_sync(store, counter, sent),
+        Turn::Asked(asked) => schedule.on_events(store, &numbers_asked(store, asked), sent),
+        Turn::Tick => schedule.on_tick(store, sent),
     }
 }

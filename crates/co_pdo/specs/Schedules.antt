@@ -12,7 +12,7 @@ use Rattle.co_pdo.specs.declared.tpdo.Tpdo.{Tpdo}
 use Rattle.co_pdo.specs.Tpdos.{counter_overflow_key, settings_of, tpdo_numbers, tpdos_of}
 use Rattle.co_pdo.specs.Log.{Log, Started, Happened}
 use Rattle.co_pdo.specs.Due.{is_due}
-use Rattle.co_pdo.specs.Countdowns.{IsAfter, IsCurrent}
+use Rattle.co_pdo.specs.Countdowns.{IsPlacedAfter, IsCurrent}
 
 -- one call of a schedule
 pub data Call : Type 0 where
@@ -92,9 +92,9 @@ pub record IsTable (tpdos : List Tpdo) : Type 0 where
   pub few : length tpdos ≤ 512
   pub small : (i : ℕ) (d : Tpdo) → i < length tpdos → (slice_index_or tpdos i d).number < 512
 
--- each TPDO has the countdowns after its log
-abbrev pub AllAfter : List Tpdo → (ℕ → Log) → Type 0
-AllAfter tpdos logs = (i : ℕ) (d : Tpdo) → i < length tpdos → IsAfter (slice_index_or tpdos i d) (logs (slice_index_or tpdos i d).number)
+-- each TPDO has its places in the dictionary and the countdowns after its log
+abbrev pub AllAfter : Description → List Tpdo → (ℕ → Log) → Type 0
+AllAfter d tpdos logs = (i : ℕ) (e : Tpdo) → i < length tpdos → IsPlacedAfter d (slice_index_or tpdos i e) (logs (slice_index_or tpdos i e).number)
 
 -- the last starts of each log took what the dictionary says now
 abbrev pub AllCurrentAfter : Contents → (ℕ → Log) → Type 0
@@ -117,11 +117,11 @@ with_event_if is_there s log = if is_there then Happened Event s (is_due s log E
 abbrev pub with_events_among : List ℕ → Contents → (ℕ → Log) → ℕ → Log
 with_events_among numbers contents logs = λ k. with_event_if (is_among k numbers) (settings_of contents k) (logs k)
 
--- a schedule over a dictionary is one after this history: it has the TPDOs of the dictionary, each with
--- the countdowns after its log
+-- a schedule over a dictionary is one after this history: it has the TPDOs of the dictionary, each with its places there
+-- and the countdowns after its log
 pub record IsScheduleAfter (d : Description) (tpdos : List Tpdo) (history : History) : Type 0 where
   pub numbers : map (λ t. t.number) tpdos ≡ tpdos_of d.rows
-  pub countdowns : AllAfter tpdos (λ k. log_of k history)
+  pub countdowns : AllAfter d tpdos (λ k. log_of k history)
 
 -- the last starts of TPDO k took what the dictionary says now
 abbrev pub IsCurrentOn : Contents → ℕ → History → Type 0

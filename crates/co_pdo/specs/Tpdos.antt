@@ -4,8 +4,11 @@ use Rattle.std.specs.List.{filter, range_with_len}
 use Rattle.co_value.specs.declared.key.Key.{Key}
 use Rattle.co_profile.specs.Indices.{nth, sync_counter_overflow, tpdo_communication, tpdo_mapping}
 use Rattle.co_dict.specs.Rows.{Rows, Contents, number_at}
+use Rattle.co_dict.specs.Stores.{Description}
+use Rattle.co_dict.specs.Places.{place_of}
 use Rattle.co_dict.specs.declared.side.Side.TheVariants.{Tpdo}
 use Rattle.co_pdo.specs.Pdos.{is_pdo_active}
+use Rattle.co_pdo.specs.declared.places.Places.{Places}
 use Rattle.co_pdo.specs.declared.settings.Settings.{Settings}
 
 -- a sub-index of the communication parameter of TPDO k
@@ -33,6 +36,18 @@ settings_of contents k = record {
   inhibit_time = number_at contents (tpdo_key k 3);
   event_timer = number_at contents (tpdo_key k 5);
   start_value = number_at contents (tpdo_key k 6);
+}
+
+-- where a dictionary has what it says of TPDO k
+abbrev pub places_of : Description → ℕ → Places
+places_of d k = record {
+  cob_id = place_of d (tpdo_key k 1);
+  transmission_type = place_of d (tpdo_key k 2);
+  inhibit_time = place_of d (tpdo_key k 3);
+  event_timer = place_of d (tpdo_key k 5);
+  start_value = place_of d (tpdo_key k 6);
+  mapped = place_of d (tpdo_count_key k);
+  counter_overflow = place_of d counter_overflow_key;
 }
 
 -- the dictionary has TPDO k: there is its COB-ID word

@@ -5,10 +5,12 @@ mod data;
 mod laws;
 mod mapping;
 mod pdos;
+mod places;
 mod schedule;
 mod settings;
 mod tpdo;
 mod tpdos;
+mod unsigned;
 
 pub use co_dict::{CobId, Side};
 pub use data::{PdoFault, apply, image, parts_joined};

@@ -55,7 +55,7 @@ pub fn cob_id<S: ObjectStore>(store: &S, side: Side, k: u16) -> CobId
 }
 
 /// Whether a transmission type is supported: 0 to 240, 254 and 255.
-fn is_supported(transmission_type: u8) -> bool
+pub(crate) fn is_supported(transmission_type: u8) -> bool
     ensures { result ≡ is_supported_type transmission_type }
 {
     transmission_type <= 240 || transmission_type == 254 || transmission_type == 255

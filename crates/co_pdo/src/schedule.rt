@@ -7,9 +7,10 @@ ghost use Rattle.co_pdo.specs.Tpdos.{settings_of};
 ghost use Rattle.co_pdo.specs.Countdowns.{IsCurrent, IsAsStarted};
 ghost use Rattle.co_pdo.specs.Schedules.{History, log_of, sync_with, with_start, with_all_started, with_sync, with_event, with_events, with_tick, is_tpdo_due, all_due, all_due_among, IsScheduleAfter, IsCurrentOn, AllCurrent};
 
-use crate::settings::{counter_overflow, read_settings};
 use crate::tpdo::{Occasion, Part, Tpdo};
-use crate::tpdos::{Due, all_happen, all_happen_among, all_start, place_of, tpdos_in};
+use crate::tpdos::{
+    Due, all_happen, all_happen_among, all_start, counter_overflow, place_of, tpdos_in,
+};
 use co_dict::ObjectStore;
 use std::alloc::{AllocError, Global};
 use std::marker::Model;
@@ -17,10 +18,10 @@ use std::marker::Model;
 /// Which TPDOs are due, by their transmission types, inhibit times and event timers (CiA 301, 7.2.2 and 7.5.2.37). It
 /// counts for the TPDOs that the dictionary has, and asks for no memory after `new`.
 ///
-/// Each call has the contents of the dictionary then. What the dictionary says of a TPDO has to be current when a SYNC,
-/// an event or a tick comes: after a write of its COB-ID, transmission type, inhibit time or mapping it was started whole
-/// if it is active, and after a write of its event timer it was started, whole or its timer alone. Its SYNC start value
-/// and 1019h are read at each SYNC before its count begins.
+/// Each call has the contents of the dictionary then, and reads them by their places, which `new` looks up. What the
+/// dictionary says of a TPDO has to be current when a SYNC, an event or a tick comes: after a write of its COB-ID,
+/// transmission type, inhibit time or mapping it was started whole if it is active, and after a write of its event timer it
+/// was started, whole or its timer alone. Its SYNC start value and 1019h are read at each SYNC before its count begins.
 #[derive(Drop)]
 pub struct Schedule {
     tpdos: Vec<Tpdo>,
@@ -76,8 +77,9 @@ impl Schedule {
         ensures size { length self.new ≡ length self.old }
     {
         if let Some(i) = place_of(&self.tpdos, k) {
-            let settings = read_settings(store, k);
-            self.tpdos[i].start(&settings, part);
+            let tpdo = &mut self.tpdos[i];
+            let settings = tpdo.places.settings(store);
+            tpdo.start(&settings, part);
         }
     }
 
@@ -94,31 +96,32 @@ impl Schedule {
         all_start(&mut self.tpdos, store);
     }
 
-    /// A SYNC came, with the counter in its one byte or with none: the numbers of the TPDOs that are due, increasing. They
-    /// count as sent. A TPDO of type 1 to 240 with a SYNC start value of 1 to 240 counts from the SYNC on whose counter that
-    /// is, unless 1019h is 0 or absent; each other one from the first SYNC after its start (CiA 301, 7.5.2.37).
-    pub fn on_sync<S: ObjectStore>(&mut self, store: &S, counter: Option<u8>) -> Due
+    /// A SYNC came, with the counter in its one byte or with none: leaves in `sent` the numbers of the TPDOs that are due,
+    /// increasing. They count as sent. A TPDO of type 1 to 240 with a SYNC start value of 1 to 240 counts from the SYNC
+    /// whose counter is that value, unless 1019h is 0 or absent; each other one from the first SYNC after its start
+    /// (CiA 301, 7.5.2.37).
+    pub fn on_sync<S: ObjectStore>(&mut self, store: &S, counter: Option<u8>, sent: &mut Due)
         ensures due { (history : History) →
             IsScheduleAfter (S.description store.now) self.old history →
             AllCurrent (S.contents store.now) history →
-            result.items ≡
+            sent.new.items ≡
             all_due (S.contents store.now) history (sync_with counter (S.contents store.now)) }
         ensures after { (history : History) →
             IsScheduleAfter (S.description store.now) self.old history →
             AllCurrent (S.contents store.now) history →
             IsScheduleAfter (S.description store.now) self.new
-            (with_sync counter (S.contents store.now) result.items history) }
+            (with_sync counter (S.contents store.now) sent.new.items history) }
         ensures current { (history : History) (j : ℕ) (s : Settings) →
             IsCurrent s (log_of j history) →
             IsCurrent s
-            (log_of j (with_sync counter (S.contents store.now) result.items history)) }
-        ensures few { length result.items ≤ length self.old }
-        ensures small { (i e : ℕ) → i < length result.items →
-            slice_index_or result.items i e < 512 }
+            (log_of j (with_sync counter (S.contents store.now) sent.new.items history)) }
+        ensures few { length sent.new.items ≤ length self.old }
+        ensures small { (i e : ℕ) → i < length sent.new.items →
+            slice_index_or sent.new.items i e < 512 }
         ensures size { length self.new ≡ length self.old }
     {
-        let sync = Occasion::Sync(counter_overflow(store), counter);
-        all_happen(&mut self.tpdos, sync, store)
+        let sync = Occasion::Sync(counter_overflow(&self.tpdos, store), counter);
+        all_happen(&mut self.tpdos, sync, store, sent);
     }
 
     /// An event came for TPDO k, 0 to 511: whether the TPDO is due, and then counts as sent. False where there is none.
@@ -144,48 +147,48 @@ impl Schedule {
         }
     }
 
-    /// An event came for each TPDO whose number is among these: the numbers of those that are due, increasing. They count
-    /// as sent.
-    pub fn on_events<S: ObjectStore>(&mut self, store: &S, numbers: &[u16]) -> Due
+    /// An event came for each TPDO whose number is among these: leaves in `sent` the numbers of those that are due,
+    /// increasing. They count as sent.
+    pub fn on_events<S: ObjectStore>(&mut self, store: &S, numbers: &[u16], sent: &mut Due)
         ensures due { (history : History) →
             IsScheduleAfter (S.description store.now) self.old history →
             AllCurrent (S.contents store.now) history →
-            result.items ≡ all_due_among numbers.now (S.contents store.now) history }
+            sent.new.items ≡ all_due_among numbers.now (S.contents store.now) history }
         ensures after { (history : History) →
             IsScheduleAfter (S.description store.now) self.old history →
             AllCurrent (S.contents store.now) history →
             IsScheduleAfter (S.description store.now) self.new
-            (with_events numbers.now (S.contents store.now) result.items history) }
+            (with_events numbers.now (S.contents store.now) sent.new.items history) }
         ensures current { (history : History) (j : ℕ) (s : Settings) →
             IsCurrent s (log_of j history) → IsCurrent s
-            (log_of j (with_events numbers.now (S.contents store.now) result.items history)) }
-        ensures few { length result.items ≤ length self.old }
-        ensures small { (i e : ℕ) → i < length result.items →
-            slice_index_or result.items i e < 512 }
+            (log_of j (with_events numbers.now (S.contents store.now) sent.new.items history)) }
+        ensures few { length sent.new.items ≤ length self.old }
+        ensures small { (i e : ℕ) → i < length sent.new.items →
+            slice_index_or sent.new.items i e < 512 }
         ensures size { length self.new ≡ length self.old }
     {
-        all_happen_among(&mut self.tpdos, numbers, store)
+        all_happen_among(&mut self.tpdos, numbers, store, sent);
     }
 
-    /// A tick of 1 ms: the numbers of the TPDOs that are due, increasing. They count as sent.
-    pub fn on_tick<S: ObjectStore>(&mut self, store: &S) -> Due
+    /// A tick of 1 ms: leaves in `sent` the numbers of the TPDOs that are due, increasing. They count as sent.
+    pub fn on_tick<S: ObjectStore>(&mut self, store: &S, sent: &mut Due)
         ensures due { (history : History) →
             IsScheduleAfter (S.description store.now) self.old history →
             AllCurrent (S.contents store.now) history →
-            result.items ≡ all_due (S.contents store.now) history Occasion.Tick }
+            sent.new.items ≡ all_due (S.contents store.now) history Occasion.Tick }
         ensures after { (history : History) →
             IsScheduleAfter (S.description store.now) self.old history →
             AllCurrent (S.contents store.now) history →
             IsScheduleAfter (S.description store.now) self.new
-            (with_tick (S.contents store.now) result.items history) }
+            (with_tick (S.contents store.now) sent.new.items history) }
         ensures current { (history : History) (j : ℕ) (s : Settings) →
             IsCurrent s (log_of j history) →
-            IsCurrent s (log_of j (with_tick (S.contents store.now) result.items history)) }
-        ensures few { length result.items ≤ length self.old }
-        ensures small { (i e : ℕ) → i < length result.items →
-            slice_index_or result.items i e < 512 }
+            IsCurrent s (log_of j (with_tick (S.contents store.now) sent.new.items history)) }
+        ensures few { length sent.new.items ≤ length self.old }
+        ensures small { (i e : ℕ) → i < length sent.new.items →
+            slice_index_or sent.new.items i e < 512 }
         ensures size { length self.new ≡ length self.old }
     {
-        all_happen(&mut self.tpdos, Occasion::Tick, store)
+        all_happen(&mut self.tpdos, Occasion::Tick, store, sent);
     }
 }

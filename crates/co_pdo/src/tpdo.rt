@@ -1,17 +1,18 @@
 //! One TPDO: what is counted for it.
 
 ghost use Rattle.std.specs.Prelude.{◌≡◌, ◌<◌, ◌&&◌, [], ◌∷◌};
+ghost use Rattle.co_dict.specs.Stores.{Description};
 ghost use Rattle.co_pdo.specs.declared.settings.Settings.{Settings};
 ghost use Rattle.co_pdo.specs.Tpdos.{settings_of};
 ghost use Rattle.co_pdo.specs.Log.{Log, Started, Happened};
 ghost use Rattle.co_pdo.specs.Due.{is_due, is_event_driven};
-ghost use Rattle.co_pdo.specs.Countdowns.{IsAfter, IsCurrent};
+ghost use Rattle.co_pdo.specs.Countdowns.{HasPlaces, IsAfter, IsPlacedAfter, IsCurrent};
 ghost use Rattle.co_pdo.specs.Schedules.{is_among, with_event_if};
 ghost use Rattle.co_pdo.specs.Steps.{counts, counted, wants, marked};
 
-use crate::pdos::is_active;
+use crate::places::Places;
 use crate::settings::{Settings, begins_count};
-use co_dict::{ObjectStore, Side};
+use co_dict::ObjectStore;
 
 /// What may happen to a TPDO.
 #[derive(Clone, Copy, Debug)]
@@ -38,6 +39,8 @@ pub enum Part {
 pub struct Tpdo {
     /// k of 1800h + k, 0 to 511.
     pub number: u16,
+    /// Where the dictionary has what is read of it.
+    pub places: Places,
     /// As at the last whole start.
     pub transmission_type: u8,
     /// The inhibit time in ms, as at the last whole start.
@@ -60,12 +63,14 @@ pub struct Tpdo {
 
 impl Tpdo {
     /// A TPDO that was never started.
-    pub(crate) fn new(number: u16) -> Tpdo
+    pub(crate) fn new(number: u16, places: Places) -> Tpdo
         ensures number { result.number ≡ number }
+        ensures places { result.places ≡ places }
         ensures after { IsAfter result [] }
     {
         Tpdo {
             number,
+            places,
             transmission_type: 0,
             inhibit: 0,
             timer: 0,
@@ -81,13 +86,14 @@ impl Tpdo {
     /// Starts all of it, or its event timer alone.
     pub(crate) fn start(&mut self, settings: &Settings, part: Part)
         ensures number { self.new.number ≡ self.old.number }
-        ensures after { (log : Log) → IsAfter self.old log →
-            IsAfter self.new (Started part settings.now ∷ log) }
+        ensures after { (d : Description) (log : Log) → IsPlacedAfter d self.old log →
+            IsPlacedAfter d self.new (Started part settings.now ∷ log) }
     {
         match part {
             Part::Whole => {
                 *self = Tpdo {
                     number: self.number,
+                    places: self.places,
                     transmission_type: settings.transmission_type,
                     inhibit: settings.inhibit_time.div_ceil(10),
                     timer: settings.event_timer,
@@ -116,12 +122,12 @@ impl Tpdo {
     /// Whether it is a SYNC that counts: the count has begun, or begins with it.
     fn counts<S: ObjectStore>(&self, occasion: Occasion, store: &S) -> bool
         requires { self.now.number < 512 }
-        ensures { result ≡
+        ensures { HasPlaces (S.description store.now) self.now → result ≡
             counts (settings_of (S.contents store.now) self.now.number) occasion self.now }
     {
         match occasion {
             Occasion::Sync(overflow, counter) => {
-                self.has_begun || begins_count(store, self.number, overflow, counter)
+                self.has_begun || begins_count(self.places.start_value(store), overflow, counter)
             }
             Occasion::Event | Occasion::Tick => false,
         }
@@ -179,13 +185,14 @@ impl Tpdo {
         requires { self.old.number < 512 }
         ensures number { self.new.number ≡ self.old.number }
         ensures due { (log : Log) → let s = settings_of (S.contents store.now) self.old.number in
-            IsAfter self.old log → IsCurrent s log → result ≡ is_due s log occasion }
+            IsPlacedAfter (S.description store.now) self.old log → IsCurrent s log →
+            result ≡ is_due s log occasion }
         ensures after { (log : Log) → let s = settings_of (S.contents store.now) self.old.number in
-            IsAfter self.old log → IsCurrent s log →
-            IsAfter self.new (Happened occasion s result ∷ log) }
+            IsPlacedAfter (S.description store.now) self.old log → IsCurrent s log →
+            IsPlacedAfter (S.description store.now) self.new (Happened occasion s result ∷ log) }
     {
         let counts = self.counts(occasion, store);
-        let due = self.count(occasion, counts) && is_active(store, Side::Tpdo, self.number);
+        let due = self.count(occasion, counts) && self.places.is_active(store);
         if due {
             self.mark_sent();
         }
@@ -197,11 +204,12 @@ impl Tpdo {
         requires { self.old.number < 512 }
         ensures number { self.new.number ≡ self.old.number }
         ensures due { (log : Log) → let s = settings_of (S.contents store.now) self.old.number in
-            IsAfter self.old log → IsCurrent s log →
+            IsPlacedAfter (S.description store.now) self.old log → IsCurrent s log →
             result ≡ is_among self.old.number numbers.now && is_due s log Occasion.Event }
         ensures after { (log : Log) → let s = settings_of (S.contents store.now) self.old.number in
-            IsAfter self.old log → IsCurrent s log →
-            IsAfter self.new (with_event_if (is_among self.old.number numbers.now) s log) }
+            IsPlacedAfter (S.description store.now) self.old log → IsCurrent s log →
+            IsPlacedAfter (S.description store.now) self.new
+            (with_event_if (is_among self.old.number numbers.now) s log) }
     {
         if numbers.contains(&self.number) {
             self.happens(Occasion::Event, store)

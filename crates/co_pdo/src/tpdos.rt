@@ -2,13 +2,14 @@
 
 ghost use Rattle.std.specs.Prelude.{◌≡◌, ℕ, ◌<◌, ◌≤◌, ◌==◌, ◌&&◌, [], length, map, position, IfOk};
 ghost use Rattle.std.specs.List.{filter, slice_index_or};
-ghost use Rattle.co_pdo.specs.Tpdos.{settings_of, tpdos_of};
+ghost use Rattle.co_dict.specs.Rows.{number_at};
+ghost use Rattle.co_pdo.specs.Tpdos.{counter_overflow_key, settings_of, tpdos_of};
 ghost use Rattle.co_pdo.specs.Log.{Log};
 ghost use Rattle.co_pdo.specs.Due.{is_due};
 ghost use Rattle.co_pdo.specs.Schedules.{IsTable, AllAfter, AllCurrentAfter, is_among, with_occasion, with_whole_start, with_events_among};
 
 use crate::pdos::has_pdo;
-use crate::settings::read_settings;
+use crate::places::Places;
 use crate::tpdo::{Occasion, Part, Tpdo};
 use arrayvec::ArrayVec;
 use co_dict::{ObjectStore, Side};
@@ -21,78 +22,100 @@ pub type Due = ArrayVec<u16, 512>;
 pub(crate) fn tpdos_in<S: ObjectStore>(alloc: Global, store: &S) -> Result<Vec<Tpdo>, AllocError>
     ensures numbers { IfOk result (λ tpdos.
         map (λ t. t.number) tpdos.items ≡ tpdos_of (S.description store.now).rows) }
-    ensures after { IfOk result (λ tpdos. AllAfter tpdos.items (λ _. [])) }
+    ensures after { IfOk result (λ tpdos.
+        AllAfter (S.description store.now) tpdos.items (λ _. [])) }
     ensures table { IfOk result (λ tpdos. IsTable tpdos.items) }
 {
     let mut tpdos = Vec::with_capacity(alloc, 512)?;
     for k in 0..512u16 {
         if has_pdo(store, Side::Tpdo, k) {
-            tpdos.push_reserved(Tpdo::new(k));
+            tpdos.push_reserved(Tpdo::new(k, Places::of(store, k)));
         }
     }
     Ok(tpdos)
 }
 
-/// A SYNC or a tick for each of them, and the numbers of those that are sent.
-pub(crate) fn all_happen<S: ObjectStore>(tpdos: &mut [Tpdo], occasion: Occasion, store: &S) -> Due
-    requires { IsTable tpdos.old }
-    ensures numbers { map (λ t. t.number) tpdos.new ≡ map (λ t. t.number) tpdos.old }
-    ensures due { (logs : ℕ → Log) → AllAfter tpdos.old logs →
-        AllCurrentAfter (S.contents store.now) logs →
-        result.items ≡ filter (λ k. is_due (settings_of (S.contents store.now) k) (logs k) occasion)
-        (map (λ t. t.number) tpdos.old) }
-    ensures after { (logs : ℕ → Log) → AllAfter tpdos.old logs →
-        AllCurrentAfter (S.contents store.now) logs →
-        AllAfter tpdos.new (with_occasion (S.contents store.now) occasion logs) }
-    ensures few { length result.items ≤ length tpdos.old }
-    ensures small { (i e : ℕ) → i < length result.items → slice_index_or result.items i e < 512 }
+/// The synchronous counter overflow value, by the place of it that each TPDO has; 0 where there is no TPDO.
+pub(crate) fn counter_overflow<S: ObjectStore>(tpdos: &[Tpdo], store: &S) -> u8
+    ensures { (logs : ℕ → Log) → AllAfter (S.description store.now) tpdos.now logs →
+        0 < length tpdos.now → result ≡ number_at (S.contents store.now) counter_overflow_key }
 {
-    let mut due = Due::new();
-    for tpdo in tpdos.iter_mut() {
-        if tpdo.happens(occasion, store) {
-            due.push(tpdo.number);
-        }
+    match tpdos.first() {
+        Some(tpdo) => tpdo.places.counter_overflow(store),
+        None => 0,
     }
-    due
 }
 
-/// An event for each of them whose number is among these, and the numbers of those that are sent.
+/// A SYNC or a tick for each of them, and in `sent` the numbers of those that are sent.
+pub(crate) fn all_happen<S: ObjectStore>(
+    tpdos: &mut [Tpdo],
+    occasion: Occasion,
+    store: &S,
+    sent: &mut Due,
+)
+    requires { IsTable tpdos.old }
+    ensures numbers { map (λ t. t.number) tpdos.new ≡ map (λ t. t.number) tpdos.old }
+    ensures due { (logs : ℕ → Log) → AllAfter (S.description store.now) tpdos.old logs →
+        AllCurrentAfter (S.contents store.now) logs →
+        sent.new.items ≡
+        filter (λ k. is_due (settings_of (S.contents store.now) k) (logs k) occasion)
+        (map (λ t. t.number) tpdos.old) }
+    ensures after { (logs : ℕ → Log) → AllAfter (S.description store.now) tpdos.old logs →
+        AllCurrentAfter (S.contents store.now) logs →
+        AllAfter (S.description store.now) tpdos.new
+        (with_occasion (S.contents store.now) occasion logs) }
+    ensures few { length sent.new.items ≤ length tpdos.old }
+    ensures small { (i e : ℕ) → i < length sent.new.items →
+        slice_index_or sent.new.items i e < 512 }
+{
+    sent.clear();
+    for tpdo in tpdos.iter_mut() {
+        if tpdo.happens(occasion, store) {
+            sent.push(tpdo.number);
+        }
+    }
+}
+
+/// An event for each of them whose number is among these, and in `sent` the numbers of those that are sent.
 pub(crate) fn all_happen_among<S: ObjectStore>(
     tpdos: &mut [Tpdo],
     numbers: &[u16],
     store: &S,
-) -> Due
+    sent: &mut Due,
+)
     requires { IsTable tpdos.old }
     ensures numbers { map (λ t. t.number) tpdos.new ≡ map (λ t. t.number) tpdos.old }
-    ensures due { (logs : ℕ → Log) → AllAfter tpdos.old logs →
+    ensures due { (logs : ℕ → Log) → AllAfter (S.description store.now) tpdos.old logs →
         AllCurrentAfter (S.contents store.now) logs →
-        result.items ≡ filter (λ k. is_among k numbers.now &&
+        sent.new.items ≡ filter (λ k. is_among k numbers.now &&
         is_due (settings_of (S.contents store.now) k) (logs k) Occasion.Event)
         (map (λ t. t.number) tpdos.old) }
-    ensures after { (logs : ℕ → Log) → AllAfter tpdos.old logs →
+    ensures after { (logs : ℕ → Log) → AllAfter (S.description store.now) tpdos.old logs →
         AllCurrentAfter (S.contents store.now) logs →
-        AllAfter tpdos.new (with_events_among numbers.now (S.contents store.now) logs) }
-    ensures few { length result.items ≤ length tpdos.old }
-    ensures small { (i e : ℕ) → i < length result.items → slice_index_or result.items i e < 512 }
+        AllAfter (S.description store.now) tpdos.new
+        (with_events_among numbers.now (S.contents store.now) logs) }
+    ensures few { length sent.new.items ≤ length tpdos.old }
+    ensures small { (i e : ℕ) → i < length sent.new.items →
+        slice_index_or sent.new.items i e < 512 }
 {
-    let mut due = Due::new();
+    sent.clear();
     for tpdo in tpdos.iter_mut() {
         if tpdo.happens_among(numbers, store) {
-            due.push(tpdo.number);
+            sent.push(tpdo.number);
         }
     }
-    due
 }
 
 /// Starts each of them whole.
 pub(crate) fn all_start<S: ObjectStore>(tpdos: &mut [Tpdo], store: &S)
     requires { IsTable tpdos.old }
     ensures numbers { map (λ t. t.number) tpdos.new ≡ map (λ t. t.number) tpdos.old }
-    ensures after { (logs : ℕ → Log) → AllAfter tpdos.old logs →
-        AllAfter tpdos.new (with_whole_start (S.contents store.now) logs) }
+    ensures after { (logs : ℕ → Log) → AllAfter (S.description store.now) tpdos.old logs →
+        AllAfter (S.description store.now) tpdos.new
+        (with_whole_start (S.contents store.now) logs) }
 {
     for tpdo in tpdos.iter_mut() {
-        let settings = read_settings(store, tpdo.number);
+        let settings = tpdo.places.settings(store);
         tpdo.start(&settings, Part::Whole);
     }
 }

@@ -7,7 +7,7 @@
 
 use crate::device::{device, write};
 use co_dict_list::ListStore;
-use co_pdo::{Part, Schedule};
+use co_pdo::{Due, Part, Schedule};
 use std::alloc::Global;
 use std::test::Fail;
 
@@ -41,17 +41,18 @@ fn writes_as_said(store: &mut ListStore, place: &str, rest: &str) -> Result<bool
 
 /// The TPDO that is due at a call, as a script says it.
 fn due_at(schedule: &mut Schedule, store: &ListStore, call: u8) -> u8 {
-    let due = match call {
+    let mut due = Due::new();
+    match call {
         b'e' => return if schedule.on_event(store, 0) {
             b'0'
         } else {
             b'.'
         },
-        b'f' => schedule.on_events(store, &[1, 511]),
-        b't' => schedule.on_tick(store),
-        b'-' => schedule.on_sync(store, None),
-        _ => schedule.on_sync(store, Some(call.saturating_sub(b'0'))),
-    };
+        b'f' => schedule.on_events(store, &[1, 511], &mut due),
+        b't' => schedule.on_tick(store, &mut due),
+        b'-' => schedule.on_sync(store, None, &mut due),
+        _ => schedule.on_sync(store, Some(call.saturating_sub(b'0')), &mut due),
+    }
     match due.as_slice() {
         [] => b'.',
         [0] => b'0',

@@ -1,6 +1,9 @@
 //! The data of a PDO by its compiled mapping.
 
-ghost use Rattle.std.specs.Prelude.{◌≡◌, ◌≤◌, ◌+◌, ◌++◌, ◌∷◌, [], Some, length};
+ghost use Rattle.std.specs.Prelude.{◌≡◌, ◌≤◌, ◌+◌, ◌++◌, ◌∷◌, [], Some, is_some, length};
+ghost use Rattle.co_value.specs.Numbers.{number_of};
+ghost use Rattle.co_value.specs.declared.data_type.DataType.TheVariants.{Unsigned8};
+ghost use Rattle.co_dict.specs.WriteRefusals.{limit_refusal};
 ghost use Rattle.co_pdo.specs.Mappings.{width_in, total_of};
 ghost use Rattle.co_pdo.specs.Images.{bytes_in, image_of, with_parts, is_outside, any_outside, written_in_order, fault_of, contents_after, answered};
 ghost use Rattle.co_pdo_compiled.specs.CompiledMappings.{mapped_in, mapping_in, HasEntry, HasPart, HasParts};
@@ -8,8 +11,9 @@ ghost use Rattle.co_pdo_compiled.specs.CompiledMappings.{mapped_in, mapping_in, 
 use crate::compiled::Compiled;
 use crate::part::{Part, PlacedEntry};
 use arrayvec::ArrayVec;
-use co_dict::{ObjectStore, place_laws, store_laws};
+use co_dict::{ObjectStore, Row, place_laws, store_laws};
 use co_pdo::PdoFault;
+use co_value::DataType;
 
 /// The bytes of an entry.
 fn bytes_of<'a, S: ObjectStore>(store: &'a S, entry: &PlacedEntry) -> &'a [u8]
@@ -30,7 +34,12 @@ fn extend(image: &mut ArrayVec<u8, 8>, bytes: &[u8])
     requires { length image.old.items + length bytes.now ≤ 8 }
     ensures { image.new.items ≡ image.old.items ++ bytes.now }
 {
-    let _ = image.try_extend_from_slice(bytes);
+    // most entries that are mapped have one byte, which needs no call of a copy
+    if bytes.len() == 1 {
+        image.push(bytes[0]);
+    } else {
+        let _ = image.try_extend_from_slice(bytes);
+    }
 }
 
 /// Appends the bytes of what is mapped.
@@ -70,6 +79,28 @@ pub fn image_at<S: ObjectStore>(store: &S, compiled: &Compiled) -> ArrayVec<u8, 
     joined(store, compiled.parts())
 }
 
+/// The number of one byte of UNSIGNED8.
+fn number_of_byte(bytes: &[u8]) -> i128
+    requires { length bytes.now ≡ 1 }
+    ensures { result ≡ number_of Unsigned8 bytes.now }
+{
+    i128::from(bytes[0])
+}
+
+/// Whether one byte is outside the limits of an entry of UNSIGNED8. It is here because most mapped entries have that type,
+/// and `check_limits` copies the bytes to read their number.
+fn is_byte_outside(row: &Row, bytes: &[u8]) -> bool
+    requires kind { row.now.data_type ≡ Unsigned8 }
+    requires one { length bytes.now ≡ 1 }
+    ensures { result ≡ is_some (limit_refusal row.now bytes.now) }
+{
+    let number = number_of_byte(bytes);
+    if number > row.high {
+        return true;
+    }
+    number < row.low
+}
+
 /// Whether a part of the data is outside the limits of its entry.
 fn is_outside<S: ObjectStore>(_store: &S, part: &Part, bytes: &[u8]) -> bool
     requires has { HasPart (S.description _store.now) part.now }
@@ -77,7 +108,10 @@ fn is_outside<S: ObjectStore>(_store: &S, part: &Part, bytes: &[u8]) -> bool
     ensures { result ≡ is_outside (S.description _store.now).rows (mapped_in part.now) bytes.now }
 {
     match part {
-        Part::Placed(entry) => entry.row.check_limits(bytes).is_err(),
+        Part::Placed(entry) => match entry.row.data_type {
+            DataType::Unsigned8 => is_byte_outside(&entry.row, bytes),
+            _ => entry.row.check_limits(bytes).is_err(),
+        },
         Part::PassedOver(_) => false,
     }
 }

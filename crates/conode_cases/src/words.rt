@@ -12,7 +12,11 @@ decode --sheet s t --node=1 => decode
 replay s - --node 5 --time 0 => replay
 loop s 2001:00 05 --node=127 --mode block => loop
 loop s 2001:00 05 --node 5 --mode fast => status 2
-replay s t => status 2
+replay s t => replay
+loop s 2001:00 05 => loop
+replay s --node 5 => status 2
+replay s t --node 0 => status 2
+loop s 2001:00 05 --node 128 => status 2
 check a --nodes 5 => status 2
 check a --node 0 => status 2
 chek => status 2

@@ -1,17 +1,15 @@
-//! What a command of the program reads and writes, and how it ends: a whole input, lines handed to a writer, and the line
-//! that says why a command didn't come to its end.
+//! What a command of the program writes, and how it ends: lines handed to a writer, and the line that says why a command
+//! didn't come to its end.
 #![tactic(auto)]
 
 mod ending;
 mod fault;
-mod input;
 mod message;
 mod output;
 mod sheet_file;
 
 pub use ending::Ending;
 pub use fault::CmdFault;
-pub use input::{Asks, read_all};
 pub use message::Message;
 pub use output::{flushed, hand_over, say, stopped};
 pub use sheet_file::{file_text, out_of_memory};

@@ -1,6 +1,7 @@
 //! A download looped against the node of a data sheet's file.
 
 ghost use Rattle.std.specs.Prelude.{◌≡◌, ◌⊎◌, ◌≤◌, ◌++◌, length, None, Some, IfOk, IfSome, option_map};
+ghost use Rattle.std.specs.Option.{option_or};
 ghost use Rattle.std.specs.Process.{exit_status};
 ghost use Rattle.co_value.specs.KeyTexts.{key_in};
 ghost use Rattle.conode_loop.specs.Words.{bytes_in};
@@ -9,7 +10,7 @@ use crate::looped::loop_back;
 use co_dict_list::BuildFault;
 use co_node::{Config, Node};
 use co_sdo_client::{ClientState, Mode};
-use co_sheet::{SheetFault, read};
+use co_sheet::{Sheet, SheetFault, read};
 use co_text::HexPairs;
 use co_value::Key;
 use conode_io::{CmdFault, Message, file_text, flushed, out_of_memory, say, stopped};
@@ -49,7 +50,7 @@ fn bytes_in(alloc: Global, word: &str) -> Result<Option<Vec<u8>>, AllocError>
     Ok(Some(collected(alloc, pairs)?))
 }
 
-// Says what is wrong with a word. The status is 2.
+// Says what is wrong with a word, or missing. The status is 2.
 fn bad_word<E: Write>(what: &str, err: &mut E) -> ExitCode
     ensures { exit_status result ≡ 2 }
 {
@@ -115,10 +116,10 @@ fn loop_node<O: Write, E: Write>(
     }
 }
 
-// Loops a download against the node of a data sheet's text, if the text is one.
-fn loop_sheet<O: Write, E: Write>(
+// Loops a download against the node of a data sheet at a node-ID.
+fn loop_device<O: Write, E: Write>(
     alloc: Global,
-    text: &[u8],
+    sheet: &Sheet<'_>,
     job: &Job<'_>,
     node_id: u8,
     config: &Config<'_>,
@@ -128,13 +129,50 @@ fn loop_sheet<O: Write, E: Write>(
     requires { length job.now.bytes.now ≤ 65535 }
     ensures { (exit_status result ≡ 0) ⊎ (exit_status result ≡ 1) }
 {
-    let sheet = match read(alloc, text) {
-        Ok(sheet) => sheet,
-        Err(fault) => return faulty_sheet(fault, out),
-    };
-    match Node::build(alloc, &sheet, node_id, config) {
+    match Node::build(alloc, sheet, node_id, config) {
         Ok(mut node) => loop_node(alloc, &mut node, job, out, err),
         Err(fault) => faulty_build(fault, out),
+    }
+}
+
+// Loops a download against the node of a data sheet, at the node-ID that is given, or else the sheet's own.
+fn loop_sheet<O: Write, E: Write>(
+    alloc: Global,
+    sheet: &Sheet<'_>,
+    job: &Job<'_>,
+    node: Option<u8>,
+    config: &Config<'_>,
+    out: &mut O,
+    err: &mut E,
+) -> ExitCode
+    requires { length job.now.bytes.now ≤ 65535 }
+    ensures none { option_or node sheet.now.node_id ≡ None → exit_status result ≡ 2 }
+    ensures some { IfSome (option_or node sheet.now.node_id)
+        (λ id. (exit_status result ≡ 0) ⊎ (exit_status result ≡ 1)) }
+{
+    match node.or(sheet.node_id()) {
+        Some(node_id) => loop_device(alloc, sheet, job, node_id, config, out, err),
+        None => bad_word("no node-ID", err),
+    }
+}
+
+// Loops a download against the node of a data sheet's text, if the text is one.
+fn loop_text<O: Write, E: Write>(
+    alloc: Global,
+    text: &[u8],
+    job: &Job<'_>,
+    node: Option<u8>,
+    config: &Config<'_>,
+    out: &mut O,
+    err: &mut E,
+) -> ExitCode
+    requires { length job.now.bytes.now ≤ 65535 }
+    ensures given { IfSome node (λ id. (exit_status result ≡ 0) ⊎ (exit_status result ≡ 1)) }
+    ensures status { (exit_status result ≡ 0) ⊎ (exit_status result ≡ 1) ⊎ (exit_status result ≡ 2) }
+{
+    match read(alloc, text) {
+        Ok(sheet) => loop_sheet(alloc, &sheet, job, node, config, out, err),
+        Err(fault) => faulty_sheet(fault, out),
     }
 }
 
@@ -143,33 +181,35 @@ fn loop_path<R: Files + AllocGlobal, O: Write, E: Write>(
     rt: &R,
     path: &str,
     job: &Job<'_>,
-    node_id: u8,
+    node: Option<u8>,
     config: &Config<'_>,
     out: &mut O,
     err: &mut E,
 ) -> ExitCode
     requires { length job.now.bytes.now ≤ 65535 }
-    ensures { (exit_status result ≡ 0) ⊎ (exit_status result ≡ 1) }
+    ensures given { IfSome node (λ id. (exit_status result ≡ 0) ⊎ (exit_status result ≡ 1)) }
+    ensures status { (exit_status result ≡ 0) ⊎ (exit_status result ≡ 1) ⊎ (exit_status result ≡ 2) }
 {
     match file_text(rt, path) {
-        Ok(text) => loop_sheet(rt.alloc(), text.as_slice(), job, node_id, config, out, err),
+        Ok(text) => loop_text(rt.alloc(), text.as_slice(), job, node, config, out, err),
         Err(CmdFault::Memory) => out_of_memory(out),
         Err(_) => cannot_read(path, err),
     }
 }
 
-/// Loops a download against the node of the data sheet of a path at a node-ID, as `loop_back` does, on `out`. `key` is a key as
-/// `2001:00`; `hex` are the bytes in pairs of hexadecimal digits, or `-` for none.
+/// Loops a download against the node of the data sheet of a path, as `loop_back` does, on `out`. Its node-ID is the one
+/// that is given, or else the sheet's own, that of a device configuration file. `key` is a key as `2001:00`; `hex` are the
+/// bytes in pairs of hexadecimal digits, or `-` for none.
 ///
-/// `bad key` and then `bad bytes`, also for more than 65,535 bytes, go to `err` before the file is opened; the status is then 2. A
-/// file that can't be read is named on `err`; a fault of the sheet and one of its build go to `out`. The status is 0 where the
-/// client is done, else 1.
+/// `bad key` and then `bad bytes`, also for more than 65,535 bytes, go to `err` before the file is opened, and `no node-ID`
+/// after the sheet was read; the status is then 2. A file that can't be read is named on `err`; a fault of the sheet and one
+/// of its build go to `out`. The status is 0 where the client is done, else 1.
 pub fn loop_files<R: Files + AllocGlobal, O: Write, E: Write>(
     rt: &R,
     sheet: &str,
     key: &str,
     hex: &str,
-    node: u8,
+    node: Option<u8>,
     mode: Mode,
     config: &Config<'_>,
     out: &mut O,
@@ -177,6 +217,8 @@ pub fn loop_files<R: Files + AllocGlobal, O: Write, E: Write>(
 ) -> ExitCode
     ensures bad_key { key_in key.now ≡ None → exit_status result ≡ 2 }
     ensures bad_bytes { bytes_in hex.now ≡ None → (exit_status result ≡ 1) ⊎ (exit_status result ≡ 2) }
+    ensures given { IfSome (key_in key.now) (λ k. IfSome (bytes_in hex.now) (λ b.
+        IfSome node (λ id. (exit_status result ≡ 0) ⊎ (exit_status result ≡ 1)))) }
     ensures status { (exit_status result ≡ 0) ⊎ (exit_status result ≡ 1) ⊎ (exit_status result ≡ 2) }
 {
     let Some(key) = Key::parse(key.as_bytes()) else {

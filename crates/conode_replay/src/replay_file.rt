@@ -1,6 +1,7 @@
 //! The file of a trace, replayed against the device of a data sheet.
 
-ghost use Rattle.std.specs.Prelude.{◌≡◌, ◌⊎◌};
+ghost use Rattle.std.specs.Prelude.{◌≡◌, ◌⊎◌, None, IfSome};
+ghost use Rattle.std.specs.Option.{option_or};
 ghost use Rattle.std.specs.Process.{exit_status};
 
 use crate::replayed_trace::replay;
@@ -70,6 +71,14 @@ fn faulty_build<O: Write>(fault: BuildFault, out: &mut O) -> ExitCode
     ExitCode::FAILURE
 }
 
+// says that there is no node-ID: none is given, and the sheet has none
+fn no_node_id<E: Write>(err: &mut E) -> ExitCode
+    ensures { exit_status result ≡ 2 }
+{
+    let _ = writeln!(err, "no node-ID");
+    ExitCode::from(2)
+}
+
 /// Replays an input, a trace, against a device on `out`, and says why it stopped where it did: on `out`, after what was
 /// printed before, or where that can't be written on `err`.
 fn replay_input<R: Read, O: Write, E: Write>(
@@ -105,10 +114,10 @@ fn replay_trace<R: Files + AllocGlobal + Input, O: Write, E: Write>(
     }
 }
 
-// replays the trace of a path against the device of a data sheet's text, if the text is one
-fn replay_sheet<R: Files + AllocGlobal + Input, O: Write, E: Write>(
+// replays the trace of a path against the device of a data sheet at a node-ID
+fn replay_device<R: Files + AllocGlobal + Input, O: Write, E: Write>(
     rt: &R,
-    text: &[u8],
+    sheet: &Sheet<'_>,
     trace: &str,
     node_id: u8,
     config: &Config<'_>,
@@ -117,34 +126,72 @@ fn replay_sheet<R: Files + AllocGlobal + Input, O: Write, E: Write>(
 ) -> ExitCode
     ensures { (exit_status result ≡ 0) ⊎ (exit_status result ≡ 1) }
 {
-    let sheet = match read(rt.alloc(), text) {
-        Ok(sheet) => sheet,
-        Err(fault) => return faulty_sheet(fault, out),
-    };
-    match Node::build(rt.alloc(), &sheet, node_id, config) {
+    match Node::build(rt.alloc(), sheet, node_id, config) {
         Ok(mut node) => replay_trace(rt, &mut node, trace, out, err),
         Err(fault) => faulty_build(fault, out),
     }
 }
 
-/// Replays the trace of a path, or of standard input where that is `-`, against the device of the data sheet of
-/// another path at a node-ID, as `replay` does. What it prints, a fault of the sheet and one of its build go to
-/// `out`, as does the line that says why it stopped; a file that can't be read is named on `err`. The sheet is read
-/// before the trace is opened. The status is 1 after a fault, also of the trace, else 0; an event that is refused is
-/// none.
-pub fn replay_files<R: Files + AllocGlobal + Input, O: Write, E: Write>(
+// replays the trace of a path against the device of a data sheet, at the node-ID that is given, or else the sheet's own
+fn replay_sheet<R: Files + AllocGlobal + Input, O: Write, E: Write>(
     rt: &R,
-    sheet: &str,
+    sheet: &Sheet<'_>,
     trace: &str,
-    node: u8,
+    node: Option<u8>,
     config: &Config<'_>,
     out: &mut O,
     err: &mut E,
 ) -> ExitCode
-    ensures { (exit_status result ≡ 0) ⊎ (exit_status result ≡ 1) }
+    ensures none { option_or node sheet.now.node_id ≡ None → exit_status result ≡ 2 }
+    ensures some { IfSome (option_or node sheet.now.node_id)
+        (λ id. (exit_status result ≡ 0) ⊎ (exit_status result ≡ 1)) }
+{
+    match node.or(sheet.node_id()) {
+        Some(node_id) => replay_device(rt, sheet, trace, node_id, config, out, err),
+        None => no_node_id(err),
+    }
+}
+
+// replays the trace of a path against the device of a data sheet's text, if the text is one
+fn replay_text<R: Files + AllocGlobal + Input, O: Write, E: Write>(
+    rt: &R,
+    text: &[u8],
+    trace: &str,
+    node: Option<u8>,
+    config: &Config<'_>,
+    out: &mut O,
+    err: &mut E,
+) -> ExitCode
+    ensures given { IfSome node (λ id. (exit_status result ≡ 0) ⊎ (exit_status result ≡ 1)) }
+    ensures status { (exit_status result ≡ 0) ⊎ (exit_status result ≡ 1) ⊎ (exit_status result ≡ 2) }
+{
+    match read(rt.alloc(), text) {
+        Ok(sheet) => replay_sheet(rt, &sheet, trace, node, config, out, err),
+        Err(fault) => faulty_sheet(fault, out),
+    }
+}
+
+/// Replays the trace of a path, or of standard input where that is `-`, against the device of the data sheet of
+/// another path, as `replay` does. Its node-ID is the one that is given, or else the sheet's own, that of a device
+/// configuration file. What it prints, a fault of the sheet and one of its build go to `out`, as does the line that says
+/// why it stopped; a file that can't be read is named on `err`, which has `no node-ID` where there is none.
+///
+/// Mistakes are looked for in this order: the sheet's file, the sheet, the node-ID, the build, the trace's file, the trace.
+/// The status is 2 without a node-ID, 1 after another fault, also of the trace, else 0; an event that is refused is none.
+pub fn replay_files<R: Files + AllocGlobal + Input, O: Write, E: Write>(
+    rt: &R,
+    sheet: &str,
+    trace: &str,
+    node: Option<u8>,
+    config: &Config<'_>,
+    out: &mut O,
+    err: &mut E,
+) -> ExitCode
+    ensures given { IfSome node (λ id. (exit_status result ≡ 0) ⊎ (exit_status result ≡ 1)) }
+    ensures status { (exit_status result ≡ 0) ⊎ (exit_status result ≡ 1) ⊎ (exit_status result ≡ 2) }
 {
     match file_text(rt, sheet) {
-        Ok(text) => replay_sheet(rt, text.as_slice(), trace, node, config, out, err),
+        Ok(text) => replay_text(rt, text.as_slice(), trace, node, config, out, err),
         Err(CmdFault::Memory) => out_of_memory(out),
         Err(_) => cannot_read(sheet, err),
     }

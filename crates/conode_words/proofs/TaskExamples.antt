@@ -104,25 +104,47 @@ unfolding clap_on_literals
 asked_for_version = refl
 
 replay_of_a_trace : asked (codes "replay" ∷ codes "s" ∷ codes "-" ∷ codes "--node" ∷ codes "5" ∷ [])
-    ≡ Some (replay (record { sheet = codes "s"; trace = codes "-"; device = record { node = 5; strings = 16; domains = 889; time = 1000 } }))
+    ≡ Some (replay (record { sheet = codes "s"; trace = codes "-"; device = record { node = Some 5; strings = 16; domains = 889; time = 1000 } }))
 unfolding clap_on_literals
 replay_of_a_trace = refl
 
-replay_without_node : fault_of conode_command (codes "conode" ∷ codes "replay" ∷ codes "s" ∷ codes "t" ∷ []) ≡ kind.MissingRequiredArgument ∷ []
+replay_without_node : asked (codes "replay" ∷ codes "s" ∷ codes "t" ∷ [])
+    ≡ Some (replay (record { sheet = codes "s"; trace = codes "t"; device = record { node = None; strings = 16; domains = 889; time = 1000 } }))
 unfolding clap_on_literals
 replay_without_node = refl
+
+replay_without_node_is_taken : fault_of conode_command (codes "conode" ∷ codes "replay" ∷ codes "s" ∷ codes "t" ∷ []) ≡ []
+unfolding clap_on_literals
+replay_without_node_is_taken = refl
+
+replay_for_node_0 : fault_of conode_command (codes "conode" ∷ codes "replay" ∷ codes "s" ∷ codes "t" ∷ codes "--node" ∷ codes "0" ∷ []) ≡ kind.ValueValidation ∷ []
+unfolding clap_on_literals
+replay_for_node_0 = refl
+
+replay_without_trace : fault_of conode_command (codes "conode" ∷ codes "replay" ∷ codes "s" ∷ []) ≡ kind.MissingRequiredArgument ∷ []
+unfolding clap_on_literals
+replay_without_trace = refl
 
 time_65536 : fault_of conode_command (codes "conode" ∷ codes "replay" ∷ codes "s" ∷ codes "t" ∷ codes "--node" ∷ codes "5" ∷ codes "--time" ∷ codes "65536" ∷ []) ≡ kind.ValueValidation ∷ []
 unfolding clap_on_literals
 time_65536 = refl
 
 loop_of_bytes : asked (codes "loop" ∷ codes "s" ∷ codes "2001:00" ∷ codes "-" ∷ codes "--node" ∷ codes "127" ∷ [])
-    ≡ Some (loop_back (record { sheet = codes "s"; key = codes "2001:00"; bytes = codes "-"; mode = Plain; device = record { node = 127; strings = 16; domains = 889; time = 1000 } }))
+    ≡ Some (loop_back (record { sheet = codes "s"; key = codes "2001:00"; bytes = codes "-"; mode = Plain; device = record { node = Some 127; strings = 16; domains = 889; time = 1000 } }))
 unfolding clap_on_literals
 loop_of_bytes = refl
 
+loop_without_node : asked (codes "loop" ∷ codes "s" ∷ codes "k" ∷ codes "-" ∷ codes "--time" ∷ codes "0" ∷ [])
+    ≡ Some (loop_back (record { sheet = codes "s"; key = codes "k"; bytes = codes "-"; mode = Plain; device = record { node = None; strings = 16; domains = 889; time = 0 } }))
+unfolding clap_on_literals
+loop_without_node = refl
+
+loop_for_node_128 : task_fault (codes "conode" ∷ codes "loop" ∷ codes "s" ∷ codes "k" ∷ codes "-" ∷ codes "--node" ∷ codes "128" ∷ []) ≡ kind.ValueValidation ∷ []
+unfolding clap_on_literals
+loop_for_node_128 = refl
+
 loop_with_options : asked (codes "loop" ∷ codes "--mode" ∷ codes "block" ∷ codes "s" ∷ codes "k" ∷ codes "01" ∷ codes "--node=1" ∷ codes "--strings" ∷ codes "1" ∷ codes "--domains" ∷ codes "2" ∷ codes "--time" ∷ codes "3" ∷ [])
-    ≡ Some (loop_back (record { sheet = codes "s"; key = codes "k"; bytes = codes "01"; mode = Block; device = record { node = 1; strings = 1; domains = 2; time = 3 } }))
+    ≡ Some (loop_back (record { sheet = codes "s"; key = codes "k"; bytes = codes "01"; mode = Block; device = record { node = Some 1; strings = 1; domains = 2; time = 3 } }))
 unfolding clap_on_literals
 loop_with_options = refl
 

@@ -52,10 +52,7 @@ abbrev pub decode_command : App
 decode_command =
     with_rule (with_rule (with_rule (new_app (codes "decode")) (wanted (codes "TRACE"))) sheet_option) node_option
 
--- `--node N`, which has to be there; `--time N`, ms; `--mode MODE`
-abbrev pub wanted_node : Rule
-wanted_node = record node_option { required = true }
-
+-- `--time N`, ms; `--mode MODE`
 abbrev pub time_option : Rule
 time_option = numbered (codes "time") 0 65535 (codes "1000" ∷ [])
 
@@ -70,17 +67,17 @@ mode_option = record (new_rule (codes "mode")) {
 abbrev pub with_rooms : App → App
 with_rooms app = with_rule (with_rule (with_rule app strings_option) domains_option) time_option
 
--- `replay SHEET TRACE --node N [--strings N] [--domains N] [--time N]`
+-- `replay SHEET TRACE [--node N] [--strings N] [--domains N] [--time N]`
 abbrev pub replay_command : App
 replay_command =
     with_rooms (with_rule (with_rule (with_rule (new_app (codes "replay"))
-    (wanted (codes "SHEET"))) (wanted (codes "TRACE"))) wanted_node)
+    (wanted (codes "SHEET"))) (wanted (codes "TRACE"))) node_option)
 
--- `loop SHEET KEY HEX --node N [--mode MODE] [--strings N] [--domains N] [--time N]`
+-- `loop SHEET KEY HEX [--node N] [--mode MODE] [--strings N] [--domains N] [--time N]`
 abbrev pub loop_command : App
 loop_command =
     with_rooms (with_rule (with_rule (with_rule (with_rule (with_rule (new_app (codes "loop"))
-    (wanted (codes "SHEET"))) (wanted (codes "KEY"))) (wanted (codes "HEX"))) wanted_node) mode_option)
+    (wanted (codes "SHEET"))) (wanted (codes "KEY"))) (wanted (codes "HEX"))) node_option) mode_option)
 
 -- a command with `--version`
 abbrev pub versioned : App → App
@@ -107,7 +104,7 @@ pub record AskedDecode : Type 0 where
 
 -- what the words say of a device
 pub record AskedDevice : Type 0 where
-  pub node : ℕ
+  pub node : Option ℕ
   pub strings : ℕ
   pub domains : ℕ
   pub time : ℕ
@@ -134,7 +131,7 @@ pub data Asked : Type 0 where
   loop_back : AskedLoop → Asked
 
 -- numbers of a device
-abbrev pub device_with : ℕ → ℕ → ℕ → ℕ → AskedDevice
+abbrev pub device_with : Option ℕ → ℕ → ℕ → ℕ → AskedDevice
 device_with node strings domains time = record { node = node; strings = strings; domains = domains; time = time }
 
 abbrev pub device_by : DeviceWords → AskedDevice
@@ -184,10 +181,10 @@ asked_decode rows =
 -- what the matches say of a device
 abbrev pub asked_device : List Row → Option AskedDevice
 asked_device rows =
-    option_and_then (λ node. option_and_then (λ strings. option_and_then (λ domains. option_map (λ time.
-    device_with node strings domains time)
+    option_and_then (λ strings. option_and_then (λ domains. option_map (λ time.
+    device_with (number_for 8 (codes "node") rows) strings domains time)
     (number_for 16 (codes "time") rows)) (number_for 16 (codes "domains") rows))
-    (number_for 16 (codes "strings") rows)) (number_for 8 (codes "node") rows)
+    (number_for 16 (codes "strings") rows)
 
 -- what the matches of `replay` ask for
 abbrev pub asked_replay : List Row → Option Asked

@@ -3,7 +3,7 @@
 ghost use Rattle.std.specs.Prelude.{◌≡◌, map, IfOk, option_map, false, [], ◌∷◌, codes};
 ghost use Rattle.clap.specs.Words.{FailsBy, app_of, found_of, rows_of, rule_of, subcommand_of, subcommand_rows_of};
 ghost use Rattle.clap.specs.declared.builder.command.Command.TheViews.{out-Command};
-ghost use Rattle.conode_words.specs.Tasks.{asked_by, asked_check, asked_decode, asked_device, asked_in, asked_loop, asked_of, asked_replay, check_command, conode_command, decode_command, device_by, domains_option, has_other_mode, loop_command, mode_fault, mode_for, mode_of, mode_option, number_for, numbered, replay_command, sheet_option, strings_option, task_fault, time_option, wanted, wanted_node, with_rooms};
+ghost use Rattle.conode_words.specs.Tasks.{asked_by, asked_check, asked_decode, asked_device, asked_in, asked_loop, asked_of, asked_replay, check_command, conode_command, decode_command, device_by, domains_option, has_other_mode, loop_command, mode_fault, mode_for, mode_of, mode_option, node_option, number_for, numbered, replay_command, sheet_option, strings_option, task_fault, time_option, wanted, with_rooms};
 
 use crate::help;
 use crate::tasks::Task;
@@ -117,12 +117,12 @@ fn wanted<'a>(alloc: Global, name: &'a str, help: &'a str) -> Arg<'a>
 
 // the node-ID of a device
 fn node_arg<'a>(alloc: Global) -> Arg<'a>
-    ensures rule { rule_of result ≡ wanted_node }
+    ensures rule { rule_of result ≡ node_option }
     ensures local { result.global ≡ false }
 {
-    numbered(alloc, "node", 1, 127)
-        .required(true)
-        .help("The device's node-ID, 1 to 127")
+    numbered(alloc, "node", 1, 127).help(
+        "The device's node-ID, 1 to 127; if not given, the sheet's",
+    )
 }
 
 fn time_arg<'a>(alloc: Global) -> Arg<'a>
@@ -262,7 +262,7 @@ fn asked_decode<'a>(found: &ArgMatches<'a>) -> Option<Task<'a>>
 // what the words say of a device
 #[derive(Clone, Copy)]
 struct DeviceWords {
-    node: u8,
+    node: Option<u8>,
     strings: u16,
     domains: u16,
     time: u16,
@@ -272,12 +272,11 @@ struct DeviceWords {
 fn device_words(found: &ArgMatches<'_>) -> Option<DeviceWords>
     ensures { option_map device_by result ≡ asked_device (rows_of (found_of found.now)) }
 {
-    let node = number_u8(found, "node")?;
     let strings = number_u16(found, "strings")?;
     let domains = number_u16(found, "domains")?;
     let time = number_u16(found, "time")?;
     Some(DeviceWords {
-        node,
+        node: number_u8(found, "node"),
         strings,
         domains,
         time,

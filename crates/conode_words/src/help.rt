@@ -20,7 +20,8 @@ pub const FAULTS: &str = "\
 Prints `ok: 3 objects, 4 entries, 0 notes` and a line for each note, or the
 sheet's first fault: its number, its name and its line (0 where no line is to
 blame). With --node the last line is the sheet's build fault for that node-ID,
-if it has one.
+if it has one. Without it the node-ID of a device configuration file (DCF)
+counts, and is printed after the notes, as `node 5`.
 
   conode check sensor.eds --node 5
 
@@ -74,6 +75,8 @@ Notes are no faults:
                         one spelled otherwise, as [1018Sub 1], isn't read: write
                         [1018sub1]
   Unlisted              an object's section that no list names
+  NodeId                NodeID of the device commissioning is not 1 to 127: give
+                        the device's node-ID
 
 Build faults, each with an index or an index and a sub-index:
    2 ValueRange         a default with $NODEID that is outside the type or the
@@ -89,7 +92,7 @@ Build faults, each with an index or an index and a sub-index:
                         over 16,777,216 bytes of room: lower --domains or
                         --strings";
 
-/// What `replay` prints.
+/// What `replay` prints, and which node-ID its device has.
 pub const REPLAYED: &str = "\
 Makes the device of the sheet, plays the trace to it, and prints each frame that
 it sends as a line of a trace: first its boot-up. A frame of the trace is one
@@ -100,11 +103,14 @@ and sent and of ms: `; in 1, out 3, ticks 1000`. `-` as TRACE is standard input:
 
   candump -L can0 | conode replay sensor.eds - --node 5 | canplayer
 
+Without --node the device has the node-ID of the sheet, a device configuration
+file (DCF); where that has none, standard error has `no node-ID`.
+
 Status: 0 if all of the trace was played, 1 if not; then the last line says why,
 as `stopped: BadLine 3`, `fault 9 BadList line 1` or `build fault 3 BadCobId
-1800:01`; 2 if the words are wrong.";
+1800:01`; 2 if the words are wrong, or there is no node-ID.";
 
-/// What `loop` prints.
+/// What `loop` prints, and which node-ID its device has.
 pub const LOOPED: &str = "\
 Makes the device of the sheet, lets an SDO client download HEX to its entry KEY,
 and prints the frames of both as lines of a trace, and how it ended: `; done, 3
@@ -113,8 +119,11 @@ a sub-index, HEX pairs of digits, or `-` for no bytes.
 
   conode loop sensor.eds 2000:00 F401 --node 5 --mode block
 
+Without --node the device has the node-ID of the sheet, a device configuration
+file (DCF); where that has none, standard error has `no node-ID`.
+
 Status: 0 if it is done, 1 if it isn't or the sheet has a fault, 2 if the words
-are wrong.";
+are wrong, or there is no node-ID.";
 
 /// What is said of a mode that is none.
 pub const MODES: &str = "invalid value for '--mode <MODE>': plain, segmented or block";

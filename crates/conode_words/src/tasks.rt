@@ -31,8 +31,8 @@ pub enum Task<'a> {
         sheet: &'a str,
         /// The trace's path, `-` for standard input.
         trace: &'a str,
-        /// The device's node-ID, 1 to 127.
-        node: u8,
+        /// The device's node-ID, 1 to 127; `None`: the one that the sheet itself has.
+        node: Option<u8>,
         /// The room of each string that may be written, in bytes.
         strings: u16,
         /// The room of each domain, in bytes.
@@ -48,8 +48,8 @@ pub enum Task<'a> {
         key: &'a str,
         /// The word of the bytes.
         bytes: &'a str,
-        /// The device's node-ID, 1 to 127.
-        node: u8,
+        /// The device's node-ID, 1 to 127; `None`: the one that the sheet itself has.
+        node: Option<u8>,
         /// By which of the SDO protocols the client transfers.
         mode: Mode,
         /// The room of each string that may be written, in bytes.

@@ -1,24 +1,42 @@
-use Rattle.std.proofs.Common.{◌≡◌, refl, sym, ap, ◌∙◌, List, ℕ}
-use Rattle.std.specs.Prelude.{Some}
-use Rattle.co_pdo.specs.declared.mapping.Mapped.{Mapped}
-use Rattle.co_pdo.specs.declared.data.PdoFault.TheVariants.{OutOfLimits}
-use Rattle.co_pdo.specs.Images.{fault_of, contents_after}
-use Rattle.co_node_effects.specs.RpdoData.{mapping_for, with_data}
-use Rattle.co_node_effects.proofs.Data.{outside_queued}
+use Rattle.std.proofs.Common.{◌≡◌, ap, ◌∙◌, subst, sym, List, ℕ}
+use Rattle.co_dict.specs.Rows.{Contents}
+use Rattle.co_dict.specs.declared.side.Side.TheVariants.{Rpdo}
+use Rattle.co_frame.specs.declared.emergency.Emergency.{Emergency}
+use Rattle.co_pdo.specs.Images.{answered, contents_after, fault_of}
+use Rattle.co_node_parts.specs.EmergencyQueues.{EmergenciesStand, with_queued}
+use Rattle.co_node_mappings.specs.MappingTables.{IsMappingTable}
+use Rattle.co_node_effects.specs.Errors.{all_raised, emergencies_of}
+use Rattle.co_node_effects.specs.RpdoData.{mapping_for, value_errors, with_data}
+use Rattle.co_node_effects.specs.Settings.{HasSameSettings}
+use Rattle.co_node_effects.proofs.Data.{by_all}
+use Rattle.co_node_effects.proofs.rpdo_data.take_data.Given as given
 use Rattle.co_node_effects.proofs.rpdo_data.take_data.Goals as goal
 
-pub returns-in-Err-OutOfLimits-clause-emergencies : goal.returns-in-Err-OutOfLimits-clause-emergencies
-returns-in-Err-OutOfLimits-clause-emergencies g c = λ log h.
-    let d = g.S.ObjectStore.description c.args.store.now in
-    let contents = g.S.ObjectStore.contents c.args.store.now in
-    let mapping = c.read-mapping.ensures.mapping in
-    let bytes = c.bytes.ensures.bytes in
-    let answer : Some c.in-Err-OutOfLimits.field-0 ≡ fault_of d.rows c.read-mapping.result c.bytes.result.now = rw c.in-Err-OutOfLimits.is at c.apply-outcome.ensures.fault in
-    let named : c.in-Err-OutOfLimits.field-0 ≡ OutOfLimits = rw c.in-Err-OutOfLimits.is at c.in-Err-OutOfLimits.field-0-is in
-    let outcome : Some OutOfLimits ≡ fault_of d.rows c.read-mapping.result c.bytes.result.now = ap Some (sym named) ∙ answer in
-    let fault : fault_of d.rows (mapping_for d contents c.args.rpdo.now) c.args.rpdo.now.frame.bytes ≡ Some OutOfLimits =
-    sym (outcome ∙ ap (λ (m : List Mapped). fault_of d.rows m c.bytes.result.now) mapping ∙ ap (fault_of d.rows (mapping_for d contents c.args.rpdo.now)) bytes) in
-    let written : g.S.ObjectStore.contents c.apply-outcome.new.store ≡ with_data d contents c.args.rpdo.now =
-    c.apply-outcome.ensures.contents ∙ ap (λ (m : List Mapped). contents_after d.rows m c.bytes.result.now contents) mapping
-    ∙ ap (λ (b : List ℕ). contents_after d.rows (mapping_for d contents c.args.rpdo.now) b contents) bytes in
-    outside_queued d contents _ c.args.rpdo.now _ _ log fault written refl (c.raise_and_queue.ensures.emergencies log h)
+module _ (g : given.Over) (c : goal.After-mappings_stay g)
+    (table : IsMappingTable Rpdo (g.S.ObjectStore.description c.args.store.now) (g.S.ObjectStore.contents c.args.store.now) c.args.mappings.now) where
+  fault : answered c.apply-outcome.result ≡ fault_of (g.S.ObjectStore.description c.args.store.now).rows
+      (mapping_for (g.S.ObjectStore.description c.args.store.now) (g.S.ObjectStore.contents c.args.store.now) c.args.rpdo.now) c.args.rpdo.now.frame.bytes
+  fault = c.apply-outcome.ensures.fault Rpdo table ∙ ap (fault_of (g.S.ObjectStore.description c.args.store.now).rows (mapping_for (g.S.ObjectStore.description c.args.store.now) (g.S.ObjectStore.contents c.args.store.now) c.args.rpdo.now)) c.bytes.ensures.bytes
+
+  written : g.S.ObjectStore.contents c.apply-outcome.new.store
+      ≡ with_data (g.S.ObjectStore.description c.args.store.now) (g.S.ObjectStore.contents c.args.store.now) c.args.rpdo.now
+  written = c.apply-outcome.ensures.contents Rpdo table ∙ ap (λ (b : List ℕ). contents_after (g.S.ObjectStore.description c.args.store.now).rows (mapping_for (g.S.ObjectStore.description c.args.store.now) (g.S.ObjectStore.contents c.args.store.now) c.args.rpdo.now) b (g.S.ObjectStore.contents c.args.store.now)) c.bytes.ensures.bytes
+
+pub returns-clause-contents : goal.returns-clause-contents
+returns-clause-contents g c = λ table.
+    c.raise_outcome.ensures.contents
+    ∙ by_all (λ d o contents. all_raised d.rows (value_errors o) contents) c.apply-outcome.ensures.description (fault g c table) (written g c table)
+
+pub returns-clause-emergencies : goal.returns-clause-emergencies
+returns-clause-emergencies g c = λ log table h.
+    subst (λ (es : List Emergency). EmergenciesStand c.raise_outcome.new.emergencies (with_queued es log))
+    (by_all (λ d o contents. emergencies_of d.rows (value_errors o) contents) c.apply-outcome.ensures.description (fault g c table) (written g c table))
+    (c.raise_outcome.ensures.emergencies log h)
+
+pub returns-clause-table : goal.returns-clause-table
+returns-clause-table g c = λ table.
+    let after = c.raise_outcome.ensures.contents
+    ∙ by_all (λ d o contents. all_raised d.rows (value_errors o) contents) c.apply-outcome.ensures.description (fault g c table) (written g c table) in
+    c.mappings_stay.ensures Rpdo (g.S.ObjectStore.description c.args.store.now) (g.S.ObjectStore.contents c.args.store.now) (g.S.ObjectStore.contents c.raise_outcome.new.store) c.args.mappings.now
+    (c.settings_kept.ensures.mappings _ _ (subst (λ (e : Contents). HasSameSettings (g.S.ObjectStore.contents c.args.store.now) e) (sym after)
+    (c.settings_kept.ensures.taken (g.S.ObjectStore.description c.args.store.now) (g.S.ObjectStore.contents c.args.store.now) c.args.rpdo.now))) table

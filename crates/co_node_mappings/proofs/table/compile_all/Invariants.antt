@@ -1,4 +1,4 @@
-use Rattle.std.proofs.Common.{◌≡◌, ℕ, ◌<◌, List, get_or}
+use Rattle.std.proofs.Common.{ℕ, ◌<◌, List, get_or}
 use Rattle.co_pdo.specs.Mappings.{mapping_of}
 use Rattle.co_pdo_compiled.specs.declared.part.Part.{Part}
 use Rattle.co_pdo_compiled.specs.CompiledMappings.{IsCompiledForm}

@@ -1,9 +1,8 @@
 use Rattle.std.proofs.Common.{◌≡◌, ℕ, ◌+◌, ◌<◌, cond, [], ◌∷◌, ◌++◌, length, ap, ◌∙◌, subst, arith}
-use Rattle.std.specs.List.{filter, range_with_len}
 use Rattle.co_node_parts.specs.declared.heartbeat_consumer.ConsumerEvent.{ConsumerEvent}
 use Rattle.co_node_parts.specs.Consumers.{ConsumerStands, is_lost}
 use Rattle.co_node_parts.specs.ConsumerTables.{Noted, event_of}
-use Rattle.co_node_parts.proofs.Entries.{pushed, kept, few_more, rest_set, stands_here, done_set, lost_more}
+use Rattle.co_node_parts.proofs.Entries.{pushed, kept, few_more, rest_set, stands_here, done_set, lost_more, lost_used, stand_used}
 use Rattle.co_node_parts.proofs.heartbeat_consumers.note_all.Goals as goal
 use Rattle.co_node_parts.proofs.heartbeat_consumers.note_all.Goals.{then-note, else-note}
 
@@ -30,5 +29,9 @@ loop-i-preserved c =
 
 pub returns-clause-lost : goal.returns-clause-lost
 returns-clause-lost c = λ logs all.
-    let e : c.loop-i.i ≡ length c.args.entries.now = omega arith in
-    c.loop-i.invariant.lost logs all ∙ ap (λ n. filter (λ sub. is_lost (event_of sub (Noted c.args.event)) (logs sub)) (range_with_len 1 n)) e
+    lost_used c.args.event c.args.entries.now c.args.used c.loop-i.i (omega arith) c.requires.within c.requires.used logs all _ (c.loop-i.invariant.lost logs all)
+
+pub returns-clause-stand : goal.returns-clause-stand
+returns-clause-stand c = λ logs all i d lt.
+    stand_used c.args.event c.args.entries.now c.args.used c.loop-i.i (omega arith) c.requires.within c.requires.used logs all c.loop-i.entries
+    c.loop-i.invariant.rest (c.loop-i.invariant.done logs all) i d (omega (arith, lt))

@@ -22,7 +22,7 @@ returns-in-Asked-clause-after g c = λ history given current.
     let contents = g.S.ObjectStore.contents c.args.store.now in
     let numbers : c.deref.result.now ≡ numbers_asked d contents c.in-Asked.asked =
     c.deref.ensures.0 ∙ c.numbers_asked.ensures in
-    let after = λ (asked : List ℕ). with_events asked contents c.on_events.result.items history in
+    let after = λ (asked : List ℕ). with_events asked contents c.on_events.new.sent.items history in
     rw c.in-Asked.is (subst (λ (asked : List ℕ). IsScheduleAfter d c.on_events.new.self (after asked)) numbers
     (c.on_events.ensures.after history given (current (ap is_asked c.in-Asked.is))))
 

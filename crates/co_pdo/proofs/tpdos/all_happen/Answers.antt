@@ -8,9 +8,9 @@ use Rattle.co_pdo.proofs.tpdos.all_happen.Goals.{then-happens, else-happens}
 pub loop-tpdo-preserved : goal.loop-tpdo-preserved
 loop-tpdo-preserved g c =
     let i = c.loop-tpdo.invariant in
-    let answered : c.if-happens.due.items ≡ c.loop-tpdo.due.items ++ cond c.happens.result (c.happens.new.self.number ∷ []) [] = elim c.if-happens.branch [
-      | then-happens w ↦ appended_true _ _ _ _ _ w.if-happens.true w.push.ensures.items (ap (λ v. v.items) w.due-is)
-      | else-happens w ↦ appended_false _ _ _ _ w.if-happens.false (ap (λ v. v.items) w.due-is)
+    let answered : c.if-happens.sent.items ≡ c.loop-tpdo.sent.items ++ cond c.happens.result (c.happens.new.self.number ∷ []) [] = elim c.if-happens.branch [
+      | then-happens w ↦ appended_true _ _ _ _ _ w.if-happens.true w.push.ensures.items (ap (λ v. v.items) w.sent-is)
+      | else-happens w ↦ appended_false _ _ _ _ w.if-happens.false (ap (λ v. v.items) w.sent-is)
     ] in
     let changed : c.if-happens.tpdos ≡ set c.loop-tpdo.tpdos c.loop-tpdo.tpdo-index c.happens.new.self = elim c.if-happens.branch [
       | then-happens w ↦ w.tpdos-is
@@ -23,11 +23,11 @@ loop-tpdo-preserved g c =
           c.happens.ensures.number c.requires.small) i.small;
       numbers = numbers_set c.loop-tpdo.tpdos c.loop-tpdo.tpdo-index c.happens.new.self _ c.happens.ensures.number ∙ i.numbers;
       rest = rest_set c.args.tpdos.now c.loop-tpdo.tpdos _ _ i.rest;
-      due = λ logs all current. due_more c.args.tpdos.now c.loop-tpdo.tpdos c.loop-tpdo.tpdo-index _ c.loop-tpdo-test.true i.rest _ _ c.happens.new.self c.happens.result c.loop-tpdo.auto.tpdos
-          (happened c.args.tpdos.now c.loop-tpdo.tpdos c.loop-tpdo.tpdo-index _ c.loop-tpdo-test.true i.rest (g.S.ObjectStore.contents c.args.store.now) logs c.happens.new.self c.happens.ensures.number all c.happens.result c.requires.small current c.args.occasion c.happens.ensures.due c.happens.ensures.after)
+      due = λ logs all current. due_more _ c.args.tpdos.now c.loop-tpdo.tpdos c.loop-tpdo.tpdo-index _ c.loop-tpdo-test.true i.rest _ _ c.happens.new.self c.happens.result c.loop-tpdo.auto.tpdos
+          (happened (g.S.ObjectStore.description c.args.store.now) c.args.tpdos.now c.loop-tpdo.tpdos c.loop-tpdo.tpdo-index _ c.loop-tpdo-test.true i.rest (g.S.ObjectStore.contents c.args.store.now) logs c.happens.new.self c.happens.ensures.number all c.happens.result c.requires.small current c.args.occasion c.happens.ensures.due c.happens.ensures.after)
           _ _ (i.due logs all current) answered;
-      done = λ logs all current. done_set c.args.tpdos.now c.loop-tpdo.tpdos c.loop-tpdo.tpdo-index _ c.loop-tpdo-test.true i.rest _ _ c.happens.new.self c.happens.result c.loop-tpdo.auto.tpdos
-          (happened c.args.tpdos.now c.loop-tpdo.tpdos c.loop-tpdo.tpdo-index _ c.loop-tpdo-test.true i.rest (g.S.ObjectStore.contents c.args.store.now) logs c.happens.new.self c.happens.ensures.number all c.happens.result c.requires.small current c.args.occasion c.happens.ensures.due c.happens.ensures.after)
+      done = λ logs all current. done_set _ c.args.tpdos.now c.loop-tpdo.tpdos c.loop-tpdo.tpdo-index _ c.loop-tpdo-test.true i.rest _ _ c.happens.new.self c.happens.result c.loop-tpdo.auto.tpdos
+          (happened (g.S.ObjectStore.description c.args.store.now) c.args.tpdos.now c.loop-tpdo.tpdos c.loop-tpdo.tpdo-index _ c.loop-tpdo-test.true i.rest (g.S.ObjectStore.contents c.args.store.now) logs c.happens.new.self c.happens.ensures.number all c.happens.result c.requires.small current c.args.occasion c.happens.ensures.due c.happens.ensures.after)
           (i.done logs all current);
     })
 
@@ -36,4 +36,4 @@ returns-clause-due g c = λ logs all current. due_to_the_end _ c.args.tpdos.now 
 
 pub returns-clause-after : goal.returns-clause-after
 returns-clause-after g c = λ logs all current.
-    done_to_the_end c.args.tpdos.now c.loop-tpdo.tpdos c.loop-tpdo.tpdo-index (with_occasion (g.S.ObjectStore.contents c.args.store.now) c.args.occasion logs) c.loop-tpdo.auto.tpdos (omega arith) c.loop-tpdo.invariant.numbers (c.loop-tpdo.invariant.done logs all current)
+    done_to_the_end (g.S.ObjectStore.description c.args.store.now) c.args.tpdos.now c.loop-tpdo.tpdos c.loop-tpdo.tpdo-index (with_occasion (g.S.ObjectStore.contents c.args.store.now) c.args.occasion logs) c.loop-tpdo.auto.tpdos (omega arith) c.loop-tpdo.invariant.numbers (c.loop-tpdo.invariant.done logs all current)

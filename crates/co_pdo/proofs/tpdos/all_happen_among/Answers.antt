@@ -8,9 +8,9 @@ use Rattle.co_pdo.proofs.tpdos.all_happen_among.Goals.{then-happens_among, else-
 pub loop-tpdo-preserved : goal.loop-tpdo-preserved
 loop-tpdo-preserved g c =
     let i = c.loop-tpdo.invariant in
-    let answered : c.if-happens_among.due.items ≡ c.loop-tpdo.due.items ++ cond c.happens_among.result (c.happens_among.new.self.number ∷ []) [] = elim c.if-happens_among.branch [
-      | then-happens_among w ↦ appended_true _ _ _ _ _ w.if-happens_among.true w.push.ensures.items (ap (λ v. v.items) w.due-is)
-      | else-happens_among w ↦ appended_false _ _ _ _ w.if-happens_among.false (ap (λ v. v.items) w.due-is)
+    let answered : c.if-happens_among.sent.items ≡ c.loop-tpdo.sent.items ++ cond c.happens_among.result (c.happens_among.new.self.number ∷ []) [] = elim c.if-happens_among.branch [
+      | then-happens_among w ↦ appended_true _ _ _ _ _ w.if-happens_among.true w.push.ensures.items (ap (λ v. v.items) w.sent-is)
+      | else-happens_among w ↦ appended_false _ _ _ _ w.if-happens_among.false (ap (λ v. v.items) w.sent-is)
     ] in
     let changed : c.if-happens_among.tpdos ≡ set c.loop-tpdo.tpdos c.loop-tpdo.tpdo-index c.happens_among.new.self = elim c.if-happens_among.branch [
       | then-happens_among w ↦ w.tpdos-is
@@ -23,11 +23,11 @@ loop-tpdo-preserved g c =
           c.happens_among.ensures.number c.requires.small) i.small;
       numbers = numbers_set c.loop-tpdo.tpdos c.loop-tpdo.tpdo-index c.happens_among.new.self _ c.happens_among.ensures.number ∙ i.numbers;
       rest = rest_set c.args.tpdos.now c.loop-tpdo.tpdos _ _ i.rest;
-      due = λ logs all current. due_more c.args.tpdos.now c.loop-tpdo.tpdos c.loop-tpdo.tpdo-index _ c.loop-tpdo-test.true i.rest _ _ c.happens_among.new.self c.happens_among.result c.loop-tpdo.auto.tpdos
-          (happened_among c.args.tpdos.now c.loop-tpdo.tpdos c.loop-tpdo.tpdo-index _ c.loop-tpdo-test.true i.rest (g.S.ObjectStore.contents c.args.store.now) logs c.happens_among.new.self c.happens_among.ensures.number all c.happens_among.result c.requires.small current c.args.numbers.now c.happens_among.ensures.due c.happens_among.ensures.after)
+      due = λ logs all current. due_more _ c.args.tpdos.now c.loop-tpdo.tpdos c.loop-tpdo.tpdo-index _ c.loop-tpdo-test.true i.rest _ _ c.happens_among.new.self c.happens_among.result c.loop-tpdo.auto.tpdos
+          (happened_among (g.S.ObjectStore.description c.args.store.now) c.args.tpdos.now c.loop-tpdo.tpdos c.loop-tpdo.tpdo-index _ c.loop-tpdo-test.true i.rest (g.S.ObjectStore.contents c.args.store.now) logs c.happens_among.new.self c.happens_among.ensures.number all c.happens_among.result c.requires.small current c.args.numbers.now c.happens_among.ensures.due c.happens_among.ensures.after)
           _ _ (i.due logs all current) answered;
-      done = λ logs all current. done_set c.args.tpdos.now c.loop-tpdo.tpdos c.loop-tpdo.tpdo-index _ c.loop-tpdo-test.true i.rest _ _ c.happens_among.new.self c.happens_among.result c.loop-tpdo.auto.tpdos
-          (happened_among c.args.tpdos.now c.loop-tpdo.tpdos c.loop-tpdo.tpdo-index _ c.loop-tpdo-test.true i.rest (g.S.ObjectStore.contents c.args.store.now) logs c.happens_among.new.self c.happens_among.ensures.number all c.happens_among.result c.requires.small current c.args.numbers.now c.happens_among.ensures.due c.happens_among.ensures.after)
+      done = λ logs all current. done_set _ c.args.tpdos.now c.loop-tpdo.tpdos c.loop-tpdo.tpdo-index _ c.loop-tpdo-test.true i.rest _ _ c.happens_among.new.self c.happens_among.result c.loop-tpdo.auto.tpdos
+          (happened_among (g.S.ObjectStore.description c.args.store.now) c.args.tpdos.now c.loop-tpdo.tpdos c.loop-tpdo.tpdo-index _ c.loop-tpdo-test.true i.rest (g.S.ObjectStore.contents c.args.store.now) logs c.happens_among.new.self c.happens_among.ensures.number all c.happens_among.result c.requires.small current c.args.numbers.now c.happens_among.ensures.due c.happens_among.ensures.after)
           (i.done logs all current);
     })
 
@@ -36,4 +36,4 @@ returns-clause-due g c = λ logs all current. due_to_the_end _ c.args.tpdos.now 
 
 pub returns-clause-after : goal.returns-clause-after
 returns-clause-after g c = λ logs all current.
-    done_to_the_end c.args.tpdos.now c.loop-tpdo.tpdos c.loop-tpdo.tpdo-index (with_events_among c.args.numbers.now (g.S.ObjectStore.contents c.args.store.now) logs) c.loop-tpdo.auto.tpdos (omega arith) c.loop-tpdo.invariant.numbers (c.loop-tpdo.invariant.done logs all current)
+    done_to_the_end (g.S.ObjectStore.description c.args.store.now) c.args.tpdos.now c.loop-tpdo.tpdos c.loop-tpdo.tpdo-index (with_events_among c.args.numbers.now (g.S.ObjectStore.contents c.args.store.now) logs) c.loop-tpdo.auto.tpdos (omega arith) c.loop-tpdo.invariant.numbers (c.loop-tpdo.invariant.done logs all current)

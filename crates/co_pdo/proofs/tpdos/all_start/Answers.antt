@@ -9,11 +9,11 @@ loop-tpdo-preserved g c =
     record {
       numbers = numbers_set c.loop-tpdo.tpdos c.loop-tpdo.tpdo-index c.start.new.self _ c.start.ensures.number ∙ i.numbers;
       rest = rest_set c.args.tpdos.now c.loop-tpdo.tpdos _ _ i.rest;
-      done = λ logs all. done_set c.args.tpdos.now c.loop-tpdo.tpdos c.loop-tpdo.tpdo-index _ c.loop-tpdo-test.true i.rest (λ k. false) _ c.start.new.self false c.loop-tpdo.auto.tpdos
-          (started c.args.tpdos.now c.loop-tpdo.tpdos c.loop-tpdo.tpdo-index _ c.loop-tpdo-test.true i.rest (g.S.ObjectStore.contents c.args.store.now) logs c.start.new.self c.start.ensures.number all c.read_settings-settings.result c.read_settings-settings.ensures c.start.ensures.after)
+      done = λ logs all. done_set _ c.args.tpdos.now c.loop-tpdo.tpdos c.loop-tpdo.tpdo-index _ c.loop-tpdo-test.true i.rest (λ k. false) _ c.start.new.self false c.loop-tpdo.auto.tpdos
+          (started (g.S.ObjectStore.description c.args.store.now) c.args.tpdos.now c.loop-tpdo.tpdos c.loop-tpdo.tpdo-index _ c.loop-tpdo-test.true i.rest (g.S.ObjectStore.contents c.args.store.now) logs c.start.new.self c.start.ensures.number all c.requires.small c.settings-settings.result c.settings-settings.ensures (c.start.ensures.after _))
           (i.done logs all);
     }
 
 pub returns-clause-after : goal.returns-clause-after
 returns-clause-after g c = λ logs all.
-    done_to_the_end c.args.tpdos.now c.loop-tpdo.tpdos c.loop-tpdo.tpdo-index (with_whole_start (g.S.ObjectStore.contents c.args.store.now) logs) c.loop-tpdo.auto.tpdos (omega arith) c.loop-tpdo.invariant.numbers (c.loop-tpdo.invariant.done logs all)
+    done_to_the_end (g.S.ObjectStore.description c.args.store.now) c.args.tpdos.now c.loop-tpdo.tpdos c.loop-tpdo.tpdo-index (with_whole_start (g.S.ObjectStore.contents c.args.store.now) logs) c.loop-tpdo.auto.tpdos (omega arith) c.loop-tpdo.invariant.numbers (c.loop-tpdo.invariant.done logs all)

@@ -3,7 +3,7 @@ use Rattle.std.specs.Prelude.{◌||◌}
 use Rattle.std.proofs.lemmas.Result.{IfOk-weaker}
 use Rattle.clap.specs.Words.{App, app_of, new_app, rule_of, with_rule}
 use Rattle.clap.specs.declared.builder.command.Command.TheViews.{out-Command}
-use Rattle.conode_words.specs.Tasks.{mode_option, wanted, wanted_node, with_rooms}
+use Rattle.conode_words.specs.Tasks.{mode_option, node_option, wanted, with_rooms}
 use Rattle.conode_words.proofs.command_line.loop_command.Goals as goal
 
 abbrev none : App
@@ -15,7 +15,7 @@ returns-clause-shape c =
     let sheet : rule_of c.wanted-sheet.result ≡ wanted (codes "SHEET") = search rules in
     let key : rule_of c.wanted-key.result ≡ wanted (codes "KEY") = search rules in
     let bytes : rule_of c.wanted-bytes.result ≡ wanted (codes "HEX") = search rules in
-    let node : rule_of c.node_arg-node.result ≡ wanted_node = c.node_arg-node.ensures.rule in
+    let node : rule_of c.node_arg-node.result ≡ node_option = c.node_arg-node.ensures.rule in
     let mode : rule_of c.mode_arg-mode.result ≡ mode_option = c.mode_arg-mode.ensures.rule in
     let one = c.in_ok-arg.ensures.shape c.wanted-sheet.ensures.local ∙ ap₂ with_rule new sheet in
     let two = c.in_ok-arg-2.ensures.shape c.wanted-key.ensures.local ∙ ap₂ with_rule one key in

@@ -3,7 +3,7 @@ use Rattle.std.specs.Prelude.{◌||◌}
 use Rattle.std.proofs.lemmas.Result.{IfOk-weaker}
 use Rattle.clap.specs.Words.{App, app_of, new_app, rule_of, with_rule}
 use Rattle.clap.specs.declared.builder.command.Command.TheViews.{out-Command}
-use Rattle.conode_words.specs.Tasks.{wanted, wanted_node, with_rooms}
+use Rattle.conode_words.specs.Tasks.{node_option, wanted, with_rooms}
 use Rattle.conode_words.proofs.command_line.replay_command.Goals as goal
 
 abbrev none : App
@@ -14,7 +14,7 @@ returns-clause-shape c =
     let new : app_of c.after_help.result ≡ none = search rules in
     let sheet : rule_of c.wanted-sheet.result ≡ wanted (codes "SHEET") = search rules in
     let trace : rule_of c.wanted-trace.result ≡ wanted (codes "TRACE") = search rules in
-    let node : rule_of c.node_arg-node.result ≡ wanted_node = c.node_arg-node.ensures.rule in
+    let node : rule_of c.node_arg-node.result ≡ node_option = c.node_arg-node.ensures.rule in
     let one = c.in_ok-arg.ensures.shape c.wanted-sheet.ensures.local ∙ ap₂ with_rule new sheet in
     let two = c.in_ok-arg-2.ensures.shape c.wanted-trace.ensures.local ∙ ap₂ with_rule one trace in
     let three = c.in_ok-command.ensures.shape c.node_arg-node.ensures.local ∙ ap₂ with_rule two node in

@@ -1,4 +1,4 @@
-use Rattle.std.proofs.Common.{◌≡◌, ◌≤◌, length, vec_capacity}
+use Rattle.std.proofs.Common.{◌≡◌, length, vec_capacity}
 use Rattle.co_node_mappings.specs.MappingTables.{AreForms}
 use Rattle.co_node_mappings.proofs.table.MappingTable.new.Given as goal
 

@@ -1,4 +1,4 @@
-use Rattle.std.proofs.Common.{rules, ◌≡◌, ◌≤◌, ◌∷◌, length, refl, subst}
+use Rattle.std.proofs.Common.{rules, ◌≡◌, ◌≤◌, ◌∷◌, length, subst}
 use Rattle.co_node_history.specs.Histories.{frame_bound}
 use Rattle.co_node_inputs.specs.Inputs.{input_view, InputView}
 use Rattle.co_node_receive.specs.Given.{given_view}

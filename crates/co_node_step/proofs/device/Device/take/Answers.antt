@@ -10,11 +10,11 @@ use Rattle.co_node_parts.specs.Producers.{ProducerStands}
 use Rattle.co_node_parts.specs.RpdoSlots.{SlotsStand}
 use Rattle.co_node_parts.specs.declared.nmt_state.Transition.{Transition}
 use Rattle.co_node_parts.specs.EmergencyQueues.{EmergenciesStand, with_queued}
-use Rattle.co_node_inputs.specs.Inputs.{Inputs, InputView}
+use Rattle.co_node_inputs.specs.Inputs.{Inputs}
 use Rattle.co_node_inputs.specs.Rpdos.{may_change_rpdos}
 use Rattle.co_node_rpdos.specs.RpdoTables.{AgreeOnRpdos, IsTableOf}
 use Rattle.co_node_mappings.specs.MappingChanges.{may_change_mappings}
-use Rattle.co_node_mappings.specs.MappingTables.{AgreeOnMappings, AreMappings}
+use Rattle.co_node_mappings.specs.MappingTables.{AgreeOnMappings, AreMappings, IsMappingTable}
 use Rattle.co_node_receive.specs.Given.{given_view}
 use Rattle.co_node_receive.specs.Befores.{IsBefore, logs_received}
 use Rattle.co_node_history.specs.Moments.{Constants, Moment, History, channels}
@@ -23,6 +23,9 @@ use Rattle.co_node_history.specs.Phases.{moment}
 use Rattle.co_node_history.specs.Histories.{moments, prescribed, frames, frame_bound, emergency_frames, life_frames, tpdo_frame}
 use Rattle.co_node_laws.specs.Calls.{is_asked}
 use Rattle.co_node_laws.specs.Lengths.{HasParts}
+use Rattle.co_dict.specs.declared.side.Side.{Side}
+use Rattle.co_dict.specs.declared.side.Side.TheVariants.{Rpdo, Tpdo}
+use Rattle.co_pdo_compiled.specs.declared.part.Part.{Part}
 use Rattle.co_dict.specs.Rows.{Contents}
 use Rattle.co_dict.specs.Stores.{Description, IsDictionary}
 use Rattle.co_node_step.specs.NodeStanding.{NodeStands}
@@ -80,8 +83,21 @@ module _ (g : given.Over) (c : After-self-5-1 g) (k : Constants) (inputs : Input
   transition : record { before = c.get-before.result; after = c.note-changed.result.after } ≡ transition_of m h
   transition = steps.transition k h m is _ marks _ state_before _ _ c.state_event.ensures loss _ (ap (λ (t : Transition). t.after) (c.note-changed.ensures.transition (c.state_event.result ∷ state_log h) (c.note.ensures.stands (state_log h) ns.state)))
 
+  -- the mappings, as they are from the lost heartbeats on
+  same_mappings : may_change_mappings c.receive-received.result.marks ≡ false
+      → AgreeOnMappings (g.S.ObjectStore.contents c.args.self.now.store) (g.S.ObjectStore.contents c.watch-loss.new.store)
+  same_mappings off = λ key there.
+      ap (λ (entries : Contents). entries key) ns.contents
+      ∙ c.mappings_kept.ensures.before k inputs (given_view c.args.given c.args.frame.now) (ap may_change_mappings (sym marks) ∙ off) key there
+      ∙ ap (λ (entries : Contents). entries key) (sym watched)
+
+  mappings_watched : AreMappings (g.S.ObjectStore.description c.watch-loss.new.store) (g.S.ObjectStore.contents c.watch-loss.new.store) c.note-2.new.self
+  mappings_watched = c.note-2.ensures.mappings (g.S.ObjectStore.contents c.args.self.now.store)
+      (subst (λ (d : Description). AreMappings d (g.S.ObjectStore.contents c.args.self.now.store) c.args.self.now.parts.mappings)
+      (ns.description ∙ sym d2) ns.mappings) same_mappings
+
   contents : g.S.ObjectStore.contents c.take_pdos.new.store ≡ m.contents
-  contents = steps.contents k h m is _ _ _ _ d2 marks watched transition _ (c.take_pdos.ensures.contents (slot_log k h) ns.slots)
+  contents = steps.contents k h m is _ _ _ _ d2 marks watched transition _ (c.take_pdos.ensures.contents (slot_log k h) mappings_watched.rpdos ns.slots)
 
   -- the parts
   consumers : ConsumersStand c.watch-loss.new.consumers (consumers_log k (m ∷ h))
@@ -97,23 +113,25 @@ module _ (g : given.Over) (c : After-self-5-1 g) (k : Constants) (inputs : Input
       ∙ c.rpdos_kept.ensures k inputs (given_view c.args.given c.args.frame.now) (ap may_change_rpdos (sym marks) ∙ off) key low high
       ∙ ap (λ (entries : Contents). entries key) (sym contents)
 
-  rpdos : IsTableOf (g.S.ObjectStore.contents c.take_pdos.new.store) c.note-2.new.self
-  rpdos = c.note-2.ensures (g.S.ObjectStore.contents c.args.self.now.store) ns.rpdos same_parameters
+  rpdos : IsTableOf (g.S.ObjectStore.contents c.take_pdos.new.store) c.note-3.new.self
+  rpdos = c.note-3.ensures (g.S.ObjectStore.contents c.args.self.now.store) ns.rpdos same_parameters
 
-  same_mappings : may_change_mappings c.receive-received.result.marks ≡ false
-      → AgreeOnMappings (g.S.ObjectStore.contents c.args.self.now.store) (g.S.ObjectStore.contents c.take_pdos.new.store)
-  same_mappings off = λ key there.
-      ap (λ (entries : Contents). entries key) ns.contents
-      ∙ c.mappings_kept.ensures k inputs (given_view c.args.given c.args.frame.now) (ap may_change_mappings (sym marks) ∙ off) key there
+  kept_mappings : AgreeOnMappings (g.S.ObjectStore.contents c.watch-loss.new.store) (g.S.ObjectStore.contents c.take_pdos.new.store)
+  kept_mappings = λ key there.
+      ap (λ (entries : Contents). entries key) watched
+      ∙ c.mappings_kept.ensures.after k inputs (given_view c.args.given c.args.frame.now) key there
       ∙ ap (λ (entries : Contents). entries key) (sym contents)
 
-  mappings : AreMappings (g.S.ObjectStore.description c.take_pdos.new.store) (g.S.ObjectStore.contents c.take_pdos.new.store) c.note-3.new.self
-  mappings = c.note-3.ensures (g.S.ObjectStore.contents c.args.self.now.store)
-      (subst (λ (d : Description). AreMappings d (g.S.ObjectStore.contents c.args.self.now.store) c.args.self.now.parts.mappings)
-      (ns.description ∙ sym d3) ns.mappings) same_mappings
+  kept_table : (side : Side) (table : List (List Part)) → IsMappingTable side (g.S.ObjectStore.description c.watch-loss.new.store) (g.S.ObjectStore.contents c.watch-loss.new.store) table
+      → IsMappingTable side (g.S.ObjectStore.description c.take_pdos.new.store) (g.S.ObjectStore.contents c.take_pdos.new.store) table
+  kept_table side table t = c.mappings_stay.ensures side (g.S.ObjectStore.description c.take_pdos.new.store) (g.S.ObjectStore.contents c.watch-loss.new.store) (g.S.ObjectStore.contents c.take_pdos.new.store) table kept_mappings
+      (subst (λ (d : Description). IsMappingTable side d (g.S.ObjectStore.contents c.watch-loss.new.store) table) (sym c.take_pdos.ensures.description) t)
+
+  mappings : AreMappings (g.S.ObjectStore.description c.take_pdos.new.store) (g.S.ObjectStore.contents c.take_pdos.new.store) c.note-2.new.self
+  mappings = record { rpdos = kept_table Rpdo _ mappings_watched.rpdos; tpdos = kept_table Tpdo _ mappings_watched.tpdos }
 
   slots : SlotsStand 512 c.take_pdos.new.slots (slot_log k (m ∷ h))
-  slots = steps.slots k h m is _ _ _ _ d2 marks watched transition _ (c.take_pdos.ensures.slots (slot_log k h) ns.slots)
+  slots = steps.slots k h m is _ _ _ _ d2 marks watched transition _ (c.take_pdos.ensures.slots (slot_log k h) mappings_watched.rpdos ns.slots)
 
   queued_by_app : EmergenciesStand c.receive-received.new.emergencies (with_queued m.raised_by_app (emergency_log h))
   queued_by_app = c.receive-received.ensures.emergencies k h (emergency_log h) before ns.emergencies
@@ -122,16 +140,16 @@ module _ (g : given.Over) (c : After-self-5-1 g) (k : Constants) (inputs : Input
   queued_by_loss = steps.lost_queued k h m is _ _ _ d1 marks received _ _ (c.watch-loss.ensures.emergencies (consumers_log k h) _ ns.consumers queued_by_app)
 
   queued_by_pdo : EmergenciesStand c.take_pdos.new.emergencies (with_queued m.raised_by_pdo (with_queued m.raised_by_loss (with_queued m.raised_by_app (emergency_log h))))
-  queued_by_pdo = steps.pdo_queued k h m is _ _ _ _ d2 marks watched transition _ _ (c.take_pdos.ensures.emergencies (slot_log k h) _ ns.slots queued_by_loss)
+  queued_by_pdo = steps.pdo_queued k h m is _ _ _ _ d2 marks watched transition _ _ (c.take_pdos.ensures.emergencies (slot_log k h) _ mappings_watched.rpdos ns.slots queued_by_loss)
 
   unsent : EmergenciesStand c.note-4.new.self (unsent_log m (emergency_log h))
   unsent = steps.unsent k h m is _ _ marks contents _ _ c.emergency_event.ensures (c.note-4.ensures _ queued_by_pdo)
 
-  emergency : c.send-emergency.result ≡ m.emergency
-  emergency = steps.emergency k h m is _ _ marks contents _ _ _ after c.may_send-may.ensures (c.send-emergency.ensures.due _ unsent)
+  emergency : c.take_emergency-emergency.result ≡ m.emergency
+  emergency = steps.emergency k h m is _ _ marks contents _ _ _ after refl (c.take_emergency-emergency.ensures.due _ unsent)
 
-  emergencies : EmergenciesStand c.send-emergency.new.self (emergency_log (m ∷ h))
-  emergencies = steps.emergencies k h m is _ _ marks contents _ _ _ emergency c.number_u16-inhibit.ensures (c.send-emergency.ensures.stands _ unsent)
+  emergencies : EmergenciesStand c.take_emergency-emergency.new.emergencies (emergency_log (m ∷ h))
+  emergencies = steps.emergencies k h m is _ _ marks contents _ _ _ emergency refl (c.take_emergency-emergency.ensures.stands _ unsent)
 
   life : c.life-life.result ≡ m.life
   life = steps.life k h m is _ _ marks contents _ _ _ _ after c.producer_event.ensures (c.note-is_due.ensures.due (producer_log k h) ns.producer) c.life-life.ensures
@@ -148,11 +166,11 @@ module _ (g : given.Over) (c : After-self-5-1 g) (k : Constants) (inputs : Input
   current : is_asked c.turn-turn.result ≡ true → AllCurrent (g.S.ObjectStore.contents c.take_pdos.new.store) (schedule_log k h)
   current asked = subst (λ contents. AllCurrent contents (schedule_log k h)) (sym contents) (c.schedule_ready.ensures k inputs (given_view c.args.given c.args.frame.now) (ap is_asked (sym turn) ∙ asked))
 
-  due : c.take_turn-due.result.items ≡ m.due
-  due = steps.due k h m is _ _ marks contents _ _ transition c.turn-turn.ensures.turn _ _ d3 (c.take_turn-due.ensures.due (schedule_log k h) schedule_before current)
+  due : c.take_turn.new.sent.items ≡ m.due
+  due = steps.due k h m is _ _ marks contents _ _ transition c.turn-turn.ensures.turn _ _ d3 (c.take_turn.ensures.due (schedule_log k h) schedule_before current)
 
-  schedule : IsScheduleAfter (g.S.ObjectStore.description c.take_pdos.new.store) c.take_turn-due.new.schedule (schedule_log k (m ∷ h))
-  schedule = steps.schedule k h m is _ _ marks contents _ _ transition c.turn-turn.ensures.turn _ _ _ d3 due (c.take_turn-due.ensures.after (schedule_log k h) schedule_before current)
+  schedule : IsScheduleAfter (g.S.ObjectStore.description c.take_pdos.new.store) c.take_turn.new.schedule (schedule_log k (m ∷ h))
+  schedule = steps.schedule k h m is _ _ marks contents _ _ transition c.turn-turn.ensures.turn _ _ _ d3 due (c.take_turn.ensures.after (schedule_log k h) schedule_before current)
 
   -- the frames
   first_sent : c.receive-received.new.outbox.items ≡ frames_at m.exchange ++ frames_at m.timed_out
@@ -171,8 +189,8 @@ module _ (g : given.Over) (c : After-self-5-1 g) (k : Constants) (inputs : Input
       → c.send_emergency.new.outbox.items ≡ c.receive-received.new.outbox.items ++ emergency_frames m.contents m.emergency
   emergency_sent = subst (λ fs. length c.receive-received.new.outbox.items + length fs ≤ 514 → c.send_emergency.new.outbox.items ≡ c.receive-received.new.outbox.items ++ fs) same c.send_emergency.ensures
     where
-      same : emergency_frames (g.S.ObjectStore.contents c.take_pdos.new.store) c.send-emergency.result ≡ emergency_frames m.contents m.emergency
-      same = ap (λ contents. emergency_frames contents c.send-emergency.result) contents ∙ ap (emergency_frames m.contents) emergency
+      same : emergency_frames (g.S.ObjectStore.contents c.take_pdos.new.store) c.take_emergency-emergency.result ≡ emergency_frames m.contents m.emergency
+      same = ap (λ contents. emergency_frames contents c.take_emergency-emergency.result) contents ∙ ap (emergency_frames m.contents) emergency
 
   life_sent : length c.send_emergency.new.outbox.items + length (life_frames k.description.node m.life) ≤ 514
       → c.send_life.new.outbox.items ≡ c.send_emergency.new.outbox.items ++ life_frames k.description.node m.life
@@ -184,7 +202,7 @@ module _ (g : given.Over) (c : After-self-5-1 g) (k : Constants) (inputs : Input
   tpdos_sent : length c.send_life.new.outbox.items + length (map (tpdo_frame k.description m.contents) m.due) ≤ 514
       → c.send_tpdos.new.outbox.items ≡ c.send_life.new.outbox.items ++ map (tpdo_frame k.description m.contents) m.due
   tpdos_sent = subst (λ fs. length c.send_life.new.outbox.items + length fs ≤ 514 → c.send_tpdos.new.outbox.items ≡ c.send_life.new.outbox.items ++ fs) same
-      (λ le. c.send_tpdos.ensures (subst (λ n. length c.send_life.new.outbox.items + n ≤ 514) (length-map c.deref.result.now _) le))
+      (λ le. c.send_tpdos.ensures mappings.tpdos (subst (λ n. length c.send_life.new.outbox.items + n ≤ 514) (length-map c.deref.result.now _) le))
     where
       same : map (tpdo_frame (g.S.ObjectStore.description c.take_pdos.new.store) (g.S.ObjectStore.contents c.take_pdos.new.store)) c.deref.result.now ≡ map (tpdo_frame k.description m.contents) m.due
       same = ap (λ d. map (tpdo_frame d (g.S.ObjectStore.contents c.take_pdos.new.store)) c.deref.result.now) d3 ∙ ap (λ contents. map (tpdo_frame k.description contents) c.deref.result.now) contents ∙ ap (map (tpdo_frame k.description m.contents)) (c.deref.ensures.0 ∙ due)
@@ -215,6 +233,6 @@ pub returns-clause-few : goal.returns-clause-few
 returns-clause-few g c = λ k inputs ns.
     subst (λ os. length os ≤ frame_bound k inputs (given_view c.args.given c.args.frame.now)) (sym (sent g c k inputs ns)) (c.few.ensures k inputs (given_view c.args.given c.args.frame.now) (parts g c k inputs ns))
 
-pub send_tpdos-requires : goal.send_tpdos-requires
-send_tpdos-requires g c = λ i e lt.
-    subst (λ (ns : List ℕ). slice_index_or ns i e < 512) (sym c.deref.ensures.0) (c.take_turn-due.ensures.small i e (subst (λ (ns : List ℕ). i < length ns) c.deref.ensures.0 lt))
+pub send_tpdos-requires-clause-numbers : goal.send_tpdos-requires-clause-numbers
+send_tpdos-requires-clause-numbers g c = λ i e lt.
+    subst (λ (ns : List ℕ). slice_index_or ns i e < 512) (sym c.deref.ensures.0) (c.take_turn.ensures.small i e (subst (λ (ns : List ℕ). i < length ns) c.deref.ensures.0 lt))

@@ -13,10 +13,10 @@ invariant_of-self g c =
 pub returns-clause-due : goal.returns-clause-due
 returns-clause-due g c = λ history given current.
     let table : IsTable c.deref_mut.result.now = subst (λ (ts : List Tpdo). IsTable ts) (sym c.deref_mut.ensures.value) c.self.invariant in
-    all_due_among_is _ _ c.deref_mut.result.now c.all_happen_among.new.tpdos history (c.deref_mut.ensures.value ∙ c.self.view_is) given table c.all_happen_among.ensures.numbers (g.S.ObjectStore.contents c.args.store.now) (g.met.S.ObjectStore.lawful c.args.store.now) current c.all_happen_among.result.items c.args.numbers.now c.all_happen_among.ensures.due
+    all_due_among_is _ _ c.deref_mut.result.now c.all_happen_among.new.tpdos history (c.deref_mut.ensures.value ∙ c.self.view_is) given table c.all_happen_among.ensures.numbers (g.S.ObjectStore.contents c.args.store.now) (g.met.S.ObjectStore.lawful c.args.store.now) current c.all_happen_among.new.sent.items c.args.numbers.now c.all_happen_among.ensures.due
 
 pub returns-clause-after : goal.returns-clause-after
 returns-clause-after g c = λ history given current.
     let table : IsTable c.deref_mut.result.now = subst (λ (ts : List Tpdo). IsTable ts) (sym c.deref_mut.ensures.value) c.self.invariant in
-    after_events _ _ c.deref_mut.result.now c.all_happen_among.new.tpdos history (c.deref_mut.ensures.value ∙ c.self.view_is) given table c.all_happen_among.ensures.numbers (g.S.ObjectStore.contents c.args.store.now) (g.met.S.ObjectStore.lawful c.args.store.now) current c.all_happen_among.result.items c.args.numbers.now c.all_happen_among.ensures.due c.all_happen_among.ensures.after
+    after_events _ _ c.deref_mut.result.now c.all_happen_among.new.tpdos history (c.deref_mut.ensures.value ∙ c.self.view_is) given table c.all_happen_among.ensures.numbers (g.S.ObjectStore.contents c.args.store.now) (g.met.S.ObjectStore.lawful c.args.store.now) current c.all_happen_among.new.sent.items c.args.numbers.now c.all_happen_among.ensures.due c.all_happen_among.ensures.after
     _ (all_written _ c.all_happen_among.new.tpdos _ (omega (arith, c.deref_mut.ensures.len, c.all_happen_among.auto.tpdos)))

@@ -14,10 +14,10 @@ invariant_of-self g c =
 pub returns-clause-due : goal.returns-clause-due
 returns-clause-due g c = λ history given current.
     let table : IsTable c.deref_mut.result.now = subst (λ (ts : List Tpdo). IsTable ts) (sym c.deref_mut.ensures.value) c.self.invariant in
-    all_due_is _ _ c.deref_mut.result.now c.all_happen.new.tpdos history (c.deref_mut.ensures.value ∙ c.self.view_is) given table c.all_happen.ensures.numbers (g.S.ObjectStore.contents c.args.store.now) (g.met.S.ObjectStore.lawful c.args.store.now) current c.all_happen.result.items Tick c.all_happen.ensures.due
+    all_due_is _ _ c.deref_mut.result.now c.all_happen.new.tpdos history (c.deref_mut.ensures.value ∙ c.self.view_is) given table c.all_happen.ensures.numbers (g.S.ObjectStore.contents c.args.store.now) (g.met.S.ObjectStore.lawful c.args.store.now) current c.all_happen.new.sent.items Tick c.all_happen.ensures.due
 
 pub returns-clause-after : goal.returns-clause-after
 returns-clause-after g c = λ history given current.
     let table : IsTable c.deref_mut.result.now = subst (λ (ts : List Tpdo). IsTable ts) (sym c.deref_mut.ensures.value) c.self.invariant in
-    after_occasion _ _ c.deref_mut.result.now c.all_happen.new.tpdos history (c.deref_mut.ensures.value ∙ c.self.view_is) given table c.all_happen.ensures.numbers (g.S.ObjectStore.contents c.args.store.now) (g.met.S.ObjectStore.lawful c.args.store.now) current c.all_happen.result.items Tick c.all_happen.ensures.due c.all_happen.ensures.after OnTick (λ k. refl)
+    after_occasion _ _ c.deref_mut.result.now c.all_happen.new.tpdos history (c.deref_mut.ensures.value ∙ c.self.view_is) given table c.all_happen.ensures.numbers (g.S.ObjectStore.contents c.args.store.now) (g.met.S.ObjectStore.lawful c.args.store.now) current c.all_happen.new.sent.items Tick c.all_happen.ensures.due c.all_happen.ensures.after OnTick (λ k. refl)
     _ (all_written _ c.all_happen.new.tpdos _ (omega (arith, c.deref_mut.ensures.len, c.all_happen.auto.tpdos)))

@@ -6,8 +6,8 @@ use Rattle.co_pdo.proofs.schedule.Schedule.start.Goals as goal
 pub returns-in-Some-clause-after : goal.returns-in-Some-clause-after
 returns-in-Some-clause-after g c = λ history given.
     let found : position (λ t. eqb t.number c.args.k) c.self.inside.tpdos.items ≡ Some c.in-Some.i = ap (position (λ t. eqb t.number c.args.k)) (sym c.deref.ensures.value) ∙ sym c.in-Some.ensures in
-    start_after _ c.self.inside.tpdos.items _ history c.args.k c.self.view_is given c.in-Some.i c.index_mut.result.now c.start.new.self found c.index_mut.ensures.value c.start.ensures.number
-    (g.S.ObjectStore.contents c.args.store.now) c.read_settings-settings.result c.args.part c.read_settings-settings.ensures c.start.ensures.after
+    start_after _ c.self.inside.tpdos.items _ history c.args.k c.self.view_is given c.in-Some.i c.index_mut-tpdo.result.now c.start.new.self found c.index_mut-tpdo.ensures.value c.start.ensures.number
+    (g.S.ObjectStore.contents c.args.store.now) c.settings-settings.result c.args.part c.requires c.settings-settings.ensures (c.start.ensures.after _)
 
 pub returns-in_default-clause-after : goal.returns-in_default-clause-after
 returns-in_default-clause-after g c = λ history given.

@@ -13,20 +13,14 @@ use Rattle.co_node_history.specs.Logs.{contents_at}
 use Rattle.co_node_history.specs.Phases.{moment}
 use Rattle.co_node_history.specs.Histories.{moments, contents_of}
 use Rattle.co_node_laws.proofs.Below.{Below}
-use Rattle.co_node_laws.proofs.Received.{MayBecome, changed}
-use Rattle.co_node_laws.proofs.SameSettings.{written_other}
+use Rattle.co_node_laws.proofs.Received.{MayBecome, after_watched, changed_watched}
+use Rattle.co_node_effects.proofs.SameSettings.{from_1600, same_mappings, to_1BFF, written_other}
 use Rattle.co_node_mappings.specs.MappingChanges.{is_mapping_key, is_mapping_set, may_change_mappings}
 use Rattle.co_node_mappings.specs.MappingTables.{AgreeOnMappings}
 
 both_off : (a b : Bool) → a || b ≡ false → (a ≡ false) × (b ≡ false)
 both_off true b off = absurd (cc)
 both_off false b off = (refl, off)
-
-from_1600 : (key : Key) → is_mapping_key key ≡ true → 0x1600 ≤ key.index
-from_1600 key there = grind (arith, nat_tests)
-
-to_1BFF : (key : Key) → is_mapping_key key ≡ true → key.index ≤ 0x1BFF
-to_1BFF key there = grind (arith, nat_tests)
 
 apart : (set key : Key) → is_mapping_key set ≡ false → is_mapping_key key ≡ true → same_key set key ≡ false
 apart set key off there = grind (arith, nat_tests)
@@ -43,9 +37,13 @@ by_set d (Some set) c e may off key there =
 
 pub kept_mappings : Below → (k : Constants) (inputs : Inputs) (input : InputView)
     → may_change_mappings (moment k (moments k inputs) input).marks ≡ false
-    → AgreeOnMappings (contents_of k inputs) (contents_of k (input ∷ inputs))
+    → AgreeOnMappings (contents_of k inputs) (moment k (moments k inputs) input).watched
 kept_mappings below k inputs input off key there =
     let history = moments k inputs in
     let m = moment k history input in
     let both = both_off (is_reset m.marks) (is_mapping_set m.marks.set) off in
-    by_set k.description m.marks.set (contents_at k history) m.contents (changed below k history input both.0) both.1 key there
+    by_set k.description m.marks.set (contents_at k history) m.watched (changed_watched below k history input both.0) both.1 key there
+
+pub mappings_after : Below → (k : Constants) (inputs : Inputs) (input : InputView)
+    → AgreeOnMappings (moment k (moments k inputs) input).watched (contents_of k (input ∷ inputs))
+mappings_after below k inputs input = same_mappings _ _ (after_watched below k (moments k inputs) input)

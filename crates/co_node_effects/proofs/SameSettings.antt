@@ -11,10 +11,9 @@ use Rattle.co_dict.specs.ErrorField.{error_key, error_room, moved_bytes, moved_d
 use Rattle.co_node_inputs.specs.Keys.{error_register_key}
 use Rattle.co_node_effects.specs.declared.device_error.DeviceError.{DeviceError}
 use Rattle.co_node_effects.specs.Errors.{with_register, raised, all_raised}
-
--- the entries from 1004h to 1FFFh are the same
-pub record HasSameSettings (c e : Contents) : Type 0 where
-  pub same : (key : Key) → 0x1004 ≤ key.index → key.index ≤ 0x1FFF → c key ≡ e key
+use Rattle.co_node_mappings.specs.MappingChanges.{is_mapping_key}
+use Rattle.co_node_mappings.specs.MappingTables.{AgreeOnMappings}
+use Rattle.co_node_effects.specs.Settings.{HasSameSettings}
 
 pub same_none : (c : Contents) → HasSameSettings c c
 same_none c = record { same = λ key low high. refl }
@@ -55,3 +54,17 @@ same_raised rows error c = same_both _ _ _ (same_register rows _ c) (same_pushed
 pub same_all_raised : (rows : Rows) (errors : List DeviceError) (c : Contents) → HasSameSettings c (all_raised rows errors c)
 same_all_raised rows [] c = same_none c
 same_all_raised rows (error ∷ errors) c = same_both c (raised rows error c) _ (same_raised rows error c) (same_all_raised rows errors (raised rows error c))
+
+-- ---- mapping parameters, 1600h to 17FFh and 1A00h to 1BFFh, are among them
+
+pub from_1600 : (key : Key) → is_mapping_key key ≡ true → 0x1600 ≤ key.index
+from_1600 key there = grind (arith, nat_tests)
+
+pub to_1BFF : (key : Key) → is_mapping_key key ≡ true → key.index ≤ 0x1BFF
+to_1BFF key there = grind (arith, nat_tests)
+
+pub same_mappings : (c e : Contents) → HasSameSettings c e → AgreeOnMappings c e
+same_mappings c e same key there =
+    let low : 0x1600 ≤ key.index = from_1600 key there in
+    let high : key.index ≤ 0x1BFF = to_1BFF key there in
+    same.same key (omega arith) (omega arith)

@@ -1,0 +1,7 @@
+#!/bin/sh
+# To be sourced, by `. "$(dirname "$(readlink -f "$0")")/folder.sh"`: $root, the repository; $folder, one for the script's own
+# files, which goes when it ends.
+# shellcheck disable=SC2034 # for the script that sources this
+root=$(CDPATH='' cd -- "$(dirname -- "$(readlink -f -- "$0")")/.." && pwd)
+folder=$(mktemp -d)
+trap 'rm -rf "$folder"' EXIT

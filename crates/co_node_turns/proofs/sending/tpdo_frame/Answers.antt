@@ -1,0 +1,11 @@
+use Rattle.std.proofs.Common.{ℕ, List, ap, ◌∙◌}
+use Rattle.co_frame.specs.FrameContent.{FrameContent}
+use Rattle.co_dict.specs.declared.side.Side.TheVariants.{Tpdo}
+use Rattle.co_node_turns.proofs.sending.tpdo_frame.Goals as goal
+
+-- a frame by its bytes
+abbrev framed : ℕ → List ℕ → FrameContent
+framed id bytes = record { id = id; bytes = bytes }
+
+pub returns : goal.returns
+returns g c = λ table. c.frame_with.ensures ∙ ap (framed _) (c.deref.ensures.0 ∙ c.image-image.ensures Tpdo table)
