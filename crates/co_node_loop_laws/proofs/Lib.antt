@@ -1,4 +1,5 @@
 pub mod Channel
 pub mod Requests
 pub mod InTurns
+pub mod Apart
 pub mod Segmented

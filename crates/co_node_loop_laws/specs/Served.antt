@@ -25,6 +25,13 @@ pub record AreApart (node : ℕ) (contents : Contents) : Type 0 where
   pub sync : is_sync_id contents (0x600 + node) ≡ false
   pub emergency : is_emergency_id contents (0x580 + node) ≡ false
 
+-- a device begins so, at a node-ID from 1 to 127: as it is built, and as a reset restores it
+pub record BeginsApart (k : Constants) : Type 0 where
+  pub first_node : 1 ≤ k.description.node
+  pub last_node : k.description.node ≤ 127
+  pub start : AreApart k.description.node k.start
+  pub initial : AreApart k.description.node k.description.initial
+
 -- a node after these inputs serves a download of these bytes: it isn't stopped, no transfer is open on its default channel,
 -- and the dictionary permits the download
 pub record IsServed (k : Constants) (before : Inputs) (key : Key) (bytes : List ℕ) : Type 0 where
