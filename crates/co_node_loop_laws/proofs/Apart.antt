@@ -39,7 +39,7 @@ use Rattle.co_node_laws.proofs.Below.{Below}
 use Rattle.co_node_laws.proofs.Changed.{by_address}
 use Rattle.co_node_laws.proofs.Received.{MayBecome, changed}
 use Rattle.co_node_laws.proofs.Writes.{IsWrite, number_kept, number_same}
-use Rattle.co_node_loop_laws.specs.Served.{AreApart, BeginsApart, is_emergency_id}
+use Rattle.co_node_loop_laws.specs.Apart.{AreApart, BeginsApart, is_emergency_id}
 
 -- ---- words
 

@@ -4,5 +4,5 @@
 mod downloads;
 mod identifiers;
 
-pub use downloads::segmented_download_ends;
-pub use identifiers::stays_apart;
+pub use downloads::{built_download_ends, segmented_download_ends};
+pub use identifiers::{begins_apart, stays_apart};
