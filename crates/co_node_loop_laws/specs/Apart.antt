@@ -1,5 +1,5 @@
--- Neither SYNC nor EMCY comes between a client and the default SDO channel of a node: those identifiers are restricted (CiA
--- 301, 7.3.5), and the dictionary refuses them.
+-- Neither SYNC nor EMCY comes between a client and the default SDO channel of a node: those identifiers are restricted
+-- (CiA 301, 7.3.5), and the dictionary refuses them.
 use Rattle.std.specs.Prelude.{◌≡◌, ◌+◌, ◌≤◌, ◌==◌, ◌&&◌, ℕ, Bool, false, None}
 use Rattle.co_dict.specs.CobIds.{identifier_of, is_valid}
 use Rattle.co_dict.specs.Rows.{Contents, number_at}
@@ -25,7 +25,8 @@ pub record BeginsApart (k : Constants) : Type 0 where
   pub start : AreApart k.description.node k.start
   pub initial : AreApart k.description.node k.description.initial
 
--- a device built from a data sheet that makes a dictionary without a fault: what never changes of it, and its first entries
+-- a device built from a data sheet that makes a dictionary without a fault: what never changes of it, and its first
+-- entries
 pub record IsBuilt (plan : Plan) (k : Constants) : Type 0 where
   pub faultless : build_fault plan ≡ None
   pub description : k.description ≡ built_description plan

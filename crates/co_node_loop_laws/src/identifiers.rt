@@ -1,4 +1,5 @@
-//! SYNC and EMCY never come between a client and the default channel of a node. Each is a law: a call of it changes nothing.
+//! SYNC and EMCY never come between a client and the default channel of a node. Each is a law: a call of it changes
+//! nothing.
 
 ghost use Rattle.co_dict_list.specs.Built.{Plan};
 ghost use Rattle.co_node_inputs.specs.Inputs.{Inputs};
@@ -16,9 +17,9 @@ pub fn begins_apart()
     ensures { (plan : Plan) (k : Constants) → IsBuilt plan k → BeginsApart k }
 {}
 
-/// Where a device begins so, SYNC and EMCY stay apart from its default SDO channel, after whatever inputs: resets restore
-/// 1005:00 and 1014:00, nothing but these and writes changes them, and a write that gives SYNC, or an EMCY that exists, an
-/// identifier of a default SDO channel is refused (CiA 301, 7.3.5).
+/// Where a device begins so, SYNC and EMCY stay apart from its default SDO channel, after whatever inputs: resets
+/// restore 1005:00 and 1014:00, nothing but these and writes changes them, and a write that gives SYNC, or an EMCY that
+/// exists, an identifier of a default SDO channel is refused (CiA 301, 7.3.5).
 pub fn stays_apart()
     ensures { (k : Constants) (inputs : Inputs) → BeginsApart k →
         AreApart k.description.node (contents_of k inputs) }
