@@ -25,7 +25,7 @@ use Rattle.co_node_inputs.specs.Keys.{emergency_key}
 use Rattle.co_node_history.specs.Logs.{channel_logs}
 use Rattle.co_node_history.specs.Histories.{contents_of, emergency_frames, moments, prescribed, state_of}
 use Rattle.co_node_loop.specs.Rounds.{Loop, BothEnds, after_round, asked_after, events_after, first_ends, goes_on, request_id, response_id, round_of, rounds, some_wait, with_frames}
-use Rattle.co_node_loop_laws.specs.Served.{AreApart, is_emergency_id}
+use Rattle.co_node_loop_laws.specs.Apart.{AreApart, is_emergency_id}
 use Rattle.co_node_loop_laws.proofs.Channel.{same_number}
 use Rattle.co_node_loop_laws.proofs.Requests.{answers}
 

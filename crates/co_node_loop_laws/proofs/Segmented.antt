@@ -17,7 +17,8 @@ use Rattle.co_node_inputs.specs.Inputs.{Inputs}
 use Rattle.co_node_history.specs.Moments.{Constants}
 use Rattle.co_node_history.specs.Histories.{contents_of}
 use Rattle.co_node_loop.specs.Rounds.{download_of, first_ends, last_ends, sent_of, state_at}
-use Rattle.co_node_loop_laws.specs.Served.{AreApart, IsServed}
+use Rattle.co_node_loop_laws.specs.Apart.{AreApart}
+use Rattle.co_node_loop_laws.specs.Served.{IsServed}
 use Rattle.co_node_loop_laws.proofs.InTurns.{Suits, first, runs, world_of}
 
 in_segments : (mode : Mode) (bytes : List ℕ) → is_segmented_download mode (Download bytes true) ≡ true → transfer_by mode (Download bytes true) ≡ transfer_by Segmented (Download [] true)
@@ -59,17 +60,17 @@ pub record EndsDone (k : Constants) (before : Inputs) (key : Key) (bytes : List 
 enough : (n : ℕ) → n ≤ 65535 → requests_needed n ≤ 0 + 20000
 enough n few = omega arith
 
-pub ends_done : (k : Constants) (before : Inputs) (key : Key) (bytes : List ℕ) (mode : Mode) → IsServed k before key bytes → is_segmented_download mode (Download bytes true) ≡ true
+pub ends_done : (k : Constants) (before : Inputs) (key : Key) (bytes : List ℕ) (mode : Mode) → AreApart k.description.node (contents_of k before) → IsServed k before key bytes → is_segmented_download mode (Download bytes true) ≡ true
     → EndsDone k before key bytes mode
 unfolding segmented_download
-ends_done k before key bytes mode h segmented =
+ends_done k before key bytes mode apart h segmented =
     let l = download_of k key bytes mode in
     let may = may_download k before key bytes mode h segmented in
     let t = segmented_download (world_of l before) may in
     let suits : Suits l before t = record {
       long_request = λ i within. long_request k before key bytes mode i;
       long_answer = λ i within. long_answer k before key bytes mode i;
-      apart = λ i log contents within channel. subst (AreApart k.description.node) (sym (channel.same within)) h.apart;
+      apart = λ i log contents within channel. subst (AreApart k.description.node) (sym (channel.same within)) apart;
     } in
     let end = runs l before t suits 20000 0 (first_ends l before) (first l before t h.running) (enough (length bytes) h.few) in
     record { done = end.done; requests = end.count; entry = end.channel.sets refl }

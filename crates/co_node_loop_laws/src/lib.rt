@@ -2,5 +2,7 @@
 #![tactic(auto)]
 
 mod downloads;
+mod identifiers;
 
-pub use downloads::segmented_download_ends;
+pub use downloads::{built_download_ends, segmented_download_ends};
+pub use identifiers::{begins_apart, stays_apart};
