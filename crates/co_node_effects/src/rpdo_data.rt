@@ -21,11 +21,7 @@ use co_pdo::PdoFault;
 
 /// Whether the data of the frame of an RPDO that came take effect at once, if one came, where its RPDO maps so many bytes:
 /// its transmission type is 254 or 255, and it isn't short (CiA 301, 7.2.2.2 and 7.5.2.35).
-pub fn is_immediate<S: ObjectStore>(
-    store: &S,
-    mapped: usize,
-    rpdo: &Option<KeptFrame>,
-) -> bool
+pub fn is_immediate<S: ObjectStore>(store: &S, mapped: usize, rpdo: &Option<KeptFrame>) -> bool
     requires { IfSome rpdo.now (λ rpdo. rpdo.number < 512) }
     ensures { (d : Description) → IsMappedLength d (S.contents store.now) rpdo.now mapped →
         (if result then cons_option rpdo.now [] else []) ≡
@@ -68,12 +64,10 @@ pub fn take_data<S: ObjectStore>(
     requires number { rpdo.now.number < 512 }
     requires parts { HaveParts (S.description store.old) mappings.now }
     ensures description { S.description store.new ≡ S.description store.old }
-    ensures contents {
-        IsMappingTable Rpdo (S.description store.old) (S.contents store.old) mappings.now →
+    ensures contents { IsMappingTable Rpdo (S.description store.old) (S.contents store.old) mappings.now →
         S.contents store.new ≡
         after_data (S.description store.old) (S.contents store.old) rpdo.now }
-    ensures table {
-        IsMappingTable Rpdo (S.description store.old) (S.contents store.old) mappings.now →
+    ensures table { IsMappingTable Rpdo (S.description store.old) (S.contents store.old) mappings.now →
         IsMappingTable Rpdo (S.description store.old) (S.contents store.new) mappings.now }
     ensures emergencies { (log : EmergencyLog) →
         IsMappingTable Rpdo (S.description store.old) (S.contents store.old) mappings.now →

@@ -131,12 +131,7 @@ impl MappingTable {
     }
 
     /// Takes the data of PDO k, 0 to 511, as `apply` does with its mapping.
-    pub fn apply<S: ObjectStore>(
-        &self,
-        store: &mut S,
-        k: u16,
-        bytes: &[u8],
-    ) -> Result<(), PdoFault>
+    pub fn apply<S: ObjectStore>(&self, store: &mut S, k: u16, bytes: &[u8]) -> Result<(), PdoFault>
         requires number { k < 512 }
         requires parts { HaveParts (S.description store.old) self.now }
         ensures fault { (side : Side) →

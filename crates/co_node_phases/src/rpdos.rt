@@ -47,8 +47,7 @@ fn raise_lengths<S: ObjectStore>(
     mapped: usize,
 )
     ensures description { S.description store.new ≡ S.description store.old }
-    ensures contents {
-        IsMappedLength (S.description store.old) (S.contents store.old) marks.now.rpdo mapped →
+    ensures contents { IsMappedLength (S.description store.old) (S.contents store.old) marks.now.rpdo mapped →
         S.contents store.new ≡
         after_lengths (S.description store.old) (S.contents store.old) marks.now }
     ensures emergencies { (queued : EmergencyLog) →
@@ -73,12 +72,10 @@ fn take_all_data<S: ObjectStore>(
 )
     requires { HaveParts (S.description store.old) mappings.now }
     ensures description { S.description store.new ≡ S.description store.old }
-    ensures contents {
-        IsMappingTable Rpdo (S.description store.old) (S.contents store.old) mappings.now →
+    ensures contents { IsMappingTable Rpdo (S.description store.old) (S.contents store.old) mappings.now →
         All (λ rpdo. rpdo.number < 512) rpdos.now → S.contents store.new ≡
         after_all_data (S.description store.old) (S.contents store.old) rpdos.now }
-    ensures table {
-        IsMappingTable Rpdo (S.description store.old) (S.contents store.old) mappings.now →
+    ensures table { IsMappingTable Rpdo (S.description store.old) (S.contents store.old) mappings.now →
         IsMappingTable Rpdo (S.description store.old) (S.contents store.new) mappings.now }
     ensures emergencies { (queued : EmergencyLog) →
         IsMappingTable Rpdo (S.description store.old) (S.contents store.old) mappings.now →
@@ -104,8 +101,7 @@ fn take_at_once<S: ObjectStore>(
     requires number { IfSome rpdo.now (λ rpdo. rpdo.number < 512) }
     requires parts { HaveParts (S.description store.old) mappings.now }
     ensures description { S.description store.new ≡ S.description store.old }
-    ensures contents {
-        IsMappingTable Rpdo (S.description store.old) (S.contents store.old) mappings.now →
+    ensures contents { IsMappingTable Rpdo (S.description store.old) (S.contents store.old) mappings.now →
         S.contents store.new ≡ after_all_data (S.description store.old) (S.contents store.old)
         (if is_immediate then cons_option rpdo.now [] else []) }
     ensures emergencies { (queued : EmergencyLog) →

@@ -83,8 +83,11 @@ pub fn send_life<S: ObjectStore>(store: &S, life: Option<Heartbeat>, outbox: &mu
 fn frame_with<S: ObjectStore>(store: &S, number: u16, bytes: &[u8]) -> Frame
     requires number { number < 512 }
     requires few { length bytes.now ≤ 8 }
-    ensures { result ≡ record { id = identifier_of
-        (number_at (S.contents store.now) (tpdo_key number 1)); bytes = bytes.now } }
+    ensures { result ≡ record {
+      id = identifier_of
+          (number_at (S.contents store.now) (tpdo_key number 1));
+      bytes = bytes.now;
+    } }
 {
     // at most 7FFh, and at most 8 bytes
     Frame::new(cob_id(store, Side::Tpdo, number).identifier(), bytes).unwrap_or_default()
@@ -94,8 +97,7 @@ fn frame_with<S: ObjectStore>(store: &S, number: u16, bytes: &[u8]) -> Frame
 fn tpdo_frame<S: ObjectStore>(store: &S, mappings: &MappingTable, number: u16) -> Frame
     requires number { number < 512 }
     requires parts { HaveParts (S.description store.now) mappings.now }
-    ensures {
-        IsMappingTable Tpdo (S.description store.now) (S.contents store.now) mappings.now →
+    ensures { IsMappingTable Tpdo (S.description store.now) (S.contents store.now) mappings.now →
         result ≡ tpdo_frame (S.description store.now) (S.contents store.now) number }
 {
     let image = mappings.image(store, number);
@@ -112,8 +114,7 @@ pub fn send_tpdos<S: ObjectStore>(
 )
     requires numbers { (i e : ℕ) → i < length numbers.now → slice_index_or numbers.now i e < 512 }
     requires parts { HaveParts (S.description store.now) mappings.now }
-    ensures {
-        IsMappingTable Tpdo (S.description store.now) (S.contents store.now) mappings.now →
+    ensures { IsMappingTable Tpdo (S.description store.now) (S.contents store.now) mappings.now →
         length outbox.old.items + length numbers.now ≤ outbox_room →
         outbox.new.items ≡ outbox.old.items
         ++ map (tpdo_frame (S.description store.now) (S.contents store.now)) numbers.now }
