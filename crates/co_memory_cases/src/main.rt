@@ -1,15 +1,25 @@
-//! Each call of the libraries that takes memory, over one data sheet. A call that answers that it is out of memory is made
-//! again. The status is 0 where all were right at once, 2 where one of all was out of memory, and 1 where one was wrong,
-//! whose name is then written. `tests/refused_memory` refuses each allocation of a run in turn.
+//! Each call that takes memory, over one data sheet. A call that answers that it is out of memory is made again. The status is
+//! 0 where all were right at once, 2 where one of all was out of memory, and 1 where one was wrong, whose name is then
+//! written. Where there is no memory for the text that the calls write to, the worked sequences of devices that are already
+//! built are run in place of the calls, and the status is 4 where all were right. `tests/refused_memory` refuses each
+//! allocation of a run in turn, from that text on, and all of them at once.
 #![tactic(auto)]
 
+mod after_build;
+mod commands;
+mod outcome;
 mod sheet;
 
+use crate::after_build::{are_right, script_of};
+use crate::commands::{checked, decoded, looped, replayed, words_read};
+use crate::outcome::{Outcome, refused_if, right_if};
 use crate::sheet::SHEET;
 use co_dict::ObjectStore;
 use co_dict_image::ImageStore;
 use co_dict_list::{BuildFault, Limits, ListStore};
+use co_frame::Outbox;
 use co_node::{Config, Node, Record};
+use co_node_scripts::{devices_of, frame_of};
 use co_pdo::Schedule;
 use co_sdo::{Channel, Ids};
 use co_sdo_client::{Client, ClientState, Mode};
@@ -19,7 +29,7 @@ use co_value::Key;
 use std::alloc::Global;
 use std::process::ExitCode;
 
-const LIMITS: Limits<'static> = Limits {
+pub(crate) const LIMITS: Limits<'static> = Limits {
     strings: 16,
     domains: 889,
     own: &[],
@@ -31,15 +41,14 @@ const DEVICE_TYPE: Key = Key {
     sub: 0,
 };
 
+/// A string.
+const STRING: Key = Key {
+    index: 0x2001,
+    sub: 0,
+};
+
 /// The greatest room of an entry: a domain's.
 const GREATEST: u16 = 889;
-
-#[derive(Clone, Copy, PartialEq, Eq)]
-enum Outcome {
-    Right,
-    Refused,
-    Wrong,
-}
 
 #[derive(Clone, Copy)]
 enum Call {
@@ -53,9 +62,16 @@ enum Call {
     Upload,
     Node,
     Record,
+    NodeIdZero,
+    TooLarge,
+    Check,
+    Decode,
+    Replay,
+    LoopBack,
+    Task,
 }
 
-const CALLS: [Call; 10] = [
+const CALLS: [Call; 17] = [
     Call::ReadText,
     Call::Read,
     Call::ReadFaulty,
@@ -66,6 +82,13 @@ const CALLS: [Call; 10] = [
     Call::Upload,
     Call::Node,
     Call::Record,
+    Call::NodeIdZero,
+    Call::TooLarge,
+    Call::Check,
+    Call::Decode,
+    Call::Replay,
+    Call::LoopBack,
+    Call::Task,
 ];
 
 impl Call {
@@ -81,23 +104,14 @@ impl Call {
             Call::Upload => "Client::upload",
             Call::Node => "Node::build",
             Call::Record => "Record::new",
+            Call::NodeIdZero => "builds with node-ID 0",
+            Call::TooLarge => "read of a sheet that is too large",
+            Call::Check => "check",
+            Call::Decode => "decode",
+            Call::Replay => "replay",
+            Call::LoopBack => "loop_back",
+            Call::Task => "task",
         }
-    }
-}
-
-fn right_if(is_right: bool) -> Outcome {
-    if is_right {
-        Outcome::Right
-    } else {
-        Outcome::Wrong
-    }
-}
-
-fn refused_if(is_memory: bool) -> Outcome {
-    if is_memory {
-        Outcome::Refused
-    } else {
-        Outcome::Wrong
     }
 }
 
@@ -176,15 +190,35 @@ fn channel_made(alloc: Global) -> Outcome {
     }
 }
 
+// ten bytes, and as many at most
 fn client_made(alloc: Global) -> Outcome {
     let ids = Ids {
         request: 0x605,
         answer: 0x585,
     };
-    match Client::upload(alloc, ids, DEVICE_TYPE, 65_535, Mode::Block, 65_535) {
-        Ok(client) => right_if(client.state() == ClientState::Waiting && client.sent() == 0),
+    match Client::upload(alloc, ids, STRING, 10, Mode::Segmented, 65_535) {
+        Ok(mut client) => right_if(has_uploaded(&mut client)),
         Err(_) => Outcome::Refused,
     }
+}
+
+const ANSWERS: [&str; 3] = [
+    "585#410120000A000000",
+    "585#0030313233343536",
+    "585#1937383900000000",
+];
+
+fn has_uploaded(client: &mut Client<'_>) -> bool {
+    let mut sent = Outbox::new();
+    client.begin(&mut sent);
+    for answer in ANSWERS {
+        let Ok(frame) = frame_of(answer) else {
+            return false;
+        };
+        sent.clear();
+        client.take(&frame, &mut sent);
+    }
+    client.state() == ClientState::Done && client.result() == b"0123456789".as_slice()
 }
 
 fn node_built(alloc: Global, sheet: &Sheet<'_>) -> Outcome {
@@ -205,7 +239,43 @@ fn record_made(alloc: Global) -> Outcome {
     }
 }
 
-fn outcome_of(call: Call, alloc: Global, sheet: &Sheet<'_>, store: &ListStore) -> Outcome {
+// answered before any memory is asked for
+fn node_id_refused(alloc: Global, sheet: &Sheet<'_>) -> Outcome {
+    let config = Config {
+        limits: LIMITS,
+        time: 0,
+    };
+    right_if(
+        ListStore::build(alloc, sheet, 0, &LIMITS).err() == Some(BuildFault::NodeId)
+            && ImageStore::build(alloc, sheet, 0, &LIMITS).err() == Some(BuildFault::NodeId)
+            && Node::build(alloc, sheet, 0, &config).err() == Some(BuildFault::NodeId),
+    )
+}
+
+// the same
+fn size_refused(alloc: Global, text: &[u8]) -> Outcome {
+    match read(alloc, text) {
+        Ok(_) => Outcome::Wrong,
+        Err(fault) => right_if(fault.kind == FaultKind::TooLarge && fault.line == 0),
+    }
+}
+
+/// What the calls are made with.
+#[derive(Clone, Copy)]
+struct Given<'a, 's> {
+    alloc: Global,
+    sheet: &'a Sheet<'s>,
+    store: &'a ListStore,
+    too_large: &'a [u8],
+}
+
+fn outcome_of(call: Call, given: &Given<'_, '_>, out: &mut Vec<u8>) -> Outcome {
+    let Given {
+        alloc,
+        sheet,
+        store,
+        too_large,
+    } = *given;
     match call {
         Call::ReadText => text_read(alloc),
         Call::Read => sheet_read(alloc),
@@ -217,17 +287,24 @@ fn outcome_of(call: Call, alloc: Global, sheet: &Sheet<'_>, store: &ListStore) -
         Call::Upload => client_made(alloc),
         Call::Node => node_built(alloc, sheet),
         Call::Record => record_made(alloc),
+        Call::NodeIdZero => node_id_refused(alloc, sheet),
+        Call::TooLarge => size_refused(alloc, too_large),
+        Call::Check => checked(alloc, out),
+        Call::Decode => decoded(alloc, sheet, out),
+        Call::Replay => replayed(alloc, sheet, out),
+        Call::LoopBack => looped(alloc, sheet, out),
+        Call::Task => words_read(alloc),
     }
 }
 
 /// Makes each call. The first that is wrong, or out of memory a second time in the run; else whether one was refused.
-fn make_calls(alloc: Global, sheet: &Sheet<'_>, store: &ListStore) -> Result<bool, Call> {
+fn make_calls(given: &Given<'_, '_>, out: &mut Vec<u8>) -> Result<bool, Call> {
     let mut was_refused = false;
     for call in CALLS {
-        let mut outcome = outcome_of(call, alloc, sheet, store);
+        let mut outcome = outcome_of(call, given, out);
         if outcome == Outcome::Refused && !was_refused {
             was_refused = true;
-            outcome = outcome_of(call, alloc, sheet, store);
+            outcome = outcome_of(call, given, out);
         }
         if outcome != Outcome::Right {
             return Err(call);
@@ -236,15 +313,8 @@ fn make_calls(alloc: Global, sheet: &Sheet<'_>, store: &ListStore) -> Result<boo
     Ok(was_refused)
 }
 
-fn main(rt: HostRuntime) -> ExitCode {
-    let alloc = rt.alloc();
-    let Ok(sheet) = read(alloc, SHEET.as_bytes()) else {
-        return ExitCode::from(3);
-    };
-    let Ok(store) = ListStore::build(alloc, &sheet, 5, &LIMITS) else {
-        return ExitCode::from(3);
-    };
-    match make_calls(alloc, &sheet, &store) {
+fn status_of_calls(rt: &HostRuntime, given: &Given<'_, '_>, out: &mut Vec<u8>) -> ExitCode {
+    match make_calls(given, out) {
         Ok(false) => ExitCode::SUCCESS,
         Ok(true) => ExitCode::from(2),
         Err(call) => {
@@ -252,5 +322,83 @@ fn main(rt: HostRuntime) -> ExitCode {
             let _ = println!(rt; "{name}");
             ExitCode::FAILURE
         }
+    }
+}
+
+fn status_after_build(
+    rt: &HostRuntime,
+    devices: &mut [Node],
+    script: &str,
+    kept: &mut Record,
+) -> ExitCode {
+    if are_right(devices, script, kept) {
+        return ExitCode::from(4);
+    }
+    let _ = println!(rt; "after the build");
+    ExitCode::FAILURE
+}
+
+/// The room of the text that calls write to: an allocation of this size is the first that is refused.
+const ROOM: usize = 54_321;
+
+/// There is no memory before the first that is refused.
+const NO_MEMORY: u8 = 3;
+
+// Each of these functions has one value of its own and hands it on.
+
+fn with_record(
+    rt: &HostRuntime,
+    given: &Given<'_, '_>,
+    devices: &mut [Node],
+    script: &str,
+) -> ExitCode {
+    let Ok(mut kept) = Record::new(given.alloc, 130, 4) else {
+        return ExitCode::from(NO_MEMORY);
+    };
+    match Vec::with_capacity(given.alloc, ROOM) {
+        Ok(mut out) => status_of_calls(rt, given, &mut out),
+        Err(_) => status_after_build(rt, devices, script, &mut kept),
+    }
+}
+
+fn with_devices(rt: &HostRuntime, given: &Given<'_, '_>, script: &str) -> ExitCode {
+    match devices_of(given.alloc, script) {
+        Ok(mut devices) => with_record(rt, given, devices.as_mut_slice(), script),
+        Err(_) => ExitCode::from(NO_MEMORY),
+    }
+}
+
+fn with_script(rt: &HostRuntime, given: &Given<'_, '_>) -> ExitCode {
+    match script_of(given.alloc) {
+        Ok(script) => with_devices(rt, given, script.as_str()),
+        Err(_) => ExitCode::from(NO_MEMORY),
+    }
+}
+
+fn with_text(rt: &HostRuntime, sheet: &Sheet<'_>, store: &ListStore) -> ExitCode {
+    let alloc = rt.alloc();
+    let Ok(text) = vec![in alloc; b'\n'; 1_048_577] else {
+        return ExitCode::from(NO_MEMORY);
+    };
+    let given = Given {
+        alloc,
+        sheet,
+        store,
+        too_large: text.as_slice(),
+    };
+    with_script(rt, &given)
+}
+
+fn with_store(rt: &HostRuntime, sheet: &Sheet<'_>) -> ExitCode {
+    match ListStore::build(rt.alloc(), sheet, 5, &LIMITS) {
+        Ok(store) => with_text(rt, sheet, &store),
+        Err(_) => ExitCode::from(NO_MEMORY),
+    }
+}
+
+fn main(rt: HostRuntime) -> ExitCode {
+    match read(rt.alloc(), SHEET.as_bytes()) {
+        Ok(sheet) => with_store(&rt, &sheet),
+        Err(_) => ExitCode::from(NO_MEMORY),
     }
 }

@@ -1,0 +1,49 @@
+//! Devices after their build, when no more memory is given: worked sequences, and a run over a record.
+
+use co_frame::Outbox;
+use co_node::{Node, Record};
+use co_node_inputs::{AppEvent, Input};
+use co_node_scripts::{
+    APPLICATION, BLOCKS, BadScript, EMERGENCIES, RPDOS, SEGMENTED, TPDOS, first_wrong, frame_of,
+};
+use std::alloc::{AllocError, Global};
+use std::string::String;
+
+/// All worked sequences, one after the other.
+pub(crate) fn script_of(alloc: Global) -> Result<String, AllocError> {
+    format!(in alloc; "{SEGMENTED}{BLOCKS}{RPDOS}{TPDOS}{EMERGENCIES}{APPLICATION}")
+}
+
+// Runs the first device on four requests and an event; it gives how many it took.
+fn run(devices: &mut [Node], kept: &mut Record) -> Result<usize, BadScript> {
+    let request = frame_of("605#4000100000000000")?;
+    let inputs = [
+        Input::Frame(request),
+        Input::Frame(request),
+        Input::Frame(request),
+        Input::Frame(request),
+        Input::App(AppEvent::Clear(1)),
+    ];
+    let node = devices.first_mut().ok_or(BadScript)?;
+    Ok(node.run(&inputs, kept))
+}
+
+// Whether a record with room for two inputs takes two, and two again once it is empty.
+fn has_run(devices: &mut [Node], kept: &mut Record) -> bool {
+    if run(devices, kept) != Ok(2) || kept.ends().len() != 2 || kept.frames().len() != 2 {
+        return false;
+    }
+    kept.clear();
+    run(devices, kept) == Ok(2)
+}
+
+// Whether devices do what a script says.
+fn are_shown(devices: &mut [Node], script: &str) -> bool {
+    let mut sent = Outbox::new();
+    first_wrong(devices, script, &mut sent).is_none()
+}
+
+/// Whether the devices of a script, of which the first runs on a record before that, do what it says.
+pub(crate) fn are_right(devices: &mut [Node], script: &str, kept: &mut Record) -> bool {
+    has_run(devices, kept) && are_shown(devices, script)
+}
