@@ -43,7 +43,7 @@ const LOOPED: &str = "\
 ; done, 4 requests
 ";
 
-// Whether a command ended for want of memory, after whole lines of what it writes otherwise and never all of them.
+// Whether a command was out of memory, after whole lines of what it writes otherwise and never all of them.
 fn ended_early(fault: CmdFault, out: &[u8], whole: &str) -> bool {
     fault == CmdFault::Memory
         && out.len() < whole.len()

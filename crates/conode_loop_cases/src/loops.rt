@@ -13,8 +13,8 @@ use std::string::String;
 use std::test::Fail;
 use std::{io, str};
 
-// A download a line: the mode, the key and the bytes (`-` where there are none), the frames that are printed, and after `; `
-// the last line.
+// A download a line: the mode, the key and the bytes (`-` where there are none), the frames that are printed, and after
+// `; ` the last line.
 const LOOPS: &str = "\
 plain 2001:00 0123456789 605#210120000A000000 585#6001200000000000 605#0030313233343536 585#2000000000000000 605#1937383900000000 585#3000000000000000 ; done, 3 requests
 plain 2001:00 ABCD 605#2301200041424344 585#6001200000000000 ; done, 1 requests
