@@ -19,7 +19,7 @@ use crate::config::Config;
 use crate::record::Record;
 use co_dict_image::ImageStore;
 use co_dict_list::BuildFault;
-use co_frame::{Frame, Outbox};
+use co_frame::Outbox;
 use co_node_inputs::{AppAnswer, AppEvent, Input};
 use co_node_parts::NodeState;
 use co_node_step::Device;
@@ -80,23 +80,27 @@ impl Node {
         ensures few { (k : Constants) (before : Inputs) → Stands k self.old before →
             length outbox.new.items ≤ frame_bound k before (input_view input.entry) }
     {
-        // taken apart and put together again: an input of a caller can't be handed on as a whole
-        let frame = match input {
-            Input::Frame(frame) => frame,
-            _ => Frame::default(),
-        };
-        let whole = match input {
-            Input::Frame(_) => Input::Frame(frame),
-            Input::Tick => Input::Tick,
-            Input::App(AppEvent::Write(key, bytes)) => Input::App(AppEvent::Write(key, bytes)),
-            Input::App(AppEvent::Event(number)) => Input::App(AppEvent::Event(number)),
-            Input::App(AppEvent::Changed(key)) => Input::App(AppEvent::Changed(key)),
-            Input::App(AppEvent::Raise(code, bits, manufacturer)) => {
-                Input::App(AppEvent::Raise(code, bits, manufacturer))
+        match input {
+            Input::Frame(frame) => self.device.take_frame(&frame, outbox),
+            Input::Tick => self.device.tick(outbox),
+            // taken apart and put together again: an event of a caller can't be handed on as a whole
+            Input::App(AppEvent::Write(key, bytes)) => {
+                self.device.take_event(AppEvent::Write(key, bytes), outbox)
             }
-            Input::App(AppEvent::Clear(bits)) => Input::App(AppEvent::Clear(bits)),
-        };
-        self.device.step(whole, outbox);
+            Input::App(AppEvent::Event(number)) => {
+                self.device.take_event(AppEvent::Event(number), outbox)
+            }
+            Input::App(AppEvent::Changed(key)) => {
+                self.device.take_event(AppEvent::Changed(key), outbox)
+            }
+            Input::App(AppEvent::Raise(code, bits, manufacturer)) => {
+                self.device
+                    .take_event(AppEvent::Raise(code, bits, manufacturer), outbox)
+            }
+            Input::App(AppEvent::Clear(bits)) => {
+                self.device.take_event(AppEvent::Clear(bits), outbox)
+            }
+        }
     }
 
     /// The bytes of an entry; `None` where there is no entry.
@@ -182,7 +186,7 @@ impl Node {
             if !kept.has_room(most) {
                 return taken;
             }
-            self.device.step(input, &mut sent);
+            self.step(input, &mut sent);
             kept.add(&sent);
             taken += 1;
         }

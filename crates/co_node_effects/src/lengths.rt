@@ -33,6 +33,7 @@ fn sync_length<S: ObjectStore>(store: &S) -> usize
 
 /// The error of the length of a SYNC, if one came and has it: 8240h where it isn't the one of 1019h
 /// (CiA 301, 7.2.5).
+#[inline(always)]
 pub fn sync_error<S: ObjectStore>(store: &S, sync: &Option<Frame>) -> Option<DeviceError>
     ensures { cons_option result [] ≡ sync_errors (S.contents store.now) sync.now }
 {
@@ -48,6 +49,7 @@ pub fn sync_error<S: ObjectStore>(store: &S, sync: &Option<Frame>) -> Option<Dev
 
 /// The error of the length of an RPDO's frame, if one came and has it, where the RPDO maps so many bytes: 8210h where it
 /// has fewer than are mapped, 8220h where it has more; whatever the transmission type (CiA 301, 7.2.2.5).
+#[inline(always)]
 pub fn rpdo_error(mapped: usize, rpdo: &Option<KeptFrame>) -> Option<DeviceError>
     ensures { (d : Description) (contents : Contents) → IsMappedLength d contents rpdo.now mapped →
         cons_option result [] ≡ rpdo_errors d contents rpdo.now }

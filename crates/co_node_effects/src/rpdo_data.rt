@@ -1,10 +1,11 @@
 //! The data of RPDOs that take effect.
 
-ghost use Rattle.std.specs.Prelude.{◌≡◌, ◌<◌, [], IfSome, if◌then◌else◌};
+ghost use Rattle.std.specs.Prelude.{◌≡◌, ◌<◌, [], if◌then◌else◌};
 ghost use Rattle.std.specs.List.{cons_option};
 ghost use Rattle.co_dict.specs.declared.side.Side.TheVariants.{Rpdo};
+ghost use Rattle.co_dict.specs.Rows.{Contents};
 ghost use Rattle.co_dict.specs.Stores.{Description};
-ghost use Rattle.co_node_inputs.specs.Slots.{IsMappedLength};
+ghost use Rattle.co_node_inputs.specs.Slots.{IsMappedLength, IsTypeOf};
 ghost use Rattle.co_node_mappings.specs.MappingTables.{HaveParts, IsMappingTable};
 ghost use Rattle.co_node_parts.specs.EmergencyQueues.{EmergencyLog, EmergenciesStand, with_queued};
 ghost use Rattle.co_pdo.specs.Images.{answered};
@@ -14,23 +15,22 @@ ghost use Rattle.co_node_effects.specs.RpdoData.{after_data, data_emergencies, i
 use crate::device_error::DeviceError;
 use crate::laws::settings_kept;
 use co_dict::ObjectStore;
-use co_node_inputs::{is_short, rpdo_type};
+use co_node_inputs::is_short;
 use co_node_mappings::{MappingTable, mappings_stay};
 use co_node_parts::{Emergencies, KeptFrame};
 use co_pdo::PdoFault;
 
-/// Whether the data of the frame of an RPDO that came take effect at once, if one came, where its RPDO maps so many bytes:
-/// its transmission type is 254 or 255, and it isn't short (CiA 301, 7.2.2.2 and 7.5.2.35).
-pub fn is_immediate<S: ObjectStore>(store: &S, mapped: usize, rpdo: &Option<KeptFrame>) -> bool
-    requires { IfSome rpdo.now (λ rpdo. rpdo.number < 512) }
-    ensures { (d : Description) → IsMappedLength d (S.contents store.now) rpdo.now mapped →
-        (if result then cons_option rpdo.now [] else []) ≡
-        immediate d (S.contents store.now) rpdo.now }
+/// Whether the data of the frame of an RPDO that came take effect at once, if one came, where its RPDO has this type and
+/// maps so many bytes: the type is 254 or 255, and it isn't short (CiA 301, 7.2.2.2 and 7.5.2.35).
+#[inline(always)]
+pub fn is_immediate(kind: u8, mapped: usize, rpdo: &Option<KeptFrame>) -> bool
+    ensures { (d : Description) (contents : Contents) → IsTypeOf contents rpdo.now kind →
+        IsMappedLength d contents rpdo.now mapped →
+        (if result then cons_option rpdo.now [] else []) ≡ immediate d contents rpdo.now }
 {
     let Some(rpdo) = rpdo else {
         return false;
     };
-    let kind = rpdo_type(store, rpdo.number);
     (kind == 254 || kind == 255) && !is_short(mapped, rpdo)
 }
 

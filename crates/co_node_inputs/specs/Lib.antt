@@ -5,5 +5,5 @@ pub mod AppAnswers
 pub mod Asked
 pub mod Words
 pub mod Slots
-pub mod Rpdos
+pub mod AddressChanges
 pub mod Turns

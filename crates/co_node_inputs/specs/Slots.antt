@@ -28,6 +28,10 @@ mapped_length d contents k = total_of (mapping_of Rpdo d contents k)
 abbrev pub IsMappedLength : Description → Contents → Option KeptFrame → ℕ → Type 0
 IsMappedLength d contents rpdo mapped = IfSome rpdo (λ r. mapped ≡ mapped_length d contents r.number)
 
+-- the transmission type is that of the RPDO whose frame came, if one came
+abbrev pub IsTypeOf : Contents → Option KeptFrame → ℕ → Type 0
+IsTypeOf contents rpdo kind = IfSome rpdo (λ r. kind ≡ rpdo_type contents r.number)
+
 -- a frame of an RPDO has fewer bytes than are mapped
 abbrev pub is_short : Description → Contents → KeptFrame → Bool
 is_short d contents rpdo = nat_lt (length rpdo.frame.bytes) (mapped_length d contents rpdo.number)

@@ -15,5 +15,5 @@ pub use address::Address;
 pub use app_answer::AppAnswer;
 pub use input::{AppEvent, Input};
 pub use marks::{Asked, Marks};
-pub use slots::{is_short, rpdo_type};
+pub use slots::{is_short, rpdo_type, type_of};
 pub use turn::Turn;

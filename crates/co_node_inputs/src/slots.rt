@@ -4,7 +4,7 @@ ghost use Rattle.std.specs.Prelude.{◌≡◌, ◌<◌, IfSome};
 ghost use Rattle.co_dict.specs.Rows.{Contents};
 ghost use Rattle.co_dict.specs.Stores.{Description};
 ghost use Rattle.co_node_inputs.specs.Addresses.{rpdo_type};
-ghost use Rattle.co_node_inputs.specs.Slots.{IsMappedLength, emptied_by, is_short, kept_by, mapped_length, slot_event};
+ghost use Rattle.co_node_inputs.specs.Slots.{IsMappedLength, IsTypeOf, emptied_by, is_short, kept_by, mapped_length, slot_event};
 
 use crate::marks::Marks;
 use co_dict::{ObjectStore, number_u8};
@@ -27,7 +27,19 @@ pub fn rpdo_type<S: ObjectStore>(store: &S, k: u16) -> u8
     )
 }
 
+/// The transmission type of the RPDO whose frame came; 0 where none came.
+pub fn type_of<S: ObjectStore>(store: &S, rpdo: &Option<KeptFrame>) -> u8
+    requires { IfSome rpdo.now (λ rpdo. rpdo.number < 512) }
+    ensures { IsTypeOf (S.contents store.now) rpdo.now result }
+{
+    match rpdo {
+        Some(rpdo) => rpdo_type(store, rpdo.number),
+        None => 0,
+    }
+}
+
 /// Whether a frame of an RPDO has fewer bytes than are mapped, which are so many.
+#[inline(always)]
 pub fn is_short(mapped: usize, rpdo: &KeptFrame) -> bool
     ensures { (d : Description) (contents : Contents) →
         mapped ≡ mapped_length d contents rpdo.now.number →
@@ -37,6 +49,7 @@ pub fn is_short(mapped: usize, rpdo: &KeptFrame) -> bool
 }
 
 /// What a write to an entry is to the frames that wait.
+#[inline(always)]
 fn emptied_by(set: Option<Key>) -> SlotEvent
     ensures { result ≡ emptied_by set }
 {
@@ -51,16 +64,16 @@ fn emptied_by(set: Option<Key>) -> SlotEvent
     }
 }
 
-/// What a frame of an RPDO is to those that wait, where its RPDO maps so many bytes.
-fn kept_by<S: ObjectStore>(store: &S, mapped: usize, rpdo: &Option<KeptFrame>) -> SlotEvent
-    requires { IfSome rpdo.now (λ rpdo. rpdo.number < 512) }
-    ensures { (d : Description) → IsMappedLength d (S.contents store.now) rpdo.now mapped →
-        result ≡ kept_by d (S.contents store.now) rpdo.now }
+/// What a frame of an RPDO is to those that wait, where its RPDO has this type and maps so many bytes.
+#[inline(always)]
+fn kept_by(kind: u8, mapped: usize, rpdo: &Option<KeptFrame>) -> SlotEvent
+    ensures { (d : Description) (contents : Contents) → IsTypeOf contents rpdo.now kind →
+        IsMappedLength d contents rpdo.now mapped → result ≡ kept_by d contents rpdo.now }
 {
     let Some(rpdo) = rpdo else {
         return SlotEvent::Quiet;
     };
-    if rpdo_type(store, rpdo.number) <= 240 && !is_short(mapped, rpdo) {
+    if kind <= 240 && !is_short(mapped, rpdo) {
         SlotEvent::Keep(rpdo.number, rpdo.frame)
     } else {
         SlotEvent::Quiet
@@ -69,17 +82,12 @@ fn kept_by<S: ObjectStore>(store: &S, mapped: usize, rpdo: &Option<KeptFrame>) -
 
 impl Marks {
     /// What the input was to the RPDO frames that wait for a SYNC, by the states before and after it. The RPDO whose frame
-    /// came has a number below 512, and maps so many bytes.
-    pub fn slot_event<S: ObjectStore>(
-        &self,
-        store: &S,
-        mapped: usize,
-        transition: Transition,
-    ) -> SlotEvent
-        requires { IfSome self.now.rpdo (λ rpdo. rpdo.number < 512) }
-        ensures { (d : Description) →
-            IsMappedLength d (S.contents store.now) self.now.rpdo mapped →
-            result ≡ slot_event d (S.contents store.now) self.now transition }
+    /// came has this type, and maps so many bytes.
+    #[inline(always)]
+    pub fn slot_event(&self, kind: u8, mapped: usize, transition: Transition) -> SlotEvent
+        ensures { (d : Description) (contents : Contents) →
+            IsTypeOf contents self.now.rpdo kind → IsMappedLength d contents self.now.rpdo mapped →
+            result ≡ slot_event d contents self.now transition }
     {
         if self.is_reset() || transition.leaves(NodeState::Operational) {
             return SlotEvent::EmptyAll;
@@ -90,6 +98,6 @@ impl Marks {
         if self.set.is_some() {
             return emptied_by(self.set);
         }
-        kept_by(store, mapped, &self.rpdo)
+        kept_by(kind, mapped, &self.rpdo)
     }
 }

@@ -3,10 +3,10 @@
 ghost use Rattle.std.specs.Prelude.{◌≡◌};
 ghost use Rattle.co_node_inputs.specs.Words.{quiet, is_reset, state_event, consumers_event, emergency_event, may_send, producer_event, life_of};
 ghost use Rattle.co_node_inputs.specs.Turns.{turn_of, turn_by_write, counter_in, HasTpdoNumber};
-ghost use Rattle.co_node_inputs.specs.Rpdos.{is_rpdo_set, may_change_rpdos};
+ghost use Rattle.co_node_inputs.specs.AddressChanges.{is_address_set, may_change_addresses};
 ghost use Rattle.co_node_inputs.specs.Keys.{is_set};
 
-use crate::keys::{EMERGENCY_COB_ID, PRODUCER_HEARTBEAT_TIME};
+use crate::keys::{EMERGENCY_COB_ID, PRODUCER_HEARTBEAT_TIME, SYNC_COB_ID};
 use crate::marks::Marks;
 use crate::turn::Turn;
 use co_dict::{CobId, ObjectStore, number_u16, number_u32};
@@ -20,6 +20,7 @@ use co_value::Key;
 
 impl Marks {
     /// The marks of an input that concerns no part.
+    #[inline(always)]
     pub fn quiet() -> Marks
         ensures { result ≡ quiet }
     {
@@ -36,6 +37,7 @@ impl Marks {
     }
 
     /// Whether the input was a reset, of the node or of its communication.
+    #[inline(always)]
     pub fn is_reset(&self) -> bool
         ensures { result ≡ is_reset self.now }
     {
@@ -46,6 +48,7 @@ impl Marks {
     }
 
     /// What the input was to the NMT state, besides heartbeats that are lost at it.
+    #[inline(always)]
     pub fn state_event(&self) -> StateEvent
         ensures { result ≡ state_event self.now }
     {
@@ -56,6 +59,7 @@ impl Marks {
     }
 
     /// What the input was to the emergencies, besides those that it raised.
+    #[inline(always)]
     pub fn emergency_event(&self) -> EmergencyEvent
         ensures { result ≡ emergency_event self.now }
     {
@@ -69,6 +73,7 @@ impl Marks {
     }
 
     /// Whether this key was written.
+    #[inline(always)]
     fn is_set(&self, key: Key) -> bool
         ensures { result ≡ is_set self.now.set key }
     {
@@ -78,16 +83,18 @@ impl Marks {
         }
     }
 
-    /// Whether the input may have changed which RPDO has an identifier: it was a reset, or a parameter
-    /// of an RPDO was written.
-    pub fn may_change_rpdos(&self) -> bool
-        ensures { result ≡ may_change_rpdos self.now }
+    /// Whether the input may have changed the identifier of SYNC, or which RPDO has an identifier: it was a reset, or
+    /// the COB-ID of SYNC or a parameter of an RPDO was written.
+    #[inline(always)]
+    pub fn may_change_addresses(&self) -> bool
+        ensures { result ≡ may_change_addresses self.now }
     {
-        self.is_reset() || is_rpdo_set(self.set)
+        self.is_reset() || is_address_set(self.set)
     }
 
     /// What the input was to the consumers of heartbeats, where it was no reset: at a reset all of
     /// them begin.
+    #[inline(always)]
     pub fn consumers_event<S: ObjectStore>(&self, store: &S) -> ConsumersEvent
         ensures { result ≡ consumers_event self.now (S.contents store.now) }
     {
@@ -106,6 +113,7 @@ impl Marks {
     }
 
     /// Whether an emergency may be sent at the end of the input, in the state after it.
+    #[inline(always)]
     pub fn may_send<S: ObjectStore>(&self, store: &S, after: NodeState) -> bool
         ensures { result ≡ may_send self.now after (S.contents store.now) }
     {
@@ -115,6 +123,7 @@ impl Marks {
     }
 
     /// What the input was to the heartbeat producer.
+    #[inline(always)]
     pub fn producer_event<S: ObjectStore>(&self, store: &S) -> ProducerEvent
         ensures { result ≡ producer_event self.now (S.contents store.now) }
     {
@@ -128,6 +137,7 @@ impl Marks {
     }
 
     /// The boot-up at a reset; else the heartbeat of the state after the input, where one is due.
+    #[inline(always)]
     pub fn life(&self, after: NodeState, is_due: bool) -> Option<Heartbeat>
         ensures { result ≡ life_of self.now after is_due }
     {
@@ -141,6 +151,7 @@ impl Marks {
     }
 
     /// What the input was to the schedule of TPDOs, by the states before and after it.
+    #[inline(always)]
     pub fn turn(&self, transition: Transition) -> Turn
         ensures turn { result ≡ turn_of self.now transition }
         ensures number { HasTpdoNumber result }
@@ -167,13 +178,15 @@ impl Marks {
     }
 }
 
-/// Whether a parameter of an RPDO was written.
-fn is_rpdo_set(set: Option<Key>) -> bool
-    ensures { result ≡ is_rpdo_set set }
+/// Whether the COB-ID of SYNC or a parameter of an RPDO was written.
+#[inline(always)]
+fn is_address_set(set: Option<Key>) -> bool
+    ensures { result ≡ is_address_set set }
 {
     match set {
         Some(key) => {
-            IndexRange::RPDO_COMMUNICATION.contains(key.index)
+            key == SYNC_COB_ID
+                || IndexRange::RPDO_COMMUNICATION.contains(key.index)
                 || IndexRange::RPDO_MAPPING.contains(key.index)
         }
         None => false,
@@ -181,6 +194,7 @@ fn is_rpdo_set(set: Option<Key>) -> bool
 }
 
 /// The counter of a SYNC: its byte, where it has exactly one.
+#[inline(always)]
 fn counter_in(frame: &Frame) -> Option<u8>
     ensures { result ≡ counter_in frame.now }
 {
@@ -192,6 +206,7 @@ fn counter_in(frame: &Frame) -> Option<u8>
 
 impl Turn {
     /// The turn of a write to an entry.
+    #[inline(always)]
     fn by_write(key: Key) -> Turn
         ensures turn { result ≡ turn_by_write key }
         ensures number { HasTpdoNumber result }

@@ -24,4 +24,4 @@ pub mod Changed
 pub mod Resets
 pub mod SetExactly
 mod KeptMappings
-mod KeptRpdos
+mod KeptAddresses

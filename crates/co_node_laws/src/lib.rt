@@ -16,5 +16,5 @@ pub use held::held_within_room;
 pub use kinds::{changes_by_command, changes_by_kind, changes_by_reset, set_exactly};
 pub use lengths::{few, few_responses, few_unanswered, greatest_bound};
 pub use pdos::{takes_effect_at_sync, tpdo_due};
-pub use rpdos::{mappings_kept, rpdos_kept};
+pub use rpdos::{addresses_kept, mappings_kept};
 pub use schedule::{schedule_current, schedule_ready};

@@ -1,9 +1,10 @@
-//! What an input changes of the parameters of RPDOs and of what PDOs map. Each is a law: a call of it changes nothing.
+//! What an input changes of the addresses of SYNC and RPDOs, and of what PDOs map. Each is a law: a call of it changes nothing.
 
 ghost use Rattle.std.specs.Prelude.{◌≡◌, ◌≤◌, ◌<◌, ◌∷◌, false};
 ghost use Rattle.co_value.specs.declared.key.Key.{Key};
 ghost use Rattle.co_node_inputs.specs.Inputs.{InputView, Inputs};
-ghost use Rattle.co_node_inputs.specs.Rpdos.{may_change_rpdos};
+ghost use Rattle.co_node_inputs.specs.AddressChanges.{may_change_addresses};
+ghost use Rattle.co_node_inputs.specs.Keys.{sync_key};
 ghost use Rattle.co_node_history.specs.Moments.{Constants};
 ghost use Rattle.co_node_history.specs.Phases.{moment};
 ghost use Rattle.co_node_history.specs.Histories.{moments, contents_of};
@@ -14,11 +15,14 @@ use co_dict::{invalid_pdo_law, own_rule_law};
 use co_pdo::written_from_2000;
 use co_sdo_bank::Bank;
 
-/// An input that is no reset and writes no parameter of an RPDO leaves all of them, 1400h to 17FFh, as
-/// they are. So which RPDO has an identifier has to be looked up anew after the other inputs alone.
-pub fn rpdos_kept()
-    ensures { (k : Constants) (inputs : Inputs) (input : InputView) →
-        may_change_rpdos (moment k (moments k inputs) input).marks ≡ false →
+/// An input that is no reset and writes neither 1005h nor a parameter of an RPDO leaves all of these, 1005h and 1400h to
+/// 17FFh, as they are. So who takes the frames of SYNC and of RPDOs has to be looked up anew after the other inputs alone.
+pub fn addresses_kept()
+    ensures sync { (k : Constants) (inputs : Inputs) (input : InputView) →
+        may_change_addresses (moment k (moments k inputs) input).marks ≡ false →
+        contents_of k inputs sync_key ≡ contents_of k (input ∷ inputs) sync_key }
+    ensures rpdos { (k : Constants) (inputs : Inputs) (input : InputView) →
+        may_change_addresses (moment k (moments k inputs) input).marks ≡ false →
         (key : Key) → 0x1400 ≤ key.index → key.index < 0x1800 →
         contents_of k inputs key ≡ contents_of k (input ∷ inputs) key }
 {

@@ -38,6 +38,7 @@ impl CompiledMappings {
 
     /// Follows the dictionary over an input: the mappings are compiled anew at a reset and where a mapping parameter was
     /// written.
+    #[inline(always)]
     pub fn note<S: ObjectStore>(&mut self, marks: &Marks, store: &S)
         ensures mappings { (before : Contents) → AreMappings (S.description store.now) before self.old →
             (may_change_mappings marks.now ≡ false → AgreeOnMappings before (S.contents store.now)) →

@@ -8,6 +8,7 @@ use co_profile::IndexRange;
 use co_value::Key;
 
 /// Whether a mapping parameter was written.
+#[inline(always)]
 fn is_mapping_set(set: Option<Key>) -> bool
     ensures { result ≡ is_mapping_set set }
 {
@@ -21,6 +22,7 @@ fn is_mapping_set(set: Option<Key>) -> bool
 }
 
 /// Whether an input may have changed what a PDO maps: it was a reset, or a mapping parameter was written.
+#[inline(always)]
 pub fn may_change_mappings(marks: &Marks) -> bool
     ensures { result ≡ may_change_mappings marks.now }
 {

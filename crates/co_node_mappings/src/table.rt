@@ -36,6 +36,8 @@ fn count_of<S: ObjectStore>(store: &S, side: Side) -> u16
 }
 
 /// Compiles each of them anew.
+#[cold]
+#[inline(never)]
 fn compile_all<S: ObjectStore>(pdos: &mut [Compiled], store: &S, side: Side)
     requires { length pdos.old ≤ 512 }
     ensures { AreForms side (S.description store.now) (S.contents store.now) pdos.new }
@@ -87,6 +89,7 @@ impl MappingTable {
 
     /// Follows the dictionary over an input: the mappings are compiled anew where that may have changed what a PDO maps, at a
     /// reset and where a mapping parameter was written.
+    #[inline(always)]
     pub fn note<S: ObjectStore>(&mut self, marks: &Marks, store: &S, side: Side)
         ensures table { (before : Contents) →
             IsMappingTable side (S.description store.now) before self.old →
@@ -103,6 +106,7 @@ impl MappingTable {
     }
 
     /// How many bytes PDO k, 0 to 511, maps.
+    #[inline(always)]
     pub fn width(&self, k: u16) -> usize
         requires { k < 512 }
         ensures { (side : Side) (d : Description) (contents : Contents) →

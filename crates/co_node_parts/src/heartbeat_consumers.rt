@@ -44,28 +44,32 @@ impl ConsumersEvent {
     }
 }
 
-/// Notes an event for each of some entries, and answers which of them lose their heartbeat. Those from `used` on are
-/// passed over by it.
-fn note_all(entries: &mut [HeartbeatConsumer], used: usize, event: ConsumersEvent) -> LostHeartbeats
+/// Notes an event for each of some entries, and leaves in `lost` which of them lose their heartbeat. Those from `used` on
+/// are passed over by it.
+fn note_all(
+    entries: &mut [HeartbeatConsumer],
+    used: usize,
+    event: ConsumersEvent,
+    lost: &mut LostHeartbeats,
+)
     requires few { length entries.old ≤ 127 }
     requires within { used ≤ length entries.old }
     requires used { ArePassedFrom event used entries.old }
     ensures lost { (logs : ℕ → ConsumerLog) → AllStand entries.old logs →
-        result.items ≡ filter (λ sub. is_lost (event_of sub (Noted event)) (logs sub))
+        lost.new.items ≡ filter (λ sub. is_lost (event_of sub (Noted event)) (logs sub))
         (range_with_len 1 (length entries.old)) }
     ensures stand { (logs : ℕ → ConsumerLog) → AllStand entries.old logs →
         AllStand entries.new (λ sub. event_of sub (Noted event) ∷ logs sub) }
     ensures rest { (i : ℕ) (d : HeartbeatConsumer) → used ≤ i →
         slice_index_or entries.new i d ≡ slice_index_or entries.old i d }
 {
-    let mut lost = LostHeartbeats::new();
+    lost.clear();
     for i in 0..used {
         let sub = i as u8 + 1;
         if entries[i].note(event.for_entry(sub)) {
             lost.push(sub);
         }
     }
-    lost
 }
 
 /// From which entry on none monitors anything.
@@ -143,22 +147,22 @@ impl HeartbeatConsumers {
         self.used = used_among(&self.entries);
     }
 
-    /// Takes note of an event, and answers which entries lose their heartbeat at it.
-    pub fn note(&mut self, event: ConsumersEvent) -> LostHeartbeats
+    /// Takes note of an event, and leaves in `lost` which entries lose their heartbeat at it, and nothing else.
+    #[inline]
+    pub fn note(&mut self, event: ConsumersEvent, lost: &mut LostHeartbeats)
         ensures lost { (log : ConsumersLog) → ConsumersStand self.old log →
-            result.items ≡ lost_at event log }
+            lost.new.items ≡ lost_at event log }
         ensures stands { (log : ConsumersLog) → ConsumersStand self.old log →
             ConsumersStand self.new (Noted event ∷ log) }
     {
         match event {
-            ConsumersEvent::Quiet => LostHeartbeats::new(),
+            ConsumersEvent::Quiet => lost.clear(),
             ConsumersEvent::Begin(_, _) => {
-                let lost = note_all(&mut self.entries, ENTRIES, event);
+                note_all(&mut self.entries, ENTRIES, event, lost);
                 self.used = used_among(&self.entries);
-                lost
             }
             ConsumersEvent::Heard(_) | ConsumersEvent::Tick => {
-                note_all(&mut self.entries, self.used, event)
+                note_all(&mut self.entries, self.used, event, lost);
             }
         }
     }

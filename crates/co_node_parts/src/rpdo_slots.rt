@@ -128,6 +128,7 @@ impl RpdoSlots {
     }
 
     /// Takes note of an event. What it takes is in `taken` until the next one.
+    #[inline(always)]
     pub fn note(&mut self, event: SlotEvent)
         ensures taken { (count : ℕ) (log : SlotLog) → SlotsStand count self.old log →
             self.new.taken ≡ taken_at count event log }

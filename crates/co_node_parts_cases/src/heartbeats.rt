@@ -1,6 +1,8 @@
 //! The heartbeats of the device and of other nodes.
 
-use co_node_parts::{ConsumersEvent, HeartbeatConsumers, HeartbeatProducer, ProducerEvent};
+use co_node_parts::{
+    ConsumersEvent, HeartbeatConsumers, HeartbeatProducer, LostHeartbeats, ProducerEvent,
+};
 use std::test::Fail;
 
 #[test]
@@ -19,11 +21,12 @@ fn lost_at_its_time(rt: HostRuntime) -> Result<(), Fail> {
     let mut consumers = HeartbeatConsumers::new();
     // node 7 with 100 ms, nothing, and node 8 with 3 ms
     consumers.begin_all(&[0x0007_0064, 0, 0x0008_0003]);
-    consumers.note(ConsumersEvent::Begin(127, 0x0007_0003));
-    consumers.note(ConsumersEvent::Heard(8));
-    consumers.note(ConsumersEvent::Heard(7));
+    let mut lost = LostHeartbeats::new();
+    consumers.note(ConsumersEvent::Begin(127, 0x0007_0003), &mut lost);
+    consumers.note(ConsumersEvent::Heard(8), &mut lost);
+    consumers.note(ConsumersEvent::Heard(7), &mut lost);
     for tick in 1..=200u8 {
-        let lost = consumers.note(ConsumersEvent::Tick);
+        consumers.note(ConsumersEvent::Tick, &mut lost);
         let expected: &[u8] = match tick {
             3 => &[3, 127],
             100 => &[1],

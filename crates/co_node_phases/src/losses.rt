@@ -1,7 +1,7 @@
 //! Lost heartbeats of others.
 
 ghost use Rattle.std.specs.Prelude.{◌≡◌, ◌∷◌};
-ghost use Rattle.co_node_parts.specs.ConsumerTables.{ConsumersLog, ConsumersStand};
+ghost use Rattle.co_node_parts.specs.ConsumerTables.{AllBegun, ConsumersLog, ConsumersStand};
 ghost use Rattle.co_node_parts.specs.EmergencyQueues.{EmergencyLog, EmergenciesStand, with_queued};
 ghost use Rattle.co_node_inputs.specs.Words.{consumers_call, consumer_words};
 ghost use Rattle.co_node_effects.specs.Errors.{all_raised, emergencies_of};
@@ -12,7 +12,7 @@ use arrayvec::ArrayVec;
 use co_dict::{ObjectStore, number_u8, number_u32};
 use co_node_effects::DeviceError;
 use co_node_inputs::Marks;
-use co_node_parts::{Emergencies, HeartbeatConsumers, LossReaction, StateEvent};
+use co_node_parts::{Emergencies, HeartbeatConsumers, LossReaction, LostHeartbeats, StateEvent};
 use co_profile::{CONSUMER_HEARTBEAT, ERROR_BEHAVIOUR};
 use co_value::Key;
 
@@ -39,6 +39,16 @@ pub fn consumer_words<S: ObjectStore>(store: &S) -> ArrayVec<u32, 127>
     words
 }
 
+/// All monitoring begins anew, with the words that the entries have.
+#[cold]
+#[inline(never)]
+fn begin_anew<S: ObjectStore>(store: &S, consumers: &mut HeartbeatConsumers)
+    ensures { (log : ConsumersLog) → ConsumersStand consumers.old log →
+        ConsumersStand consumers.new (AllBegun (consumer_words (S.contents store.now)) ∷ log) }
+{
+    consumers.begin_all(&consumer_words(store));
+}
+
 /// Raises an error for each heartbeat that is lost, and queues its emergency.
 fn raise_losses<S: ObjectStore>(store: &mut S, emergencies: &mut Emergencies, lost: &[u8])
     ensures description { S.description store.new ≡ S.description store.old }
@@ -55,12 +65,14 @@ fn raise_losses<S: ObjectStore>(store: &mut S, emergencies: &mut Emergencies, lo
 
 /// The heartbeats of others at an input: each that is lost at it is an error of the device, 8130h, whose emergency is
 /// queued. At a reset all monitoring begins anew. It gives what the losses are to the NMT state, by the error behaviour
-/// of 1029h, sub-index 1, before them.
+/// of 1029h, sub-index 1, before them. `lost` is room for the sub-indices of those that are lost.
+#[inline(always)]
 pub fn watch<S: ObjectStore>(
     store: &mut S,
     consumers: &mut HeartbeatConsumers,
     emergencies: &mut Emergencies,
     marks: &Marks,
+    lost: &mut LostHeartbeats,
 ) -> StateEvent
     ensures description { S.description store.new ≡ S.description store.old }
     ensures loss { (log : ConsumersLog) → ConsumersStand consumers.old log → result ≡
@@ -77,15 +89,14 @@ pub fn watch<S: ObjectStore>(
         log)) (S.contents store.old)) queued) }
 {
     if marks.is_reset() {
-        let words = consumer_words(store);
-        consumers.begin_all(&words);
+        begin_anew(store, consumers);
         return StateEvent::Quiet;
     }
-    let lost = consumers.note(marks.consumers_event(store));
+    consumers.note(marks.consumers_event(store), lost);
     if lost.is_empty() {
         return StateEvent::Quiet;
     }
     let reaction = LossReaction::from_code(number_u8(store, COMMUNICATION_ERROR));
-    raise_losses(store, emergencies, &lost);
+    raise_losses(store, emergencies, lost);
     StateEvent::HeartbeatLost(reaction)
 }

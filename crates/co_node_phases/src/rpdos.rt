@@ -17,11 +17,12 @@ use co_dict::ObjectStore;
 use co_node_effects::{
     DeviceError, is_immediate, rpdo_error, settings_kept, sync_error, take_data,
 };
-use co_node_inputs::Marks;
+use co_node_inputs::{Marks, type_of};
 use co_node_mappings::{MappingTable, mappings_stay};
 use co_node_parts::{Emergencies, KeptFrame, RpdoSlots, Transition};
 
 /// Raises an error, if there is one, and queues its emergency.
+#[inline(always)]
 fn raise_some<S: ObjectStore>(
     store: &mut S,
     emergencies: &mut Emergencies,
@@ -40,6 +41,7 @@ fn raise_some<S: ObjectStore>(
 }
 
 /// Raises the errors of the length of a SYNC, and of an RPDO's frame, whose RPDO maps so many bytes.
+#[inline(always)]
 fn raise_lengths<S: ObjectStore>(
     store: &mut S,
     emergencies: &mut Emergencies,
@@ -64,6 +66,7 @@ fn raise_lengths<S: ObjectStore>(
 }
 
 /// The data of frames take effect, in order. There is no RPDO with a number from 512 on.
+#[inline(always)]
 fn take_all_data<S: ObjectStore>(
     store: &mut S,
     mappings: &MappingTable,
@@ -91,6 +94,7 @@ fn take_all_data<S: ObjectStore>(
 }
 
 /// The data of a frame take effect at once, if one came and they do.
+#[inline(always)]
 fn take_at_once<S: ObjectStore>(
     store: &mut S,
     mappings: &MappingTable,
@@ -120,6 +124,7 @@ fn take_at_once<S: ObjectStore>(
 }
 
 /// How many bytes the RPDO maps whose frame came; 0 where none came.
+#[inline(always)]
 fn mapped_length(mappings: &MappingTable, rpdo: &Option<KeptFrame>) -> usize
     requires { IfSome rpdo.now (λ rpdo. rpdo.number < 512) }
     ensures { (d : Description) (contents : Contents) →
@@ -134,6 +139,7 @@ fn mapped_length(mappings: &MappingTable, rpdo: &Option<KeptFrame>) -> usize
 /// SYNC and RPDO frames at an input, by the NMT states before and after it: errors of their lengths first, then the data
 /// of those that take effect, by number: those that wait, at a SYNC; the one that came, where its transmission type is
 /// 254 or 255. Each error's emergency is queued. `mappings` are the compiled mappings of the RPDOs, as the dictionary is now.
+#[inline(always)]
 pub fn take_pdos<S: ObjectStore>(
     store: &mut S,
     mappings: &MappingTable,
@@ -160,8 +166,9 @@ pub fn take_pdos<S: ObjectStore>(
         (S.description store.old) (S.contents store.old) marks.now transition log) queued) }
 {
     let mapped = mapped_length(mappings, &marks.rpdo);
-    slots.note(marks.slot_event(store, mapped, transition));
-    let at_once = is_immediate(store, mapped, &marks.rpdo);
+    let kind = type_of(store, &marks.rpdo);
+    slots.note(marks.slot_event(kind, mapped, transition));
+    let at_once = is_immediate(kind, mapped, &marks.rpdo);
     raise_lengths(store, emergencies, marks, mapped);
     take_all_data(store, mappings, emergencies, slots.taken());
     take_at_once(store, mappings, emergencies, &marks.rpdo, at_once);

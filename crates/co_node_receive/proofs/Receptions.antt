@@ -14,7 +14,6 @@ use Rattle.co_node_parts.specs.declared.nmt_state.NodeState.{NodeState}
 use Rattle.co_node_parts.specs.declared.nmt_state.NodeState.TheVariants.{Stopped}
 use Rattle.co_node_parts.specs.NmtStates.{is_state}
 use Rattle.co_node_parts.specs.EmergencyQueues.{Pending, EmergencyLog, EmergenciesStand, with_queued}
-use Rattle.co_node_inputs.specs.Addresses.{address_of}
 use Rattle.co_node_inputs.specs.AppAnswers.{event_refusal}
 use Rattle.co_node_inputs.specs.Inputs.{AppView, Framed, Applied, Written, EventOn, ChangedAt, Raised, Cleared}
 use Rattle.co_node_inputs.specs.Words.{quiet}
@@ -30,12 +29,6 @@ use Rattle.co_node_receive.specs.Receiving.{IsFrameReceived, frame_moment}
 pub is_some_number : (e : Option ChannelEvent) → is_some (number_in e) ≡ is_some e
 is_some_number None = refl
 is_some_number (Some e) = refl
-
--- who takes a frame, by equals
-pub same_address : (o p : Option ℕ) (c n : Contents) (i j : ℕ) → o ≡ p → c ≡ n → i ≡ j
-    → address_of o c i ≡ address_of p n j
-same_address o p c n i j channels contents ids =
-    ap (λ q. address_of q c i) channels ∙ ap (λ m. address_of p m i) contents ∙ ap (λ id. address_of p n id) ids
 
 -- received at one address, and so at its equal
 pub at_address : {d : Description} {k : Constants} {history : History} {marked : Marks}
@@ -55,7 +48,7 @@ by_both f {d} {e} {c} {n} same there = ap (λ x. f x c) same ∙ ap (λ x. f e x
 -- ---- an SDO request
 
 module _ (k : Constants) (history : History) (d : Description) (entries : Contents) (bank : List NumberedChannel)
-    (numbers : List (Option ℕ)) (now : NodeState) (is : IsBefore k history d entries bank numbers now) (frame : FrameContent) where
+    (now : NodeState) (is : IsBefore k history d entries bank now) (frame : FrameContent) where
   abbrev nothing : Moment
   nothing = nothing_of (Framed frame) (contents_at k history)
 

@@ -1,6 +1,6 @@
 //! Frames and ticks as they are received.
 
-ghost use Rattle.std.specs.Prelude.{◌≡◌, ◌+◌, ◌<◌, ◌≤◌, ◌++◌, ℕ, List, Option, None, IfSome};
+ghost use Rattle.std.specs.Prelude.{◌≡◌, ◌+◌, ◌<◌, ◌≤◌, ◌++◌, ℕ, List, None, IfSome};
 ghost use Rattle.arrayvec.specs.ArrayVec.{array_vec_len};
 ghost use Rattle.co_frame.specs.Nmt.{nmt_command_in};
 ghost use Rattle.co_frame.specs.Outboxes.{HasRoomFor};
@@ -24,7 +24,6 @@ use co_dict::{Area, ObjectStore};
 use co_frame::{Frame, Heartbeat, NmtCommand, NmtService, Outbox};
 use co_node_inputs::{Address, Marks};
 use co_node_parts::{KeptFrame, NodeState};
-use co_node_rpdos::RpdoTable;
 use co_sdo_bank::Bank;
 
 /// The service of a command for this node or for all nodes (CiA 301, 7.2.8.3.1).
@@ -62,6 +61,7 @@ fn take_command<S: ObjectStore>(store: &mut S, frame: &Frame) -> Marks
 }
 
 /// A SYNC counts unless the device is stopped (CiA 301, 7.2.5).
+#[inline(always)]
 fn take_sync(state: NodeState, frame: &Frame) -> Marks
     ensures marks { (input : InputView) (contents : Contents) → result
         ≡ (received.with_sync state frame.now (nothing_of input contents)).marks }
@@ -77,6 +77,7 @@ fn take_sync(state: NodeState, frame: &Frame) -> Marks
 }
 
 /// An SDO channel takes a frame unless the device is stopped (CiA 301, 7.2.4).
+#[inline(always)]
 fn take_request<S: ObjectStore>(
     store: &mut S,
     bank: &mut Bank,
@@ -90,8 +91,8 @@ fn take_request<S: ObjectStore>(
     ensures settings { all_settings bank.new ≡ all_settings bank.old }
     ensures description { S.description store.new ≡ S.description store.old }
     ensures rpdo { result.rpdo ≡ None }
-    ensures received { (k : Constants) (history : History) (number : ℕ) (rpdos : List (Option ℕ)) →
-        IsBefore k history (S.description store.old) (S.contents store.old) bank.old rpdos state →
+    ensures received { (k : Constants) (history : History) (number : ℕ) →
+        IsBefore k history (S.description store.old) (S.contents store.old) bank.old state →
         IsFrameReceived (S.description store.old) k history
         (frame_moment k history (Channel number) frame.now) result (S.contents store.new)
         outbox.old.items outbox.new.items bank.new }
@@ -107,6 +108,7 @@ fn take_request<S: ObjectStore>(
 }
 
 /// An RPDO's frame counts in operational (CiA 301, 7.2.2).
+#[inline(always)]
 fn take_rpdo(state: NodeState, number: u16, frame: &Frame) -> Marks
     requires { number < 512 }
     ensures marks { (input : InputView) (contents : Contents) → result
@@ -126,6 +128,7 @@ fn take_rpdo(state: NodeState, number: u16, frame: &Frame) -> Marks
 }
 
 /// A heartbeat of another node, which a boot-up isn't, is heard (CiA 301, 7.2.8.3.2).
+#[inline(always)]
 fn take_error_control(node: u8, frame: &Frame) -> Marks
     ensures marks { (input : InputView) (contents : Contents) → result
         ≡ (received.with_error_control node frame.now (nothing_of input contents)).marks }
@@ -141,6 +144,7 @@ fn take_error_control(node: u8, frame: &Frame) -> Marks
 }
 
 /// A frame goes to the one with this address.
+#[inline(always)]
 fn take_at<S: ObjectStore>(
     store: &mut S,
     bank: &mut Bank,
@@ -156,8 +160,8 @@ fn take_at<S: ObjectStore>(
     ensures number { IfSome result.rpdo (λ rpdo. rpdo.number < 512) }
     ensures settings { all_settings bank.new ≡ all_settings bank.old }
     ensures description { S.description store.new ≡ S.description store.old }
-    ensures received { (k : Constants) (history : History) (rpdos : List (Option ℕ)) →
-        IsBefore k history (S.description store.old) (S.contents store.old) bank.old rpdos state →
+    ensures received { (k : Constants) (history : History) →
+        IsBefore k history (S.description store.old) (S.contents store.old) bank.old state →
         IsFrameReceived (S.description store.old) k history
         (frame_moment k history address frame.now) result (S.contents store.new)
         outbox.old.items outbox.new.items bank.new }
@@ -173,14 +177,16 @@ fn take_at<S: ObjectStore>(
 }
 
 /// A frame goes to the one that takes it.
+#[inline(always)]
 pub(crate) fn take_frame<S: ObjectStore>(
     store: &mut S,
     bank: &mut Bank,
-    rpdos: &RpdoTable,
     state: NodeState,
+    address: Address,
     frame: &Frame,
     outbox: &mut Outbox,
 ) -> Marks
+    requires number { HasNumber address }
     requires outbox { HasRoomFor segments_per_sub_block outbox.old }
     requires room { HaveRoom (S.description store.old).rows (all_settings bank.old) }
     ensures few { array_vec_len outbox.new ≤ array_vec_len outbox.old + segments_per_sub_block }
@@ -188,20 +194,17 @@ pub(crate) fn take_frame<S: ObjectStore>(
     ensures settings { all_settings bank.new ≡ all_settings bank.old }
     ensures description { S.description store.new ≡ S.description store.old }
     ensures received { (k : Constants) (history : History) →
-        IsBefore k history (S.description store.old) (S.contents store.old) bank.old rpdos.now
-        state →
+        IsBefore k history (S.description store.old) (S.contents store.old) bank.old state →
+        address ≡ address_at k history frame.now.id →
         IsFrameReceived (S.description store.old) k history
         (frame_moment k history (address_at k history frame.now.id) frame.now) result
         (S.contents store.new) outbox.old.items outbox.new.items bank.new }
 {
-    let id = frame.id();
-    let channel = bank.channel_for(id);
-    let rpdo = rpdos.rpdo_for(id);
-    let address = Address::with_rpdo(store, id, channel, rpdo);
     take_at(store, bank, state, address, frame, outbox)
 }
 
 /// 1 ms elapsed: of the SDO channels whose time is over the lowest gives up its transfer.
+#[inline(always)]
 pub(crate) fn take_tick(bank: &mut Bank, outbox: &mut Outbox) -> Marks
     requires { HasRoomFor 1 outbox.old }
     ensures few { array_vec_len outbox.new ≤ array_vec_len outbox.old + 1 }

@@ -1,12 +1,13 @@
 //! An input without its frame.
 
+use co_node_inputs::Address;
 use co_value::Key;
 
 /// An input of a device without its frame, which goes beside it.
 #[derive(Clone, Copy, Debug)]
 pub enum Given<'a> {
-    /// The frame beside it was received.
-    Frame,
+    /// The frame beside it was received, which goes to the one with this address.
+    Frame(Address),
     /// 1 ms elapsed.
     Tick,
     /// The application writes bytes into an entry.

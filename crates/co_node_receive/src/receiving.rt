@@ -10,8 +10,8 @@ ghost use Rattle.co_sdo_bank.specs.Events.{frames_at};
 ghost use Rattle.co_node_parts.specs.EmergencyQueues.{EmergencyLog, EmergenciesStand, with_queued};
 ghost use Rattle.co_node_history.specs.Moments.{Constants, History, channels};
 ghost use Rattle.co_node_history.specs.Received.{received_at};
-ghost use Rattle.co_node_receive.specs.Given.{given_view};
-ghost use Rattle.co_node_receive.specs.Befores.{IsBefore, logs_received};
+ghost use Rattle.co_node_receive.specs.Given.{IsNumbered, given_view};
+ghost use Rattle.co_node_receive.specs.Befores.{IsAddressed, IsBefore, logs_received};
 
 use crate::app_events::{change, clear_errors, event, raise, write};
 use crate::frames::{take_frame, take_tick};
@@ -20,7 +20,6 @@ use co_dict::ObjectStore;
 use co_frame::{Frame, Outbox};
 use co_node_inputs::{AppAnswer, Marks};
 use co_node_parts::{Emergencies, NodeState};
-use co_node_rpdos::RpdoTable;
 use co_sdo_bank::Bank;
 
 /// What an input was, and what it is answered where it is an application event.
@@ -33,20 +32,20 @@ pub struct Received {
 }
 
 /// Receives an input in an NMT state: a frame goes to the one that takes it, a tick to all SDO
-/// channels, an application event to the entries, the register of errors or nobody. `rpdos` is a table
-/// of what the entries say. The frames of SDO
-/// channels are put into the outbox, at most 127, and at a tick at most 1; the emergencies that the
-/// application raises are queued.
+/// channels, an application event to the entries, the register of errors or nobody. The frames of SDO
+/// channels are put into the outbox, at most 127, and at a tick at most 1; the emergencies that the application raises are
+/// queued.
+#[inline(always)]
 pub fn receive<S: ObjectStore>(
     store: &mut S,
     bank: &mut Bank,
     emergencies: &mut Emergencies,
-    rpdos: &RpdoTable,
     state: NodeState,
     given: Given<'_>,
     frame: &Frame,
     outbox: &mut Outbox,
 ) -> Received
+    requires address { IsNumbered given }
     requires outbox { HasRoomFor segments_per_sub_block outbox.old }
     requires room { HaveRoom (S.description store.old).rows (all_settings bank.old) }
     ensures few { array_vec_len outbox.new ≤ array_vec_len outbox.old + segments_per_sub_block }
@@ -56,37 +55,37 @@ pub fn receive<S: ObjectStore>(
     ensures settings { all_settings bank.new ≡ all_settings bank.old }
     ensures description { S.description store.new ≡ S.description store.old }
     ensures marks { (k : Constants) (history : History) →
-        IsBefore k history (S.description store.old) (S.contents store.old) bank.old rpdos.now
-        state →
+        IsBefore k history (S.description store.old) (S.contents store.old) bank.old state →
+        IsAddressed k history given.entry frame.now →
         result.marks ≡ (received_at k history (given_view given.entry frame.now)).marks }
     ensures app { (k : Constants) (history : History) →
-        IsBefore k history (S.description store.old) (S.contents store.old) bank.old rpdos.now
-        state →
+        IsBefore k history (S.description store.old) (S.contents store.old) bank.old state →
+        IsAddressed k history given.entry frame.now →
         result.app ≡ (received_at k history (given_view given.entry frame.now)).app }
     ensures contents { (k : Constants) (history : History) →
-        IsBefore k history (S.description store.old) (S.contents store.old) bank.old rpdos.now
-        state →
+        IsBefore k history (S.description store.old) (S.contents store.old) bank.old state →
+        IsAddressed k history given.entry frame.now →
         S.contents store.new ≡ (received_at k history (given_view given.entry frame.now)).received }
     ensures frames { (k : Constants) (history : History) →
-        IsBefore k history (S.description store.old) (S.contents store.old) bank.old rpdos.now
-        state →
+        IsBefore k history (S.description store.old) (S.contents store.old) bank.old state →
+        IsAddressed k history given.entry frame.now →
         outbox.new.items ≡ outbox.old.items
         ++ (frames_at (received_at k history (given_view given.entry frame.now)).exchange
         ++ frames_at (received_at k history (given_view given.entry frame.now)).timed_out) }
     ensures channels { (k : Constants) (history : History) →
-        IsBefore k history (S.description store.old) (S.contents store.old) bank.old rpdos.now
-        state →
+        IsBefore k history (S.description store.old) (S.contents store.old) bank.old state →
+        IsAddressed k history given.entry frame.now →
         BankStands (S.description store.old) (channels k) bank.new
         (logs_received (received_at k history (given_view given.entry frame.now)) history) }
     ensures emergencies { (k : Constants) (history : History) (log : EmergencyLog) →
-        IsBefore k history (S.description store.old) (S.contents store.old) bank.old rpdos.now
-        state →
+        IsBefore k history (S.description store.old) (S.contents store.old) bank.old state →
+        IsAddressed k history given.entry frame.now →
         EmergenciesStand emergencies.old log → EmergenciesStand emergencies.new (with_queued
         (received_at k history (given_view given.entry frame.now)).raised_by_app log) }
 {
     match given {
-        Given::Frame => Received {
-            marks: take_frame(store, bank, rpdos, state, frame, outbox),
+        Given::Frame(address) => Received {
+            marks: take_frame(store, bank, state, address, frame, outbox),
             app: AppAnswer::None,
         },
         Given::Tick => Received {

@@ -9,7 +9,7 @@ use Rattle.co_node_parts.specs.RpdoSlots.{SlotsStand}
 use Rattle.co_node_parts.specs.Producers.{ProducerStands}
 use Rattle.co_pdo.specs.Schedules.{IsScheduleAfter}
 use Rattle.co_node_inputs.specs.Inputs.{Inputs}
-use Rattle.co_node_rpdos.specs.RpdoTables.{IsTableOf}
+use Rattle.co_node_addresses.specs.AddressTables.{IsTableOf}
 use Rattle.co_node_mappings.specs.MappingTables.{AreMappings}
 use Rattle.co_node_history.specs.Moments.{Constants, channels}
 use Rattle.co_node_history.specs.Logs.{channel_logs, consumers_log, emergency_log, slot_log, producer_log, schedule_log}
@@ -22,7 +22,7 @@ pub record NodeStands (k : Constants) (d : Description) (entries : Contents) (pa
   pub contents : entries ≡ contents_of k inputs
   pub state : parts.state ≡ state_of k inputs
   pub channels : BankStands d (channels k) parts.bank (channel_logs (moments k inputs))
-  pub rpdos : IsTableOf entries parts.rpdos
+  pub addresses : IsTableOf entries parts.addresses
   pub mappings : AreMappings d entries parts.mappings
   pub consumers : ConsumersStand parts.consumers (consumers_log k (moments k inputs))
   pub emergencies : EmergenciesStand parts.emergencies (emergency_log (moments k inputs))

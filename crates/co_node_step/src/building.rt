@@ -20,15 +20,15 @@ use crate::device::Device;
 use crate::parts::Parts;
 use co_dict::{ObjectStore, Side, number_u16};
 use co_frame::{Heartbeat, Outbox};
+use co_node_addresses::AddressTable;
 use co_node_inputs::AppAnswer;
 use co_node_laws::greatest_bound;
 use co_node_mappings::CompiledMappings;
 use co_node_parts::{
-    Emergencies, HeartbeatConsumers, HeartbeatProducer, NmtState, NodeState, ProducerEvent,
-    RpdoSlots,
+    Emergencies, HeartbeatConsumers, HeartbeatProducer, LostHeartbeats, NmtState, NodeState,
+    ProducerEvent, RpdoSlots,
 };
 use co_node_phases::consumer_words;
-use co_node_rpdos::RpdoTable;
 use co_node_turns::send_life;
 use co_pdo::{Due, Schedule, has_pdo};
 use co_pdo_compiled::Compiled;
@@ -77,7 +77,7 @@ impl<S: ObjectStore + Drop> Device<S> {
         ensures contents { IfOk result (λ device. S.contents device.store ≡ S.contents store) }
     {
         let bank = Bank::new(alloc, &store, greatest, time)?;
-        let rpdos = RpdoTable::new(alloc, &store)?;
+        let addresses = AddressTable::new(alloc, &store)?;
         let mappings = CompiledMappings::new(alloc, &store)?;
         let emergencies = Emergencies::new(alloc)?;
         let slots = RpdoSlots::new(alloc, 512)?;
@@ -85,9 +85,10 @@ impl<S: ObjectStore + Drop> Device<S> {
         let parts = Parts {
             state: NmtState::new(),
             bank,
-            rpdos,
+            addresses,
             mappings,
             consumers: begun_consumers(&store),
+            lost: LostHeartbeats::new(),
             emergencies,
             slots,
             producer: begun_producer(&store),

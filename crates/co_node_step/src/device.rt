@@ -11,22 +11,23 @@ ghost use Rattle.co_node_parts.specs.NmtStates.{enters};
 ghost use Rattle.co_node_parts.specs.declared.nmt_state.NodeState.TheVariants.{Stopped};
 ghost use Rattle.co_node_inputs.specs.Words.{is_reset};
 ghost use Rattle.co_node_history.specs.Logs.{with_drop};
-ghost use Rattle.co_node_inputs.specs.Inputs.{Inputs, input_view};
+ghost use Rattle.co_node_inputs.specs.Inputs.{Applied, Framed, Inputs, Ticked, app_view};
 ghost use Rattle.co_node_history.specs.Moments.{Constants};
-ghost use Rattle.co_node_history.specs.Histories.{prescribed, contents_of, frame_bound};
+ghost use Rattle.co_node_history.specs.Histories.{prescribed, frame_bound, moments};
 ghost use Rattle.co_node_mappings.specs.MappingTables.{HaveParts};
-ghost use Rattle.co_node_receive.specs.Given.{given_view};
+ghost use Rattle.co_node_receive.specs.Given.{IsNumbered, given_view};
+ghost use Rattle.co_node_receive.specs.Befores.{IsAddressed};
 ghost use Rattle.co_node_step.specs.NodeStanding.{NodeStands};
 
 use crate::parts::Parts;
 use co_dict::{ObjectStore, store_laws};
 use co_frame::{Frame, Outbox};
-use co_node_inputs::{AppEvent, Input, Marks};
-use co_node_laws::{few, greatest_bound, mappings_kept, rpdos_kept, schedule_ready};
+use co_node_inputs::{Address, AppEvent, Marks};
+use co_node_laws::{addresses_kept, few, greatest_bound, mappings_kept, schedule_ready};
 use co_node_mappings::mappings_stay;
 use co_node_parts::{NodeState, Transition};
 use co_node_phases::{take_pdos, watch};
-use co_node_receive::{Given, receive};
+use co_node_receive::{Given, find_address, receive};
 use co_node_turns::{send_emergency, send_life, send_tpdos, take_emergency, take_turn};
 use co_sdo_bank::Bank;
 
@@ -60,52 +61,92 @@ pub struct Device<S: ObjectStore> {
 }
 
 impl<S: ObjectStore> Device<S> {
-    /// One input: the outbox then holds the frames that it prescribes, and nothing else.
-    pub fn step(&mut self, input: Input<'_>, outbox: &mut Outbox)
+    /// A frame is received: the outbox then holds the frames that this prescribes, and nothing else.
+    #[inline(never)]
+    pub fn take_frame(&mut self, frame: &Frame, outbox: &mut Outbox)
         ensures frames { (k : Constants) (inputs : Inputs) →
             NodeStands k (S.description self.old.store) (S.contents self.old.store) self.old.parts
-            inputs → outbox.new.items ≡ prescribed k inputs (input_view input.entry) }
+            inputs → outbox.new.items ≡ prescribed k inputs (Framed frame.now) }
+        ensures few { (k : Constants) (inputs : Inputs) →
+            NodeStands k (S.description self.old.store) (S.contents self.old.store) self.old.parts
+            inputs → length outbox.new.items ≤ frame_bound k inputs (Framed frame.now) }
         ensures stands { (k : Constants) (inputs : Inputs) →
             NodeStands k (S.description self.old.store) (S.contents self.old.store) self.old.parts
             inputs → NodeStands k (S.description self.new.store) (S.contents self.new.store)
-            self.new.parts (input_view input.entry ∷ inputs) }
-        ensures contents { (k : Constants) (inputs : Inputs) →
-            NodeStands k (S.description self.old.store) (S.contents self.old.store) self.old.parts
-            inputs → S.contents self.new.store ≡ contents_of k (input_view input.entry ∷ inputs) }
-        ensures few { (k : Constants) (inputs : Inputs) →
-            NodeStands k (S.description self.old.store) (S.contents self.old.store) self.old.parts
-            inputs → length outbox.new.items ≤ frame_bound k inputs (input_view input.entry) }
+            self.new.parts (Framed frame.now ∷ inputs) }
     {
-        let frame = match input {
-            Input::Frame(frame) => frame,
-            _ => Frame::default(),
-        };
-        let given = match input {
-            Input::Frame(_) => Given::Frame,
-            Input::Tick => Given::Tick,
-            Input::App(AppEvent::Write(key, bytes)) => Given::Write(key, bytes),
-            Input::App(AppEvent::Event(number)) => Given::Event(number),
-            Input::App(AppEvent::Changed(key)) => Given::Changed(key),
-            Input::App(AppEvent::Raise(code, bits, manufacturer)) => {
-                Given::Raise(code, bits, manufacturer)
+        let address = find_address(&self.parts.bank, &self.parts.addresses, frame);
+        match address {
+            Address::Nmt => self.take(Given::Frame(Address::Nmt), frame, outbox),
+            Address::Sync => self.take(Given::Frame(Address::Sync), frame, outbox),
+            Address::Channel(number) => {
+                self.take(Given::Frame(Address::Channel(number)), frame, outbox)
             }
-            Input::App(AppEvent::Clear(bits)) => Given::Clear(bits),
-        };
-        self.take(given, &frame, outbox);
+            Address::Rpdo(number) => self.take(Given::Frame(Address::Rpdo(number)), frame, outbox),
+            Address::ErrorControl(node) => {
+                self.take(Given::Frame(Address::ErrorControl(node)), frame, outbox)
+            }
+            Address::Nobody => self.take(Given::Frame(Address::Nobody), frame, outbox),
+        }
     }
 
-    // One input, whose frame goes beside it.
-    fn take(&mut self, given: Given<'_>, frame: &Frame, outbox: &mut Outbox)
+    /// 1 ms elapsed: the outbox then holds the frames that this prescribes, and nothing else.
+    #[inline(never)]
+    pub fn tick(&mut self, outbox: &mut Outbox)
         ensures frames { (k : Constants) (inputs : Inputs) →
             NodeStands k (S.description self.old.store) (S.contents self.old.store) self.old.parts
-            inputs → outbox.new.items ≡ prescribed k inputs (given_view given.entry frame.now) }
+            inputs → outbox.new.items ≡ prescribed k inputs (Ticked) }
         ensures few { (k : Constants) (inputs : Inputs) →
             NodeStands k (S.description self.old.store) (S.contents self.old.store) self.old.parts
-            inputs → length outbox.new.items ≤
-            frame_bound k inputs (given_view given.entry frame.now) }
+            inputs → length outbox.new.items ≤ frame_bound k inputs (Ticked) }
         ensures stands { (k : Constants) (inputs : Inputs) →
             NodeStands k (S.description self.old.store) (S.contents self.old.store) self.old.parts
             inputs → NodeStands k (S.description self.new.store) (S.contents self.new.store)
+            self.new.parts (Ticked ∷ inputs) }
+    {
+        self.take(Given::Tick, &Frame::default(), outbox);
+    }
+
+    /// The application did something: the outbox then holds the frames that this prescribes, and nothing else.
+    #[inline(never)]
+    pub fn take_event(&mut self, event: AppEvent<'_>, outbox: &mut Outbox)
+        ensures frames { (k : Constants) (inputs : Inputs) →
+            NodeStands k (S.description self.old.store) (S.contents self.old.store) self.old.parts
+            inputs → outbox.new.items ≡ prescribed k inputs (Applied (app_view event.entry)) }
+        ensures few { (k : Constants) (inputs : Inputs) →
+            NodeStands k (S.description self.old.store) (S.contents self.old.store) self.old.parts
+            inputs → length outbox.new.items ≤ frame_bound k inputs (Applied (app_view event.entry)) }
+        ensures stands { (k : Constants) (inputs : Inputs) →
+            NodeStands k (S.description self.old.store) (S.contents self.old.store) self.old.parts
+            inputs → NodeStands k (S.description self.new.store) (S.contents self.new.store)
+            self.new.parts (Applied (app_view event.entry) ∷ inputs) }
+    {
+        let given = match event {
+            AppEvent::Write(key, bytes) => Given::Write(key, bytes),
+            AppEvent::Event(number) => Given::Event(number),
+            AppEvent::Changed(key) => Given::Changed(key),
+            AppEvent::Raise(code, bits, manufacturer) => Given::Raise(code, bits, manufacturer),
+            AppEvent::Clear(bits) => Given::Clear(bits),
+        };
+        self.take(given, &Frame::default(), outbox);
+    }
+
+    // One input, whose frame goes beside it. It is compiled anew for each call of it, for which most marks are known.
+    #[inline(always)]
+    fn take(&mut self, given: Given<'_>, frame: &Frame, outbox: &mut Outbox)
+        requires { IsNumbered given }
+        ensures frames { (k : Constants) (inputs : Inputs) →
+            NodeStands k (S.description self.old.store) (S.contents self.old.store) self.old.parts
+            inputs → IsAddressed k (moments k inputs) given.entry frame.now →
+            outbox.new.items ≡ prescribed k inputs (given_view given.entry frame.now) }
+        ensures few { (k : Constants) (inputs : Inputs) →
+            NodeStands k (S.description self.old.store) (S.contents self.old.store) self.old.parts
+            inputs → IsAddressed k (moments k inputs) given.entry frame.now →
+            length outbox.new.items ≤ frame_bound k inputs (given_view given.entry frame.now) }
+        ensures stands { (k : Constants) (inputs : Inputs) →
+            NodeStands k (S.description self.old.store) (S.contents self.old.store) self.old.parts
+            inputs → IsAddressed k (moments k inputs) given.entry frame.now →
+            NodeStands k (S.description self.new.store) (S.contents self.new.store)
             self.new.parts (given_view given.entry frame.now ∷ inputs) }
     {
         outbox.clear();
@@ -114,7 +155,6 @@ impl<S: ObjectStore> Device<S> {
             &mut self.store,
             &mut self.parts.bank,
             &mut self.parts.emergencies,
-            &self.parts.rpdos,
             before,
             given,
             frame,
@@ -127,6 +167,7 @@ impl<S: ObjectStore> Device<S> {
             &mut self.parts.consumers,
             &mut self.parts.emergencies,
             marks,
+            &mut self.parts.lost,
         );
         self.parts.state.note(marks.state_event());
         let changed = self.parts.state.note(loss);
@@ -144,7 +185,7 @@ impl<S: ObjectStore> Device<S> {
             marks,
             transition,
         );
-        self.parts.rpdos.note(marks, &self.store);
+        self.parts.addresses.note(marks, &self.store);
         self.parts.emergencies.note(marks.emergency_event());
         let emergency = take_emergency(
             &self.store,
@@ -170,7 +211,7 @@ impl<S: ObjectStore> Device<S> {
             outbox,
         );
         // what follows holds of every device, and does nothing
-        rpdos_kept();
+        addresses_kept();
         mappings_kept();
         mappings_stay();
         schedule_ready();

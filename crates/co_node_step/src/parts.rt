@@ -1,9 +1,11 @@
 //! The parts of a device besides its dictionary.
 
+use co_node_addresses::AddressTable;
 use co_node_inputs::AppAnswer;
 use co_node_mappings::CompiledMappings;
-use co_node_parts::{Emergencies, HeartbeatConsumers, HeartbeatProducer, NmtState, RpdoSlots};
-use co_node_rpdos::RpdoTable;
+use co_node_parts::{
+    Emergencies, HeartbeatConsumers, HeartbeatProducer, LostHeartbeats, NmtState, RpdoSlots,
+};
 use co_pdo::{Due, Schedule};
 use co_sdo_bank::Bank;
 
@@ -14,12 +16,14 @@ pub struct Parts {
     pub state: NmtState,
     /// All SDO channels.
     pub bank: Bank,
-    /// The RPDOs by their identifiers.
-    pub rpdos: RpdoTable,
+    /// Who takes the frames of SYNC and of RPDOs.
+    pub addresses: AddressTable,
     /// The compiled mappings of all PDOs.
     pub mappings: CompiledMappings,
     /// The monitoring of other nodes' heartbeats.
     pub consumers: HeartbeatConsumers,
+    /// The sub-indices of the heartbeats that the last input lost.
+    pub lost: LostHeartbeats,
     /// The emergencies that wait.
     pub emergencies: Emergencies,
     /// The frames of RPDOs that wait for a SYNC.

@@ -36,6 +36,7 @@ const EMERGENCY_INHIBIT: Key = Key {
 
 /// Takes the emergency that is sent at the end of an input, if one is, by the NMT state after it. The dictionary is read where
 /// one waits and the inhibit time is over.
+#[inline(always)]
 pub fn take_emergency<S: ObjectStore>(
     store: &S,
     emergencies: &mut Emergencies,
@@ -57,6 +58,7 @@ pub fn take_emergency<S: ObjectStore>(
 }
 
 /// Puts an emergency into the outbox, if there is one and room for it.
+#[inline(always)]
 pub fn send_emergency<S: ObjectStore>(store: &S, emergency: Option<Emergency>, outbox: &mut Outbox)
     ensures { length outbox.old.items + length (emergency_frames (S.contents store.now) emergency)
         ≤ outbox_room →
@@ -69,6 +71,7 @@ pub fn send_emergency<S: ObjectStore>(store: &S, emergency: Option<Emergency>, o
 }
 
 /// Puts a boot-up or heartbeat into the outbox, if there is one and room for it.
+#[inline(always)]
 pub fn send_life<S: ObjectStore>(store: &S, life: Option<Heartbeat>, outbox: &mut Outbox)
     ensures { length outbox.old.items + length (life_frames (S.description store.now).node life)
         ≤ outbox_room → outbox.new.items ≡
@@ -106,6 +109,7 @@ fn tpdo_frame<S: ObjectStore>(store: &S, mappings: &MappingTable, number: u16) -
 
 /// Puts the frames of TPDOs into the outbox, where it has room for all of them. `mappings` are the compiled mappings of the
 /// TPDOs, as the dictionary is now.
+#[inline(always)]
 pub fn send_tpdos<S: ObjectStore>(
     store: &S,
     mappings: &MappingTable,

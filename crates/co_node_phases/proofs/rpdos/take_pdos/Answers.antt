@@ -21,7 +21,7 @@ module _ (g : given.Over) (c : goal.After-mappings_stay g)
   mapped = c.mapped_length-mapped.ensures (g.S.ObjectStore.description c.args.store.now) (g.S.ObjectStore.contents c.args.store.now) table
 
   event : c.slot_event.result ≡ slot_event (g.S.ObjectStore.description c.args.store.now) (g.S.ObjectStore.contents c.args.store.now) c.args.marks.now c.args.transition
-  event = c.slot_event.ensures (g.S.ObjectStore.description c.args.store.now) mapped
+  event = c.slot_event.ensures (g.S.ObjectStore.description c.args.store.now) (g.S.ObjectStore.contents c.args.store.now) c.type_of-kind.ensures mapped
 
   lengths : g.S.ObjectStore.contents c.raise_lengths.new.store ≡ after_lengths (g.S.ObjectStore.description c.args.store.now) (g.S.ObjectStore.contents c.args.store.now) c.args.marks.now
   lengths = c.raise_lengths.ensures.contents mapped
@@ -55,7 +55,7 @@ module _ (g : given.Over) (c : goal.After-mappings_stay g)
     taken = c.taken.ensures ∙ c.note.ensures.taken 512 log h ∙ ap (λ (e : SlotEvent). taken_at 512 e log) (event g c table);
     data_taken = c.take_all_data.ensures.contents (waiting g c table) numbers;
     same_then = c.take_all_data.ensures.description ∙ c.raise_lengths.ensures.description;
-    at_once = c.is_immediate-at_once.ensures (g.S.ObjectStore.description c.args.store.now) (mapped g c table);
+    at_once = c.is_immediate-at_once.ensures (g.S.ObjectStore.description c.args.store.now) (g.S.ObjectStore.contents c.args.store.now) c.type_of-kind.ensures (mapped g c table);
     data_at_once = c.take_at_once.ensures.contents (at_once g c table);
   }
 

@@ -35,5 +35,5 @@ loop-input-preserved c =
           (room_after k before (take c.loop-input.taken (map input_view c.args.inputs.now)) c.args.kept.now c.loop-input.kept _
           (c.most_frames-most.ensures.most k before stands) (inv.frames k before stands) (inv.ends k before stands)
           inv.frame_room inv.input_room (c.has_room.ensures.yes yes));
-      stands = λ k before stands. stands_more k before _ _ (input_view c.in-Some.input) (record { device = c.step.new.self }) next (c.step.ensures.stands k _ (inv.stands k before stands));
+      stands = λ k before stands. stands_more k before _ _ (input_view c.in-Some.input) c.step.new.self next (c.step.ensures.stands k _ (inv.stands k before stands));
     }

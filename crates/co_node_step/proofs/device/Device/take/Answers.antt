@@ -11,12 +11,13 @@ use Rattle.co_node_parts.specs.RpdoSlots.{SlotsStand}
 use Rattle.co_node_parts.specs.declared.nmt_state.Transition.{Transition}
 use Rattle.co_node_parts.specs.EmergencyQueues.{EmergenciesStand, with_queued}
 use Rattle.co_node_inputs.specs.Inputs.{Inputs}
-use Rattle.co_node_inputs.specs.Rpdos.{may_change_rpdos}
-use Rattle.co_node_rpdos.specs.RpdoTables.{AgreeOnRpdos, IsTableOf}
+use Rattle.co_node_inputs.specs.AddressChanges.{may_change_addresses}
+use Rattle.co_node_inputs.specs.Keys.{sync_key}
+use Rattle.co_node_addresses.specs.AddressTables.{AgreeOnAddresses, IsTableOf}
 use Rattle.co_node_mappings.specs.MappingChanges.{may_change_mappings}
 use Rattle.co_node_mappings.specs.MappingTables.{AgreeOnMappings, AreMappings, IsMappingTable}
 use Rattle.co_node_receive.specs.Given.{given_view}
-use Rattle.co_node_receive.specs.Befores.{IsBefore, logs_received}
+use Rattle.co_node_receive.specs.Befores.{IsAddressed, IsBefore, logs_received}
 use Rattle.co_node_history.specs.Moments.{Constants, Moment, History, channels}
 use Rattle.co_node_history.specs.Logs.{with_drop, channel_logs, unsent_log, turn_at, consumers_log, emergency_log, producer_log, schedule_log, slot_log, state_at, state_log, transition_of}
 use Rattle.co_node_history.specs.Phases.{moment}
@@ -36,7 +37,8 @@ use Rattle.co_node_step.proofs.device.Device.take.Given as given
 use Rattle.co_node_step.proofs.device.Device.take.Goals as goal
 use Rattle.co_node_step.proofs.device.Device.take.Goals.{After-self-5-1}
 
-module _ (g : given.Over) (c : After-self-5-1 g) (k : Constants) (inputs : Inputs) (ns : NodeStands k (g.S.ObjectStore.description c.args.self.now.store) (g.S.ObjectStore.contents c.args.self.now.store) c.args.self.now.parts inputs) where
+module _ (g : given.Over) (c : After-self-5-1 g) (k : Constants) (inputs : Inputs) (ns : NodeStands k (g.S.ObjectStore.description c.args.self.now.store) (g.S.ObjectStore.contents c.args.self.now.store) c.args.self.now.parts inputs)
+    (addressed : IsAddressed k (moments k inputs) c.args.given c.args.frame.now) where
   abbrev h : History
   h = moments k inputs
 
@@ -49,8 +51,8 @@ module _ (g : given.Over) (c : After-self-5-1 g) (k : Constants) (inputs : Input
   state_before : c.get-before.result ≡ state_at h
   state_before = c.get-before.ensures ∙ ns.state
 
-  before : IsBefore k h (g.S.ObjectStore.description c.args.self.now.store) (g.S.ObjectStore.contents c.args.self.now.store) c.args.self.now.parts.bank c.args.self.now.parts.rpdos c.get-before.result
-  before = record { description = ns.description; contents = ns.contents; channels = ns.channels; rpdos = ns.rpdos; state = state_before }
+  before : IsBefore k h (g.S.ObjectStore.description c.args.self.now.store) (g.S.ObjectStore.contents c.args.self.now.store) c.args.self.now.parts.bank c.get-before.result
+  before = record { description = ns.description; contents = ns.contents; channels = ns.channels; state = state_before }
 
   -- the phases
   d1 : g.S.ObjectStore.description c.receive-received.new.store ≡ k.description
@@ -63,10 +65,10 @@ module _ (g : given.Over) (c : After-self-5-1 g) (k : Constants) (inputs : Input
   d3 = c.take_pdos.ensures.description ∙ d2
 
   marks : c.receive-received.result.marks ≡ m.marks
-  marks = c.receive-received.ensures.marks k h before
+  marks = c.receive-received.ensures.marks k h before addressed
 
   received : g.S.ObjectStore.contents c.receive-received.new.store ≡ m.received
-  received = c.receive-received.ensures.contents k h before
+  received = c.receive-received.ensures.contents k h before addressed
 
   watched : g.S.ObjectStore.contents c.watch-loss.new.store ≡ m.watched
   watched = steps.watched k h m is _ _ _ d1 marks received _ (c.watch-loss.ensures.contents (consumers_log k h) ns.consumers)
@@ -104,17 +106,22 @@ module _ (g : given.Over) (c : After-self-5-1 g) (k : Constants) (inputs : Input
   consumers = steps.consumers k h m is _ _ _ d1 marks received _ (c.watch-loss.ensures.consumers (consumers_log k h) ns.consumers)
 
   channels_stand : BankStands (g.S.ObjectStore.description c.args.self.now.store) (channels k) c.drop_if.new.bank (channel_logs (m ∷ h))
-  channels_stand = steps.dropped k h m is _ _ _ _ marks transition (subst (λ b. BankStands (g.S.ObjectStore.description c.args.self.now.store) (channels k) c.drop_if.new.bank (with_drop b (logs_received m h))) c.drops.ensures (c.drop_if.ensures.stands _ _ _ (c.receive-received.ensures.channels k h before)))
+  channels_stand = steps.dropped k h m is _ _ _ _ marks transition (subst (λ b. BankStands (g.S.ObjectStore.description c.args.self.now.store) (channels k) c.drop_if.new.bank (with_drop b (logs_received m h))) c.drops.ensures (c.drop_if.ensures.stands _ _ _ (c.receive-received.ensures.channels k h before addressed)))
 
-  same_parameters : may_change_rpdos c.receive-received.result.marks ≡ false
-      → AgreeOnRpdos (g.S.ObjectStore.contents c.args.self.now.store) (g.S.ObjectStore.contents c.take_pdos.new.store)
-  same_parameters off = λ key low high.
-      ap (λ (entries : Contents). entries key) ns.contents
-      ∙ c.rpdos_kept.ensures k inputs (given_view c.args.given c.args.frame.now) (ap may_change_rpdos (sym marks) ∙ off) key low high
-      ∙ ap (λ (entries : Contents). entries key) (sym contents)
+  same_addresses : may_change_addresses c.receive-received.result.marks ≡ false
+      → AgreeOnAddresses (g.S.ObjectStore.contents c.args.self.now.store) (g.S.ObjectStore.contents c.take_pdos.new.store)
+  same_addresses off = record {
+    sync = ap (λ (entries : Contents). entries sync_key) ns.contents
+        ∙ c.addresses_kept.ensures.sync k inputs (given_view c.args.given c.args.frame.now) (ap may_change_addresses (sym marks) ∙ off)
+        ∙ ap (λ (entries : Contents). entries sync_key) (sym contents);
+    rpdos = λ key low high.
+        ap (λ (entries : Contents). entries key) ns.contents
+        ∙ c.addresses_kept.ensures.rpdos k inputs (given_view c.args.given c.args.frame.now) (ap may_change_addresses (sym marks) ∙ off) key low high
+        ∙ ap (λ (entries : Contents). entries key) (sym contents);
+  }
 
-  rpdos : IsTableOf (g.S.ObjectStore.contents c.take_pdos.new.store) c.note-3.new.self
-  rpdos = c.note-3.ensures (g.S.ObjectStore.contents c.args.self.now.store) ns.rpdos same_parameters
+  addresses : IsTableOf (g.S.ObjectStore.contents c.take_pdos.new.store) c.note-3.new.self
+  addresses = c.note-3.ensures (g.S.ObjectStore.contents c.args.self.now.store) ns.addresses same_addresses
 
   kept_mappings : AgreeOnMappings (g.S.ObjectStore.contents c.watch-loss.new.store) (g.S.ObjectStore.contents c.take_pdos.new.store)
   kept_mappings = λ key there.
@@ -134,7 +141,7 @@ module _ (g : given.Over) (c : After-self-5-1 g) (k : Constants) (inputs : Input
   slots = steps.slots k h m is _ _ _ _ d2 marks watched transition _ (c.take_pdos.ensures.slots (slot_log k h) mappings_watched.rpdos ns.slots)
 
   queued_by_app : EmergenciesStand c.receive-received.new.emergencies (with_queued m.raised_by_app (emergency_log h))
-  queued_by_app = c.receive-received.ensures.emergencies k h (emergency_log h) before ns.emergencies
+  queued_by_app = c.receive-received.ensures.emergencies k h (emergency_log h) before addressed ns.emergencies
 
   queued_by_loss : EmergenciesStand c.watch-loss.new.emergencies (with_queued m.raised_by_loss (with_queued m.raised_by_app (emergency_log h)))
   queued_by_loss = steps.lost_queued k h m is _ _ _ d1 marks received _ _ (c.watch-loss.ensures.emergencies (consumers_log k h) _ ns.consumers queued_by_app)
@@ -174,7 +181,7 @@ module _ (g : given.Over) (c : After-self-5-1 g) (k : Constants) (inputs : Input
 
   -- the frames
   first_sent : c.receive-received.new.outbox.items ≡ frames_at m.exchange ++ frames_at m.timed_out
-  first_sent = c.receive-received.ensures.frames k h before ∙ ap (λ o. o ++ (frames_at m.exchange ++ frames_at m.timed_out)) c.clear.ensures
+  first_sent = c.receive-received.ensures.frames k h before addressed ∙ ap (λ o. o ++ (frames_at m.exchange ++ frames_at m.timed_out)) c.clear.ensures
 
   parts : HasParts k inputs (given_view c.args.given c.args.frame.now)
   parts = record { dictionary = dictionary }
@@ -211,27 +218,27 @@ module _ (g : given.Over) (c : After-self-5-1 g) (k : Constants) (inputs : Input
   sent = moment_sent k m c.receive-received.new.outbox.items c.send_emergency.new.outbox.items c.send_life.new.outbox.items c.send_tpdos.new.outbox.items first_sent emergency_sent life_sent tpdos_sent room
 
 pub returns-clause-stands : goal.returns-clause-stands
-returns-clause-stands g c = λ k inputs ns. record {
-  description = d3 g c k inputs ns;
-  contents = contents g c k inputs ns;
-  state = state_after_all g c k inputs ns;
-  channels = subst (λ d. BankStands d (channels k) c.drop_if.new.bank (channel_logs (m g c k inputs ns ∷ h g c k inputs ns))) (ns.description ∙ sym (d3 g c k inputs ns)) (channels_stand g c k inputs ns);
-  rpdos = rpdos g c k inputs ns;
-  mappings = mappings g c k inputs ns;
-  consumers = consumers g c k inputs ns;
-  emergencies = emergencies g c k inputs ns;
-  slots = slots g c k inputs ns;
-  producer = producer g c k inputs ns;
-  schedule = schedule g c k inputs ns;
-  app = c.receive-received.ensures.app k (h g c k inputs ns) (before g c k inputs ns);
+returns-clause-stands g c = λ k inputs ns who. record {
+  description = d3 g c k inputs ns who;
+  contents = contents g c k inputs ns who;
+  state = state_after_all g c k inputs ns who;
+  channels = subst (λ d. BankStands d (channels k) c.drop_if.new.bank (channel_logs (m g c k inputs ns who ∷ h g c k inputs ns who))) (ns.description ∙ sym (d3 g c k inputs ns who)) (channels_stand g c k inputs ns who);
+  addresses = addresses g c k inputs ns who;
+  mappings = mappings g c k inputs ns who;
+  consumers = consumers g c k inputs ns who;
+  emergencies = emergencies g c k inputs ns who;
+  slots = slots g c k inputs ns who;
+  producer = producer g c k inputs ns who;
+  schedule = schedule g c k inputs ns who;
+  app = c.receive-received.ensures.app k (h g c k inputs ns who) (before g c k inputs ns who) who;
 }
 
 pub returns-clause-frames : goal.returns-clause-frames
-returns-clause-frames g c = λ k inputs ns. sent g c k inputs ns
+returns-clause-frames g c = λ k inputs ns who. sent g c k inputs ns who
 
 pub returns-clause-few : goal.returns-clause-few
-returns-clause-few g c = λ k inputs ns.
-    subst (λ os. length os ≤ frame_bound k inputs (given_view c.args.given c.args.frame.now)) (sym (sent g c k inputs ns)) (c.few.ensures k inputs (given_view c.args.given c.args.frame.now) (parts g c k inputs ns))
+returns-clause-few g c = λ k inputs ns who.
+    subst (λ os. length os ≤ frame_bound k inputs (given_view c.args.given c.args.frame.now)) (sym (sent g c k inputs ns who)) (c.few.ensures k inputs (given_view c.args.given c.args.frame.now) (parts g c k inputs ns who))
 
 pub send_tpdos-requires-clause-numbers : goal.send_tpdos-requires-clause-numbers
 send_tpdos-requires-clause-numbers g c = λ i e lt.
