@@ -19,7 +19,7 @@ use crate::config::Config;
 use crate::record::Record;
 use co_dict_image::ImageStore;
 use co_dict_list::BuildFault;
-use co_frame::Outbox;
+use co_frame::{Frame, Outbox};
 use co_node_inputs::{AppAnswer, AppEvent, Input};
 use co_node_parts::NodeState;
 use co_node_step::Device;
@@ -80,8 +80,12 @@ impl Node {
         ensures few { (k : Constants) (before : Inputs) → Stands k self.old before →
             length outbox.new.items ≤ frame_bound k before (input_view input.entry) }
     {
+        let frame = match input {
+            Input::Frame(frame) => frame,
+            _ => Frame::default(),
+        };
         match input {
-            Input::Frame(frame) => self.device.take_frame(&frame, outbox),
+            Input::Frame(_) => self.device.take_frame(&frame, outbox),
             Input::Tick => self.device.tick(outbox),
             // taken apart and put together again: an event of a caller can't be handed on as a whole
             Input::App(AppEvent::Write(key, bytes)) => {

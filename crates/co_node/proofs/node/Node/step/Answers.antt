@@ -1,0 +1,23 @@
+use Rattle.std.proofs.Common.{rules, ◌≡◌, ◌≤◌, ◌∷◌, length, subst}
+use Rattle.co_node_inputs.specs.Inputs.{Applied, InputView, Written, input_view}
+use Rattle.co_node_history.specs.Histories.{frame_bound, prescribed}
+use Rattle.co_node_step.specs.NodeStanding.{NodeStands}
+use Rattle.co_node.specs.Nodes.{description_of, entries_of}
+use Rattle.co_node.proofs.node.Node.step.Goals as goal
+
+-- the event that is handed on is the one that came
+same : (c : goal.After-take_event) → Applied (Written c.in-App-Write.key c.in-App-Write.bytes.now) ≡ input_view c.args.input
+same c = search rules
+
+pub returns-in-App-Write-clause-frames : goal.returns-in-App-Write-clause-frames
+returns-in-App-Write-clause-frames c = λ k before stands.
+    subst (λ (v : InputView). c.take_event.new.outbox.items ≡ prescribed k before v) (same c) (c.take_event.ensures.frames k before stands)
+
+pub returns-in-App-Write-clause-stands : goal.returns-in-App-Write-clause-stands
+returns-in-App-Write-clause-stands c = λ k before stands.
+    subst (λ (v : InputView). NodeStands k (description_of c.take_event.new.self.store) (entries_of c.take_event.new.self.store) c.take_event.new.self.parts (v ∷ before))
+    (same c) (c.take_event.ensures.stands k before stands)
+
+pub returns-in-App-Write-clause-few : goal.returns-in-App-Write-clause-few
+returns-in-App-Write-clause-few c = λ k before stands.
+    subst (λ (v : InputView). length c.take_event.new.outbox.items ≤ frame_bound k before v) (same c) (c.take_event.ensures.few k before stands)
