@@ -33,6 +33,21 @@ pub(crate) struct Slot {
     ghost initially: { fits row initial_size ≡ true },
 }
 
+/// Copies bytes to as many others. Those of most numbers are moved at once, which needs no call of a copy.
+#[inline(always)]
+fn copy(to: &mut [u8], from: &[u8])
+    requires { length to.old ≡ length from.now }
+    ensures { to.new ≡ from.now }
+{
+    match from.len() {
+        1 => to[0] = from[0],
+        2 => to[..2].copy_from_slice(&from[..2]),
+        4 => to[..4].copy_from_slice(&from[..4]),
+        8 => to[..8].copy_from_slice(&from[..8]),
+        _ => to.copy_from_slice(from),
+    }
+}
+
 impl Slot {
     /// The slot of an entry, of which its bytes are the initial ones, with its room from `start` on.
     pub(crate) fn new(entry: &StoredEntry, start: usize) -> Slot
@@ -74,7 +89,7 @@ impl Slot {
         ensures initial_size { self.new.initial_size ≡ self.old.initial_size }
     {
         let end = self.start + bytes.len();
-        values[self.start..end].copy_from_slice(bytes);
+        copy(&mut values[self.start..end], bytes);
         self.size = bytes.len() as u16;
     }
 
