@@ -15,12 +15,12 @@ use co_value::Key;
 /// An entry without its bytes: where its room is in the image, and how many of the bytes there are its own.
 #[derive(Drop)]
 pub(crate) struct Slot {
-    pub(crate) key: Key,
-    pub(crate) row: Row,
     /// Where its room begins: as many bytes as its capacity, in the values as in the initial bytes.
     pub(crate) start: usize,
     pub(crate) size: u16,
     pub(crate) initial_size: u16,
+    pub(crate) key: Key,
+    pub(crate) row: Row,
     ghost is_key: { IsKey key },
     ghost from_1000: { 0x1000 ≤ key.index },
     ghost capacity: { row.capacity ≤ 65535 },
@@ -33,7 +33,8 @@ pub(crate) struct Slot {
     ghost initially: { fits row initial_size ≡ true },
 }
 
-/// Copies bytes to as many others. Those of most numbers are moved at once, which needs no call of a copy.
+/// Copies bytes to as many others. Those of most numbers are moved at once, which needs no call of a copy; one case more
+/// would make it a jump by a table.
 #[inline(always)]
 fn copy(to: &mut [u8], from: &[u8])
     requires { length to.old ≡ length from.now }
@@ -43,7 +44,6 @@ fn copy(to: &mut [u8], from: &[u8])
         1 => to[0] = from[0],
         2 => to[..2].copy_from_slice(&from[..2]),
         4 => to[..4].copy_from_slice(&from[..4]),
-        8 => to[..8].copy_from_slice(&from[..8]),
         _ => to.copy_from_slice(from),
     }
 }
