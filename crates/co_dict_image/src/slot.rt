@@ -33,17 +33,29 @@ pub(crate) struct Slot {
     ghost initially: { fits row initial_size ≡ true },
 }
 
-/// Copies bytes to as many others. Those of most numbers are moved at once, which needs no call of a copy; one case more
-/// would make it a jump by a table.
+/// Copies bytes to as many others. One byte, as most entries that are mapped into PDOs have, needs no call.
 #[inline(always)]
 fn copy(to: &mut [u8], from: &[u8])
     requires { length to.old ≡ length from.now }
     ensures { to.new ≡ from.now }
 {
+    if from.len() == 1 {
+        to[0] = from[0];
+    } else {
+        copy_more(to, from);
+    }
+}
+
+/// Copies bytes to as many others. Those of most numbers are moved at once, without a call of a copy.
+#[inline(never)]
+fn copy_more(to: &mut [u8], from: &[u8])
+    requires { length to.old ≡ length from.now }
+    ensures { to.new ≡ from.now }
+{
     match from.len() {
-        1 => to[0] = from[0],
         2 => to[..2].copy_from_slice(&from[..2]),
         4 => to[..4].copy_from_slice(&from[..4]),
+        8 => to[..8].copy_from_slice(&from[..8]),
         _ => to.copy_from_slice(from),
     }
 }
