@@ -15,12 +15,12 @@ use co_value::Key;
 /// An entry without its bytes: where its room is in the image, and how many of the bytes there are its own.
 #[derive(Drop)]
 pub(crate) struct Slot {
-    pub(crate) key: Key,
-    pub(crate) row: Row,
     /// Where its room begins: as many bytes as its capacity, in the values as in the initial bytes.
     pub(crate) start: usize,
     pub(crate) size: u16,
     pub(crate) initial_size: u16,
+    pub(crate) key: Key,
+    pub(crate) row: Row,
     ghost is_key: { IsKey key },
     ghost from_1000: { 0x1000 ≤ key.index },
     ghost capacity: { row.capacity ≤ 65535 },
@@ -31,6 +31,33 @@ pub(crate) struct Slot {
     ghost initially_within: { initial_size ≤ row.capacity },
     ghost fitting: { fits row size ≡ true },
     ghost initially: { fits row initial_size ≡ true },
+}
+
+/// Copies bytes to as many others. One byte, as most entries that are mapped into PDOs have, needs no call.
+#[inline(always)]
+fn copy(to: &mut [u8], from: &[u8])
+    requires { length to.old ≡ length from.now }
+    ensures { to.new ≡ from.now }
+{
+    if from.len() == 1 {
+        to[0] = from[0];
+    } else {
+        copy_more(to, from);
+    }
+}
+
+/// Copies bytes to as many others. Those of most numbers are moved at once, without a call of a copy.
+#[inline(never)]
+fn copy_more(to: &mut [u8], from: &[u8])
+    requires { length to.old ≡ length from.now }
+    ensures { to.new ≡ from.now }
+{
+    match from.len() {
+        2 => to[..2].copy_from_slice(&from[..2]),
+        4 => to[..4].copy_from_slice(&from[..4]),
+        8 => to[..8].copy_from_slice(&from[..8]),
+        _ => to.copy_from_slice(from),
+    }
 }
 
 impl Slot {
@@ -74,7 +101,7 @@ impl Slot {
         ensures initial_size { self.new.initial_size ≡ self.old.initial_size }
     {
         let end = self.start + bytes.len();
-        values[self.start..end].copy_from_slice(bytes);
+        copy(&mut values[self.start..end], bytes);
         self.size = bytes.len() as u16;
     }
 

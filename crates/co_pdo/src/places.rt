@@ -122,7 +122,7 @@ impl Places {
     }
 
     /// The COB-ID word.
-    fn cob_id<S: ObjectStore>(&self, store: &S) -> CobId
+    pub(crate) fn cob_id<S: ObjectStore>(&self, store: &S) -> CobId
         ensures { (k : ℕ) → k < 512 → self.now ≡ places_of (S.description store.now) k →
             result.0 ≡ cob_id_of Side.Tpdo (S.contents store.now) k }
     {

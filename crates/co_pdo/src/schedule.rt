@@ -2,16 +2,19 @@
 
 ghost use Rattle.std.specs.Prelude.{◌≡◌, ℕ, ◌<◌, ◌≤◌, ◌==◌, false, [], length, IfOk};
 ghost use Rattle.std.specs.List.{slice_index_or};
+ghost use Rattle.co_dict.specs.declared.side.Side.{Side};
 ghost use Rattle.co_pdo.specs.declared.settings.Settings.{Settings};
+ghost use Rattle.co_pdo.specs.Pdos.{cob_id_of};
 ghost use Rattle.co_pdo.specs.Tpdos.{settings_of};
 ghost use Rattle.co_pdo.specs.Countdowns.{IsCurrent, IsAsStarted};
 ghost use Rattle.co_pdo.specs.Schedules.{History, log_of, sync_with, with_start, with_all_started, with_sync, with_event, with_events, with_tick, is_tpdo_due, all_due, all_due_among, IsScheduleAfter, IsCurrentOn, AllCurrent};
 
+use crate::pdos::cob_id;
 use crate::tpdo::{Occasion, Part, Tpdo};
 use crate::tpdos::{
     Due, all_happen, all_happen_among, all_start, counter_overflow, place_of, tpdos_in,
 };
-use co_dict::ObjectStore;
+use co_dict::{CobId, ObjectStore, Side};
 use std::alloc::{AllocError, Global};
 use std::marker::Model;
 
@@ -54,6 +57,20 @@ impl Schedule {
         ensures few { result ≤ 512 }
     {
         self.tpdos.len()
+    }
+
+    /// The COB-ID word of TPDO k, 0 to 511; 0 where there is no such TPDO (CiA 301, 7.5.2.37). Where the dictionary has each
+    /// TPDO before it, it is read by its place, without a search.
+    pub fn cob_id<S: ObjectStore>(&self, store: &S, k: u16) -> CobId
+        requires { k < 512 }
+        ensures { (history : History) →
+            IsScheduleAfter (S.description store.now) self.now history →
+            result.0 ≡ cob_id_of Side.Tpdo (S.contents store.now) k }
+    {
+        match self.tpdos.get(usize::from(k)) {
+            Some(tpdo) if tpdo.number == k => tpdo.places.cob_id(store),
+            _ => cob_id(store, Side::Tpdo, k),
+        }
     }
 
     /// Starts TPDO k, 0 to 511: the whole TPDO, as it enters NMT state operational and after a write of its COB-ID or

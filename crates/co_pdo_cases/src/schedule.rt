@@ -5,9 +5,9 @@
 //! event for TPDO 0, `f` one for TPDO 1 and 511, `t` a tick, a digit a SYNC with that counter and `-` one with none, and then the TPDO
 //! that is due, `.` for none.
 
-use crate::device::{device, write};
+use crate::device::{device, image_device, write};
 use co_dict_list::ListStore;
-use co_pdo::{Due, Part, Schedule};
+use co_pdo::{CobId, Due, Part, Schedule};
 use std::alloc::Global;
 use std::test::Fail;
 
@@ -99,6 +99,16 @@ fn first_otherwise(alloc: Global, script: &str) -> Result<Option<&str>, Fail> {
 fn scripts(rt: HostRuntime) -> Result<(), Fail> {
     for script in SCRIPTS {
         assert_eq!(rt; first_otherwise(rt.alloc(), script)?, None, "{script}");
+    }
+    Ok(())
+}
+
+#[test]
+fn cob_ids(rt: HostRuntime) -> Result<(), Fail> {
+    let store = image_device(rt.alloc())?;
+    let schedule = Schedule::new(rt.alloc(), &store)?;
+    for (k, word) in [(0, 0x185), (1, 0x285), (511, 0)] {
+        assert_eq!(rt; schedule.cob_id(&store, k), CobId(word), "{k}");
     }
     Ok(())
 }

@@ -1,4 +1,5 @@
 mod CompiledExamples
+mod Limits
 mod Parameters
 mod Parts
 pub mod Props

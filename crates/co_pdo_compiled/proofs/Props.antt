@@ -4,7 +4,7 @@ use Rattle.std.proofs.Props.{props}
 use Rattle.co_dict.specs.Stores.{Description}
 use Rattle.co_pdo_compiled.specs.declared.part.Part.{Part}
 use Rattle.co_pdo_compiled.specs.declared.part.Part.TheVariants.{Placed, PassedOver}
-use Rattle.co_pdo_compiled.specs.CompiledMappings.{HasEntry, HasPart, HasParts}
+use Rattle.co_pdo_compiled.specs.CompiledMappings.{HasPart, HasParts}
 
 pub part_prop : (d : Description) (part : Part) → IsProp (HasPart d part)
 part_prop d (Placed entry) = hlevel props

@@ -1,6 +1,9 @@
 -- Mappings of PDOs with the places and the rows of the mapped entries (CiA 301, 7.5.2.36 and 7.5.2.38).
-use Rattle.std.specs.Prelude.{◌≡◌, ℕ, ◌≤◌, List, Some, All, map}
-use Rattle.co_value.specs.Types.{width_of}
+use Rattle.std.specs.Prelude.{◌≡◌, ℕ, ◌≤◌, ◌||◌, Bool, false, int_lt, List, Some, All, map}
+use Rattle.std.specs.List.{list_any}
+use Rattle.std.specs.Option.{option_map_or}
+use Rattle.co_value.specs.Types.{width_of, is_boolean, least_of, greatest_of}
+use Rattle.co_dict.specs.declared.row.Row.{Row}
 use Rattle.co_dict.specs.declared.side.Side.{Side}
 use Rattle.co_dict.specs.Rows.{Contents}
 use Rattle.co_dict.specs.Stores.{Description}
@@ -42,10 +45,22 @@ pub record IsCompiledForm (d : Description) (mapping : List Mapped) (parts : Lis
   pub same : mapping_in parts ≡ mapping
   pub has : HasParts d parts
 
--- the parts map so many bytes in all, at most 8
-pub record IsWithWidth (parts : List Part) (width : ℕ) : Type 0 where
+-- bytes of an entry may be outside its limits: these are narrower than its type, or it is a BOOLEAN, whose byte may be any
+abbrev pub has_limits : Row → Bool
+has_limits row = is_boolean row.data_type
+    || (option_map_or (λ least. int_lt least row.low) (least_of row.data_type) false
+    || option_map_or (λ greatest. int_lt row.high greatest) (greatest_of row.data_type) false)
+
+-- a part maps an entry with limits
+abbrev pub is_limited : Part → Bool
+is_limited (Placed entry) = has_limits entry.row
+is_limited (PassedOver width) = false
+
+-- the parts map so many bytes in all, at most 8, and it is known whether any of them has limits
+pub record AreSummed (parts : List Part) (width : ℕ) (any_limited : Bool) : Type 0 where
   pub total : width ≡ total_of (mapping_in parts)
   pub small : width ≤ 8
+  pub limited : any_limited ≡ list_any is_limited parts
 
 -- the mapping parameter of PDO k has the same bytes at all sub-indices
 abbrev pub AgreeOnMapping : Side → ℕ → Contents → Contents → Type 0

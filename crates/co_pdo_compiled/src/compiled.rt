@@ -1,8 +1,9 @@
 //! A compiled mapping.
 
 ghost use Rattle.std.specs.Prelude.{◌≡◌, ◌≤◌, ◌<◌, true, length};
+ghost use Rattle.std.specs.List.{list_any};
 ghost use Rattle.co_pdo.specs.Mappings.{mapping_of, total_of, all_there};
-ghost use Rattle.co_pdo_compiled.specs.CompiledMappings.{mapping_in, IsCompiledForm, HasParts};
+ghost use Rattle.co_pdo_compiled.specs.CompiledMappings.{mapping_in, is_limited, IsCompiledForm, HasParts};
 
 use crate::part::Part;
 use arrayvec::ArrayVec;
@@ -17,18 +18,27 @@ pub struct Compiled {
     parts: ArrayVec<Part, 8>,
     // how many bytes are mapped in all
     width: usize,
+    // some entry has limits
+    limited: bool,
 }
 
 impl Model for Compiled {
     ghost use Rattle.std.specs.Prelude.{List};
     ghost use Rattle.co_pdo_compiled.specs.declared.part.Part.{Part};
-    ghost use Rattle.co_pdo_compiled.specs.CompiledMappings.{IsWithWidth};
+    ghost use Rattle.co_pdo_compiled.specs.CompiledMappings.{AreSummed};
 
     ghost Value = { List Part };
 
     ghost view = { λ c. c.parts.items };
 
-    ghost invariant = { λ c. IsWithWidth c.parts.items c.width };
+    ghost invariant = { λ c. AreSummed c.parts.items c.width c.limited };
+}
+
+/// Whether any of these parts maps an entry with limits.
+fn any_limited(parts: &[Part]) -> bool
+    ensures { result ≡ list_any is_limited parts.now }
+{
+    parts.iter().any(|part| part.is_limited())
 }
 
 /// The parts of a mapping.
@@ -55,7 +65,12 @@ impl Compiled {
         let mapping = Mapping::read(store, side, k);
         let parts = parts_of(store, mapping.entries());
         let width = mapping.width();
-        Compiled { parts, width }
+        let limited = any_limited(&parts);
+        Compiled {
+            parts,
+            width,
+            limited,
+        }
     }
 
     /// What is mapped, in the order of the data.
@@ -75,6 +90,13 @@ impl Compiled {
         ensures small { result ≤ 8 }
     {
         self.width
+    }
+
+    /// Whether any part maps an entry with limits: where none does, no data are outside them.
+    pub(crate) fn is_limited(&self) -> bool
+        ensures { result ≡ list_any is_limited self.now }
+    {
+        self.limited
     }
 
     /// The parts, in the order of the data.

@@ -134,6 +134,16 @@ fn any_outside<S: ObjectStore>(store: &S, parts: &[Part], bytes: &[u8]) -> bool
     false
 }
 
+/// Whether data are outside the limits of what a mapping maps. They aren't looked at where no entry has limits.
+fn is_any_outside<S: ObjectStore>(store: &S, compiled: &Compiled, bytes: &[u8]) -> bool
+    requires has { HasParts (S.description store.now) compiled.now }
+    requires enough { total_of (mapping_in compiled.now) ≤ length bytes.now }
+    ensures { result ≡
+        any_outside (S.description store.now).rows (mapping_in compiled.now) bytes.now }
+{
+    compiled.is_limited() && any_outside(store, compiled.parts(), bytes)
+}
+
 /// Writes a part of the data into its entry.
 fn write_part<S: ObjectStore>(store: &mut S, part: &Part, bytes: &[u8])
     requires has { HasPart (S.description store.old) part.now }
@@ -184,7 +194,7 @@ pub fn apply_at<S: ObjectStore>(
     if bytes.len() < compiled.width() {
         return Err(PdoFault::Short);
     }
-    if any_outside(store, compiled.parts(), bytes) {
+    if is_any_outside(store, compiled, bytes) {
         return Err(PdoFault::OutOfLimits);
     }
     write_parts(store, compiled.parts(), bytes);

@@ -3,11 +3,11 @@
 ghost use Rattle.std.specs.Prelude.{◌≡◌, true};
 ghost use Rattle.co_pdo.specs.declared.mapping.Mapped.{Mapped};
 ghost use Rattle.co_pdo.specs.Mappings.{width_in, is_there};
-ghost use Rattle.co_pdo_compiled.specs.CompiledMappings.{mapped_in, HasPart};
+ghost use Rattle.co_pdo_compiled.specs.CompiledMappings.{mapped_in, has_limits, is_limited, HasPart};
 
 use co_dict::{ObjectStore, Row, place_laws, store_laws};
 use co_pdo::Mapped;
-use co_value::Key;
+use co_value::{DataType, Key};
 
 /// A mapped entry with its place and its row.
 #[derive(Clone, Copy, Debug)]
@@ -30,6 +30,24 @@ pub enum Part {
     PassedOver(u8),
 }
 
+/// Whether bytes of an entry with this row may be outside its limits.
+fn has_limits(row: &Row) -> bool
+    ensures { result ≡ has_limits row.now }
+{
+    if row.data_type == DataType::Boolean {
+        return true;
+    }
+    let above = match row.data_type.least() {
+        Some(least) => least < row.low,
+        None => false,
+    };
+    let below = match row.data_type.greatest() {
+        Some(greatest) => row.high < greatest,
+        None => false,
+    };
+    above || below
+}
+
 impl Part {
     /// What is mapped, with its place and its row looked up.
     pub(crate) fn of<S: ObjectStore>(store: &S, mapped: Mapped) -> Part
@@ -50,6 +68,16 @@ impl Part {
                 _ => Part::PassedOver(width),
             },
             Mapped::Dummy(width) => Part::PassedOver(width),
+        }
+    }
+
+    /// Whether it maps an entry with limits.
+    pub(crate) fn is_limited(&self) -> bool
+        ensures { result ≡ is_limited self.now }
+    {
+        match self {
+            Part::Placed(entry) => has_limits(&entry.row),
+            Part::PassedOver(_) => false,
         }
     }
 
