@@ -9,9 +9,9 @@ abbrev pub known_bytes : Bool → List ℕ → Option (List ℕ) → Option (Lis
 known_bytes true given remaining = Some given
 known_bytes false given remaining = prepend_known given remaining
 
--- how many bytes can still come at most: a reader gives 512 bytes at once at most
+-- how many bytes can still come at most: a reader gives 8,192 bytes at once at most
 abbrev pub most_bytes : ℕ → List ℕ → ℕ
-most_bytes asks given = 512 * asks + length given
+most_bytes asks given = 8192 * asks + length given
 
 -- a line reader, as its contracts see it
 pub record Reading : Type 0 where

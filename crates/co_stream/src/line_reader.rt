@@ -14,8 +14,8 @@ use crate::line_cutter::LineCutter;
 use std::io::Read;
 use std::marker::Model;
 
-/// Reads a text line by line, in constant memory: it holds a line and a piece, of at most 512 bytes each. In its life it
-/// asks 16,777,216 times at most, each time for at most 512 bytes.
+/// Reads a text line by line, in constant memory: it holds a line of at most 512 bytes, and a piece of at most 8,192. In
+/// its life it asks 16,777,216 times at most, each time for at most 8,192 bytes.
 #[derive(Drop)]
 pub struct LineReader {
     cutter: LineCutter,

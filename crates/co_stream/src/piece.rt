@@ -17,11 +17,11 @@ use std::marker::Model;
 
 const LINE_FEED: u8 = b'\n';
 
-/// What a reader gave at once, at most 512 bytes, without what is taken of it already. Contracts see the bytes that are
+/// What a reader gave at once, at most 8,192 bytes, without what is taken of it already. Contracts see the bytes that are
 /// left.
 #[derive(Drop)]
 pub(crate) struct Piece {
-    bytes: [u8; 512],
+    bytes: [u8; 8192],
     start: usize,
     end: usize,
 }
@@ -33,7 +33,7 @@ impl Model for Piece {
 
     ghost view = { λ piece. drop piece.start (take piece.end piece.bytes) };
 
-    ghost invariant = { λ piece. (piece.start ≤ piece.end) × (piece.end ≤ 512) };
+    ghost invariant = { λ piece. (piece.start ≤ piece.end) × (piece.end ≤ 8192) };
 }
 
 impl Piece {
@@ -42,7 +42,7 @@ impl Piece {
         ensures { result ≡ [] }
     {
         Piece {
-            bytes: [0; 512],
+            bytes: [0; 8192],
             start: 0,
             end: 0,
         }

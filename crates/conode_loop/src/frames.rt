@@ -11,16 +11,12 @@ ghost use Rattle.co_node_loop.specs.Rounds.{asked_after, events_after};
 use co_frame::{Frame, Outbox};
 use co_sdo_client::Client;
 use conode_io::{CmdFault, hand_over};
-use conode_trace::set_frame_line;
+use conode_trace::frame_line;
 use std::alloc::AllocError;
 use std::io::Write;
 
 /// Writes the line of each frame, at time 0.
-pub(crate) fn write_frames<W: Write>(
-    line: &mut String,
-    frames: &[Frame],
-    writer: &mut W,
-) -> Result<(), CmdFault>
+pub(crate) fn write_frames<W: Write>(frames: &[Frame], writer: &mut W) -> Result<(), CmdFault>
     ensures ok { OnOk result
         (WritesLines (W.contents writer.old) (W.contents writer.new) (frame_lines frames.now)) }
     ensures write { result ≡ Err CmdFault.Write →
@@ -30,8 +26,8 @@ pub(crate) fn write_frames<W: Write>(
     ensures err { IfErr result (λ fault. (fault ≡ CmdFault.Write) ⊎ (fault ≡ CmdFault.Memory)) }
 {
     for frame in frames {
-        set_frame_line(line, 0, frame)?;
-        hand_over(line.as_bytes(), writer)?;
+        let line = frame_line(0, frame);
+        hand_over(line.as_slice(), writer)?;
     }
     Ok(())
 }

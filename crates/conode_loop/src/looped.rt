@@ -63,7 +63,7 @@ fn loop_client<W: Write>(
         StandsAfterSome l e node.new }
     ensures err { IfErr result (λ fault. (fault ≡ CmdFault.Write) ⊎ (fault ≡ CmdFault.Memory)) }
 {
-    all_rounds(node, client, waiting, line, writer)?;
+    all_rounds(node, client, waiting, writer)?;
     let state = client.state();
     set_last_line(line, state, client.sent())?;
     hand_over(line.as_bytes(), writer)?;

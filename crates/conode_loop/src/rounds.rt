@@ -62,7 +62,6 @@ fn tick<W: Write>(
     node: &mut Node,
     client: &mut Client<'_>,
     waiting: &mut Vec<Frame>,
-    line: &mut String,
     writer: &mut W,
 ) -> Result<(), CmdFault>
     requires { waiting.old.items ≡ [] }
@@ -83,7 +82,7 @@ fn tick<W: Write>(
 {
     let mut sent = Outbox::new();
     give_tick(node, &mut sent);
-    write_frames(line, &sent, writer)?;
+    write_frames(&sent, writer)?;
     take_tick(client, waiting)?;
     take_frames(client, &sent, waiting)?;
     Ok(())
@@ -94,7 +93,6 @@ fn exchange<W: Write>(
     node: &mut Node,
     client: &mut Client<'_>,
     waiting: &mut Vec<Frame>,
-    line: &mut String,
     writer: &mut W,
 ) -> Result<(), CmdFault>
     requires { 0 < length waiting.old.items }
@@ -116,8 +114,8 @@ fn exchange<W: Write>(
     let request = waiting.remove(0);
     let mut sent = Outbox::new();
     give_frame(node, request, &mut sent);
-    write_frames(line, &[request], writer)?;
-    write_frames(line, &sent, writer)?;
+    write_frames(&[request], writer)?;
+    write_frames(&sent, writer)?;
     take_frames(client, &sent, waiting)?;
     Ok(())
 }
@@ -127,7 +125,6 @@ fn round<W: Write>(
     node: &mut Node,
     client: &mut Client<'_>,
     waiting: &mut Vec<Frame>,
-    line: &mut String,
     writer: &mut W,
 ) -> Result<(), CmdFault>
     ensures ends { (l : Loop) (e : BothEnds) → EndsStand l e node.old client.old waiting.old.items →
@@ -146,9 +143,9 @@ fn round<W: Write>(
     ensures err { IfErr result (λ fault. (fault ≡ CmdFault.Write) ⊎ (fault ≡ CmdFault.Memory)) }
 {
     if waiting.is_empty() {
-        tick(node, client, waiting, line, writer)
+        tick(node, client, waiting, writer)
     } else {
-        exchange(node, client, waiting, line, writer)
+        exchange(node, client, waiting, writer)
     }
 }
 
@@ -157,7 +154,6 @@ pub(crate) fn all_rounds<W: Write>(
     node: &mut Node,
     client: &mut Client<'_>,
     waiting: &mut Vec<Frame>,
-    line: &mut String,
     writer: &mut W,
 ) -> Result<(), CmdFault>
     ensures ends { (l : Loop) (e : BothEnds) → EndsStand l e node.old client.old waiting.old.items →
@@ -181,7 +177,7 @@ pub(crate) fn all_rounds<W: Write>(
         if !goes_on(client, waiting) {
             return Ok(());
         }
-        round(node, client, waiting, line, writer)?;
+        round(node, client, waiting, writer)?;
         done += 1;
     }
     Ok(())

@@ -21,6 +21,7 @@ use conode_trace::AppLine;
 use std::io::Write;
 
 // The device takes a frame; else an event of its application; else a tick.
+#[inline(always)]
 fn step(node: &mut Node, frame: Option<Frame>, event: Option<AppEvent<'_>>, sent: &mut Outbox)
     ensures frames { (k : Constants) (before : Inputs) → Stands k node.old before →
         sent.new.items ≡ prescribed k before (given_of frame (option_map app_view event.entry)) }
@@ -35,6 +36,7 @@ fn step(node: &mut Node, frame: Option<Frame>, event: Option<AppEvent<'_>>, sent
 }
 
 /// The device takes a frame. The outbox then holds the frames that it sends, and no others.
+#[inline(always)]
 pub(crate) fn take(node: &mut Node, frame: Frame, sent: &mut Outbox)
     ensures frames { (k : Constants) (before : Inputs) → Stands k node.old before →
         sent.new.items ≡ prescribed k before (Framed frame) }
@@ -45,6 +47,7 @@ pub(crate) fn take(node: &mut Node, frame: Frame, sent: &mut Outbox)
 }
 
 // the same of a tick
+#[inline(always)]
 fn elapse(node: &mut Node, sent: &mut Outbox)
     ensures frames { (k : Constants) (before : Inputs) → Stands k node.old before →
         sent.new.items ≡ prescribed k before Ticked }
@@ -87,6 +90,7 @@ pub(crate) fn apply(node: &mut Node, event: &AppLine<'_>, sent: &mut Outbox)
 }
 
 /// The device takes the tick of a line at a time in ms, and what it sends is printed.
+#[inline]
 pub(crate) fn tick<W: Write>(
     text: &mut String,
     node: &mut Node,

@@ -10,7 +10,7 @@ use co_frame::{AbortCode, Frame};
 use co_node_inputs::AppAnswer;
 use co_text::{push_decimal, push_u32};
 use conode_io::{CmdFault, hand_over};
-use conode_trace::set_frame_line;
+use conode_trace::frame_line;
 use std::alloc::AllocError;
 use std::io::Write;
 
@@ -61,8 +61,8 @@ pub(crate) fn print_totals<W: Write>(
 }
 
 /// Prints frames that are sent at a time in ms.
+#[inline]
 pub(crate) fn print_frames<W: Write>(
-    text: &mut String,
     ms: u128,
     frames: &[Frame],
     writer: &mut W,
@@ -76,8 +76,8 @@ pub(crate) fn print_frames<W: Write>(
     ensures err { IfErr result (λ fault. (fault ≡ CmdFault.Write) ⊎ (fault ≡ CmdFault.Memory)) }
 {
     for frame in frames {
-        set_frame_line(text, ms, frame)?;
-        hand_over(text.as_bytes(), writer)?;
+        let line = frame_line(ms, frame);
+        hand_over(line.as_slice(), writer)?;
     }
     Ok(())
 }
@@ -109,6 +109,7 @@ fn print_refusal<W: Write>(
 
 /// Prints what came of the input of a line at a time in ms: that it was refused, and then the frames that are sent.
 #[tactic(auto, using(conode_io::proofs::WriteLemmas::lines_after, conode_io::proofs::WriteLemmas::front_of_more, conode_io::proofs::WriteLemmas::some_of_more, conode_io::proofs::WriteLemmas::front_after_lines, conode_io::proofs::WriteLemmas::some_after_lines))]
+#[inline]
 pub(crate) fn print_input<W: Write>(
     text: &mut String,
     number: usize,
@@ -126,5 +127,5 @@ pub(crate) fn print_input<W: Write>(
     ensures err { IfErr result (λ fault. (fault ≡ CmdFault.Write) ⊎ (fault ≡ CmdFault.Memory)) }
 {
     print_refusal(text, number, answer, writer)?;
-    print_frames(text, ms, frames, writer)
+    print_frames(ms, frames, writer)
 }

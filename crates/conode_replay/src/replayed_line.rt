@@ -24,6 +24,7 @@ fn replay_ticks<W: Write>(
     text: &mut String,
     node: &mut Node,
     timed: &TimedLine<'_>,
+    sent: &mut Outbox,
     writer: &mut W,
 ) -> Result<u64, CmdFault>
     requires { timed.now.before + 2 ^ 32 < 2 ^ 128 }
@@ -41,11 +42,10 @@ fn replay_ticks<W: Write>(
     ensures err { IfErr result (λ fault. (fault ≡ CmdFault.Write) ⊎ (fault ≡ CmdFault.Memory)) }
     ensures few { IfOk result (λ printed. printed < 2 ^ 42) }
 {
-    let mut sent = Outbox::new();
     let mut printed: u64 = 0;
     for elapsed in 0..timed.ticks {
         let ms = timed.before + 1 + u128::from(elapsed);
-        tick(text, node, timed.number, ms, &mut sent, writer)?;
+        tick(text, node, timed.number, ms, sent, writer)?;
         printed += sent.len() as u64;
     }
     Ok(printed)
@@ -91,6 +91,7 @@ fn replay_own<W: Write>(
     text: &mut String,
     node: &mut Node,
     timed: &TimedLine<'_>,
+    sent: &mut Outbox,
     writer: &mut W,
 ) -> Result<u64, CmdFault>
     requires { WritesFewBytes timed.now.said }
@@ -106,8 +107,7 @@ fn replay_own<W: Write>(
     ensures err { IfErr result (λ fault. (fault ≡ CmdFault.Write) ⊎ (fault ≡ CmdFault.Memory)) }
     ensures few { IfOk result (λ printed. printed ≤ 514) }
 {
-    let mut sent = Outbox::new();
-    let taken = take_own(node, &timed.said, &mut sent);
+    let taken = take_own(node, &timed.said, sent);
     if !taken {
         return Ok(0);
     }
@@ -122,11 +122,13 @@ fn replay_own<W: Write>(
     Ok(sent.len() as u64)
 }
 
-/// The device takes the inputs of a line, and what comes of each is printed at once. How many frames are printed.
+/// The device takes the inputs of a line, and what comes of each is printed at once. How many frames are printed. The
+/// outbox comes from the caller, since a new one for each line takes longer than the line.
 pub(crate) fn replay_line<W: Write>(
     text: &mut String,
     node: &mut Node,
     timed: &TimedLine<'_>,
+    sent: &mut Outbox,
     writer: &mut W,
 ) -> Result<u64, CmdFault>
     requires early { timed.now.before + 2 ^ 32 < 2 ^ 128 }
@@ -143,7 +145,7 @@ pub(crate) fn replay_line<W: Write>(
     ensures err { IfErr result (λ fault. (fault ≡ CmdFault.Write) ⊎ (fault ≡ CmdFault.Memory)) }
     ensures few { IfOk result (λ printed. printed < 2 ^ 43) }
 {
-    let ticked = replay_ticks(text, node, timed, writer)?;
-    let own = replay_own(text, node, timed, writer)?;
+    let ticked = replay_ticks(text, node, timed, sent, writer)?;
+    let own = replay_own(text, node, timed, sent, writer)?;
     Ok(ticked + own)
 }

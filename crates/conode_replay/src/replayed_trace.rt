@@ -23,7 +23,7 @@ use std::alloc::Global;
 use std::io::{Read, Write};
 
 // prints the boot-up, at clock 0
-fn print_boot<W: Write>(text: &mut String, node: &Node, writer: &mut W) -> Result<(), CmdFault>
+fn print_boot<W: Write>(node: &Node, sent: &mut Outbox, writer: &mut W) -> Result<(), CmdFault>
     ensures ok { OnOk result ((k : Constants) (before : Inputs) → Stands k node.now before →
         WritesLines (W.contents writer.old) (W.contents writer.new) (boot_line k ∷ [])) }
     ensures write { result ≡ Err CmdFault.Write →
@@ -34,15 +34,15 @@ fn print_boot<W: Write>(text: &mut String, node: &Node, writer: &mut W) -> Resul
         WritesSome (W.contents writer.old) (W.contents writer.new) (boot_line k ∷ []) }
     ensures err { IfErr result (λ fault. (fault ≡ CmdFault.Write) ⊎ (fault ≡ CmdFault.Memory)) }
 {
-    let mut sent = Outbox::new();
-    node.boot(&mut sent);
-    print_frames(text, 0, sent.as_slice(), writer)
+    node.boot(sent);
+    print_frames(0, sent.as_slice(), writer)
 }
 
 // the boot-up, and all inputs
 fn replay_lines<R: Read, W: Write>(
     text: &mut String,
     node: &mut Node,
+    sent: &mut Outbox,
     reader: &mut R,
     writer: &mut W,
 ) -> Result<Totals, CmdFault>
@@ -51,7 +51,7 @@ fn replay_lines<R: Read, W: Write>(
         node.old node.new (R.remaining reader.old) (R.remaining reader.new)
         (W.contents writer.old) (W.contents writer.new) result }
 {
-    print_boot(text, node, writer)?;
+    print_boot(node, sent, writer)?;
     let mut totals = Totals::new();
     let mut lines = LineReader::new();
     let mut progress = TraceProgress::new();
@@ -60,7 +60,7 @@ fn replay_lines<R: Read, W: Write>(
         match lines.next(reader) {
             Ok(Some(line)) => match progress.read(line) {
                 Ok(timed) => {
-                    let printed = replay_line(text, node, &timed, writer)?;
+                    let printed = replay_line(text, node, &timed, sent, writer)?;
                     totals.count(&timed, printed);
                 }
                 Err(BadLine(number)) => return Err(CmdFault::BadLine(number)),
@@ -84,7 +84,8 @@ fn replay_whole<R: Read, W: Write>(
         (W.contents writer.old) (W.contents writer.new) result }
 {
     let mut text = String::new(alloc);
-    let totals = replay_lines(&mut text, node, reader, writer)?;
+    let mut sent = Outbox::new();
+    let totals = replay_lines(&mut text, node, &mut sent, reader, writer)?;
     print_totals(&mut text, totals, writer)?;
     Ok(totals)
 }

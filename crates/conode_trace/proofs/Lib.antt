@@ -7,6 +7,7 @@ pub mod GrammarBodies
 pub mod GrammarFields
 pub mod GrammarLines
 pub mod GrammarRuns
+pub mod HexDigitTable
 pub mod Numbers
 pub mod ProgressLemmas
 pub mod Reading

@@ -1,5 +1,6 @@
 -- Ten digits as twice five.
-use Rattle.std.proofs.Common.{◌≡◌, ℕ, ◌/◌, ◌%◌, ◌<◌, ◌^◌, ◌++◌, arith}
+use Rattle.std.proofs.Common.{◌≡◌, ℕ, ◌/◌, ◌%◌, ◌<◌, ◌≤◌, ◌^◌, ◌++◌, arith}
+use Rattle.std.specs.Prelude.{decimal}
 use Rattle.std.proofs.lemmas.Bool.Decides.{nat_tests}
 use Rattle.co_text.specs.Printed.{digits_text}
 use Rattle.conode_trace.specs.Printed.{seconds_text}
@@ -20,3 +21,8 @@ ten_digits s =
 pub seconds_text-ten : (s : ℕ) → s < 10 ^ 10 → seconds_text s ≡ digits_text 10 5 (s / 100000) ++ digits_text 10 5 (s % 100000)
 unfolding seconds_text
 seconds_text-ten s few = rw ten_digits (grind (arith, nat_tests))
+
+-- those of many seconds
+pub seconds_text-long : (s : ℕ) → 10 ^ 10 ≤ s → seconds_text s ≡ decimal s
+unfolding seconds_text
+seconds_text-long s long = grind (arith, nat_tests)

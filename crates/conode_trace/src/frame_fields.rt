@@ -27,6 +27,7 @@ pub(crate) enum Body {
     Other,
 }
 
+#[inline(always)]
 fn past_byte(text: &[u8], wanted: u8) -> Option<&[u8]>
     ensures { option_copied result ≡ past_byte wanted text.now }
 {
@@ -36,6 +37,7 @@ fn past_byte(text: &[u8], wanted: u8) -> Option<&[u8]>
     }
 }
 
+#[inline(always)]
 fn number_at(text: &[u8], least: usize, most: usize) -> Option<(u64, &[u8])>
     requires { most ≤ 12 }
     ensures exact { option_map (λ found. (found.0, found.1.now)) result
@@ -64,6 +66,7 @@ fn number_at(text: &[u8], least: usize, most: usize) -> Option<(u64, &[u8])>
 }
 
 #[tactic(auto, unfolding(crate::specs::FrameLines::stamp_at))]
+#[inline(always)]
 pub(crate) fn stamp_at(text: &[u8]) -> Option<(u64, &[u8])>
     ensures { option_map (λ found. (found.0, found.1.now)) result ≡ stamp_at text.now }
 {
@@ -76,6 +79,7 @@ pub(crate) fn stamp_at(text: &[u8]) -> Option<(u64, &[u8])>
 }
 
 // how many blanks are at the front
+#[inline(always)]
 fn blank_count(text: &[u8]) -> usize
     ensures count { result ≡ prefix_len is_blank text.now }
     ensures within { result ≤ length text.now }
@@ -89,6 +93,7 @@ fn blank_count(text: &[u8]) -> usize
 }
 
 // how many bytes that are no blanks are at the front
+#[inline(always)]
 fn name_len(text: &[u8]) -> usize
     ensures count { result ≡ prefix_len is_name_byte text.now }
     ensures within { result ≤ length text.now }
@@ -101,6 +106,7 @@ fn name_len(text: &[u8]) -> usize
     text.len()
 }
 
+#[inline(always)]
 pub(crate) fn past_blanks(text: &[u8]) -> Option<&[u8]>
     ensures { option_copied result ≡ past_run is_blank 1 512 text.now }
 {
@@ -111,6 +117,7 @@ pub(crate) fn past_blanks(text: &[u8]) -> Option<&[u8]>
     Some(&text[count..])
 }
 
+#[inline(always)]
 pub(crate) fn past_name(text: &[u8]) -> Option<&[u8]>
     ensures { option_copied result ≡ past_run is_name_byte 1 15 text.now }
 {
@@ -121,6 +128,7 @@ pub(crate) fn past_name(text: &[u8]) -> Option<&[u8]>
     Some(&text[len..])
 }
 
+#[inline(always)]
 fn three_digits(text: &[u8]) -> Option<u16>
     requires { 3 ≤ length text.now }
     ensures value { result ≡ three_digits text.now }
@@ -132,6 +140,7 @@ fn three_digits(text: &[u8]) -> Option<u16>
 }
 
 // whether a number sign is at this place
+#[inline(always)]
 fn has_sign(text: &[u8], place: usize) -> bool
     ensures value { result ≡ (slice_index text.now place == 35) }
     ensures within { IsTrue result → place < length text.now }
@@ -146,6 +155,7 @@ fn are_hex_digits(text: &[u8]) -> bool
 }
 
 #[tactic(auto, unfolding(crate::specs::FrameLines::identifier_at))]
+#[inline(always)]
 pub(crate) fn identifier_at(text: &[u8]) -> Option<(Identifier, &[u8])>
     ensures exact { option_map (λ found. (found.0, found.1.now)) result ≡ identifier_at text.now }
     ensures small { IfSome result (λ found. IsIdentifier found.0) }
@@ -176,6 +186,7 @@ fn is_mark(byte: u8) -> bool
     byte == b'R' || byte == b'T'
 }
 
+#[inline(always)]
 fn is_ending(text: &[u8]) -> bool
     ensures { result ≡ is_ending text.now }
 {
@@ -186,6 +197,7 @@ fn is_ending(text: &[u8]) -> bool
     last > 0 && is_mark(text[last]) && are_blanks(&text[..last])
 }
 
+#[inline(always)]
 fn past_digit(text: &[u8]) -> &[u8]
     ensures { result.now ≡ past_digit text.now }
 {
@@ -195,6 +207,7 @@ fn past_digit(text: &[u8]) -> &[u8]
     }
 }
 
+#[inline(always)]
 fn few_pairs_at(text: &[u8]) -> Option<(ArrayVec<u8, 8>, &[u8])>
     ensures { option_map (λ found. (found.0.items, found.1.now)) result ≡ few_pairs_at text.now }
 {
@@ -211,6 +224,7 @@ fn few_pairs_at(text: &[u8]) -> Option<(ArrayVec<u8, 8>, &[u8])>
 }
 
 #[tactic(auto, unfolding(crate::specs::FrameLines::body_in))]
+#[inline(always)]
 pub(crate) fn body_in(text: &[u8]) -> Option<Body>
     ensures { result ≡ body_in text.now }
 {

@@ -13,7 +13,7 @@ mod trace_reader;
 
 pub use clock::Clock;
 pub use event_line::{AppLine, EventLine};
-pub use frame_text::{push_frame, set_frame_line};
+pub use frame_text::{FrameLine, frame_line, push_frame};
 pub use timed_line::TimedLine;
 pub use trace_line::TraceLine;
 pub use trace_progress::TraceProgress;

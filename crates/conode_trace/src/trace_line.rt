@@ -64,6 +64,7 @@ impl<'a> TraceLine<'a> {
     }
 }
 
+#[inline(always)]
 fn is_skipped(line: &[u8]) -> bool
     ensures { result ≡ is_skipped line.now }
 {
@@ -71,6 +72,7 @@ fn is_skipped(line: &[u8]) -> bool
 }
 
 #[tactic(auto, unfolding(crate::specs::FrameLines::frame_line_in))]
+#[inline(always)]
 fn frame_line(line: &[u8]) -> Option<TraceLine<'static>>
     ensures { result ≡ frame_line_in line.now }
 {
@@ -82,6 +84,7 @@ fn frame_line(line: &[u8]) -> Option<TraceLine<'static>>
 }
 
 #[tactic(auto, unfolding(crate::specs::FrameLines::frame_at))]
+#[inline(always)]
 fn frame_at(stamp: u64, text: &[u8]) -> Option<TraceLine<'static>>
     ensures { result ≡ frame_at stamp text.now }
 {
@@ -90,6 +93,7 @@ fn frame_at(stamp: u64, text: &[u8]) -> Option<TraceLine<'static>>
     Some(line_of(stamp, id, &body))
 }
 
+#[inline(always)]
 fn line_of(stamp: u64, id: Identifier, body: &Body) -> TraceLine<'static>
     requires { IsIdentifier id }
     ensures { result ≡ line_of stamp id body.now }

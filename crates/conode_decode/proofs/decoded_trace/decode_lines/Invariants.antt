@@ -8,7 +8,7 @@ abbrev pub invariant-trace : goal.invariant-trace
 invariant-trace g l = record {
   decoded : HasDecoded (names_view l.names) (g.R.Read.remaining l.fn.reader) (to_come l.lines (g.R.Read.remaining l.reader)) l.progress (g.W.Write.contents l.fn.writer) (g.W.Write.contents l.writer);
   fault : l.lines.fault ≡ None;
-  few : l.progress.number + most_bytes l.lines.asks l.lines.rest ≤ 8589934592;
+  few : l.progress.number + most_bytes l.lines.asks l.lines.rest ≤ 137438953472;
 }
 
 abbrev pub decreases-trace : goal.decreases-trace

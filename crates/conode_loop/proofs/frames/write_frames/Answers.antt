@@ -1,12 +1,8 @@
 use Rattle.std.proofs.Common.{◌≡◌, ap, ◌∙◌, rules, subst}
 use Rattle.conode_trace.specs.Printed.{frame_line}
 use Rattle.conode_io.specs.Written.{AppendsFront}
-use Rattle.conode_io.proofs.WriteLemmas.{some_lines, front_of_lines}
+use Rattle.conode_io.proofs.WriteLemmas.{front_of_lines}
 use Rattle.conode_loop.proofs.frames.write_frames.Goals as goal
-
-pub returns-in_err-set_frame_line-clause-memory : goal.returns-in_err-set_frame_line-clause-memory
-returns-in_err-set_frame_line-clause-memory g c said =
-    some_lines (g.W.Write.contents c.args.writer.now) (g.W.Write.contents c.loop-frame.writer) (frame_line 0) c.args.frames.now c.loop-frame.frame-index (search rules) c.loop-frame.invariant
 
 pub returns-in_err-hand_over-clause-write : goal.returns-in_err-hand_over-clause-write
 returns-in_err-hand_over-clause-write g c said =
@@ -15,6 +11,6 @@ returns-in_err-hand_over-clause-write g c said =
     let frames = c.args.frames.now in
     let index = c.loop-frame.frame-index in
     let frame = c.frame-item.result in
-    let line : c.as_bytes.result.now ≡ frame_line 0 frame = search rules in
+    let line : c.as_slice.result.now ≡ frame_line 0 frame = search rules in
     front_of_lines (g.W.Write.contents c.args.writer.now) mid new (frame_line 0) frames index frame (search rules) c.loop-frame.invariant
     (subst (AppendsFront mid new) (line ∙ ap (frame_line 0) c.frame-item.is) c.in_err-hand_over.ensures.front)

@@ -8,7 +8,7 @@ abbrev pub invariant-trace : goal.invariant-trace
 invariant-trace g l = record {
   replayed : HasReplayed l.fn.node (g.R.Read.remaining l.fn.reader) (to_come l.lines (g.R.Read.remaining l.reader)) l.progress (g.W.Write.contents l.fn.writer) (g.W.Write.contents l.writer) l.node l.totals;
   fault : l.lines.fault ≡ None;
-  few : l.progress.number + most_bytes l.lines.asks l.lines.rest ≤ 8589934592;
+  few : l.progress.number + most_bytes l.lines.asks l.lines.rest ≤ 137438953472;
   room : room_taken l.totals ≤ 1 + 17592186044416 * l.progress.number;
 }
 
