@@ -10,7 +10,7 @@ use Rattle.co_value.specs.declared.key.Key.{Key}
 use Rattle.co_value.specs.Keys.{same_key, same_key-is}
 use Rattle.co_dict.specs.Rows.{Contents, takes, written}
 use Rattle.co_dict.specs.Stores.{Description, IsDescription}
-use Rattle.co_dict.specs.Places.{place_of, key_at, bytes_at, takes_at, written_at}
+use Rattle.co_dict.specs.Places.{place_of, key_at, row_at, bytes_at, takes_at, written_at}
 
 -- the key of a place is at it
 pub key_of_place : (d : Description) (key : Key) (place : ℕ) → place_of d key ≡ Some place → key_at d place ≡ Some key
@@ -46,6 +46,9 @@ pub one_key : (d : Description) (a b : Key) (place : ℕ) → place_of d a ≡ S
 one_key d a b place at_a at_b = same_Some a b (sym (key_of_place d a place at_a) ∙ key_of_place d b place at_b)
 
 -- by its place an entry is what it is by its key
+pub row_by_place : (d : Description) (key : Key) (place : ℕ) → place_of d key ≡ Some place → row_at d place ≡ d.rows key
+row_by_place d key place h = ap (option_and_then d.rows) (key_of_place d key place h)
+
 pub bytes_by_place : (d : Description) (contents : Contents) (key : Key) (place : ℕ) → place_of d key ≡ Some place → bytes_at d contents place ≡ contents key
 bytes_by_place d contents key place h = ap (option_and_then contents) (key_of_place d key place h)
 

@@ -8,7 +8,7 @@ use Rattle.co_profile.specs.declared.access.Access.TheVariants.{Rw}
 use Rattle.co_dict.specs.declared.row.Row.{Row}
 use Rattle.co_dict.specs.declared.area.Area.TheVariants.{Communication, All}
 use Rattle.co_dict.specs.Stores.{Description}
-use Rattle.co_dict.specs.Places.{place_of, key_at, bytes_at, takes_at, written_at}
+use Rattle.co_dict.specs.Places.{place_of, key_at, row_at, bytes_at, takes_at, written_at}
 use Rattle.co_dict.specs.Rows.{Rows, Contents, fits, takes, written, is_in_area, restored}
 
 abbrev at : ℕ → ℕ → Key
@@ -118,6 +118,12 @@ key_at_last = refl
 
 key_past_last : key_at device 3 ≡ None
 key_past_last = refl
+
+row_at_place : row_at device 0 ≡ Some number
+row_at_place = refl
+
+row_at_none : row_at device 3 ≡ None
+row_at_none = refl
 
 bytes_at_place : bytes_at device contents 2 ≡ Some (66 ∷ 67 ∷ [])
 bytes_at_place = refl

@@ -3,6 +3,7 @@ use Rattle.std.specs.Prelude.{ℕ, Bool, false, List, Option, position, slice_ge
 use Rattle.std.specs.Option.{option_and_then, option_map_or}
 use Rattle.co_value.specs.declared.key.Key.{Key}
 use Rattle.co_value.specs.Keys.{same_key}
+use Rattle.co_dict.specs.declared.row.Row.{Row}
 use Rattle.co_dict.specs.Rows.{Contents, takes, written}
 use Rattle.co_dict.specs.Stores.{Description}
 
@@ -13,6 +14,10 @@ place_of d key = position (same_key key) d.keys
 -- the key at a place
 abbrev pub key_at : Description → ℕ → Option Key
 key_at d place = slice_get d.keys place
+
+-- the row of the entry at a place; none where there is no entry
+abbrev pub row_at : Description → ℕ → Option Row
+row_at d place = option_and_then d.rows (key_at d place)
 
 -- the bytes of the entry at a place; none where there is no entry
 abbrev pub bytes_at : Description → Contents → ℕ → Option (List ℕ)

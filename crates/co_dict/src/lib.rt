@@ -31,7 +31,7 @@ pub use mapping_words::{MappingWord, entry_width, mapping_width, usable_dummy, w
 pub use numbers::{number_u8, number_u16, number_u32, set_u8};
 pub use objects::{entry_row, has_object, has_sub};
 pub use pdo_rules::{check_count, is_pdo_valid, mapping_word};
-pub use reading::may_read;
+pub use reading::{may_read, readable};
 pub use row::Row;
 pub use sdo_channels::{SdoChannel, is_sdo_id, sdo_channel};
 pub use side::Side;

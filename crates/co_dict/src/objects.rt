@@ -1,11 +1,12 @@
 //! Which objects and sub-indices are there.
 
-ghost use Rattle.std.specs.Prelude.{◌≡◌, ◌≤◌, ℕ, Some, IfOk};
+ghost use Rattle.std.specs.Prelude.{◌≡◌, ◌≤◌, ℕ, Some, None, IfOk};
 ghost use Rattle.co_dict.specs.Refusals.{refusal_in};
 ghost use Rattle.co_dict.specs.Objects.{has_object, has_sub, missing_entry, subs_present};
+ghost use Rattle.co_dict.specs.Places.{place_of};
 
 use crate::row::Row;
-use crate::store::ObjectStore;
+use crate::store::{ObjectStore, place_laws};
 use co_frame::AbortCode;
 use co_value::Key;
 
@@ -30,10 +31,10 @@ pub fn entry_row<S: ObjectStore>(store: &S, key: Key) -> Result<Row, AbortCode>
     ensures refusal { refusal_in result ≡ missing_entry (S.description store.now).rows key }
     ensures row { IfOk result (λ row. (S.description store.now).rows key ≡ Some row) }
 {
-    row_at(store, key.index, key.sub)
+    row_in(store, key.index, key.sub)
 }
 
-fn row_at<S: ObjectStore>(store: &S, index: u16, sub: u8) -> Result<Row, AbortCode>
+fn row_in<S: ObjectStore>(store: &S, index: u16, sub: u8) -> Result<Row, AbortCode>
     ensures refusal { refusal_in result
         ≡ missing_entry (S.description store.now).rows (record { index = index; sub = sub }) }
     ensures row { IfOk result (λ row.
@@ -42,8 +43,51 @@ fn row_at<S: ObjectStore>(store: &S, index: u16, sub: u8) -> Result<Row, AbortCo
 {
     match store.row(Key { index, sub }) {
         Some(row) => Ok(row),
-        None if has_object(store, index) => Err(AbortCode::SUB_INDEX_MISSING),
-        None => Err(AbortCode::OBJECT_MISSING),
+        None => Err(missing(store, index, sub)),
+    }
+}
+
+/// The place of an entry with its row, from one search; without an entry as `entry_row`.
+pub(crate) fn placed_row<S: ObjectStore>(store: &S, key: Key) -> Result<(u32, Row), AbortCode>
+    ensures refusal { refusal_in result ≡ missing_entry (S.description store.now).rows key }
+    ensures place { IfOk result (λ found. place_of (S.description store.now) key ≡ Some found.0) }
+    ensures row { IfOk result (λ found. (S.description store.now).rows key ≡ Some found.1) }
+{
+    placed_row_in(store, key.index, key.sub)
+}
+
+fn placed_row_in<S: ObjectStore>(store: &S, index: u16, sub: u8) -> Result<(u32, Row), AbortCode>
+    ensures refusal { refusal_in result
+        ≡ missing_entry (S.description store.now).rows (record { index = index; sub = sub }) }
+    ensures place { IfOk result (λ found.
+        place_of (S.description store.now) (record { index = index; sub = sub }) ≡ Some found.0) }
+    ensures row { IfOk result (λ found.
+        (S.description store.now).rows (record { index = index; sub = sub })
+        ≡ Some found.1) }
+{
+    place_laws(store);
+    let Some(place) = store.place(Key { index, sub }) else {
+        return Err(missing(store, index, sub));
+    };
+    let Some(row) = store.row_at(place) else {
+        unreachable!();
+    };
+    Ok((place, row))
+}
+
+// why there is no entry: there is no object, or no such sub-index
+#[cold]
+#[inline(never)]
+fn missing<S: ObjectStore>(store: &S, index: u16, sub: u8) -> AbortCode
+    requires { (S.description store.now).rows (record { index = index; sub = sub }) ≡ None }
+    ensures { Some result.0
+        ≡ missing_entry (S.description store.now).rows (record { index = index; sub = sub }) }
+{
+    let _ = sub;
+    if has_object(store, index) {
+        AbortCode::SUB_INDEX_MISSING
+    } else {
+        AbortCode::OBJECT_MISSING
     }
 }
 

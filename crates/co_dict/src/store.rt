@@ -4,7 +4,7 @@ ghost use Rattle.std.specs.Prelude.{◌≡◌, ◌≤◌, ℕ, Bool, true, lengt
 ghost use Rattle.std.specs.Option.{option_map};
 ghost use Rattle.co_dict.specs.Rows.{Contents, takes, capacity_at, written, restored};
 ghost use Rattle.co_dict.specs.Stores.{Description, IsDictionary};
-ghost use Rattle.co_dict.specs.Places.{place_of, key_at, bytes_at, takes_at, written_at};
+ghost use Rattle.co_dict.specs.Places.{place_of, key_at, row_at, bytes_at, takes_at, written_at};
 ghost use Rattle.co_value.specs.declared.key.Key.{Key};
 
 use crate::area::Area;
@@ -49,6 +49,10 @@ pub trait ObjectStore {
     fn place(&self, key: Key) -> Option<u32>
         ensures { result ≡ place_of (description self.now) key };
 
+    /// The row of the entry at a place; `None` where there is no entry.
+    fn row_at(&self, place: u32) -> Option<Row>
+        ensures { result ≡ row_at (description self.now) place };
+
     /// The bytes of the entry at a place; `None` where there is no entry.
     fn bytes_at(&self, place: u32) -> Option<&[u8]>
         ensures { option_map (λ bytes. bytes.now) result
@@ -85,7 +89,7 @@ pub fn capacity_law<S: ObjectStore>(store: &S)
 }
 
 /// What holds of the places of each store: exactly the entries have places, different entries different ones; and by its
-/// place an entry is what it is by its key, for `bytes` and for `set`. This is a law: a call of it changes nothing.
+/// place an entry is what it is by its key, for `row`, `bytes` and `set`. This is a law: a call of it changes nothing.
 pub fn place_laws<S: ObjectStore>(store: &S)
     ensures present { (key : Key) → is_some (place_of (S.description store.now) key)
         ≡ is_some ((S.description store.now).rows key) }
@@ -93,6 +97,8 @@ pub fn place_laws<S: ObjectStore>(store: &S)
         → place_of (S.description store.now) b ≡ Some place → a ≡ b }
     ensures key { (key : Key) (place : ℕ) → place_of (S.description store.now) key ≡ Some place
         → key_at (S.description store.now) place ≡ Some key }
+    ensures row { (key : Key) (place : ℕ) → place_of (S.description store.now) key ≡ Some place
+        → row_at (S.description store.now) place ≡ (S.description store.now).rows key }
     ensures bytes { (key : Key) (place : ℕ) → place_of (S.description store.now) key ≡ Some place
         → bytes_at (S.description store.now) (S.contents store.now) place ≡ S.contents store.now key }
     ensures takes { (key : Key) (place size : ℕ)

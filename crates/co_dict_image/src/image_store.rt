@@ -147,6 +147,11 @@ impl ObjectStore for ImageStore {
         Some(at as u32)
     }
 
+    fn row_at(&self, place: u32) -> Option<Row> {
+        let slot = self.slots.get(place as usize)?;
+        Some(slot.row)
+    }
+
     fn bytes_at(&self, place: u32) -> Option<&[u8]> {
         let slot = self.slots.get(place as usize)?;
         Some(slot.bytes(&self.values))

@@ -115,6 +115,11 @@ impl ObjectStore for ListStore {
         Some(at as u32)
     }
 
+    fn row_at(&self, place: u32) -> Option<Row> {
+        let entry = self.entries.get(place as usize)?;
+        Some(entry.row)
+    }
+
     fn bytes_at(&self, place: u32) -> Option<&[u8]> {
         let entry = self.entries.get(place as usize)?;
         Some(entry.bytes())

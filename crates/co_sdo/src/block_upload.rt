@@ -13,10 +13,10 @@ ghost use Rattle.co_sdo.specs.Replies.{on_open, start_answers, acknowledge_answe
 ghost use Rattle.co_sdo.specs.Steps.{next_on, after_start, after_acknowledge, after_initiate};
 
 use crate::channel::Channel;
-use crate::refusals::reading_refusal;
+use crate::refusals::readable_value;
 use crate::sender::Sender;
 use crate::stage::{Ongoing, Stage};
-use crate::upload::{copy_value, part_after};
+use crate::upload::part_after;
 use co_dict::ObjectStore;
 use co_frame::{
     AbortCode, BYTES_PER_SEGMENT, BlockSegment, Outbox, SEGMENTS_PER_SUB_BLOCK, SdoResponse,
@@ -110,21 +110,24 @@ impl Channel {
         // the switch to another protocol is not supported
         let _ = threshold;
         self.current = None;
-        if let Some(code) = reading_refusal(store, key) {
-            self.sender.refuse(key, code, outbox);
-            return;
-        }
+        let value = match readable_value(store, key) {
+            Ok(value) => value,
+            Err(code) => {
+                self.sender.refuse(key, code, outbox);
+                return;
+            }
+        };
         if block_size == 0 || SEGMENTS_PER_SUB_BLOCK < block_size {
             self.sender
                 .refuse(key, AbortCode::INVALID_BLOCK_SIZE, outbox);
             return;
         }
-        copy_value(store, key, &mut self.buffer);
+        self.buffer.fill(value);
         self.current = Some(Ongoing {
             key,
             stage: Stage::BlockUploadInitiated { block_size },
         });
-        let size = Some(self.buffer.len() as u32);
+        let size = Some(value.len() as u32);
         self.sender
             .send(SdoResponse::BlockUploadInitiated { key, size }, outbox);
     }

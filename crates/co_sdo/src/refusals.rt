@@ -1,23 +1,31 @@
-//! What the dictionary refuses, as the channel answers it.
+//! What the dictionary refuses, as the channel answers it, and the value that it lets be read.
 
-ghost use Rattle.std.specs.Prelude.{◌≡◌, ℕ, true, length, None, option_map};
+ghost use Rattle.std.specs.Prelude.{◌≡◌, ◌≤◌, ℕ, true, length, None, option_map, IfOk};
 ghost use Rattle.co_dict.specs.Rows.{takes};
-ghost use Rattle.co_sdo.specs.Refused.{reading_refusal, initiate_refusal, completion_refusal};
+ghost use Rattle.co_dict.specs.Refusals.{refusal_in};
+ghost use Rattle.co_sdo.specs.Refused.{capacity_at, reading_refusal, initiate_refusal, completion_refusal};
+ghost use Rattle.co_sdo.specs.Uploads.{value_at};
 
-use co_dict::{ObjectStore, may_begin, may_complete, may_read};
+use co_dict::{ObjectStore, may_begin, may_complete, place_laws, readable, store_laws};
 use co_frame::AbortCode;
 use co_value::Key;
 
-// Why an entry can't be read.
+// The value of an entry that may be read, from one search for it, or why it can't be read.
 #[tactic(auto, unfolding(crate::specs::Refused::reading_refusal))]
-pub(crate) fn reading_refusal<S: ObjectStore>(store: &S, key: Key) -> Option<AbortCode>
-    ensures { option_map (λ code. code.0) result
+pub(crate) fn readable_value<S: ObjectStore>(store: &S, key: Key) -> Result<&[u8], AbortCode>
+    ensures refusal { refusal_in result
         ≡ reading_refusal (S.description store.now) (S.contents store.now) key }
+    ensures value { IfOk result (λ value. value.now ≡ value_at (S.contents store.now) key) }
+    ensures few { IfOk result (λ value. length value.now
+        ≤ capacity_at (S.description store.now).rows key) }
 {
-    match may_read(store, key) {
-        Ok(()) => None,
-        Err(code) => Some(code),
-    }
+    store_laws(store);
+    place_laws(store);
+    let place = readable(store, key)?;
+    let Some(value) = store.bytes_at(place) else {
+        unreachable!();
+    };
+    Ok(value)
 }
 
 // Why an entry can't be written, as far as is known when a transfer begins.

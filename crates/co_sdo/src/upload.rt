@@ -8,31 +8,17 @@ ghost use Rattle.co_frame.specs.Outboxes.{HasRoomFor};
 ghost use Rattle.co_frame.specs.declared.sdo_request.SdoRequest.TheVariants.{Upload};
 ghost use Rattle.co_sdo.specs.Log.{frames_on};
 ghost use Rattle.co_sdo.specs.Refused.{capacity_at};
-ghost use Rattle.co_sdo.specs.Uploads.{value_at, part_after};
+ghost use Rattle.co_sdo.specs.Uploads.{part_after};
 ghost use Rattle.co_sdo.specs.Replies.{on_open, upload_answers, initiate_answers};
 ghost use Rattle.co_sdo.specs.Steps.{next_on, after_upload_segment, after_initiate};
 
-use crate::buffer::Buffer;
 use crate::channel::Channel;
-use crate::refusals::reading_refusal;
+use crate::refusals::readable_value;
 use crate::stage::{Ongoing, Stage};
 use arrayvec::ArrayVec;
-use co_dict::{ObjectStore, store_laws};
+use co_dict::ObjectStore;
 use co_frame::{AbortCode, BYTES_PER_SEGMENT, ExpeditedData, Outbox, SdoResponse};
 use co_value::Key;
-
-// Copies the value of an entry into a buffer that has room for it.
-pub(crate) fn copy_value<S: ObjectStore>(store: &S, key: Key, buffer: &mut Buffer)
-    requires { capacity_at (S.description store.now).rows key ≤ buffer.old.room }
-    ensures value { buffer.new ≡ record buffer.old { bytes = value_at (S.contents store.now) key } }
-    ensures few { length buffer.new.bytes ≤ capacity_at (S.description store.now).rows key }
-{
-    store_laws(store);
-    match store.bytes(key) {
-        Some(value) => buffer.fill(value),
-        None => buffer.clear(),
-    }
-}
 
 // The seven bytes of a value after so many segments, fewer at its end.
 pub(crate) fn part_after(value: &[u8], count: usize) -> &[u8]
@@ -91,23 +77,25 @@ impl Channel {
         } }
     {
         self.current = None;
-        if let Some(code) = reading_refusal(store, key) {
-            self.sender.refuse(key, code, outbox);
-            return;
-        }
-        copy_value(store, key, &mut self.buffer);
-        let len = self.buffer.len();
-        if 1 <= len && len <= 4 {
-            let data = ExpeditedData::Indicated(expedited(self.buffer.as_slice()));
+        let value = match readable_value(store, key) {
+            Ok(value) => value,
+            Err(code) => {
+                self.sender.refuse(key, code, outbox);
+                return;
+            }
+        };
+        if 1 <= value.len() && value.len() <= 4 {
+            let data = ExpeditedData::Indicated(expedited(value));
             self.sender
                 .send(SdoResponse::UploadExpedited { key, data }, outbox);
             return;
         }
+        self.buffer.fill(value);
         self.current = Some(Ongoing {
             key,
             stage: Stage::Upload { sent: 0 },
         });
-        let size = Some(len as u32);
+        let size = Some(value.len() as u32);
         self.sender
             .send(SdoResponse::UploadInitiated { key, size }, outbox);
     }

@@ -1,5 +1,8 @@
 -- A list of channels after a change of one of them, or of each.
-use Rattle.std.proofs.Common.{◌≡◌, ◌≢◌, ℕ, ◌+◌, ◌<◌, ◌≤◌, Bool, true, false, eqb, ltb, List, [], ◌∷◌, ◌++◌, length, get_or, set, refl, sym, ap, ◌∙◌, arith, get_or-set_same, get_or-set_other, take}
+use Rattle.std.proofs.Common.{◌≡◌, ◌≢◌, ℕ, ◌+◌, ◌<◌, ◌≤◌, Bool, true, false, eqb, ltb, List, [], ◌∷◌, ◌++◌, length, get_or, set, refl, sym, ap, ◌∙◌, arith, get_or-set_same, get_or-set_other, take, cond, Some, None, ◌||◌}
+use Rattle.std.specs.Prelude.{position}
+use Rattle.std.specs.List.{position_or_len}
+use Rattle.std.proofs.lemmas.List.Sums.{position_or_len_is}
 use Rattle.std.proofs.Math.Seq.{map-set_same, take-append_seam}
 use Rattle.std.proofs.lemmas.List.{map-append, length-append, get_or_append_left, get_or-append-add}
 use Rattle.std.proofs.lemmas.Bool.Decides.{nat_tests}
@@ -58,3 +61,28 @@ done_all d event channels first bank i logs le same all done = record { settings
 -- what a call left in the slice of a list is the list
 pub all_written : {A : Type 0} (n : ℕ) (new rest : List A) → length new ≡ n → take n (new ++ rest) ≡ new
 all_written n new rest e = ap (λ m. take m (new ++ rest)) (sym e) ∙ take-append_seam new rest
+
+-- ---- none of them that passes a test
+
+-- those before a place don't pass, nor the one that is now at it
+pub quiet_set : (p : NumberedChannel → Bool) (bank : List NumberedChannel) (i : ℕ) (new : NumberedChannel) → i < length bank → p new ≡ false
+    → ((j : ℕ) (e : NumberedChannel) → j < i → p (get_or bank j e) ≡ false) → (j : ℕ) (e : NumberedChannel) → j < i + 1 → p (get_or (set bank i new) j e) ≡ false
+quiet_set p bank i new lt here before j e below = by_test (eqb j i) refl
+  where
+    by_test : (b : Bool) → eqb j i ≡ b → p (get_or (set bank i new) j e) ≡ false
+    by_test true h = let same : j ≡ i = grind (arith, nat_tests) in rw same (rw get_or-set_same here)
+    by_test false h = let other : j ≢ i = grind (arith, nat_tests) in rw get_or-set_other (before j e (omega arith))
+
+-- neither of two that are false together is true
+pub or_false : (a b : Bool) → (a || b) ≡ false → (a ≡ false) × (b ≡ false)
+or_false false b h = (refl, h)
+or_false true b h = cc
+
+-- where none passes a search finds none
+pub none_passes : (p : NumberedChannel → Bool) (bank : List NumberedChannel) (i : ℕ) → length bank ≤ i → ((j : ℕ) (e : NumberedChannel) → j < i → p (get_or bank j e) ≡ false) → position p bank ≡ None
+none_passes p [] i le quiet = refl
+none_passes p (c ∷ cs) i le quiet =
+    let size : ℕ = length (c ∷ cs) in
+    let first : position_or_len p (c ∷ cs) ≡ size = position_or_len_is p (c ∷ cs) size c (omega arith) (λ k lt. quiet k c (omega arith)) (λ lt. absurd (omega arith)) in
+    let past : ltb (position_or_len p (c ∷ cs)) size ≡ false = grind (arith, nat_tests) in
+    ap (λ b. cond b (Some (position_or_len p (c ∷ cs))) None) past

@@ -143,11 +143,16 @@ impl Bank {
             BankStands d channels self.old logs → BankStands d channels self.new (logs_after
             (time_out_of channels (with_each Ticked logs)) (with_each Ticked logs)) }
     {
-        tick_each(&mut self.channels);
-        self.time_out_lowest(outbox)
+        if tick_each(&mut self.channels) {
+            self.time_out_lowest(outbox)
+        } else {
+            None
+        }
     }
 
     /// The channel with the lowest number whose time is over gives up its transfer: its number.
+    #[cold]
+    #[inline(never)]
     fn time_out_lowest(&mut self, outbox: &mut Outbox) -> Option<u8>
         requires outbox { HasRoomFor 1 outbox.old }
         ensures count { MatchOption result (array_vec_len outbox.new ≡ array_vec_len outbox.old)

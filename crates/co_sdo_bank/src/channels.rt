@@ -1,6 +1,6 @@
 //! The channels in a list, each with its number.
 
-ghost use Rattle.std.specs.Prelude.{◌≡◌, ℕ, ◌+◌, ◌≤◌, ◌==◌, [], IfOk, OnOk, List, length, position};
+ghost use Rattle.std.specs.Prelude.{◌≡◌, ℕ, ◌+◌, ◌≤◌, ◌==◌, [], None, false, IfOk, OnOk, List, length, position};
 ghost use Rattle.co_dict.specs.Stores.{Description};
 ghost use Rattle.co_sdo.specs.Log.{Log, Ticked, Dropped};
 ghost use Rattle.co_sdo.specs.Standing.{is_expired};
@@ -65,15 +65,19 @@ pub(crate) fn existing_channels<S: ObjectStore>(
     Ok(bank)
 }
 
-/// 1 ms elapsed on each channel.
-pub(crate) fn tick_each(bank: &mut [NumberedChannel])
+/// 1 ms elapsed on each channel. Whether the time of one of them is then over.
+pub(crate) fn tick_each(bank: &mut [NumberedChannel]) -> bool
     ensures settings { all_settings bank.new ≡ all_settings bank.old }
     ensures stands { (d : Description) (channels : List ChannelSettings) (logs : ℕ → Log) →
         BankStands d channels bank.old logs → BankStands d channels bank.new (with_each Ticked logs) }
+    ensures none { result ≡ false → position (λ c. is_expired c.channel) bank.new ≡ None }
 {
+    let mut is_over = false;
     for numbered in bank.iter_mut() {
         numbered.channel.tick();
+        is_over |= numbered.channel.expired();
     }
+    is_over
 }
 
 /// Drops the open transfer of each channel, without an abort.

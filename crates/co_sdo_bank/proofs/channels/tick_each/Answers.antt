@@ -1,9 +1,9 @@
-use Rattle.std.proofs.Common.{◌<◌, length, get_or, refl, ap, ◌∙◌, arith}
+use Rattle.std.proofs.Common.{◌<◌, length, get_or, refl, sym, ap, ◌∙◌, arith}
 use Rattle.co_sdo.specs.Log.{Ticked}
-use Rattle.co_sdo.specs.Standing.{Standing}
+use Rattle.co_sdo.specs.Standing.{Standing, is_expired}
 use Rattle.co_sdo_bank.specs.declared.channels.NumberedChannel.{NumberedChannel}
 use Rattle.co_sdo_bank.specs.Banks.{settings_of}
-use Rattle.co_sdo_bank.proofs.Changes.{settings_set, rest_set, done_set, done_all}
+use Rattle.co_sdo_bank.proofs.Changes.{settings_set, rest_set, done_set, done_all, quiet_set, none_passes, or_false}
 use Rattle.co_sdo_bank.proofs.channels.tick_each.Goals as goal
 
 pub loop-numbered-preserved : goal.loop-numbered-preserved
@@ -19,7 +19,11 @@ loop-numbered-preserved c =
       rest = rest_set c.args.bank.now bank i new before.rest;
       done = λ d channels logs all. done_set d Ticked channels c.args.bank.now bank i c.numbered-item.result new lt c.loop-numbered.auto.bank before.rest refl (c.tick.ensures.stands d)
           logs all (before.done d channels logs all);
+      quiet = λ none. quiet_set (λ e. is_expired e.channel) bank i new lt (sym c.expired-is_over.ensures.shown ∙ (or_false c.loop-numbered.is_over c.expired-is_over.result none).1) (before.quiet (or_false c.loop-numbered.is_over c.expired-is_over.result none).0);
     }
+
+pub returns-clause-none : goal.returns-clause-none
+returns-clause-none c = λ none. none_passes (λ e. is_expired e.channel) c.loop-numbered.bank c.loop-numbered.numbered-index (omega arith) (c.loop-numbered.invariant.quiet none)
 
 pub returns-clause-stands : goal.returns-clause-stands
 returns-clause-stands c = λ d channels logs all. done_all d Ticked channels c.args.bank.now c.loop-numbered.bank c.loop-numbered.numbered-index logs (omega arith) c.loop-numbered.invariant.settings all
