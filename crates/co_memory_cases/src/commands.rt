@@ -1,12 +1,14 @@
-//! The calls of the program's commands, over a small trace and a download of 14 bytes. What they write goes into a text
-//! that has room for all of it, so each allocation is a command's own.
+//! The calls of the program's commands, over a small trace and a download of 14 bytes, which are then read back. What they
+//! write goes into a text that has room for all of it, so each allocation is a command's own.
 
 use crate::LIMITS;
 use crate::outcome::{Outcome, refused_if, right_if};
-use crate::sheet::SHEET;
+use crate::transfers::uploaded_by_blocks;
 use clap::error::ErrorKind;
 use co_node::{Config, Node};
+use co_node_scripts::node_follows;
 use co_sdo_client::{ClientState, Mode};
+use co_sdo_scripts::BLOCK_UPLOAD;
 use co_sheet::Sheet;
 use co_value::Key;
 use conode_check::check;
@@ -16,8 +18,6 @@ use conode_loop::loop_back;
 use conode_replay::replay;
 use conode_words::{Task, task};
 use std::alloc::Global;
-
-const CHECKED: &str = "ok: 22 objects, 46 entries, 0 notes\n";
 
 const TRACE: &str = "(0000000001.000000) can0 605#2B171000E8030000\n!tick 1000\n";
 
@@ -51,11 +51,18 @@ fn ended_early(fault: CmdFault, out: &[u8], whole: &str) -> bool {
         && (out.is_empty() || out.last() == Some(&b'\n'))
 }
 
-pub(crate) fn checked(alloc: Global, out: &mut Vec<u8>) -> Outcome {
+// A data sheet that is checked, of which this is written.
+pub(crate) fn checked(
+    alloc: Global,
+    sheet: &str,
+    node_id: Option<u8>,
+    written: &str,
+    out: &mut Vec<u8>,
+) -> Outcome {
     out.clear();
-    match check(alloc, SHEET.as_bytes(), Some(5), &LIMITS, out) {
-        Ok(is_good) => right_if(is_good && out.as_slice() == CHECKED.as_bytes()),
-        Err(fault) => refused_if(ended_early(fault, out.as_slice(), CHECKED)),
+    match check(alloc, sheet.as_bytes(), node_id, &LIMITS, out) {
+        Ok(is_good) => right_if(is_good && out.as_slice() == written.as_bytes()),
+        Err(fault) => refused_if(ended_early(fault, out.as_slice(), written)),
     }
 }
 
@@ -134,10 +141,23 @@ fn looped_to(alloc: Global, node: &mut Node, out: &mut Vec<u8>) -> Outcome {
     }
 }
 
+// The upload of these bytes from the device.
+fn read_back(alloc: Global, node: &mut Node) -> Outcome {
+    if node_follows(node, BLOCK_UPLOAD) == Ok(4) {
+        uploaded_by_blocks(alloc)
+    } else {
+        Outcome::Wrong
+    }
+}
+
+// The download, and then the upload, each end of which says its part of the same dialogue.
 pub(crate) fn looped(alloc: Global, sheet: &Sheet<'_>, out: &mut Vec<u8>) -> Outcome {
-    match new_device(alloc, sheet) {
-        Some(mut node) => looped_to(alloc, &mut node, out),
-        None => Outcome::Refused,
+    let Some(mut node) = new_device(alloc, sheet) else {
+        return Outcome::Refused;
+    };
+    match looped_to(alloc, &mut node, out) {
+        Outcome::Right => read_back(alloc, &mut node),
+        other => other,
     }
 }
 

@@ -1,28 +1,29 @@
-//! Each call that takes memory, over one data sheet. A call that answers that it is out of memory is made again. The status is
-//! 0 where all were right at once, 2 where one of all was out of memory, and 1 where one was wrong, whose name is then
-//! written. Where there is no memory for the text that the calls write to, the worked sequences of devices that are already
-//! built are run in place of the calls, and the status is 4 where all were right. `tests/refused_memory` refuses each
-//! allocation of a run in turn, from that text on, and all of them at once.
+//! Each call that takes memory, over a data sheet, with the dialogue that it begins. A call that answers that it is out of
+//! memory is made again. The status is 0 where all were right at once, 2 where one of all was out of memory, and 1 where one
+//! was wrong, whose name is then written. Where there is no memory for the text that the calls write to, the worked sequences
+//! of devices that are already built are run in place of the calls, and the status is 4 where all were right.
+//! `tests/refused_memory` refuses each allocation of a run in turn, from that text on, and all of them at once.
 #![tactic(auto)]
 
 mod after_build;
 mod commands;
+mod minimal;
 mod outcome;
 mod sheet;
+mod transfers;
 
 use crate::after_build::{are_right, script_of};
 use crate::commands::{checked, decoded, looped, replayed, words_read};
+use crate::minimal::minimal;
 use crate::outcome::{Outcome, refused_if, right_if};
 use crate::sheet::SHEET;
+use crate::transfers::{timed_out, uploaded, uploaded_too_long};
 use co_dict::ObjectStore;
 use co_dict_image::ImageStore;
 use co_dict_list::{BuildFault, Limits, ListStore};
-use co_frame::Outbox;
 use co_node::{Config, Node, Record};
-use co_node_scripts::{devices_of, frame_of};
+use co_node_scripts::devices_of;
 use co_pdo::Schedule;
-use co_sdo::{Channel, Ids};
-use co_sdo_client::{Client, ClientState, Mode};
 use co_sheet::{FaultKind, Sheet, SheetFault, read};
 use co_stream::{StreamFault, read_text};
 use co_value::Key;
@@ -41,14 +42,10 @@ const DEVICE_TYPE: Key = Key {
     sub: 0,
 };
 
-/// A string.
-const STRING: Key = Key {
-    index: 0x2001,
-    sub: 0,
-};
-
 /// The greatest room of an entry: a domain's.
 const GREATEST: u16 = 889;
+
+const CHECKED: &str = "ok: 22 objects, 46 entries, 0 notes\n";
 
 #[derive(Clone, Copy)]
 enum Call {
@@ -60,8 +57,10 @@ enum Call {
     Schedule,
     Channel,
     Upload,
+    UploadTooLong,
     Node,
     Record,
+    Minimal,
     NodeIdZero,
     TooLarge,
     Check,
@@ -71,7 +70,7 @@ enum Call {
     Task,
 }
 
-const CALLS: [Call; 17] = [
+const CALLS: [Call; 19] = [
     Call::ReadText,
     Call::Read,
     Call::ReadFaulty,
@@ -80,8 +79,10 @@ const CALLS: [Call; 17] = [
     Call::Schedule,
     Call::Channel,
     Call::Upload,
+    Call::UploadTooLong,
     Call::Node,
     Call::Record,
+    Call::Minimal,
     Call::NodeIdZero,
     Call::TooLarge,
     Call::Check,
@@ -102,8 +103,10 @@ impl Call {
             Call::Schedule => "Schedule::new",
             Call::Channel => "Channel::new",
             Call::Upload => "Client::upload",
+            Call::UploadTooLong => "Client::upload of too many bytes",
             Call::Node => "Node::build",
             Call::Record => "Record::new",
+            Call::Minimal => "calls over the mandatory objects alone",
             Call::NodeIdZero => "builds with node-ID 0",
             Call::TooLarge => "read of a sheet that is too large",
             Call::Check => "check",
@@ -179,48 +182,6 @@ fn schedule_made(alloc: Global, store: &ListStore) -> Outcome {
     }
 }
 
-fn channel_made(alloc: Global) -> Outcome {
-    let ids = Ids {
-        request: 0x605,
-        answer: 0x585,
-    };
-    match Channel::new(alloc, ids, u32::from(GREATEST), 65_535) {
-        Ok(channel) => right_if(channel.held() == 0),
-        Err(_) => Outcome::Refused,
-    }
-}
-
-// ten bytes, and as many at most
-fn client_made(alloc: Global) -> Outcome {
-    let ids = Ids {
-        request: 0x605,
-        answer: 0x585,
-    };
-    match Client::upload(alloc, ids, STRING, 10, Mode::Segmented, 65_535) {
-        Ok(mut client) => right_if(has_uploaded(&mut client)),
-        Err(_) => Outcome::Refused,
-    }
-}
-
-const ANSWERS: [&str; 3] = [
-    "585#410120000A000000",
-    "585#0030313233343536",
-    "585#1937383900000000",
-];
-
-fn has_uploaded(client: &mut Client<'_>) -> bool {
-    let mut sent = Outbox::new();
-    client.begin(&mut sent);
-    for answer in ANSWERS {
-        let Ok(frame) = frame_of(answer) else {
-            return false;
-        };
-        sent.clear();
-        client.take(&frame, &mut sent);
-    }
-    client.state() == ClientState::Done && client.result() == b"0123456789".as_slice()
-}
-
 fn node_built(alloc: Global, sheet: &Sheet<'_>) -> Outcome {
     let config = Config {
         limits: LIMITS,
@@ -283,13 +244,15 @@ fn outcome_of(call: Call, given: &Given<'_, '_>, out: &mut Vec<u8>) -> Outcome {
         Call::ListStore => list_built(alloc, sheet),
         Call::ImageStore => image_built(alloc, sheet),
         Call::Schedule => schedule_made(alloc, store),
-        Call::Channel => channel_made(alloc),
-        Call::Upload => client_made(alloc),
+        Call::Channel => timed_out(alloc, sheet),
+        Call::Upload => uploaded(alloc),
+        Call::UploadTooLong => uploaded_too_long(alloc),
         Call::Node => node_built(alloc, sheet),
         Call::Record => record_made(alloc),
+        Call::Minimal => minimal(alloc, out),
         Call::NodeIdZero => node_id_refused(alloc, sheet),
         Call::TooLarge => size_refused(alloc, too_large),
-        Call::Check => checked(alloc, out),
+        Call::Check => checked(alloc, SHEET, Some(5), CHECKED, out),
         Call::Decode => decoded(alloc, sheet, out),
         Call::Replay => replayed(alloc, sheet, out),
         Call::LoopBack => looped(alloc, sheet, out),

@@ -1,4 +1,4 @@
-//! The larger data sheet: SDO channels, heartbeat consumers, an RPDO, two TPDOs, a string and a domain.
+//! The data sheets. The larger one has SDO channels, heartbeat consumers, an RPDO, two TPDOs, a string and a domain.
 
 /// 22 objects, 46 entries.
 pub(crate) const SHEET: &str = "\
@@ -226,3 +226,11 @@ AccessType=wo
 DataType=15
 AccessType=rw
 ";
+
+/// The mandatory objects of it, which are a data sheet by themselves: 3 objects, 4 entries.
+pub(crate) fn minimal_sheet() -> &'static str {
+    match SHEET.split_once("[OptionalObjects]") {
+        Some((front, _)) => front,
+        None => "",
+    }
+}

@@ -1,11 +1,11 @@
 //! A device out of a table, and single inputs of it.
 
-use crate::bad_script::BadScript;
 use crate::sheet::{COUNTER, MANUFACTURER, PROFILE, sheet_of};
 use co_dict_list::Limits;
 use co_frame::{Frame, Outbox};
 use co_node::{Config, Node};
 use co_node_inputs::{AppEvent, Input};
+use co_sdo_scripts::BadScript;
 use co_sheet::read;
 use co_value::Key;
 use std::alloc::{AllocError, Global};

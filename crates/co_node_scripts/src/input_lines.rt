@@ -1,11 +1,10 @@
 //! The inputs of a script's line.
 
-use crate::bad_script::BadScript;
 use crate::device::{apply, elapse, take, write};
-use crate::frames::frame_of;
 use co_frame::{Frame, Outbox};
 use co_node::Node;
 use co_node_inputs::AppEvent;
+use co_sdo_scripts::{BadScript, frame_of};
 use conode_trace::{AppLine, EventLine, TraceLine};
 
 // An event line of the application.

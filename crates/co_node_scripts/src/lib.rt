@@ -2,9 +2,8 @@
 //! so does the program that a test refuses memory to.
 #![tactic(auto)]
 
-mod bad_script;
 mod device;
-mod frames;
+mod dialogue;
 mod input_lines;
 mod pdo;
 mod questions;
@@ -13,9 +12,8 @@ mod sdo;
 mod sheet;
 mod states;
 
-pub use bad_script::BadScript;
 pub use device::{elapse, node_by, node_of, sheet_by, take, write};
-pub use frames::{are_frames, frame_of};
+pub use dialogue::node_follows;
 pub use pdo::{RPDOS, TPDOS};
 pub use script::{devices_of, first_wrong};
 pub use sdo::{BLOCKS, SEGMENTED};

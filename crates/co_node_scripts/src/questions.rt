@@ -1,10 +1,10 @@
 //! Questions to a device.
 
-use crate::bad_script::BadScript;
 use co_frame::AbortCode;
 use co_node::Node;
 use co_node_inputs::AppAnswer;
 use co_node_parts::NodeState;
+use co_sdo_scripts::BadScript;
 use co_text::HexPairs;
 use co_value::Key;
 

@@ -7,13 +7,12 @@
 //! with which a script begins, is a new device with an SDO timeout of 1000 ms and that default of 1017h; with `+` after
 //! the time it has a SYNC counter.
 
-use crate::bad_script::BadScript;
 use crate::device::node_by;
-use crate::frames::are_frames;
 use crate::input_lines::give;
 use crate::questions::answer;
 use co_frame::Outbox;
 use co_node::Node;
+use co_sdo_scripts::{BadScript, are_frames};
 use std::alloc::Global;
 
 /// The devices of a script, one for each line `new`.

@@ -6,21 +6,14 @@ ghost use Rattle.co_sdo_bank.specs.Banks.{all_settings};
 use crate::sheet::TWO_CHANNELS;
 use co_dict::{ObjectStore, capacity_law};
 use co_dict_list::{Limits, ListStore};
-use co_frame::{Frame, Outbox};
+use co_frame::Outbox;
 use co_sdo_bank::Bank;
+use co_sdo_scripts::{are_frames, frame_of};
 use co_sheet::read;
 use co_value::Key;
 use std::alloc::{AllocError, Global};
 use std::process::Abort;
 use std::test::Fail;
-
-// The frame that a text spells: its identifier, `#`, and its eight data bytes, all in hexadecimal digits.
-fn frame_of(text: &str) -> Result<Frame, Fail> {
-    let (id, digits) = text.split_once('#').ok_or("no data")?;
-    let id = u16::from_str_radix(id, 16)?;
-    let number = u64::from_str_radix(digits, 16)?;
-    Ok(Frame::new(id, &number.to_be_bytes())?)
-}
 
 /// SDO channels over a dictionary, each with room for every entry.
 #[derive(Drop)]
@@ -64,16 +57,9 @@ impl<S: ObjectStore + Drop> Served<S> {
     /// Whether in each line of a text the first word is answered by the frames after it, and no other.
     pub(crate) fn shows(&mut self, rt: &impl Abort, dialogue: &str) -> Result<(), Fail> {
         for line in dialogue.lines() {
-            let mut words = line.split_whitespace();
-            if let Some(word) = words.next() {
-                let sent = self.sent_at(word)?;
-                let mut count = 0usize;
-                for text in words {
-                    assert_eq!(rt; sent.get(count), Some(&frame_of(text)?), "{line}");
-                    count = count.saturating_add(1);
-                }
-                assert_eq!(rt; sent.len(), count, "{line}");
-            }
+            let (word, frames) = line.split_once(' ').unwrap_or((line, ""));
+            let sent = self.sent_at(word)?;
+            assert!(rt; are_frames(sent.as_slice(), frames)?, "{line}: {sent:?}");
         }
         Ok(())
     }

@@ -1,7 +1,8 @@
 //! Block uploads of which segments are lost.
 
-use crate::device::{device_of, frame_of};
+use crate::device::{device_of, shows};
 use co_frame::{Frame, Outbox};
+use co_sdo_scripts::frame_of;
 use std::test::Fail;
 
 // How many bytes; the answer to the begin; the segments of the first sub-block; one in the middle of it, and how many come
@@ -56,7 +57,7 @@ fn lost_segments(rt: HostRuntime) -> Result<(), Fail> {
         let acknowledge = Frame::new(0x605, &[0xA2, rest, 127, 0, 0, 0, 0, 0])?;
         let sent = device.take(&acknowledge);
         assert!(rt; sent.as_slice() == [end].as_slice(), "{row}");
-        device.shows(&rt, "605#A100000000000000 0")?;
+        shows(&rt, &mut device, "605#A100000000000000 0");
     }
     Ok(())
 }

@@ -1,6 +1,7 @@
 //! Dialogues with a channel, in text: what isn't among the closed examples, and a whole transfer of each kind.
 
-use crate::device::device_of;
+use crate::device::{device_of, shows};
+use co_sdo_scripts::{TIMED_OUT, UPLOAD};
 use std::test::Fail;
 
 // One a line; each begins with a device of its own.
@@ -12,15 +13,14 @@ const DIALOGUES: &str = "\
 605#C000210000000000 585#A00021007F000000 x126 605#7F00000000000000 585#A27F7F0000000000 889 x126 605#7F00000000000000 585#8000210012000706 0
 605#C000210000000000 585#A00021007F000000 x126 605#7F00000000000000 585#A27F7F0000000000 x126 605#FF00000000000000 585#A27F7F0000000000 1778 605#C100000000000000 585#8000210012000706 0
 605#C000210000000000 585#A00021007F000000 x1 ticks 585#8000210000000405 0 605#23022000EFBEADDE 585#6002200000000000
-605#210120000A000000 585#6001200000000000 605#0030313233343536 585#2000000000000000 7 ticks 585#8001200000000405 0 605#1937383900000000 585#8000000001000405
 605#4001200000000000 585#410120000A000000 605#6000000000000000 585#0030313233343536 write 10 605#7000000000000000 585#1937383900000000 605#4001200000000000 585#4701200061626300
 ";
 
 #[test]
 fn dialogues(rt: HostRuntime) -> Result<(), Fail> {
-    for dialogue in DIALOGUES.lines() {
+    for dialogue in DIALOGUES.lines().chain([TIMED_OUT, UPLOAD]) {
         let mut device = device_of(rt.alloc(), 889, 10)?;
-        device.shows(&rt, dialogue)?;
+        shows(&rt, &mut device, dialogue);
     }
     Ok(())
 }
@@ -51,8 +51,8 @@ fn a_begin_drops_what_is_open(rt: HostRuntime) -> Result<(), Fail> {
     for open in OPEN.lines() {
         for begin in BEGINS.lines() {
             let mut device = device_of(rt.alloc(), 889, 65535)?;
-            device.shows(&rt, open)?;
-            device.shows(&rt, begin)?;
+            shows(&rt, &mut device, open);
+            shows(&rt, &mut device, begin);
         }
     }
     Ok(())

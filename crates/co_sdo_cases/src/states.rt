@@ -1,10 +1,10 @@
 //! A channel in each of its states: what it answers to every value of a frame's first two bytes, and a drop of its
 //! transfer.
 
-use crate::device::{Device, device_of, frame_of};
+use crate::device::{Device, device_of, shows};
 use arrayvec::ArrayVec;
-use co_dict::ObjectStore;
 use co_frame::{Frame, Outbox};
+use co_sdo_scripts::frame_of;
 use co_sdo_states::{Outcome, STATES, State};
 use co_value::Key;
 use std::process::Abort;
@@ -30,7 +30,7 @@ fn is_shown(device: &Device, sent: &[Frame], set: Option<Key>, outcome: &Outcome
     };
     answers.next().is_none()
         && set == key
-        && device.channel.held() == outcome.held
+        && device.held() == outcome.held
         && device.has(0x2001, bytes)
         && device.has(0x2002, &[0xEF, 0xBE, 0xAD, 0xDE])
 }
@@ -71,7 +71,7 @@ fn check(
         is_right,
         "{state:?} {bytes:?}: {sent:?}, {set:?} and not {outcome:?}"
     );
-    device.channel.drop_transfer();
+    device.drop_transfer();
     if set.is_some() {
         device.restore();
     }
@@ -80,8 +80,8 @@ fn check(
 
 // Sends each frame of a state, after the requests that lead to it.
 fn check_all(rt: &impl Abort, device: &mut Device, state: State) -> Result<(), Fail> {
-    device.shows(rt, state.opening())?;
-    device.channel.drop_transfer();
+    shows(rt, device, state.opening());
+    device.drop_transfer();
     let requests = requests_of(state.opening())?;
     let mut sent = Outbox::new();
     for number in 0..=0xFFFFu16 {
@@ -104,10 +104,14 @@ fn every_frame(rt: HostRuntime) -> Result<(), Fail> {
 fn drop_of_a_transfer(rt: HostRuntime) -> Result<(), Fail> {
     for state in STATES {
         let mut device = device_of(rt.alloc(), 0, 65535)?;
-        device.shows(&rt, state.opening())?;
-        device.channel.drop_transfer();
-        assert_eq!(rt; device.channel.held(), 0, "{state:?}");
-        device.shows(&rt, "605#0161626364656667 585#8000000001000405")?;
+        shows(&rt, &mut device, state.opening());
+        device.drop_transfer();
+        assert_eq!(rt; device.held(), 0, "{state:?}");
+        shows(
+            &rt,
+            &mut device,
+            "605#0161626364656667 585#8000000001000405",
+        );
         assert!(rt; device.has(0x2001, b"0123456789"), "{state:?}");
     }
     Ok(())

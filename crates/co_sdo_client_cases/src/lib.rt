@@ -4,8 +4,6 @@
 #[cfg(test)]
 mod alone;
 #[cfg(test)]
-mod dialogue;
-#[cfg(test)]
 mod server;
 #[cfg(test)]
 mod transfers;

@@ -1,15 +1,14 @@
 //! Whole transfers between a client and a server.
 
-use crate::dialogue::{IDS, answered, begun, frame_of};
-use crate::server::{KEY, Served, server};
-use co_dict::ObjectStore;
+use crate::server::{IDS, KEY, Server, server};
 use co_frame::Outbox;
 use co_sdo_client::{Client, ClientState, Mode};
+use co_sdo_scripts::{answered, begun, frame_of};
 use std::test::Fail;
 
 // Hands each request to the server and each of its answers to the client, in their order, until nothing is under way.
 // No step of a client sends two batches, so what waits is what the last answer made it send.
-fn runs<S: ObjectStore + Drop>(client: &mut Client, server: &mut Served<S>) {
+fn runs(client: &mut Client, server: &mut Server) {
     let mut requests = begun(client);
     for _ in 0..20_000 {
         if requests.is_empty() {
@@ -76,7 +75,7 @@ fn downloads(rt: HostRuntime) -> Result<(), Fail> {
                 runs(&mut client, &mut server);
                 assert!(rt; client.state() == ClientState::Done, "{line}");
                 assert!(rt; client.sent() == count, "{line}");
-                assert!(rt; server.has(bytes), "{line}");
+                assert!(rt; server.has(KEY.index, bytes), "{line}");
             }
         }
     }
@@ -93,7 +92,7 @@ fn uploads(rt: HostRuntime) -> Result<(), Fail> {
         for mode in MODES {
             let count: u64 = words.next().ok_or("no count")?.parse()?;
             let mut server = server(rt.alloc(), 65535)?;
-            server.write(bytes)?;
+            server.write(KEY.index, bytes)?;
             let mut client = Client::upload(rt.alloc(), IDS, KEY, length, mode, 65535)?;
             runs(&mut client, &mut server);
             assert!(rt; client.state() == ClientState::Done, "{line}");
@@ -105,7 +104,7 @@ fn uploads(rt: HostRuntime) -> Result<(), Fail> {
 }
 
 // Hands all these requests to the server, and gives the last answers.
-fn takes<S: ObjectStore + Drop>(server: &mut Served<S>, requests: &Outbox) -> Outbox {
+fn takes(server: &mut Server, requests: &Outbox) -> Outbox {
     let mut last = Outbox::new();
     for request in requests.iter() {
         last = server.take(request);
@@ -144,6 +143,6 @@ fn block_lost_and_acknowledged_twice(rt: HostRuntime) -> Result<(), Fail> {
     let mut left = vec![in rt.alloc();]?;
     left.extend_from_slice(bytes.get(..889).ok_or("too few")?)?;
     left.extend_from_slice(bytes.get(1778..).ok_or("too few")?)?;
-    assert!(rt; server.has(&left));
+    assert!(rt; server.has(KEY.index, &left));
     Ok(())
 }
