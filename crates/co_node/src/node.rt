@@ -72,6 +72,7 @@ impl Node {
     }
 
     /// One input: the outbox then holds the frames that it prescribes, and nothing else.
+    #[inline(always)]
     pub fn step(&mut self, input: Input<'_>, outbox: &mut Outbox)
         ensures frames { (k : Constants) (before : Inputs) → Stands k self.old before →
             outbox.new.items ≡ prescribed k before (input_view input.entry) }

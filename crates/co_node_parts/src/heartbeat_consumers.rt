@@ -46,6 +46,7 @@ impl ConsumersEvent {
 
 /// Notes an event for each of some entries, and leaves in `lost` which of them lose their heartbeat. Those from `used` on
 /// are passed over by it.
+#[inline(always)]
 fn note_all(
     entries: &mut [HeartbeatConsumer],
     used: usize,
@@ -148,7 +149,7 @@ impl HeartbeatConsumers {
     }
 
     /// Takes note of an event, and leaves in `lost` which entries lose their heartbeat at it, and nothing else.
-    #[inline]
+    #[inline(always)]
     pub fn note(&mut self, event: ConsumersEvent, lost: &mut LostHeartbeats)
         ensures lost { (log : ConsumersLog) → ConsumersStand self.old log →
             lost.new.items ≡ lost_at event log }

@@ -165,13 +165,15 @@ pub fn take_pdos<S: ObjectStore>(
         EmergenciesStand emergencies.new (with_queued (effect_emergencies
         (S.description store.old) (S.contents store.old) marks.now transition log) queued) }
 {
-    let mapped = mapped_length(mappings, &marks.rpdo);
-    let kind = type_of(store, &marks.rpdo);
+    // lent out in place of the marks, so that what is known of these stays known
+    let rpdo = marks.rpdo;
+    let mapped = mapped_length(mappings, &rpdo);
+    let kind = type_of(store, &rpdo);
     slots.note(marks.slot_event(kind, mapped, transition));
-    let at_once = is_immediate(kind, mapped, &marks.rpdo);
+    let at_once = is_immediate(kind, mapped, &rpdo);
     raise_lengths(store, emergencies, marks, mapped);
     take_all_data(store, mappings, emergencies, slots.taken());
-    take_at_once(store, mappings, emergencies, &marks.rpdo, at_once);
+    take_at_once(store, mappings, emergencies, &rpdo, at_once);
     // these laws do nothing
     settings_kept();
     mappings_stay();

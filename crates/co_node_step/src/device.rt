@@ -206,6 +206,7 @@ impl<S: ObjectStore> Device<S> {
         );
         send_tpdos(
             &self.store,
+            &self.parts.schedule,
             &self.parts.mappings.tpdos,
             &self.parts.due,
             outbox,

@@ -6,19 +6,19 @@ ghost use Rattle.co_frame.specs.Outboxes.{outbox_room};
 ghost use Rattle.co_dict.specs.declared.side.Side.TheVariants.{Tpdo};
 ghost use Rattle.co_dict.specs.CobIds.{identifier_of};
 ghost use Rattle.co_dict.specs.Rows.{number_at};
-ghost use Rattle.co_pdo.specs.Tpdos.{tpdo_key};
+ghost use Rattle.co_pdo.specs.Schedules.{History, IsScheduleAfter};
 ghost use Rattle.co_node_parts.specs.EmergencyQueues.{EmergenciesStand, EmergencyLog, emergency_due, with_sending};
 ghost use Rattle.co_node_inputs.specs.Keys.{emergency_inhibit_key};
 ghost use Rattle.co_node_inputs.specs.Words.{may_send};
 ghost use Rattle.co_node_mappings.specs.MappingTables.{HaveParts, IsMappingTable};
 ghost use Rattle.co_node_history.specs.Histories.{emergency_frames, life_frames, tpdo_frame};
 
-use co_dict::{CobId, ObjectStore, Side, number_u16, number_u32};
+use co_dict::{CobId, ObjectStore, number_u16, number_u32};
 use co_frame::{Emergency, Frame, Heartbeat, Outbox};
 use co_node_inputs::Marks;
 use co_node_mappings::MappingTable;
 use co_node_parts::{Emergencies, NodeState};
-use co_pdo::cob_id;
+use co_pdo::Schedule;
 use co_profile::{EMERGENCY_COB_ID as EMERGENCY_INDEX, EMERGENCY_INHIBIT_TIME};
 use co_value::Key;
 
@@ -82,48 +82,51 @@ pub fn send_life<S: ObjectStore>(store: &S, life: Option<Heartbeat>, outbox: &mu
     }
 }
 
-/// The frame of a TPDO with these bytes.
-fn frame_with<S: ObjectStore>(store: &S, number: u16, bytes: &[u8]) -> Frame
-    requires number { number < 512 }
-    requires few { length bytes.now ≤ 8 }
-    ensures { result ≡ record {
-      id = identifier_of
-          (number_at (S.contents store.now) (tpdo_key number 1));
-      bytes = bytes.now;
-    } }
+/// The frame of a TPDO with this COB-ID and these bytes.
+fn frame_with(cob_id: CobId, bytes: &[u8]) -> Frame
+    requires { length bytes.now ≤ 8 }
+    ensures { result ≡ record { id = identifier_of cob_id.0; bytes = bytes.now } }
 {
     // at most 7FFh, and at most 8 bytes
-    Frame::new(cob_id(store, Side::Tpdo, number).identifier(), bytes).unwrap_or_default()
+    Frame::new(cob_id.identifier(), bytes).unwrap_or_default()
 }
 
-/// The frame of a TPDO, by the compiled mappings of the TPDOs.
-fn tpdo_frame<S: ObjectStore>(store: &S, mappings: &MappingTable, number: u16) -> Frame
+/// The frame of a TPDO, by the schedule and the compiled mappings of the TPDOs.
+fn tpdo_frame<S: ObjectStore>(
+    store: &S,
+    schedule: &Schedule,
+    mappings: &MappingTable,
+    number: u16,
+) -> Frame
     requires number { number < 512 }
     requires parts { HaveParts (S.description store.now) mappings.now }
-    ensures { IsMappingTable Tpdo (S.description store.now) (S.contents store.now) mappings.now →
+    ensures { (history : History) → IsScheduleAfter (S.description store.now) schedule.now history →
+        IsMappingTable Tpdo (S.description store.now) (S.contents store.now) mappings.now →
         result ≡ tpdo_frame (S.description store.now) (S.contents store.now) number }
 {
     let image = mappings.image(store, number);
-    frame_with(store, number, &image)
+    frame_with(schedule.cob_id(store, number), &image)
 }
 
-/// Puts the frames of TPDOs into the outbox, where it has room for all of them. `mappings` are the compiled mappings of the
-/// TPDOs, as the dictionary is now.
+/// Puts the frames of TPDOs into the outbox, where it has room for all of them. `schedule` is the schedule of the TPDOs of the
+/// dictionary, `mappings` are their compiled mappings, as the dictionary is now.
 #[inline(always)]
 pub fn send_tpdos<S: ObjectStore>(
     store: &S,
+    schedule: &Schedule,
     mappings: &MappingTable,
     numbers: &[u16],
     outbox: &mut Outbox,
 )
     requires numbers { (i e : ℕ) → i < length numbers.now → slice_index_or numbers.now i e < 512 }
     requires parts { HaveParts (S.description store.now) mappings.now }
-    ensures { IsMappingTable Tpdo (S.description store.now) (S.contents store.now) mappings.now →
+    ensures { (history : History) → IsScheduleAfter (S.description store.now) schedule.now history →
+        IsMappingTable Tpdo (S.description store.now) (S.contents store.now) mappings.now →
         length outbox.old.items + length numbers.now ≤ outbox_room →
         outbox.new.items ≡ outbox.old.items
         ++ map (tpdo_frame (S.description store.now) (S.contents store.now)) numbers.now }
 {
     for &number in numbers {
-        let _ = outbox.try_push(tpdo_frame(store, mappings, number));
+        let _ = outbox.try_push(tpdo_frame(store, schedule, mappings, number));
     }
 }

@@ -1,6 +1,6 @@
 -- One more call in a log.
 use Rattle.std.proofs.Common.{◌≡◌, ℕ, suc, ◌+◌, ◌-◌, ◌<◌, Bool, true, false, cond, eqb, leb, List, [], ◌∷◌, length, refl, sym, ap, ◌∙◌, subst, arith}
-use Rattle.std.specs.Prelude.{◌%◌, ◌&&◌, ◌||◌, Option, Some, None, map}
+use Rattle.std.specs.Prelude.{◌%◌, ◌&&◌, ◌||◌, not, Option, Some, None, map}
 use Rattle.std.specs.List.{list_all}
 use Rattle.std.proofs.lemmas.Bool.Decides.{nat_tests}
 use Rattle.std.proofs.Math.Bool.{and-true, and-false, or-true, or-false}
@@ -14,8 +14,8 @@ use Rattle.co_pdo.specs.declared.tpdo.Tpdo.{Tpdo}
 use Rattle.co_pdo.specs.Tpdos.{places_of}
 use Rattle.co_pdo.specs.Log.{Log, Started, Happened, started_with}
 use Rattle.co_pdo.specs.Due.{begins_count, syncs, has_begun, since_beginning, counted_syncs, event_since_sync, timer_ticks, event_waits, sendings, is_due_by_count, is_due_at_sync, is_event_driven, is_due_by_event, is_due}
-use Rattle.co_pdo.specs.Countdowns.{left_of, type_of, inhibit_of, HasPlaces, IsAfter, IsAsAt, IsCurrent}
-use Rattle.co_pdo.specs.Steps.{counted, counted_with, wants_with, marked}
+use Rattle.co_pdo.specs.Countdowns.{left_of, type_of, inhibit_of, CountsSyncs, HasPlaces, IsAfter, IsAsAt, IsCurrent}
+use Rattle.co_pdo.specs.Steps.{passes_over, counted, counted_with, wants_with, marked}
 use Rattle.co_pdo.proofs.Counts.{last_sync, next_sync, left-tick, last_tick}
 
 all_from_zero : (xs : List ℕ) → list_all (λ m. leb 0 m) xs ≡ true
@@ -90,14 +90,14 @@ counts_is begun false older h = or-false begun ∙ h
 after_counted : (t : Tpdo) (log : Log) (s : Settings) (o : Occasion) → IsAfter t log → IsCurrent s log → IsAfter (counted_with s o t) (Happened o s false ∷ log)
 after_counted t log s (Sync overflow counter) h f =
     let b : Bool = begins_count s.start_value overflow counter in
-    let c : t.has_begun || b ≡ has_begun (b ∷ syncs log) = counts_is t.has_begun b (syncs log) h.has_begun in
+    let c : CountsSyncs t → t.has_begun || b ≡ has_begun (b ∷ syncs log) = λ low. counts_is t.has_begun b (syncs log) (h.has_begun low) in
     record {
       transmission_type = h.transmission_type;
       inhibit = h.inhibit;
       timer = h.timer;
       has_begun = c;
-      syncs_left = left_then t.transmission_type t.syncs_left b (t.has_begun || b) (syncs log) (sym c) h.syncs_left;
-      event_since_sync = refl;
+      syncs_left = λ low. left_then t.transmission_type t.syncs_left b (t.has_begun || b) (syncs log) (sym (c low)) (h.syncs_left low);
+      event_since_sync = λ low. refl;
       event_waits = h.event_waits;
       inhibit_left = h.inhibit_left;
       timer_left = h.timer_left;
@@ -108,7 +108,7 @@ after_counted t log s Event h f = record {
   timer = h.timer;
   has_begun = h.has_begun;
   syncs_left = h.syncs_left;
-  event_since_sync = refl;
+  event_since_sync = λ low. refl;
   event_waits = refl;
   inhibit_left = h.inhibit_left;
   timer_left = h.timer_left;
@@ -153,14 +153,30 @@ by_count kind left b true older above e h =
     ap (λ x. x && leb kind 240) (ap (λ n. leb n 1) h ∙ last_sync (counted_syncs older) kind above ∙ ap (λ n. eqb (n % kind) 0) (sym (one_more b true older e)))
 by_count kind left b false older above e h = refl
 
+none_high : (x y low : Bool) → low ≡ false → x && (y && low) ≡ false
+none_high x y low high = ap (λ w. x && (y && w)) high ∙ ap (λ w. x && w) (and-false y) ∙ and-false x
+
 at_sync : (t : Tpdo) (log : Log) (b : Bool) → IsAfter t log → (zero : Bool) → eqb t.transmission_type 0 ≡ zero
     → cond zero t.event_since_sync ((t.has_begun || b) && (leb t.syncs_left 1 && leb t.transmission_type 240)) ≡ cond zero (event_since_sync log) (is_due_by_count t.transmission_type (b ∷ syncs log))
-at_sync t log b h true e = h.event_since_sync
-at_sync t log b h false e =
-    let above : 0 < t.transmission_type = grind (arith, nat_tests) in
-    let c : t.has_begun || b ≡ has_begun (b ∷ syncs log) = counts_is t.has_begun b (syncs log) h.has_begun in
-    by_count t.transmission_type t.syncs_left b (t.has_begun || b) (syncs log) above (sym c) h.syncs_left
-    ∙ ap (λ x. x && (eqb (counted_syncs (b ∷ syncs log) % t.transmission_type) 0 && leb t.transmission_type 240)) c
+at_sync t log b h true e = h.event_since_sync low
+  where
+    low : leb t.transmission_type 240 ≡ true
+    low = let none : t.transmission_type ≡ 0 = grind (arith, nat_tests) in ap (λ n. leb n 240) none
+at_sync t log b h false e = by_type (leb t.transmission_type 240) refl
+  where
+    due : Bool
+    due = eqb (counted_syncs (b ∷ syncs log) % t.transmission_type) 0
+
+    counted_low : leb t.transmission_type 240 ≡ true → (t.has_begun || b) && (leb t.syncs_left 1 && leb t.transmission_type 240) ≡ is_due_by_count t.transmission_type (b ∷ syncs log)
+    counted_low low =
+        let above : 0 < t.transmission_type = grind (arith, nat_tests) in
+        let c : t.has_begun || b ≡ has_begun (b ∷ syncs log) = counts_is t.has_begun b (syncs log) (h.has_begun low) in
+        by_count t.transmission_type t.syncs_left b (t.has_begun || b) (syncs log) above (sym c) (h.syncs_left low)
+        ∙ ap (λ x. x && (due && leb t.transmission_type 240)) c
+
+    by_type : (low : Bool) → leb t.transmission_type 240 ≡ low → (t.has_begun || b) && (leb t.syncs_left 1 && leb t.transmission_type 240) ≡ is_due_by_count t.transmission_type (b ∷ syncs log)
+    by_type true low = counted_low low
+    by_type false high = none_high (t.has_begun || b) (leb t.syncs_left 1) _ high ∙ sym (none_high (has_begun (b ∷ syncs log)) due _ high)
 
 -- due by the counts after a call, types 254 and 255
 by_event : (t : Tpdo) (log : Log) (s : Settings) → Same t s → IsAfter t log → is_event_driven t.transmission_type && (t.event_waits && eqb t.inhibit_left 0) ≡ is_due_by_event s log
@@ -221,3 +237,46 @@ due_wanted t log s o w h f e k = sym (and-true s.is_active) ∙ ap (λ b. s.is_a
 -- it was not wanted
 pub due_unwanted : (t : Tpdo) (log : Log) (s : Settings) (o : Occasion) (w : Bool) → IsAfter t log → IsCurrent s log → w ≡ wants_with s o t → w ≡ false → false ≡ is_due s log o
 due_unwanted t log s o w h f e k = sym (and-false s.is_active) ∙ ap (λ b. s.is_active && b) (sym k ∙ e) ∙ due_is t log s o h f
+
+-- ---- a SYNC that is passed over
+
+is_high : (low : Bool) → not low ≡ true → low ≡ false
+is_high true h = cc
+is_high false h = refl
+
+pub after_passed : (t : Tpdo) (log : Log) (s : Settings) (o : Occasion) → passes_over o t ≡ true → IsAfter t log → IsAfter t (Happened o s false ∷ log)
+after_passed t log s (Sync overflow counter) p h = record {
+  transmission_type = h.transmission_type;
+  inhibit = h.inhibit;
+  timer = h.timer;
+  has_begun = λ low. absurd (never low);
+  syncs_left = λ low. absurd (never low);
+  event_since_sync = λ low. absurd (never low);
+  event_waits = h.event_waits;
+  inhibit_left = h.inhibit_left;
+  timer_left = h.timer_left;
+}
+  where
+    never : CountsSyncs t → ⊥
+    never low = let high : leb t.transmission_type 240 ≡ false = is_high _ p in cc
+after_passed t log s Event p h = cc
+after_passed t log s Tick p h = cc
+
+unwanted_passed : (t : Tpdo) (s : Settings) (o : Occasion) → passes_over o t ≡ true → false ≡ wants_with s o t
+unwanted_passed t s (Sync overflow counter) p = sym (by_zero (eqb t.transmission_type 0) refl)
+  where
+    high : leb t.transmission_type 240 ≡ false
+    high = is_high _ p
+
+    by_zero : (zero : Bool) → eqb t.transmission_type 0 ≡ zero
+        → cond zero t.event_since_sync ((t.has_begun || begins_count s.start_value overflow counter) && (leb t.syncs_left 1 && leb t.transmission_type 240)) ≡ false
+    by_zero true e =
+        let none : t.transmission_type ≡ 0 = grind (arith, nat_tests) in
+        let low : leb t.transmission_type 240 ≡ true = ap (λ n. leb n 240) none in
+        cc
+    by_zero false e = none_high _ _ _ high
+unwanted_passed t s Event p = cc
+unwanted_passed t s Tick p = cc
+
+pub due_passed : (t : Tpdo) (log : Log) (s : Settings) (o : Occasion) → IsAfter t log → IsCurrent s log → passes_over o t ≡ true → false ≡ is_due s log o
+due_passed t log s o h f p = due_unwanted t log s o false h f (unwanted_passed t s o p) refl

@@ -1,5 +1,5 @@
 -- Which countdowns a TPDO has after its log, and where the dictionary has what is read of it.
-use Rattle.std.specs.Prelude.{◌≡◌, ℕ, ◌-◌, ◌%◌, true, List, [], ◌∷◌, Option, Some, None}
+use Rattle.std.specs.Prelude.{◌≡◌, ℕ, ◌-◌, ◌%◌, nat_le, true, List, [], ◌∷◌, Option, Some, None}
 use Rattle.co_frame.specs.InhibitTimes.{in_ms}
 use Rattle.co_dict.specs.Stores.{Description}
 use Rattle.co_pdo.specs.declared.settings.Settings.{Settings}
@@ -23,14 +23,18 @@ abbrev pub inhibit_of : Option Settings → ℕ
 inhibit_of None = 0
 inhibit_of (Some s) = in_ms s.inhibit_time
 
+-- SYNCs count at transmission types 0 to 240; above, what is counted of them is of no use
+abbrev pub CountsSyncs : Tpdo → Type 0
+CountsSyncs t = nat_le t.transmission_type 240 ≡ true
+
 -- the countdowns of a TPDO are those after this log
 pub record IsAfter (t : Tpdo) (log : Log) : Type 0 where
   pub transmission_type : t.transmission_type ≡ type_of (started_with log)
   pub inhibit : t.inhibit ≡ inhibit_of (started_with log)
   pub timer : t.timer ≡ timer_of log
-  pub has_begun : t.has_begun ≡ has_begun (syncs log)
-  pub syncs_left : t.syncs_left ≡ t.transmission_type - counted_syncs (syncs log) % t.transmission_type
-  pub event_since_sync : t.event_since_sync ≡ event_since_sync log
+  pub has_begun : CountsSyncs t → t.has_begun ≡ has_begun (syncs log)
+  pub syncs_left : CountsSyncs t → t.syncs_left ≡ t.transmission_type - counted_syncs (syncs log) % t.transmission_type
+  pub event_since_sync : CountsSyncs t → t.event_since_sync ≡ event_since_sync log
   pub event_waits : t.event_waits ≡ event_waits log
   pub inhibit_left : t.inhibit_left ≡ left_of t.inhibit (sendings log)
   pub timer_left : t.timer_left ≡ t.timer - timer_ticks log

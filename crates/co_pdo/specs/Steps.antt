@@ -1,5 +1,5 @@
 -- What one SYNC, event or tick does to the countdowns, without the log.
-use Rattle.std.specs.Prelude.{◌-◌, ◌==◌, ◌&&◌, ◌||◌, Bool, true, false, nat_le, if◌then◌else◌}
+use Rattle.std.specs.Prelude.{◌-◌, ◌==◌, ◌&&◌, ◌||◌, Bool, true, false, not, nat_le, if◌then◌else◌}
 use Rattle.co_pdo.specs.declared.settings.Settings.{Settings}
 use Rattle.co_pdo.specs.declared.tpdo.Occasion.{Occasion}
 use Rattle.co_pdo.specs.declared.tpdo.Occasion.TheVariants.{Sync, Event, Tick}
@@ -11,6 +11,12 @@ abbrev pub counts : Settings → Occasion → Tpdo → Bool
 counts s (Sync overflow counter) t = t.has_begun || begins_count s.start_value overflow counter
 counts s Event t = false
 counts s Tick t = false
+
+-- it is a SYNC at a transmission type at which no SYNC counts: nothing is counted
+abbrev pub passes_over : Occasion → Tpdo → Bool
+passes_over (Sync overflow counter) t = not (nat_le t.transmission_type 240)
+passes_over Event t = false
+passes_over Tick t = false
 
 -- the countdowns after it, where the TPDO is not sent; by whether it counts
 abbrev pub counted : Occasion → Bool → Tpdo → Tpdo

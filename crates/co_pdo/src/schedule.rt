@@ -117,6 +117,7 @@ impl Schedule {
     /// increasing. They count as sent. A TPDO of type 1 to 240 with a SYNC start value of 1 to 240 counts from the SYNC
     /// whose counter is that value, unless 1019h is 0 or absent; each other one from the first SYNC after its start
     /// (CiA 301, 7.5.2.37).
+    #[inline(always)]
     pub fn on_sync<S: ObjectStore>(&mut self, store: &S, counter: Option<u8>, sent: &mut Due)
         ensures due { (history : History) →
             IsScheduleAfter (S.description store.now) self.old history →
@@ -188,6 +189,7 @@ impl Schedule {
     }
 
     /// A tick of 1 ms: leaves in `sent` the numbers of the TPDOs that are due, increasing. They count as sent.
+    #[inline(always)]
     pub fn on_tick<S: ObjectStore>(&mut self, store: &S, sent: &mut Due)
         ensures due { (history : History) →
             IsScheduleAfter (S.description store.now) self.old history →

@@ -8,7 +8,7 @@ ghost use Rattle.co_pdo.specs.Log.{Log, Started, Happened};
 ghost use Rattle.co_pdo.specs.Due.{is_due, is_event_driven};
 ghost use Rattle.co_pdo.specs.Countdowns.{HasPlaces, IsAfter, IsPlacedAfter, IsCurrent};
 ghost use Rattle.co_pdo.specs.Schedules.{is_among, with_event_if};
-ghost use Rattle.co_pdo.specs.Steps.{counts, counted, wants, marked};
+ghost use Rattle.co_pdo.specs.Steps.{counts, counted, passes_over, wants, marked};
 
 use crate::places::Places;
 use crate::settings::{Settings, begins_count};
@@ -113,13 +113,26 @@ impl Tpdo {
     }
 
     /// Whether it is sent at events: types 254 and 255.
+    #[inline(always)]
     fn is_event_driven(&self) -> bool
         ensures { result ≡ is_event_driven self.now.transmission_type }
     {
         self.transmission_type == 254 || self.transmission_type == 255
     }
 
+    /// Whether it is a SYNC at a transmission type at which none counts.
+    #[inline(always)]
+    fn passes_over(&self, occasion: Occasion) -> bool
+        ensures { result ≡ passes_over occasion self.now }
+    {
+        match occasion {
+            Occasion::Sync(_, _) => self.transmission_type > 240,
+            Occasion::Event | Occasion::Tick => false,
+        }
+    }
+
     /// Whether it is a SYNC that counts: the count has begun, or begins with it.
+    #[inline(always)]
     fn counts<S: ObjectStore>(&self, occasion: Occasion, store: &S) -> bool
         requires { self.now.number < 512 }
         ensures { HasPlaces (S.description store.now) self.now → result ≡
@@ -134,6 +147,7 @@ impl Tpdo {
     }
 
     /// Counts a SYNC, if it is one that counts, an event or a tick, and answers whether the countdowns make it due.
+    #[inline(always)]
     fn count(&mut self, occasion: Occasion, counts: bool) -> bool
         ensures state { self.new ≡ counted occasion counts self.old }
         ensures due { result ≡ wants occasion counts self.old }
@@ -172,6 +186,7 @@ impl Tpdo {
     }
 
     /// Takes note that it is sent.
+    #[inline(always)]
     fn mark_sent(&mut self)
         ensures { self.new ≡ marked self.old }
     {
@@ -181,6 +196,7 @@ impl Tpdo {
     }
 
     /// A SYNC, an event or a tick; answers whether the TPDO is sent, which it is exactly if it is due.
+    #[inline(always)]
     pub(crate) fn happens<S: ObjectStore>(&mut self, occasion: Occasion, store: &S) -> bool
         requires { self.old.number < 512 }
         ensures number { self.new.number ≡ self.old.number }
@@ -191,6 +207,9 @@ impl Tpdo {
             IsPlacedAfter (S.description store.now) self.old log → IsCurrent s log →
             IsPlacedAfter (S.description store.now) self.new (Happened occasion s result ∷ log) }
     {
+        if self.passes_over(occasion) {
+            return false;
+        }
         let counts = self.counts(occasion, store);
         let due = self.count(occasion, counts) && self.places.is_active(store);
         if due {

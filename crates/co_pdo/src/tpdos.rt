@@ -47,6 +47,7 @@ pub(crate) fn counter_overflow<S: ObjectStore>(tpdos: &[Tpdo], store: &S) -> u8
 }
 
 /// A SYNC or a tick for each of them, and in `sent` the numbers of those that are sent.
+#[inline(always)]
 pub(crate) fn all_happen<S: ObjectStore>(
     tpdos: &mut [Tpdo],
     occasion: Occasion,

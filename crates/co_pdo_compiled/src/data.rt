@@ -2,7 +2,7 @@
 
 ghost use Rattle.std.specs.Prelude.{◌≡◌, ◌≤◌, ◌+◌, ◌++◌, ◌∷◌, [], Some, is_some, length};
 ghost use Rattle.co_value.specs.Numbers.{number_of};
-ghost use Rattle.co_value.specs.declared.data_type.DataType.TheVariants.{Unsigned8};
+ghost use Rattle.co_value.specs.declared.data_type.DataType.TheVariants.{Integer16, Unsigned8};
 ghost use Rattle.co_dict.specs.WriteRefusals.{limit_refusal};
 ghost use Rattle.co_pdo.specs.Mappings.{width_in, total_of};
 ghost use Rattle.co_pdo.specs.Images.{bytes_in, image_of, with_parts, is_outside, any_outside, written_in_order, fault_of, contents_after, answered};
@@ -34,11 +34,16 @@ fn extend(image: &mut ArrayVec<u8, 8>, bytes: &[u8])
     requires { length image.old.items + length bytes.now ≤ 8 }
     ensures { image.new.items ≡ image.old.items ++ bytes.now }
 {
-    // most entries that are mapped have one byte, which needs no call of a copy
-    if bytes.len() == 1 {
-        image.push(bytes[0]);
-    } else {
-        let _ = image.try_extend_from_slice(bytes);
+    // most entries that are mapped have one byte or two, which need no call of a copy
+    match bytes {
+        [byte] => image.push(*byte),
+        [low, high] => {
+            image.push(*low);
+            image.push(*high);
+        }
+        _ => {
+            let _ = image.try_extend_from_slice(bytes);
+        }
     }
 }
 
@@ -87,14 +92,42 @@ fn number_of_byte(bytes: &[u8]) -> i128
     i128::from(bytes[0])
 }
 
+/// The number of two bytes of INTEGER16, in two's complement.
+fn number_of_two(bytes: &[u8]) -> i128
+    requires { length bytes.now ≡ 2 }
+    ensures { result ≡ number_of Integer16 bytes.now }
+{
+    let number = 256 * i128::from(bytes[1]) + i128::from(bytes[0]);
+    if number < 32768 {
+        number
+    } else {
+        number - 65536
+    }
+}
+
 /// Whether one byte is outside the limits of an entry of UNSIGNED8. It is here because most mapped entries have that type,
 /// and `check_limits` copies the bytes to read their number.
+#[inline(always)]
 fn is_byte_outside(row: &Row, bytes: &[u8]) -> bool
     requires kind { row.now.data_type ≡ Unsigned8 }
     requires one { length bytes.now ≡ 1 }
     ensures { result ≡ is_some (limit_refusal row.now bytes.now) }
 {
     let number = number_of_byte(bytes);
+    if number > row.high {
+        return true;
+    }
+    number < row.low
+}
+
+/// The same of two bytes of INTEGER16, which most analogue values are.
+#[inline(always)]
+fn are_two_outside(row: &Row, bytes: &[u8]) -> bool
+    requires kind { row.now.data_type ≡ Integer16 }
+    requires two { length bytes.now ≡ 2 }
+    ensures { result ≡ is_some (limit_refusal row.now bytes.now) }
+{
+    let number = number_of_two(bytes);
     if number > row.high {
         return true;
     }
@@ -110,6 +143,7 @@ fn is_outside<S: ObjectStore>(_store: &S, part: &Part, bytes: &[u8]) -> bool
     match part {
         Part::Placed(entry) => match entry.row.data_type {
             DataType::Unsigned8 => is_byte_outside(&entry.row, bytes),
+            DataType::Integer16 => are_two_outside(&entry.row, bytes),
             _ => entry.row.check_limits(bytes).is_err(),
         },
         Part::PassedOver(_) => false,

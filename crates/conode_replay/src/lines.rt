@@ -60,8 +60,8 @@ pub(crate) fn print_totals<W: Write>(
     hand_over(text.as_bytes(), writer)
 }
 
-/// Prints frames that are sent at a time in ms.
-#[inline]
+/// Prints frames that are sent at a time in ms. It isn't compiled into its callers, so that a tick without frames is short.
+#[inline(never)]
 pub(crate) fn print_frames<W: Write>(
     ms: u128,
     frames: &[Frame],
@@ -83,6 +83,7 @@ pub(crate) fn print_frames<W: Write>(
 }
 
 // prints that an event is refused, if it is
+#[inline(always)]
 #[tactic(auto, using(conode_io::proofs::WriteLemmas::line_alone, conode_io::proofs::WriteLemmas::front_alone, conode_io::proofs::WriteLemmas::no_lines))]
 fn print_refusal<W: Write>(
     text: &mut String,
@@ -109,7 +110,7 @@ fn print_refusal<W: Write>(
 
 /// Prints what came of the input of a line at a time in ms: that it was refused, and then the frames that are sent.
 #[tactic(auto, using(conode_io::proofs::WriteLemmas::lines_after, conode_io::proofs::WriteLemmas::front_of_more, conode_io::proofs::WriteLemmas::some_of_more, conode_io::proofs::WriteLemmas::front_after_lines, conode_io::proofs::WriteLemmas::some_after_lines))]
-#[inline]
+#[inline(always)]
 pub(crate) fn print_input<W: Write>(
     text: &mut String,
     number: usize,
@@ -127,5 +128,8 @@ pub(crate) fn print_input<W: Write>(
     ensures err { IfErr result (λ fault. (fault ≡ CmdFault.Write) ⊎ (fault ≡ CmdFault.Memory)) }
 {
     print_refusal(text, number, answer, writer)?;
+    if frames.is_empty() {
+        return Ok(());
+    }
     print_frames(ms, frames, writer)
 }

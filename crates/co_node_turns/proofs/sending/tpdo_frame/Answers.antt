@@ -1,5 +1,6 @@
 use Rattle.std.proofs.Common.{ℕ, List, ap, ◌∙◌}
 use Rattle.co_frame.specs.FrameContent.{FrameContent}
+use Rattle.co_dict.specs.CobIds.{identifier_of}
 use Rattle.co_dict.specs.declared.side.Side.TheVariants.{Tpdo}
 use Rattle.co_node_turns.proofs.sending.tpdo_frame.Goals as goal
 
@@ -8,4 +9,7 @@ abbrev framed : ℕ → List ℕ → FrameContent
 framed id bytes = record { id = id; bytes = bytes }
 
 pub returns : goal.returns
-returns g c = λ table. c.frame_with.ensures ∙ ap (framed _) (c.deref.ensures.0 ∙ c.image-image.ensures Tpdo table)
+returns g c = λ history stands table.
+    c.frame_with.ensures
+    ∙ ap (λ word. framed (identifier_of word) c.deref.result.now) (c.cob_id.ensures history stands)
+    ∙ ap (framed _) (c.deref.ensures.0 ∙ c.image-image.ensures Tpdo table)

@@ -209,7 +209,7 @@ module _ (g : given.Over) (c : After-self-5-1 g) (k : Constants) (inputs : Input
   tpdos_sent : length c.send_life.new.outbox.items + length (map (tpdo_frame k.description m.contents) m.due) ≤ 514
       → c.send_tpdos.new.outbox.items ≡ c.send_life.new.outbox.items ++ map (tpdo_frame k.description m.contents) m.due
   tpdos_sent = subst (λ fs. length c.send_life.new.outbox.items + length fs ≤ 514 → c.send_tpdos.new.outbox.items ≡ c.send_life.new.outbox.items ++ fs) same
-      (λ le. c.send_tpdos.ensures mappings.tpdos (subst (λ n. length c.send_life.new.outbox.items + n ≤ 514) (length-map c.deref.result.now _) le))
+      (λ le. c.send_tpdos.ensures (schedule_log k (m ∷ h)) schedule mappings.tpdos (subst (λ n. length c.send_life.new.outbox.items + n ≤ 514) (length-map c.deref.result.now _) le))
     where
       same : map (tpdo_frame (g.S.ObjectStore.description c.take_pdos.new.store) (g.S.ObjectStore.contents c.take_pdos.new.store)) c.deref.result.now ≡ map (tpdo_frame k.description m.contents) m.due
       same = ap (λ d. map (tpdo_frame d (g.S.ObjectStore.contents c.take_pdos.new.store)) c.deref.result.now) d3 ∙ ap (λ contents. map (tpdo_frame k.description contents) c.deref.result.now) contents ∙ ap (map (tpdo_frame k.description m.contents)) (c.deref.ensures.0 ∙ due)

@@ -1,9 +1,9 @@
-use Rattle.std.proofs.Common.{◌≡◌, ℕ, ◌<◌, refl, sym, ◌∙◌, subst, length, arith}
+use Rattle.std.proofs.Common.{◌≡◌, ◌<◌, refl, sym, ◌∙◌, subst, length, arith}
 use Rattle.co_pdo.specs.declared.tpdo.Tpdo.{Tpdo}
 use Rattle.std.specs.Prelude.{List}
 use Rattle.co_dict.specs.Rows.{number_at}
 use Rattle.co_pdo.specs.Tpdos.{counter_overflow_key}
-use Rattle.co_pdo.specs.Schedules.{History, IsTable, IsScheduleAfter, OnSync, sync_with}
+use Rattle.co_pdo.specs.Schedules.{IsTable, OnSync, sync_with}
 use Rattle.co_pdo.proofs.Histories.{table_kept, all_due_is, after_occasion, all_written, due_with, after_with, overflow_of}
 use Rattle.co_pdo.proofs.schedule.Schedule.on_sync.Goals as goal
 
