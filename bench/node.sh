@@ -1,7 +1,8 @@
 #!/bin/sh
 # Nanoseconds that a device takes for an SDO upload, an RPDO of eight bytes, a SYNC with four TPDOs, a frame of another node
 # and a tick, on the sheet of the I/O module and on one with 128 SDO channels, 512 TPDOs and 127 monitored nodes; beside the
-# device in node_by_hand, in safe Rust. Status 1 where the two send different frames.
+# device in node_by_hand, in safe Rust. Status 1 where the two send different frames, where an upload, an RPDO, a SYNC or a tick
+# takes more than 1.5 times as long as by hand, or a tick of the I/O module more than 30 ns.
 set -eu
 # shellcheck source=bench/device.sh
 . "$(dirname "$(readlink -f "$0")")/device.sh"
@@ -160,12 +161,19 @@ greatest_sheet > "$folder/greatest.eds"
 rustc -O --edition 2024 -o "$folder/by_hand" "$root/bench/node_by_hand/main.rs"
 build_crate node_time "$folder/module.eds"
 
+broken=0
 for sheet in module greatest; do
     best_of_five "$program" "$folder/$sheet.eds" "$folder/ours"
     best_of_five "$folder/by_hand" "$folder/$sheet.eds" "$folder/theirs"
     cmp "$folder/ours.frames" "$folder/theirs.frames" || exit 1
     awk -v sheet="$sheet" '
         NR == FNR { by_hand[$1] = $2; next }
-        { printf "%-8s %-7s %9d ns, by hand %7d ns: %.1f times\n", sheet, $1 ":", $2, by_hand[$1], $2 / (by_hand[$1] ? by_hand[$1] : 1) }
-    ' "$folder/theirs" "$folder/ours"
+        {
+            times = $2 / (by_hand[$1] ? by_hand[$1] : 1)
+            printf "%-8s %-7s %9d ns, by hand %7d ns: %.2f times\n", sheet, $1 ":", $2, by_hand[$1], times
+            if ($1 != "other" && times > 1.5 || sheet == "module" && $1 == "tick" && $2 > 30) broken = 1
+        }
+        END { exit broken }
+    ' "$folder/theirs" "$folder/ours" || broken=1
 done
+exit $broken
