@@ -7,14 +7,22 @@ set -eu
 # shellcheck source=bench/device.sh
 . "$(dirname "$(readlink -f "$0")")/device.sh"
 
-# Five runs of a program on a sheet; of each number that it prints the smallest, as `name number` on a line. The frames that
-# the last run sent are left in a file.
-best_of_five() {
-    for _ in 1 2 3 4 5; do
-        "$1" < "$2" > "$folder/printed"
-        sed '/^;/d' "$folder/printed"
-    done | smallest > "$3"
-    sed -n '/^;/p' "$folder/printed" > "$3.frames"
+# A run of a program on a sheet: its numbers are added to those of its other runs, the frames that it sent are left in a file.
+one_run() {
+    "$1" < "$2" > "$folder/printed"
+    sed '/^;/d' "$folder/printed" >> "$folder/$3.runs"
+    sed -n '/^;/p' "$folder/printed" > "$folder/$3.frames"
+}
+
+# Nine runs of both programs on a sheet, in turn, since the machine may be faster at one time than at another; of each number
+# that a program prints the smallest, as `name number` on a line.
+best_in_turn() {
+    rm -f "$folder/ours.runs" "$folder/theirs.runs"
+    for _ in $(seq 9); do
+        one_run "$program" "$1" ours
+        one_run "$folder/by_hand" "$1" theirs
+    done
+    for name in ours theirs; do smallest < "$folder/$name.runs" > "$folder/$name"; done
 }
 
 # the I/O module with two more TPDOs: each TPDO is sent at each SYNC, RPDO 2 has eight bytes, and another node is monitored
@@ -163,8 +171,7 @@ build_crate node_time "$folder/module.eds"
 
 broken=0
 for sheet in module greatest; do
-    best_of_five "$program" "$folder/$sheet.eds" "$folder/ours"
-    best_of_five "$folder/by_hand" "$folder/$sheet.eds" "$folder/theirs"
+    best_in_turn "$folder/$sheet.eds"
     cmp "$folder/ours.frames" "$folder/theirs.frames" || exit 1
     awk -v sheet="$sheet" '
         NR == FNR { by_hand[$1] = $2; next }
