@@ -1,5 +1,5 @@
 -- The entries of an image, by key and by place.
-use Rattle.std.proofs.Common.{◌≡◌, ◌<◌, ◌≤◌, ◌+◌, ℕ, Bool, true, false, List, [], ◌∷◌, length, get_or, set, map, Option, Some, cond, refl, sym, ap, ◌∙◌, subst, arith}
+use Rattle.std.proofs.Common.{◌≡◌, ◌<◌, ◌+◌, ℕ, true, false, List, [], ◌∷◌, length, get_or, Some, cond, refl, sym, ap, ◌∙◌, subst}
 use Rattle.std.specs.Prelude.{position, pos}
 use Rattle.std.proofs.lemmas.List.{length-map, set-get_or}
 use Rattle.std.proofs.lemmas.List.Quantifiers.{position-Some}
@@ -9,7 +9,7 @@ use Rattle.co_value.specs.Keys.{same_key}
 use Rattle.co_profile.specs.declared.access.Access.TheVariants.{Rw}
 use Rattle.co_dict.specs.declared.area.Area.{Area}
 use Rattle.co_dict.specs.Rows.{is_in_area}
-use Rattle.co_dict_list.specs.ListedEntries.{ListedEntry, keys_in, are_increasing, description_in, reset_entry}
+use Rattle.co_dict_list.specs.ListedEntries.{ListedEntry, keys_in, are_increasing}
 use Rattle.co_dict_list.proofs.Places.{place_of}
 use Rattle.co_dict_list.proofs.Numbering.{places_same}
 use Rattle.co_dict_list.proofs.Changes.{AreResetUpTo, reset_one}

@@ -1,7 +1,7 @@
 -- A write into the room of one slot changes the bytes of no other.
-use Rattle.std.proofs.Common.{◌≡◌, ◌+◌, ◌-◌, ◌<◌, ◌≤◌, ℕ, zero, suc, Bool, true, List, [], ◌∷◌, ◌++◌, length, get_or, set, take, map, eqb, refl, sym, ap, ◌∙◌, subst, arith}
+use Rattle.std.proofs.Common.{◌≡◌, ◌+◌, ◌-◌, ◌<◌, ◌≤◌, ℕ, zero, suc, true, List, [], ◌∷◌, ◌++◌, length, get_or, set, take, eqb, refl, sym, ap, ◌∙◌, arith}
 use Rattle.std.specs.Prelude.{drop, ◌&&◌}
-use Rattle.std.proofs.lemmas.List.{length-take-le, length-drop, length-append, take-append-le, drop-append-le, take-take, drop-take, get_or-map}
+use Rattle.std.proofs.lemmas.List.{length-take-le, length-drop, length-append, take-append-le, drop-append-le, take-take, drop-take}
 use Rattle.std.proofs.lemmas.Slice.{drop-append-drop}
 use Rattle.std.proofs.Math.Seq.{drop-append_seam, take-append_seam, map-set_same}
 use Rattle.std.proofs.lemmas.List.{append_assoc}

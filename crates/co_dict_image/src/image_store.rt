@@ -80,6 +80,7 @@ impl ImageStore {
     }
 
     // Sets the bytes of the entry of a slot: one copy, into memory that it has.
+    #[inline(always)]
     fn put(&mut self, at: usize, bytes: &[u8])
         requires within { at < length self.old.slots.items }
         requires fitting { (d : ListedEntry) → fits (slice_index_or (entries_of self.old) at d).row (length bytes.now) ≡ true }
@@ -152,11 +153,13 @@ impl ObjectStore for ImageStore {
         Some(slot.row)
     }
 
+    #[inline(always)]
     fn bytes_at(&self, place: u32) -> Option<&[u8]> {
         let slot = self.slots.get(place as usize)?;
         Some(slot.bytes(&self.values))
     }
 
+    #[inline(always)]
     fn set_at(&mut self, place: u32, bytes: &[u8]) {
         self.put(place as usize, bytes);
     }

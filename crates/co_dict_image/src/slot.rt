@@ -80,6 +80,7 @@ impl Slot {
     }
 
     /// The bytes of its entry.
+    #[inline(always)]
     pub(crate) fn bytes<'a>(&self, values: &'a [u8]) -> &'a [u8]
         requires { self.now.start + self.now.row.capacity ≤ length values.now }
         ensures { result.now ≡ take self.now.size (drop self.now.start values.now) }
@@ -89,6 +90,7 @@ impl Slot {
     }
 
     /// Puts bytes into the room of the slot: nothing outside it changes.
+    #[inline(always)]
     pub(crate) fn fill(&mut self, values: &mut [u8], bytes: &[u8])
         requires fitting { fits self.old.row (length bytes.now) ≡ true }
         requires room { self.old.start + self.old.row.capacity ≤ length values.old }

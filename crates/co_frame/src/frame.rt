@@ -3,6 +3,7 @@
 ghost use Rattle.std.specs.Prelude.{◌≡◌, ◌↔◌, ◌<◌, ◌≤◌, [], length, IsOk, IfOk, IsErrOf};
 ghost use Rattle.co_frame.specs.FrameContent.{FrameContent, IsFrame};
 
+use co_value::PackedBytes;
 use std::error::Error;
 use std::fmt;
 use std::marker::Model;
@@ -85,13 +86,22 @@ impl Frame {
         if bytes.len() > 8 {
             return Err(FrameFault::TooLong);
         }
-        let mut cells = [0; 8];
-        cells[..bytes.len()].copy_from_slice(bytes);
-        Ok(Frame {
+        let mut packed = PackedBytes::new();
+        packed.append(bytes);
+        Ok(Frame::packed(id, &packed))
+    }
+
+    /// The frame with this identifier, at most 7FFh, and these data bytes, without an access to memory for each byte.
+    #[inline(always)]
+    pub fn packed(id: u16, bytes: &PackedBytes) -> Frame
+        requires { id < 2048 }
+        ensures { result ≡ record { id = id; bytes = bytes.now } }
+    {
+        Frame {
             id,
             len: bytes.len() as u8,
-            cells,
-        })
+            cells: bytes.padded(),
+        }
     }
 
     // The frame of a service that has eight bytes.

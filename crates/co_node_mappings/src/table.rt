@@ -12,11 +12,11 @@ ghost use Rattle.co_node_mappings.specs.MappingChanges.{may_change_mappings};
 ghost use Rattle.co_node_mappings.specs.MappingTables.{AreForms, AgreeOnMappings, Covers, HaveParts, IsMappingTable};
 
 use crate::marks::may_change_mappings;
-use arrayvec::ArrayVec;
 use co_dict::{ObjectStore, Side};
 use co_node_inputs::Marks;
 use co_pdo::{PdoFault, has_pdo};
-use co_pdo_compiled::{Compiled, apply_at, image_at, mapping_by_words};
+use co_pdo_compiled::{Compiled, apply_at, mapping_by_words, packed_image_at};
+use co_value::PackedBytes;
 use std::alloc::{AllocError, Global};
 use std::boxed::BoxedSlice;
 use std::marker::Model;
@@ -120,17 +120,17 @@ impl MappingTable {
     }
 
     /// The data of PDO k, 0 to 511: what `image` gives of its mapping.
-    pub fn image<S: ObjectStore>(&self, store: &S, k: u16) -> ArrayVec<u8, 8>
+    pub fn image<S: ObjectStore>(&self, store: &S, k: u16) -> PackedBytes
         requires number { k < 512 }
         requires parts { HaveParts (S.description store.now) self.now }
         ensures { (side : Side) →
             IsMappingTable side (S.description store.now) (S.contents store.now) self.now →
-            result.items ≡ image_of (S.contents store.now)
+            result ≡ image_of (S.contents store.now)
             (mapping_of side (S.description store.now) (S.contents store.now) k) }
     {
         match self.pdos.get(usize::from(k)) {
-            Some(compiled) => image_at(store, compiled),
-            None => ArrayVec::new(),
+            Some(compiled) => packed_image_at(store, compiled),
+            None => PackedBytes::new(),
         }
     }
 

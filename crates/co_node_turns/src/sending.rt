@@ -82,16 +82,8 @@ pub fn send_life<S: ObjectStore>(store: &S, life: Option<Heartbeat>, outbox: &mu
     }
 }
 
-/// The frame of a TPDO with this COB-ID and these bytes.
-fn frame_with(cob_id: CobId, bytes: &[u8]) -> Frame
-    requires { length bytes.now ≤ 8 }
-    ensures { result ≡ record { id = identifier_of cob_id.0; bytes = bytes.now } }
-{
-    // at most 7FFh, and at most 8 bytes
-    Frame::new(cob_id.identifier(), bytes).unwrap_or_default()
-}
-
 /// The frame of a TPDO, by the schedule and the compiled mappings of the TPDOs.
+#[inline(always)]
 fn tpdo_frame<S: ObjectStore>(
     store: &S,
     schedule: &Schedule,
@@ -105,7 +97,7 @@ fn tpdo_frame<S: ObjectStore>(
         result ≡ tpdo_frame (S.description store.now) (S.contents store.now) number }
 {
     let image = mappings.image(store, number);
-    frame_with(schedule.cob_id(store, number), &image)
+    Frame::packed(schedule.cob_id(store, number).identifier(), &image)
 }
 
 /// Puts the frames of TPDOs into the outbox, where it has room for all of them. `schedule` is the schedule of the TPDOs of the

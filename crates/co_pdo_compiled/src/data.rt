@@ -13,9 +13,10 @@ use crate::part::{Part, PlacedEntry};
 use arrayvec::ArrayVec;
 use co_dict::{ObjectStore, Row, place_laws, store_laws};
 use co_pdo::PdoFault;
-use co_value::DataType;
+use co_value::{DataType, PackedBytes};
 
 /// The bytes of an entry.
+#[inline(always)]
 fn bytes_of<'a, S: ObjectStore>(store: &'a S, entry: &PlacedEntry) -> &'a [u8]
     requires { HasEntry (S.description store.now) entry.now }
     ensures bytes { S.contents store.now entry.now.key ≡ Some result.now }
@@ -29,59 +30,51 @@ fn bytes_of<'a, S: ObjectStore>(store: &'a S, entry: &PlacedEntry) -> &'a [u8]
     }
 }
 
-/// Appends bytes, for which there is room.
-fn extend(image: &mut ArrayVec<u8, 8>, bytes: &[u8])
-    requires { length image.old.items + length bytes.now ≤ 8 }
-    ensures { image.new.items ≡ image.old.items ++ bytes.now }
-{
-    // most entries that are mapped have one byte or two, which need no call of a copy
-    match bytes {
-        [byte] => image.push(*byte),
-        [low, high] => {
-            image.push(*low);
-            image.push(*high);
-        }
-        _ => {
-            let _ = image.try_extend_from_slice(bytes);
-        }
-    }
-}
-
 /// Appends the bytes of what is mapped.
-fn append<S: ObjectStore>(store: &S, part: &Part, image: &mut ArrayVec<u8, 8>)
+#[inline(always)]
+fn append<S: ObjectStore>(store: &S, part: &Part, image: &mut PackedBytes)
     requires has { HasPart (S.description store.now) part.now }
-    requires room { length image.old.items + width_in (mapped_in part.now) ≤ 8 }
-    ensures image { image.new.items ≡
-        image.old.items ++ bytes_in (S.contents store.now) (mapped_in part.now) }
+    requires room { length image.old + width_in (mapped_in part.now) ≤ 8 }
+    ensures image { image.new ≡ image.old ++ bytes_in (S.contents store.now) (mapped_in part.now) }
     ensures width { length (bytes_in (S.contents store.now) (mapped_in part.now)) ≡
         width_in (mapped_in part.now) }
 {
     match part {
-        Part::Placed(entry) => extend(image, bytes_of(store, entry)),
-        Part::PassedOver(width) => extend(image, &[0; 8][..usize::from(*width)]),
+        Part::Placed(entry) => image.append(bytes_of(store, entry)),
+        Part::PassedOver(width) => image.append(&[0; 8][..usize::from(*width)]),
     }
 }
 
 /// The bytes of what is mapped, joined.
-fn joined<S: ObjectStore>(store: &S, parts: &[Part]) -> ArrayVec<u8, 8>
+#[inline(always)]
+fn joined<S: ObjectStore>(store: &S, parts: &[Part]) -> PackedBytes
     requires has { HasParts (S.description store.now) parts.now }
     requires small { total_of (mapping_in parts.now) ≤ 8 }
-    ensures { result.items ≡ image_of (S.contents store.now) (mapping_in parts.now) }
+    ensures { result ≡ image_of (S.contents store.now) (mapping_in parts.now) }
 {
-    let mut image = ArrayVec::new();
+    let mut image = PackedBytes::new();
     for part in parts {
         append(store, part, &mut image);
     }
     image
 }
 
-/// The data of a PDO: what `image` gives of the mapping that was compiled. The dictionary has to have the mapped entries,
-/// with the rows and at the places that they were compiled with, as it has after every call of its own.
+/// The data of a PDO: what `image` gives of the mapping that was compiled, packed for a frame. The dictionary has to have
+/// the mapped entries, with the rows and at the places that they were compiled with, as it has after every call of its own.
+#[inline(always)]
+pub fn packed_image_at<S: ObjectStore>(store: &S, compiled: &Compiled) -> PackedBytes
+    requires { HasParts (S.description store.now) compiled.now }
+    ensures { result ≡ image_of (S.contents store.now) (mapping_in compiled.now) }
+{
+    joined(store, compiled.parts())
+}
+
+/// The same as a list of bytes.
 pub fn image_at<S: ObjectStore>(store: &S, compiled: &Compiled) -> ArrayVec<u8, 8>
     requires { HasParts (S.description store.now) compiled.now }
     ensures { result.items ≡ image_of (S.contents store.now) (mapping_in compiled.now) }
 {
-    joined(store, compiled.parts())
+    packed_image_at(store, compiled).to_list()
 }
 
 /// The number of one byte of UNSIGNED8.
@@ -106,7 +99,7 @@ fn number_of_two(bytes: &[u8]) -> i128
 }
 
 /// Whether one byte is outside the limits of an entry of UNSIGNED8. It is here because most mapped entries have that type,
-/// and `check_limits` copies the bytes to read their number.
+/// and for `check_limits` to look up the width and the sign of a type takes longer than to compare.
 #[inline(always)]
 fn is_byte_outside(row: &Row, bytes: &[u8]) -> bool
     requires kind { row.now.data_type ≡ Unsigned8 }
@@ -179,6 +172,7 @@ fn is_any_outside<S: ObjectStore>(store: &S, compiled: &Compiled, bytes: &[u8]) 
 }
 
 /// Writes a part of the data into its entry.
+#[inline(always)]
 fn write_part<S: ObjectStore>(store: &mut S, part: &Part, bytes: &[u8])
     requires has { HasPart (S.description store.old) part.now }
     requires width { length bytes.now ≡ width_in (mapped_in part.now) }

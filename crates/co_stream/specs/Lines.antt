@@ -1,11 +1,15 @@
 -- Lines of a text that comes in pieces.
-use Rattle.std.specs.Prelude.{◌≡◌, ℕ, ◌<◌, Bool, true, false, ◌==◌, List, [], ◌∷◌, ◌++◌, length, Option, Some, None, ⊤}
+use Rattle.std.specs.Prelude.{◌≡◌, ℕ, ◌<◌, Bool, true, false, ◌==◌, nat_lt, List, [], ◌∷◌, ◌++◌, length, drop, Option, Some, None, ⊤}
 use Rattle.std.specs.List.{list_any}
 use Rattle.std.specs.Str.Lines.{lines, strip_carriage_return}
 
 -- whether a line ends among these bytes
 abbrev pub has_line_feed : List ℕ → Bool
 has_line_feed bytes = list_any (λ byte. byte == 10) bytes
+
+-- the last line that ends among the bytes ends at this place: a line feed is left of them up to there, and none from there on
+abbrev pub EndsAt : ℕ → List ℕ → Type 0
+EndsAt place bytes = (start : ℕ) → has_line_feed (drop start bytes) ≡ nat_lt start place
 
 -- the bytes, and a carriage return after them where there is one
 abbrev pub with_return : List ℕ → Bool → List ℕ

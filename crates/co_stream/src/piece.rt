@@ -5,13 +5,14 @@ ghost use Rattle.std.specs.Io.KnownBytes.{Consumes, Keeps, IsAtEnd};
 ghost use Rattle.std.specs.Str.Lines.{strip_carriage_return};
 ghost use Rattle.co_stream.specs.declared.fault.LineFault.TheVariants.{TooLong};
 ghost use Rattle.co_stream.specs.declared.fault.AskFault.TheVariants.{NeverEnds};
-ghost use Rattle.co_stream.specs.Lines.{has_line_feed, BeginsTooLong};
+ghost use Rattle.co_stream.specs.Lines.{has_line_feed, BeginsTooLong, EndsAt};
 ghost use Rattle.co_stream.specs.Readings.{most_bytes};
 
 use crate::asks::{Asks, ask};
 use crate::fault::{AskFault, LineFault};
 use crate::line_buffer::LineBuffer;
 use co_text::split_at_first;
+use memchr::memrchr;
 use std::io::Read;
 use std::marker::Model;
 
@@ -24,16 +25,30 @@ pub(crate) struct Piece {
     bytes: [u8; 8192],
     start: usize,
     end: usize,
+    // where the last line that ends among the bytes ends, found once for all of them
+    lines_end: usize,
 }
 
 impl Model for Piece {
     ghost use Rattle.std.specs.Prelude.{ℕ, ◌≤◌, List, take, drop};
+    ghost use Rattle.co_stream.specs.Lines.{EndsAt};
 
     ghost Value = { List ℕ };
 
     ghost view = { λ piece. drop piece.start (take piece.end piece.bytes) };
 
-    ghost invariant = { λ piece. (piece.start ≤ piece.end) × (piece.end ≤ 8192) };
+    ghost invariant = { λ piece. (piece.start ≤ piece.end) × (piece.end ≤ 8192)
+        × EndsAt piece.lines_end (take piece.end piece.bytes) };
+}
+
+// past the last line feed of bytes; 0 where they have none
+fn past_last_feed(bytes: &[u8]) -> usize
+    ensures { EndsAt result bytes.now }
+{
+    match memrchr(LINE_FEED, bytes) {
+        Some(place) => place + 1,
+        None => 0,
+    }
 }
 
 impl Piece {
@@ -45,6 +60,7 @@ impl Piece {
             bytes: [0; 8192],
             start: 0,
             end: 0,
+            lines_end: 0,
         }
     }
 
@@ -60,7 +76,7 @@ impl Piece {
     pub(crate) fn has_line_feed(&self) -> bool
         ensures { result ≡ has_line_feed self.now }
     {
-        split_at_first(self.rest(), LINE_FEED).is_some()
+        self.start < self.lines_end
     }
 
     /// Another piece in its place. `false` where the reader has come to its end.
@@ -80,8 +96,10 @@ impl Piece {
     {
         self.start = 0;
         self.end = 0;
+        self.lines_end = 0;
         let count = ask(reader, &mut self.bytes, asks)?;
         self.end = count;
+        self.lines_end = past_last_feed(&self.bytes[..count]);
         Ok(count > 0)
     }
 

@@ -6,6 +6,7 @@ ghost use Rattle.std.specs.List.{list_any, before_first, after_first, position_o
 use memchr::memchr;
 
 // where the first of these bytes is, or the length
+#[inline(always)]
 fn place_of(text: &[u8], byte: u8) -> usize
     ensures place { result ≡ position_or_len (λ b. b == byte) text.now }
     ensures bound { result ≤ length text.now }
@@ -17,6 +18,7 @@ fn place_of(text: &[u8], byte: u8) -> usize
 }
 
 /// What is before and after the first of these bytes; `None` where the text has none.
+#[inline(always)]
 pub fn split_at_first(text: &[u8], byte: u8) -> Option<(&[u8], &[u8])>
     ensures some { is_some result ≡ list_any (λ b. b == byte) text.now }
     ensures before { IfSome result

@@ -20,6 +20,7 @@ static HEX_DIGITS: [u8; 256] = [
 ];
 
 /// The value of a hexadecimal digit in either case; `None` for every other byte.
+#[inline(always)]
 pub fn hex_digit(byte: u8) -> Option<u8>
     ensures value { result ≡ hex_digit byte }
     ensures small { IfSome result (λ digit. digit < 16) }

@@ -9,6 +9,7 @@ use crate::hex_digits::hex_digit;
 use arrayvec::ArrayVec;
 use std::marker::Model;
 
+#[inline(always)]
 fn hex_pair(high: u8, low: u8) -> Option<u8>
     ensures { result ≡ hex_pair high low }
 {
@@ -18,6 +19,7 @@ fn hex_pair(high: u8, low: u8) -> Option<u8>
 }
 
 /// The byte that the two digits at the front spell, and what follows; `None` where there is no pair.
+#[inline(always)]
 pub fn pair_at(text: &[u8]) -> Option<(u8, &[u8])>
     ensures exact { option_map (λ found. (found.0, found.1.now)) result ≡ pair_at text.now }
     ensures shorter { IfSome result (λ found. length found.1.now < length text.now) }

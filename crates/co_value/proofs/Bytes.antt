@@ -36,7 +36,7 @@ unsigned_of-quotient_bytes (suc k) x h =
     let rest = unsigned_of-quotient_bytes k (x / 256) below in
     omega (arith, rest)
 
-unsigned_of-low_bytes : (k x : ℕ) → x < 256 ^ k → unsigned_of (low_bytes k x) ≡ x
+pub unsigned_of-low_bytes : (k x : ℕ) → x < 256 ^ k → unsigned_of (low_bytes k x) ≡ x
 unsigned_of-low_bytes k x h =
     ap unsigned_of (bytes_low_first-is 0 k x ∙ ap (quotient_bytes k) (div-one x)) ∙ unsigned_of-quotient_bytes k x h
 
@@ -99,7 +99,7 @@ fits_width t value range = range
 
 -- ---- as many bytes with the same number are the same bytes
 
-unsigned_of-exact : (a b : List ℕ) → AreBytes a → AreBytes b → length a ≡ length b → unsigned_of a ≡ unsigned_of b → a ≡ b
+pub unsigned_of-exact : (a b : List ℕ) → AreBytes a → AreBytes b → length a ≡ length b → unsigned_of a ≡ unsigned_of b → a ≡ b
 unsigned_of-exact [] [] p q n e = refl
 unsigned_of-exact [] (y ∷ ys) p q n e = absurd (omega arith)
 unsigned_of-exact (x ∷ xs) [] p q n e = absurd (omega arith)
@@ -110,7 +110,7 @@ unsigned_of-exact (x ∷ xs) (y ∷ ys) p q n e =
     let rest = unsigned_of-exact xs ys p.1 q.1 (omega arith) (omega arith) in
     cc
 
-unsigned_of-below : (a : List ℕ) → AreBytes a → unsigned_of a < 256 ^ length a
+pub unsigned_of-below : (a : List ℕ) → AreBytes a → unsigned_of a < 256 ^ length a
 unsigned_of-below [] p = lit< tt
 unsigned_of-below (x ∷ xs) p =
     let low = p.0 in
@@ -128,7 +128,7 @@ signed_of-exact : (bits m n : ℕ) → m < 2 ^ bits → n < 2 ^ bits → signed_
 signed_of-exact bits m n p q e = by_halves (leb (2 ^ (bits - 1)) m) (leb (2 ^ (bits - 1)) n) (2 ^ bits) m n p q e
 
 -- 2 ^ bits of as many bytes
-power_of_bytes : (n : ℕ) → 2 ^ (8 * n) ≡ 256 ^ n
+pub power_of_bytes : (n : ℕ) → 2 ^ (8 * n) ≡ 256 ^ n
 power_of_bytes zero = refl
 power_of_bytes (suc n) =
     let split : 8 * suc n ≡ 8 + 8 * n = omega arith in
@@ -157,7 +157,7 @@ unfolding quotient_bytes
 quotient_bytes-AreBytes zero x = tt
 quotient_bytes-AreBytes (suc k) x = (omega arith, quotient_bytes-AreBytes k (x / 256))
 
-low_bytes-AreBytes : (k x : ℕ) → AreBytes (low_bytes k x)
+pub low_bytes-AreBytes : (k x : ℕ) → AreBytes (low_bytes k x)
 low_bytes-AreBytes k x = subst AreBytes (sym (bytes_low_first-is 0 k x)) (quotient_bytes-AreBytes k (x / 256 ^ 0))
 
 -- a type's width is at least one byte

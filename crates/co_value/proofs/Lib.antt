@@ -1,4 +1,5 @@
 pub mod Bytes
 mod Reading
+mod Packing
 mod Examples
 mod KeyLemmas

@@ -3,9 +3,10 @@
 ghost use Rattle.std.specs.Prelude.{◌≡◌, ◌↔◌, ◌-◌, ◌^◌, ◌<◌, ◌≤◌, ◌≤ℤ◌, pos, neg_ℤ, Some, length, IsOk, IfOk, IfErr};
 ghost use Rattle.co_value.specs.declared.data_type.DataType.{DataType};
 ghost use Rattle.co_value.specs.Types.{width_of, FitsWidth, InRange};
-ghost use Rattle.co_value.specs.Numbers.{number_of, bits_of, bytes_of, HasOneSpelling, HasWayBack, HasBytes, IsNumber};
+ghost use Rattle.co_value.specs.Numbers.{number_of, signed_of, bits_of, bytes_of, HasOneSpelling, HasWayBack, HasBytes, IsNumber};
 
 use crate::data_type::{DataType, power_of_two};
+use crate::packed_bytes::unsigned_of;
 use arrayvec::ArrayVec;
 use byteorder::{ByteOrder, LittleEndian};
 use std::error::Error;
@@ -92,16 +93,30 @@ pub fn from_bytes(data_type: DataType, bytes: &[u8]) -> Result<i128, ValueFault>
     Ok(number_in(data_type, bytes))
 }
 
-#[tactic(auto, using(crate::proofs::Reading::signed_number, crate::proofs::Reading::unsigned_number))]
 fn number_in(data_type: DataType, bytes: &[u8]) -> i128
     requires some { 1 ≤ length bytes.now }
     requires few { length bytes.now ≤ 8 }
     ensures { result ≡ number_of data_type bytes.now }
 {
+    let number = unsigned_of(bytes);
     if data_type.is_signed() {
-        LittleEndian::read_int128(bytes, bytes.len())
+        signed_of(8 * bytes.len(), number)
     } else {
-        i128::from(LittleEndian::read_uint(bytes, bytes.len()))
+        i128::from(number)
+    }
+}
+
+// in two's complement, an unsigned number whose top bit is set stands for itself less 2 ^ bits
+fn signed_of(bits: usize, number: u64) -> i128
+    requires some { 1 ≤ bits }
+    requires few { bits ≤ 64 }
+    ensures { result ≡ signed_of bits number }
+{
+    let half = 1u64 << (bits - 1);
+    if number < half {
+        i128::from(number)
+    } else {
+        i128::from(number) - 2 * i128::from(half)
     }
 }
 

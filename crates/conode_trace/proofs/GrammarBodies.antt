@@ -126,7 +126,7 @@ data_first (byte ∷ bytes) (high ∷ low ∷ digits) ending h e = pair_first hi
 
 -- ---- what follows the number sign
 
-data_is : (bytes digits ending : List ℕ) → SpellsPairs bytes digits → length bytes ≤ 8 → IsEnding ending → body_in (digits ++ ending) ≡ Some (Bytes (record { items = bytes }))
+data_is : (bytes digits ending : List ℕ) → SpellsPairs bytes digits → length bytes ≤ 8 → IsEnding ending → body_in (digits ++ ending) ≡ Some (Bytes bytes)
 unfolding body_in
 data_is bytes digits ending h few e =
     let first = data_first bytes digits ending h e in
@@ -154,7 +154,7 @@ unfolding body_in
 can_fd_is rest = refl
 
 pub body_is : (body : Body) (text : List ℕ) → SpellsBody body text → body_in text ≡ Some body
-body_is (Bytes bytes) text h = ap body_in h.joined ∙ data_is bytes.items h.digits h.ending h.pairs h.few h.ends
+body_is (Bytes bytes) text h = ap body_in h.joined ∙ data_is bytes h.digits h.ending h.pairs h.few h.ends
 body_is Other text (inl h) = ap body_in h.joined ∙ remote_is h.digit h.ending h.digit_run h.ends
 body_is Other text (inr (rest, joined)) = ap body_in joined ∙ can_fd_is rest
 
@@ -188,17 +188,17 @@ remote_spelled text body few mark e =
     let result : SpellsBody Other text = inl (record { digit = split.0; ending = past_digit (drop 1 text); digit_run = split.1; ends = ends; joined = joined }) in
     subst (λ (b : Body). SpellsBody b text) g.1 result
 
-data_spelled : (text : List ℕ) (body : Body) → length text ≤ 512 → (few_pairs_at text >>= λ pairs. cond (is_ending pairs.1) (Some (Bytes (record { items = pairs.0 }))) None) ≡ Some body → SpellsBody body text
+data_spelled : (text : List ℕ) (body : Body) → length text ≤ 512 → (few_pairs_at text >>= λ pairs. cond (is_ending pairs.1) (Some (Bytes pairs.0)) None) ≡ Some body → SpellsBody body text
 data_spelled text body few e =
-    option_and_then_some (λ (pairs : List ℕ × List ℕ). cond (is_ending pairs.1) (Some (Bytes (record { items = pairs.0 }))) None) (few_pairs_at text) body e (λ pairs found ended.
+    option_and_then_some (λ (pairs : List ℕ × List ℕ). cond (is_ending pairs.1) (Some (Bytes pairs.0)) None) (few_pairs_at text) body e (λ pairs found ended.
     let g = guarded (leb (length (pairs_at text).0) 8) (pairs_at text) pairs found in
-    let k = guarded (is_ending pairs.1) (Bytes (record { items = pairs.0 })) body ended in
+    let k = guarded (is_ending pairs.1) (Bytes pairs.0) body ended in
     let small : length (pairs_at text).0 ≤ 8 = grind (arith, nat_tests, g.0) in
     let small' : length pairs.0 ≤ 8 = subst (λ (p : List ℕ × List ℕ). length p.0 ≤ 8) g.1 small in
     let d = subst (λ (p : List ℕ × List ℕ). ArePairs text p) g.1 (pairs_spelled text) in
     let size : length text ≡ length d.0 + length pairs.1 = ap length d.2 ∙ length-append d.0 pairs.1 in
     let ends = ending_spelled pairs.1 (omega arith) k.0 in
-    let result : SpellsBody (Bytes (record { items = pairs.0 })) text = record { digits = d.0; ending = pairs.1; pairs = d.1; few = small'; ends = ends; joined = d.2 } in
+    let result : SpellsBody (Bytes pairs.0) text = record { digits = d.0; ending = pairs.1; pairs = d.1; few = small'; ends = ends; joined = d.2 } in
     subst (λ (b : Body). SpellsBody b text) k.1 result)
 
 pub body_spelled : (text : List ℕ) (body : Body) → length text ≤ 512 → body_in text ≡ Some body → SpellsBody body text

@@ -90,11 +90,11 @@ body_in text =
     else (if slice_index text 0 == 82
     then (if is_ending (past_digit (drop 1 text)) then Some Other else None)
     else (few_pairs_at text >>= λ pairs.
-    if is_ending pairs.1 then Some (Bytes (record { items = pairs.0 })) else None))
+    if is_ending pairs.1 then Some (Bytes pairs.0) else None))
 
 -- a data frame with an identifier of three digits, or a frame that is passed over
 abbrev pub line_of : ℕ → Identifier → Body → TraceLine
-line_of stamp (Base id) (Bytes bytes) = Data stamp (record { id = id; bytes = bytes.items })
+line_of stamp (Base id) (Bytes bytes) = Data stamp (record { id = id; bytes = bytes })
 line_of stamp (Base id) Other = PassedOver stamp
 line_of stamp Extended body = PassedOver stamp
 

@@ -69,7 +69,7 @@ abbrev pub IsCanFd : List ℕ → Type 0
 IsCanFd text = (rest : List ℕ) × (text ≡ 35 ∷ rest)
 
 abbrev pub SpellsBody : Body → List ℕ → Type 0
-SpellsBody (Bytes bytes) text = SpellsData bytes.items text
+SpellsBody (Bytes bytes) text = SpellsData bytes text
 SpellsBody Other text = IsRemote text ⊎ IsCanFd text
 
 -- stamp, blanks, interface, blanks, identifier, number sign, and what follows it

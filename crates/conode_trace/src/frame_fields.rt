@@ -6,8 +6,8 @@ ghost use Rattle.std.specs.List.{prefix_len, list_all};
 ghost use Rattle.co_text.specs.Texts.{is_blank, is_digit, is_hex_digit};
 ghost use Rattle.conode_trace.specs.FrameLines.{past_byte, past_run, number_at, stamp_at, is_name_byte, three_digits, identifier_at, few_pairs_at, IsIdentifier, is_ending, is_mark, past_digit, body_in};
 
-use arrayvec::ArrayVec;
 use co_text::{hex_digit, is_blank, is_digit, pair_at};
+use co_value::PackedBytes;
 
 /// The identifier of a frame line.
 #[derive(Clone, Copy, Debug, PartialEq, Eq)]
@@ -19,10 +19,10 @@ pub(crate) enum Identifier {
 }
 
 /// What follows the number sign of a frame line.
-#[derive(Clone, Debug, PartialEq, Eq, Drop)]
+#[derive(Drop)]
 pub(crate) enum Body {
     /// The bytes of a data frame.
-    Bytes(ArrayVec<u8, 8>),
+    Bytes(PackedBytes),
     /// A remote frame or a CAN FD frame, which is passed over.
     Other,
 }
@@ -208,16 +208,16 @@ fn past_digit(text: &[u8]) -> &[u8]
 }
 
 #[inline(always)]
-fn few_pairs_at(text: &[u8]) -> Option<(ArrayVec<u8, 8>, &[u8])>
-    ensures { option_map (λ found. (found.0.items, found.1.now)) result ≡ few_pairs_at text.now }
+fn few_pairs_at(text: &[u8]) -> Option<(PackedBytes, &[u8])>
+    ensures { option_map (λ found. (found.0, found.1.now)) result ≡ few_pairs_at text.now }
 {
-    let mut bytes = ArrayVec::new();
+    let mut bytes = PackedBytes::new();
     let mut rest = text;
     while let Some((byte, after)) = pair_at(rest) {
-        if bytes.is_full() {
+        if bytes.len() == 8 {
             return None;
         }
-        bytes.push(byte);
+        bytes.append(&[byte]);
         rest = after;
     }
     Some((bytes, rest))

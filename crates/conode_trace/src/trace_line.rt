@@ -101,7 +101,7 @@ fn line_of(stamp: u64, id: Identifier, body: &Body) -> TraceLine<'static>
     match (id, body) {
         (Identifier::Base(id), Body::Bytes(bytes)) => TraceLine::Data {
             stamp,
-            frame: Frame::new(id, bytes.as_slice()).unwrap(),
+            frame: Frame::packed(id, bytes),
         },
         _ => TraceLine::PassedOver { stamp },
     }

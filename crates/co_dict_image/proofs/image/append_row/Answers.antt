@@ -1,4 +1,4 @@
-use Rattle.std.proofs.Common.{◌≡◌, ◌++◌, ◌∷◌, [], List, sym, ap, ◌∙◌}
+use Rattle.std.proofs.Common.{◌++◌, ◌∷◌, [], sym, ap, ◌∙◌}
 use Rattle.co_dict_list.specs.ListedEntries.{ListedEntry}
 use Rattle.co_dict_list.specs.StoredEntries.{entry_view}
 use Rattle.co_dict_image.specs.Slots.{entries_in}

@@ -1,4 +1,4 @@
-use Rattle.std.proofs.Common.{arith, ◌∙◌}
+use Rattle.std.proofs.Common.{◌∙◌}
 use Rattle.co_dict_image.proofs.Appends.{next_number}
 use Rattle.co_dict_image.proofs.image.numbered.Goals as goal
 

@@ -10,6 +10,6 @@ framed id bytes = record { id = id; bytes = bytes }
 
 pub returns : goal.returns
 returns g c = λ history stands table.
-    c.frame_with.ensures
-    ∙ ap (λ word. framed (identifier_of word) c.deref.result.now) (c.cob_id.ensures history stands)
-    ∙ ap (framed _) (c.deref.ensures.0 ∙ c.image-image.ensures Tpdo table)
+    c.packed.ensures
+    ∙ ap (λ id. framed id c.image-image.result) (c.identifier.ensures.value ∙ ap identifier_of (c.cob_id.ensures history stands))
+    ∙ ap (framed _) (c.image-image.ensures Tpdo table)

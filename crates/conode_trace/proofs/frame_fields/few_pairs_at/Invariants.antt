@@ -4,8 +4,8 @@ use Rattle.conode_trace.proofs.frame_fields.few_pairs_at.Given as goal
 
 abbrev pub invariant-loop-byte : goal.invariant-loop-byte
 invariant-loop-byte l = record {
-  read : AreRead l.text l.bytes.items l.rest;
-  few : length l.bytes.items ≤ 8;
+  read : AreRead l.text l.bytes l.rest;
+  few : length l.bytes ≤ 8;
 }
 
 abbrev pub decreases-loop-byte : goal.decreases-loop-byte

@@ -1,10 +1,8 @@
-use Rattle.std.proofs.Common.{◌≡◌, ◌≤◌, ◌+◌, true, length, List, ℕ, get_or, take, sym, ap, ◌∙◌, subst}
+use Rattle.std.proofs.Common.{◌≤◌, ◌+◌, length, List, ℕ, take, sym, ap, ◌∙◌, subst}
 use Rattle.std.specs.Prelude.{drop}
 use Rattle.std.proofs.lemmas.List.{get_or-map}
 use Rattle.co_value.specs.Numbers.{AreBytes}
-use Rattle.co_dict.specs.Rows.{fits}
 use Rattle.co_dict_list.specs.ListedEntries.{ListedEntry}
-use Rattle.co_dict_list.proofs.EntryBytes.{are_bytes}
 use Rattle.co_dict_image.specs.declared.slot.Slot.{Slot}
 use Rattle.co_dict_image.specs.Slots.{entry_in, entries_in}
 use Rattle.co_dict_image.specs.Images.{filled_at}

@@ -3,10 +3,9 @@ use Rattle.std.specs.Prelude.{drop}
 use Rattle.std.proofs.lemmas.Bool.Decides.{nat_tests}
 use Rattle.co_dict_list.proofs.Numbering.{part_by_place}
 use Rattle.co_dict_image.specs.declared.slot.Slot.{Slot}
-use Rattle.co_dict_image.specs.Slots.{entry_in, entries_in}
+use Rattle.co_dict_image.specs.Slots.{entry_in}
 use Rattle.co_dict_image.specs.Images.{entries_of}
-use Rattle.co_dict_image.specs.LawfulImages.{are_entries}
-use Rattle.co_dict_image.proofs.Entries.{blank, number_is_place, slot_within, entries_increase, entries_len}
+use Rattle.co_dict_image.proofs.Entries.{entries_increase, entries_len}
 use Rattle.co_dict_image.proofs.Puts.{entry_at_slot, room_at}
 use Rattle.co_dict_image.proofs.image_store.ImageStoreObjectStore.bytes_at.Goals as goal
 

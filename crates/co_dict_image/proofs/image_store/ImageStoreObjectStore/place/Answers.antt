@@ -1,11 +1,8 @@
 use Rattle.std.proofs.Common.{◌∙◌, arith}
 use Rattle.co_dict_list.proofs.Numbering.{places_same, placed_small}
-use Rattle.co_dict_image.specs.declared.slot.Slot.{Slot}
-use Rattle.co_dict_image.specs.Slots.{entry_in, entries_in}
 use Rattle.co_dict_image.specs.Images.{entries_of}
 use Rattle.co_dict_image.specs.LawfulImages.{are_entries}
-use Rattle.co_dict_image.proofs.Entries.{blank, number_is_place, slot_within, entries_increase, entries_len}
-use Rattle.co_dict_image.proofs.Puts.{entry_at_slot, room_at}
+use Rattle.co_dict_image.proofs.Entries.{number_is_place, entries_increase}
 use Rattle.co_dict_image.proofs.image_store.ImageStoreObjectStore.place.Goals as goal
 
 pub returns-in_err-at : goal.returns-in_err-at

@@ -1,9 +1,9 @@
-use Rattle.std.proofs.Common.{◌≡◌, ◌<◌, ◌≤◌, ◌+◌, Bool, true, false, List, ℕ, length, get_or, map, sym, ap, ◌∙◌, subst, arith}
+use Rattle.std.proofs.Common.{◌≡◌, ◌<◌, ◌≤◌, ◌+◌, Bool, List, length, get_or, sym, ap, ◌∙◌, subst, arith}
 use Rattle.co_dict.specs.Rows.{is_in_area}
-use Rattle.co_dict_list.specs.ListedEntries.{ListedEntry, contents_in, description_in, reset_entry}
+use Rattle.co_dict_list.specs.ListedEntries.{ListedEntry, contents_in, description_in}
 use Rattle.co_dict_list.proofs.Changes.{AreResetUpTo, reset_all, fixed_parts, fixed_parts-reset, contents_in-reset, same_description}
 use Rattle.co_dict_image.specs.declared.image_store.ImageStore.{ImageStore}
-use Rattle.co_dict_image.specs.Slots.{entry_in, entries_in}
+use Rattle.co_dict_image.specs.Slots.{entry_in}
 use Rattle.co_dict_image.specs.Images.{entries_of}
 use Rattle.co_dict_image.proofs.Entries.{entries_len, slots_len, reset_restored, reset_passed}
 use Rattle.co_dict_image.proofs.Puts.{entry_at_slot}

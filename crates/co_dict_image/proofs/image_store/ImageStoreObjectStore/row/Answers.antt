@@ -1,11 +1,9 @@
 use Rattle.std.proofs.Common.{Some, ap, ◌∙◌}
 use Rattle.co_dict_list.proofs.Places.{part_at-place, part_at-no_place}
-use Rattle.co_dict_image.specs.declared.slot.Slot.{Slot}
-use Rattle.co_dict_image.specs.Slots.{entry_in, entries_in}
+use Rattle.co_dict_image.specs.Slots.{entry_in}
 use Rattle.co_dict_image.specs.Images.{entries_of}
-use Rattle.co_dict_image.specs.LawfulImages.{are_entries}
-use Rattle.co_dict_image.proofs.Entries.{blank, number_is_place, slot_within, entries_increase, entries_len}
-use Rattle.co_dict_image.proofs.Puts.{entry_at_slot, room_at}
+use Rattle.co_dict_image.proofs.Entries.{number_is_place}
+use Rattle.co_dict_image.proofs.Puts.{entry_at_slot}
 use Rattle.co_dict_image.proofs.image_store.ImageStoreObjectStore.row.Goals as goal
 
 pub returns-in_err-at : goal.returns-in_err-at

@@ -1,14 +1,9 @@
-use Rattle.std.proofs.Common.{◌≡◌, ◌<◌, Bool, List, ℕ, length, ap, ◌∙◌, sym, subst}
-use Rattle.co_value.specs.declared.key.Key.{Key}
+use Rattle.std.proofs.Common.{◌<◌, Bool, List, length, ap, ◌∙◌, subst}
 use Rattle.co_dict_list.specs.ListedEntries.{ListedEntry, contents_in, description_in}
 use Rattle.co_dict_list.proofs.Changes.{fixed_parts, fixed_parts-with_bytes, same_description}
 use Rattle.co_dict_list.proofs.Numbering.{within_by_place, fits_by_place, written_by_place}
-use Rattle.co_dict_image.specs.declared.slot.Slot.{Slot}
-use Rattle.co_dict_image.specs.Slots.{entry_in, entries_in}
 use Rattle.co_dict_image.specs.Images.{entries_of}
-use Rattle.co_dict_image.specs.LawfulImages.{are_entries}
-use Rattle.co_dict_image.proofs.Entries.{blank, number_is_place, slot_within, entries_increase, entries_len}
-use Rattle.co_dict_image.proofs.Puts.{entry_at_slot, room_at}
+use Rattle.co_dict_image.proofs.Entries.{blank, entries_increase, entries_len}
 use Rattle.co_dict_image.proofs.image_store.ImageStoreObjectStore.set_at.Goals as goal
 
 abbrev none : ListedEntry
