@@ -109,7 +109,7 @@ fn frame_of(text: &str) -> Option<Frame> {
     Frame::new(id, bytes.get(..length)?).ok()
 }
 
-// the nanoseconds that one takes of so many frames or ticks
+// the tenths of a nanosecond that one takes of so many frames or ticks
 fn measure(rt: &HostRuntime, node: &mut Node, input: &str, count: u32, sent: &mut Outbox) -> Result<u128> {
     let begin = Instant::now(rt)?;
     if input == "tick" {
@@ -118,11 +118,11 @@ fn measure(rt: &HostRuntime, node: &mut Node, input: &str, count: u32, sent: &mu
         let frame = frame_of(input).context("no frame")?;
         repeat_frame(node, &frame, count, sent);
     }
-    Ok(begin.elapsed(rt)?.as_nanos() / u128::from(count.max(1)))
+    Ok(begin.elapsed(rt)?.as_nanos().wrapping_mul(10) / u128::from(count.max(1)))
 }
 
 fn print_time(rt: &HostRuntime, name: &str, spent: u128) -> Result<()> {
-    println!(rt; "{name} {spent}")?;
+    println!(rt; "{name} {}.{}", spent / 10, spent % 10)?;
     Ok(())
 }
 
@@ -177,7 +177,7 @@ for sheet in module greatest; do
         NR == FNR { by_hand[$1] = $2; next }
         {
             times = $2 / (by_hand[$1] ? by_hand[$1] : 1)
-            printf "%-8s %-7s %9d ns, by hand %7d ns: %.2f times\n", sheet, $1 ":", $2, by_hand[$1], times
+            printf "%-8s %-7s %9.1f ns, by hand %7.1f ns: %.2f times\n", sheet, $1 ":", $2, by_hand[$1], times
             if ($1 != "other" && times > 1.5 || sheet == "module" && $1 == "tick" && $2 > 30) broken = 1
         }
         END { exit broken }

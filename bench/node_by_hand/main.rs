@@ -41,7 +41,7 @@ fn main() {
         let frame = (input != "tick").then(|| frame_of(input));
         let spent = repeat(&mut node, frame.as_ref(), count);
         if name != "-" {
-            println!("{name} {}", spent / u64::from(count));
+            println!("{name} {:.1}", spent as f64 / f64::from(count));
         }
         for (id, bytes, length) in &node.outbox {
             let digits: String = bytes[..*length]
