@@ -3,7 +3,9 @@
 # and a tick, on the sheet of the I/O module and on one with 128 SDO channels, 512 TPDOs and 127 monitored nodes; beside the
 # device in node_by_hand, in safe Rust. Status 1 where the two send different frames, where an upload, an RPDO, a SYNC or a tick
 # takes more than 1.5 times as long as by hand, or a tick of the I/O module more than 30 ns.
+#     node.sh [RUNS]        of each program on each sheet, 40 if not given
 set -eu
+runs=${1:-40}
 # shellcheck source=bench/device.sh
 . "$(dirname "$(readlink -f "$0")")/device.sh"
 
@@ -14,11 +16,11 @@ one_run() {
     sed -n '/^;/p' "$folder/printed" > "$folder/$3.frames"
 }
 
-# Nine runs of both programs on a sheet, in turn, since the machine may be faster at one time than at another; of each number
-# that a program prints the smallest, as `name number` on a line.
+# Runs of both programs on a sheet, in turn, since the machine may be faster at one time than at another; of each number that a
+# program prints the smallest, as `name number` on a line.
 best_in_turn() {
     rm -f "$folder/ours.runs" "$folder/theirs.runs"
-    for _ in $(seq 9); do
+    for _ in $(seq "$runs"); do
         one_run "$program" "$1" ours
         one_run "$folder/by_hand" "$1" theirs
     done

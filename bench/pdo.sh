@@ -6,7 +6,7 @@
 set -eu
 # shellcheck source=bench/crate.sh
 . "$(dirname "$(readlink -f "$0")")/crate.sh"
-runs=${1:-9}
+runs=${1:-40}
 
 # A data sheet with so many TPDOs, sent by an event timer, and an RPDO. The RPDO and the first TPDO have eight bytes.
 make_sheet() {
@@ -130,14 +130,15 @@ const LIMITS: Limits<'static> = Limits {
     own: &[],
 };
 
-// the sum of the bytes of so many images
+// the sum of so many images of eight bytes, each taken at once, as the copy by hand is
 fn images<S: ObjectStore>(store: &S, compiled: &Compiled) -> u64
     requires { HasParts (S.description store.now) compiled.now }
 {
     let mut sum: u64 = 0;
     for _ in 0..FRAMES {
-        for byte in image_at(store, compiled).as_slice() {
-            sum = sum.wrapping_add(u64::from(*byte));
+        let image = image_at(store, compiled);
+        if let [a, b, c, d, e, f, g, h] = image.as_slice() {
+            sum = sum.wrapping_add(u64::from_le_bytes([*a, *b, *c, *d, *e, *f, *g, *h]));
         }
     }
     sum
