@@ -7,7 +7,7 @@
 set -eu
 # shellcheck source=bench/crate.sh
 . "$(dirname "$(readlink -f "$0")")/crate.sh"
-runs=${1:-9}
+runs=${1:-30}
 
 # A data sheet of so many entries: the four of the mandatory objects, and ARRAYs of at most 256 entries.
 make_sheet() {

@@ -4,9 +4,9 @@
 # 1 GB through a pipe, with the most memory that it takes; a line at a time through a pipe, with the time to its answer; and a
 # run whose reader has gone. Prints the seconds of a processor of the best of so many runs, in turn, and their ratios. Status 1
 # where a bound is broken, or where the two devices print different lines.
-#     replay.sh [RUNS]      5 if not given
+#     replay.sh [RUNS]      20 if not given; of log2asc, which takes longer, 3 at most
 set -eu
-runs=${1:-5}
+runs=${1:-20}
 # shellcheck source=bench/program.sh
 . "$(dirname "$(readlink -f "$0")")/program.sh"
 broken=0
@@ -42,12 +42,12 @@ rustc -O --edition 2024 -o "$folder/round_trip" "$root/bench/round_trip.rs"
 uploads 1000000 > "$folder/one.log"
 uploads 2000000 > "$folder/two.log"
 : > "$folder/none.log"
-for _ in $(seq "$runs"); do
+for turn in $(seq "$runs"); do
     timed "$folder/one" "$program" replay "$folder/module.eds" "$folder/one.log" --node 5
     mv "$folder/printed" "$folder/ours"
     timed "$folder/hand" "$folder/by_hand" "$folder/module.eds" "$folder/one.log"
     cmp "$folder/ours" "$folder/printed"
-    if command -v log2asc > /dev/null; then timed "$folder/log2asc" log2asc -I "$folder/one.log" can0; fi
+    if [ "$turn" -le 3 ] && command -v log2asc > /dev/null; then timed "$folder/log2asc" log2asc -I "$folder/one.log" can0; fi
     timed "$folder/two" "$program" replay "$folder/module.eds" "$folder/two.log" --node 5
 done
 one=$(best one)
