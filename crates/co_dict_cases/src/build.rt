@@ -86,8 +86,8 @@ fn fault_of<S: SheetStore>(alloc: Global, count: u16, data_type: u8) -> Result<u
     }
 }
 
-/// Four entries are built, and so are 16,384 entries and 16,777,216 bytes of room; more is answered with TooMany, and that
-/// without the room.
+/// Four entries are built, and so are 16,384 entries and 16,777,216 bytes of room; more is answered with TooMany, and
+/// that without the room.
 #[test]
 fn greatest_dictionaries(rt: HostRuntime) -> Result<(), Fail> {
     for (count, data_type, number) in [

@@ -59,8 +59,9 @@ fn joined<S: ObjectStore>(store: &S, parts: &[Part]) -> PackedBytes
     image
 }
 
-/// The data of a PDO: what `image` gives of the mapping that was compiled, packed for a frame. The dictionary has to have
-/// the mapped entries, with the rows and at the places that they were compiled with, as it has after every call of its own.
+/// The data of a PDO: what `image` gives of the mapping that was compiled, packed for a frame. The dictionary has to
+/// have the mapped entries, with the rows and at the places that they were compiled with, as it has after every call of
+/// its own.
 #[inline(always)]
 pub fn packed_image_at<S: ObjectStore>(store: &S, compiled: &Compiled) -> PackedBytes
     requires { HasParts (S.description store.now) compiled.now }

@@ -1,4 +1,5 @@
-//! Transfers by a client alone, frame by frame: worked ones beside those that closed examples compute from the definitions.
+//! Transfers by a client alone, frame by frame: worked ones beside those that closed examples compute from the
+//! definitions.
 
 use crate::server::IDS;
 use co_frame::{AbortCode, Outbox};

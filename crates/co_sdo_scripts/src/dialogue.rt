@@ -1,9 +1,9 @@
 //! Dialogues in text, of a client with the requests 605h and a server with the answers 585h.
 //!
-//! The words of a dialogue are their frames, as `605#4001200000000000`, and what else comes to the end that is tried: `ticks`
-//! are ten of 1 ms, of which the last alone makes it send something. To a channel also: a number is how many bytes it holds;
-//! `x3` are the segments 1 to 3 of a sub-block, all zeros, of which the last alone may be answered; `write` sets 2001h to
-//! `abc`.
+//! The words of a dialogue are their frames, as `605#4001200000000000`, and what else comes to the end that is tried:
+//! `ticks` are ten of 1 ms, of which the last alone makes it send something. To a channel also: a number is how many
+//! bytes it holds; `x3` are the segments 1 to 3 of a sub-block, all zeros, of which the last alone may be answered;
+//! `write` sets 2001h to `abc`.
 
 use crate::bad_script::BadScript;
 use crate::frames::frame_of;
@@ -23,9 +23,9 @@ fn is_at(sent: &Outbox, place: usize, word: &str) -> bool {
     }
 }
 
-/// Whether an end does what a dialogue says: it hears each word that doesn't begin as its own frames do, and sends those that
-/// come next, and no other. What it sends before the first word is in the outbox. How many frames it sent; else the first
-/// word that isn't so, or the dialogue where more is sent at its end.
+/// Whether an end does what a dialogue says: it hears each word that doesn't begin as its own frames do, and sends those
+/// that come next, and no other. What it sends before the first word is in the outbox. How many frames it sent; else the
+/// first word that isn't so, or the dialogue where more is sent at its end.
 pub fn follows<'a, E: End>(
     end: &mut E,
     own: &str,

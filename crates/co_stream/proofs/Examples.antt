@@ -1,8 +1,10 @@
 -- Lines at the edges, evaluated.
-use Rattle.std.proofs.Common.{◌≡◌, ℕ, true, false, List, [], ◌∷◌, ◌++◌, length, Some, None, replicate, refl, ap, arith}
+use Rattle.std.proofs.Common.{◌≡◌, ℕ, zero, suc, true, false, List, [], ◌∷◌, ◌++◌, length, Some, None, replicate, refl, ap, arith}
 use Rattle.std.specs.Prelude.{codes}
+use Rattle.std.proofs.Math.Seq.{drop-nil}
+use Rattle.std.proofs.lemmas.Bool.Decides.{nat_tests}
 use Rattle.std.specs.Str.Lines.{lines}
-use Rattle.co_stream.specs.Lines.{IsTooLong, GivesLine}
+use Rattle.co_stream.specs.Lines.{has_line_feed, EndsAt, IsTooLong, GivesLine}
 use Rattle.co_stream.specs.Readings.{known_bytes}
 
 -- what follows a line in the same piece is still to come
@@ -21,6 +23,14 @@ before_end = refl
 
 after_end : known_bytes true (codes "a") (Some (codes "b")) ≡ Some (codes "a")
 after_end = refl
+
+-- of four bytes, the second a line feed, a line ends among those from a start on where it is below 2
+last_end : EndsAt 2 (codes "a" ++ 10 ∷ codes "bc")
+last_end zero = refl
+last_end (suc zero) = refl
+last_end (suc (suc zero)) = refl
+last_end (suc (suc (suc zero))) = refl
+last_end (suc (suc (suc (suc start)))) = let none = ap has_line_feed (drop-nil start) in grind (arith, nat_tests, none)
 
 -- 512 bytes with a carriage return and a line feed are a line
 longest_line : lines (replicate 512 59 ++ 13 ∷ 10 ∷ []) ≡ replicate 512 59 ∷ []

@@ -7,7 +7,8 @@ use Rattle.std.specs.Str.Lines.{lines, strip_carriage_return}
 abbrev pub has_line_feed : List ℕ → Bool
 has_line_feed bytes = list_any (λ byte. byte == 10) bytes
 
--- the last line that ends among the bytes ends at this place: a line feed is left of them up to there, and none from there on
+-- the last line that ends among the bytes ends before this place: a line ends among those that are left from a start on
+-- exactly where the start is below it
 abbrev pub EndsAt : ℕ → List ℕ → Type 0
 EndsAt place bytes = (start : ℕ) → has_line_feed (drop start bytes) ≡ nat_lt start place
 

@@ -30,7 +30,7 @@ pub fn unsigned_of(bytes: &[u8]) -> u64
     }
 }
 
-/// Up to eight bytes as one number, the first of them the lowest: to append to them and to hand them on needs no memory.
+/// Up to eight bytes as one number, the first of them the lowest, so that they are appended and handed on in registers.
 /// Contracts see the bytes.
 #[derive(Drop)]
 pub struct PackedBytes {
