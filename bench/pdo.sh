@@ -136,10 +136,7 @@ fn images<S: ObjectStore>(store: &S, compiled: &Compiled) -> u64
 {
     let mut sum: u64 = 0;
     for _ in 0..FRAMES {
-        let image = image_at(store, compiled);
-        if let [a, b, c, d, e, f, g, h] = image.as_slice() {
-            sum = sum.wrapping_add(u64::from_le_bytes([*a, *b, *c, *d, *e, *f, *g, *h]));
-        }
+        sum = sum.wrapping_add(u64::from_le_bytes(image_at(store, compiled).padded()));
     }
     sum
 }

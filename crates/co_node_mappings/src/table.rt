@@ -15,7 +15,7 @@ use crate::marks::may_change_mappings;
 use co_dict::{ObjectStore, Side};
 use co_node_inputs::Marks;
 use co_pdo::{PdoFault, has_pdo};
-use co_pdo_compiled::{Compiled, apply_at, mapping_by_words, packed_image_at};
+use co_pdo_compiled::{Compiled, apply_at, image_at, mapping_by_words};
 use co_value::PackedBytes;
 use std::alloc::{AllocError, Global};
 use std::boxed::BoxedSlice;
@@ -129,7 +129,7 @@ impl MappingTable {
             (mapping_of side (S.description store.now) (S.contents store.now) k) }
     {
         match self.pdos.get(usize::from(k)) {
-            Some(compiled) => packed_image_at(store, compiled),
+            Some(compiled) => image_at(store, compiled),
             None => PackedBytes::new(),
         }
     }

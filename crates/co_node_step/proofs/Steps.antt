@@ -7,8 +7,7 @@ use Rattle.co_dict.specs.Rows.{Contents, number_at}
 use Rattle.co_dict.specs.Stores.{Description}
 use Rattle.co_sdo_bank.specs.declared.channels.NumberedChannel.{NumberedChannel}
 use Rattle.co_sdo_bank.specs.Banks.{BankStands}
-use Rattle.co_pdo.specs.declared.tpdo.Tpdo.{Tpdo}
-use Rattle.co_pdo.specs.Schedules.{History as Schedule, IsScheduleAfter}
+use Rattle.co_pdo.specs.Schedules.{History as Schedule, Timetable, IsScheduleAfter}
 use Rattle.co_node_parts.specs.declared.nmt_state.NodeState.{NodeState}
 use Rattle.co_node_parts.specs.declared.nmt_state.NodeState.TheVariants.{Stopped}
 use Rattle.co_node_parts.specs.declared.nmt_state.StateEvent.{StateEvent}
@@ -136,8 +135,8 @@ module _ (k : Constants) (h : History) (m : Moment) (is : IsMoment k h m) where
       pub due : (d : Description) (numbers : List ℕ) → d ≡ k.description → numbers ≡ due_at d turn contents (schedule_log k h) → numbers ≡ m.due
       due d numbers dk e = e ∙ rw (dk, turned, ec) (sym is.due)
 
-      pub schedule : (d : Description) (tpdos : List Tpdo) (numbers : List ℕ) → d ≡ k.description → numbers ≡ m.due → IsScheduleAfter d tpdos (with_turn d turn contents numbers (schedule_log k h)) → IsScheduleAfter d tpdos (schedule_log k (m ∷ h))
-      schedule d tpdos numbers dk en s = subst (λ (log : Schedule). IsScheduleAfter d tpdos log) logged s
+      pub schedule : (d : Description) (table : Timetable) (numbers : List ℕ) → d ≡ k.description → numbers ≡ m.due → IsScheduleAfter d table (with_turn d turn contents numbers (schedule_log k h)) → IsScheduleAfter d table (schedule_log k (m ∷ h))
+      schedule d table numbers dk en s = subst (λ (log : Schedule). IsScheduleAfter d table log) logged s
         where
           logged : with_turn d turn contents numbers (schedule_log k h) ≡ schedule_log k (m ∷ h)
           logged = rw (dk, turned, ec, en) refl

@@ -9,7 +9,7 @@ use Rattle.co_dict.specs.Rows.{Rows}
 use Rattle.co_dict.specs.Stores.{Description}
 use Rattle.co_pdo.specs.declared.tpdo.Tpdo.{Tpdo}
 use Rattle.co_pdo.specs.Tpdos.{has_tpdo, tpdo_numbers, tpdos_of}
-use Rattle.co_pdo.specs.Schedules.{History, IsScheduleAfter}
+use Rattle.co_pdo.specs.Schedules.{History, Timetable, IsScheduleAfter}
 
 -- those that pass a test are at most all
 filtered_few : {X : Type 0} (p : X → Bool) (xs : List X) → length (filter p xs) ≤ length xs
@@ -26,10 +26,10 @@ few_tpdos rows =
     filtered_few (has_tpdo rows) (range_with_len 0 512) in
     omega arith
 
-pub few_scheduled : (d : Description) (tpdos : List Tpdo) (history : History)
-    → IsScheduleAfter d tpdos history → length tpdos ≤ 512
-few_scheduled d tpdos history is =
-    let as_many : length tpdos ≡ length (tpdos_of d.rows) =
-    sym (length-map tpdos (λ (t : Tpdo). t.number)) ∙ ap length is.numbers in
+pub few_scheduled : (d : Description) (schedule : Timetable) (history : History)
+    → IsScheduleAfter d schedule history → length schedule.tpdos ≤ 512
+few_scheduled d schedule history is =
+    let as_many : length schedule.tpdos ≡ length (tpdos_of d.rows) =
+    sym (length-map schedule.tpdos (λ (t : Tpdo). t.number)) ∙ ap length is.numbers in
     let few : length (tpdos_of d.rows) ≤ 512 = few_tpdos d.rows in
     omega arith

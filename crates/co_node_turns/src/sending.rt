@@ -4,7 +4,6 @@ ghost use Rattle.std.specs.Prelude.{◌≡◌, ◌+◌, ◌≤◌, ◌<◌, ℕ,
 ghost use Rattle.std.specs.List.{slice_index_or};
 ghost use Rattle.co_frame.specs.Outboxes.{outbox_room};
 ghost use Rattle.co_dict.specs.declared.side.Side.TheVariants.{Tpdo};
-ghost use Rattle.co_dict.specs.CobIds.{identifier_of};
 ghost use Rattle.co_dict.specs.Rows.{number_at};
 ghost use Rattle.co_pdo.specs.Schedules.{History, IsScheduleAfter};
 ghost use Rattle.co_node_parts.specs.EmergencyQueues.{EmergenciesStand, EmergencyLog, emergency_due, with_sending};

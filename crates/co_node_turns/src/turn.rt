@@ -27,9 +27,9 @@ fn take_asked<S: ObjectStore>(schedule: &mut Schedule, store: &S, asked: Asked, 
         AllCurrent (S.contents store.now) history →
         IsScheduleAfter (S.description store.now) schedule.new (with_turn
         (S.description store.now) (Turn.Asked asked) (S.contents store.now) sent.new.items history) }
-    ensures few { length sent.new.items ≤ length schedule.old }
+    ensures few { length sent.new.items ≤ length schedule.old.tpdos }
     ensures small { (i e : ℕ) → i < length sent.new.items → slice_index_or sent.new.items i e < 512 }
-    ensures size { length schedule.new ≡ length schedule.old }
+    ensures size { length schedule.new.tpdos ≡ length schedule.old.tpdos }
 {
     schedule.on_events(store, &numbers_asked(store, asked), sent);
 }
@@ -49,9 +49,9 @@ pub fn take_turn<S: ObjectStore>(schedule: &mut Schedule, store: &S, turn: Turn,
         (is_asked turn ≡ true → AllCurrent (S.contents store.now) history) →
         IsScheduleAfter (S.description store.now) schedule.new (with_turn
         (S.description store.now) turn (S.contents store.now) sent.new.items history) }
-    ensures few { length sent.new.items ≤ length schedule.old }
+    ensures few { length sent.new.items ≤ length schedule.old.tpdos }
     ensures small { (i e : ℕ) → i < length sent.new.items → slice_index_or sent.new.items i e < 512 }
-    ensures size { length schedule.new ≡ length schedule.old }
+    ensures size { length schedule.new.tpdos ≡ length schedule.old.tpdos }
 {
     match turn {
         Turn::Quiet => sent.clear(),

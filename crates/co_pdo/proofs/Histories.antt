@@ -1,5 +1,5 @@
 -- One more call in the history of a schedule.
-use Rattle.std.proofs.Common.{◌≡◌, ◌≢◌, ℕ, zero, suc, ◌+◌, ◌<◌, ◌≤◌, Bool, true, false, cond, eqb, List, [], ◌∷◌, ◌++◌, length, map, get_or, set, take, Option, Some, None, refl, sym, ap, ◌∙◌, subst, arith, get_or-set_same, get_or-set_other, length-set}
+use Rattle.std.proofs.Common.{◌≡◌, ◌≢◌, ℕ, zero, suc, ◌+◌, ◌<◌, ◌≤◌, Bool, true, false, cond, eqb, ltb, List, [], ◌∷◌, ◌++◌, length, map, get_or, set, take, Option, Some, None, refl, sym, ap, ◌∙◌, subst, arith, get_or-set_same, get_or-set_other, length-set}
 use Rattle.std.specs.Prelude.{◌&&◌, ◌||◌, position}
 use Rattle.std.specs.List.{filter, range_with_len}
 use Rattle.std.proofs.Math.Bool.{and-false}
@@ -14,15 +14,20 @@ use Rattle.co_pdo.specs.declared.tpdo.Part.{Part}
 use Rattle.co_pdo.specs.declared.tpdo.Occasion.{Occasion}
 use Rattle.co_pdo.specs.declared.tpdo.Occasion.TheVariants.{Sync, Event, Tick}
 use Rattle.co_pdo.specs.declared.tpdo.Tpdo.{Tpdo}
+use Rattle.co_pdo.specs.declared.places.Places.{Places}
 use Rattle.co_pdo.specs.Tpdos.{counter_overflow_key, places_of, settings_of, has_tpdo, tpdo_numbers, tpdos_of}
 use Rattle.co_pdo.specs.Log.{Log, LogEntry, Started, Happened}
 use Rattle.co_pdo.specs.Due.{is_due, is_due_at_sync, is_due_by_event}
-use Rattle.co_pdo.specs.Countdowns.{IsPlacedAfter, IsCurrent}
-use Rattle.co_pdo.specs.Schedules.{Call, Moment, History, is_among, part_of, log_of, with_start, with_all_started, with_event, with_events, is_tpdo_due, all_due, all_due_among, IsTable, AllAfter, AllCurrentAfter, with_occasion, with_whole_start, with_events_among, IsScheduleAfter, AllCurrent}
+use Rattle.co_pdo.specs.Countdowns.{IsAfter, IsCurrent}
+use Rattle.co_pdo.specs.Schedules.{Call, Moment, History, is_among, part_of, log_of, with_start, with_all_started, with_event, with_events, is_tpdo_due, all_due, all_due_among, Timetable, IsTimetable, IsTable, ArePlaces, AllAfter, AllCurrentAfter, with_occasion, with_whole_start, with_events_among, IsScheduleAfter, AllCurrent}
 use Rattle.co_dict.specs.declared.side.Side.TheVariants as side
 use Rattle.co_pdo.proofs.Actives.{inactive}
-use Rattle.co_pdo.proofs.Lists.{numbers_set, number_at_place}
+use Rattle.co_pdo.proofs.Lists.{numbers_set, number_at_place, places_at}
 use Rattle.co_pdo.proofs.Numbers.{one_tpdo, position-None}
+
+-- TPDOs with their places
+abbrev pub timetable : List Tpdo → List Places → Timetable
+timetable tpdos places = record { tpdos = tpdos; places = places }
 
 numbers_range : (rows : Rows) → tpdos_of rows ≡ filter (has_tpdo rows) (range_with_len 0 512)
 unfolding tpdo_numbers
@@ -137,19 +142,27 @@ log_raised k contents sent history =
 pub log_not_raised : (k : ℕ) (contents : Contents) (sent : Bool) (history : History) (j : ℕ) → eqb k j ≡ false → log_of j (with_event k contents sent history) ≡ log_of j history
 log_not_raised k contents sent history j e = other_log (eqb k j) (Happened Event (settings_of contents j) (is_among j (cond sent (k ∷ []) []))) _ e
 
-module _ (dict : Description) (tpdos value : List Tpdo) (history : History) (k : ℕ) (same : tpdos ≡ value) (given : IsScheduleAfter dict value history) where
-  here : IsScheduleAfter dict tpdos history
-  here = subst (λ (ts : List Tpdo). IsScheduleAfter dict ts history) (sym same) given
+module _ (dict : Description) (tpdos : List Tpdo) (places : List Places) (value : Timetable) (history : History) (k : ℕ) (same : timetable tpdos places ≡ value) (given : IsScheduleAfter dict value history) where
+  here : IsScheduleAfter dict (timetable tpdos places) history
+  here = subst (λ (v : Timetable). IsScheduleAfter dict v history) (sym same) given
 
   -- where there is no such TPDO, the call changes nothing
   pub after_absent : position (λ t. eqb t.number k) tpdos ≡ None → (m : Moment) → ((j : ℕ) → eqb k j ≡ false → log_of j (m ∷ history) ≡ log_of j history) → IsScheduleAfter dict value (m ∷ history)
-  after_absent none m others = subst (λ (ts : List Tpdo). IsScheduleAfter dict ts (m ∷ history)) same (record {
+  after_absent none m others = subst (λ (v : Timetable). IsScheduleAfter dict v (m ∷ history)) same (record {
     numbers = here.numbers;
+    places = here.places;
     countdowns = λ j d lt.
         let away : eqb (get_or tpdos j d).number k ≡ false = position-None (λ t. eqb t.number k) tpdos none j d lt in
         let apart : eqb k (get_or tpdos j d).number ≡ false = grind (arith, nat_tests) in
-        subst (λ (log : Log). IsPlacedAfter dict (get_or tpdos j d) log) (sym (others (get_or tpdos j d).number apart)) (here.countdowns j d lt);
+        subst (λ (log : Log). IsAfter (get_or tpdos j d) log) (sym (others (get_or tpdos j d).number apart)) (here.countdowns j d lt);
   })
+
+  -- the places at the place of the TPDO with this number
+  pub places_of_number : (slice : List Tpdo) (i : ℕ) (t : Tpdo) (p : Places) → slice ≡ tpdos → true ≡ ltb i (length slice) → t ≡ get_or slice i t → t.number ≡ k → get_or places i p ≡ places_of dict k
+  places_of_number slice i t p s inside read number =
+      let within : i < length slice = grind (arith, nat_tests) in
+      let placed : ArePlaces dict (map (λ t. t.number) slice) places = here.places ∙ ap (map (places_of dict)) (sym here.numbers) ∙ ap (λ (ts : List Tpdo). map (places_of dict) (map (λ t. t.number) ts)) (sym s) in
+      places_at dict slice places i t p within placed ∙ ap (λ (u : Tpdo). places_of dict u.number) (sym read) ∙ ap (places_of dict) number
 
   pub lacks : k < 512 → position (λ t. eqb t.number k) tpdos ≡ None → has_tpdo dict.rows k ≡ false
   lacks lt none = not_there dict.rows k tpdos lt here.numbers (position-None (λ t. eqb t.number k) tpdos none)
@@ -164,31 +177,32 @@ module _ (dict : Description) (tpdos value : List Tpdo) (history : History) (k :
         let number : (get_or tpdos i old).number ≡ k = grind (arith, nat_tests) in
         ap (λ t. t.number) read ∙ number
 
-    pub old_after : IsPlacedAfter dict old (log_of k history)
+    pub old_after : IsAfter old (log_of k history)
     old_after =
-        let at_place : IsPlacedAfter dict (get_or tpdos i old) (log_of (get_or tpdos i old).number history) = here.countdowns i old within in
-        let at_old : IsPlacedAfter dict old (log_of old.number history) = subst (λ (t : Tpdo). IsPlacedAfter dict t (log_of t.number history)) (sym read) at_place in
-        subst (λ (n : ℕ). IsPlacedAfter dict old (log_of n history)) is_k at_old
+        let at_place : IsAfter (get_or tpdos i old) (log_of (get_or tpdos i old).number history) = here.countdowns i old within in
+        let at_old : IsAfter old (log_of old.number history) = subst (λ (t : Tpdo). IsAfter t (log_of t.number history)) (sym read) at_place in
+        subst (λ (n : ℕ). IsAfter old (log_of n history)) is_k at_old
 
-    pub after_present : (m : Moment) → ((j : ℕ) → eqb k j ≡ false → log_of j (m ∷ history) ≡ log_of j history) → IsPlacedAfter dict new (log_of k (m ∷ history)) → IsScheduleAfter dict (set tpdos i new) (m ∷ history)
+    pub after_present : (m : Moment) → ((j : ℕ) → eqb k j ≡ false → log_of j (m ∷ history) ≡ log_of j history) → IsAfter new (log_of k (m ∷ history)) → IsScheduleAfter dict (timetable (set tpdos i new) places) (m ∷ history)
     after_present m others h = record {
       numbers = numbers_set tpdos i new old (kept ∙ ap (λ t. t.number) read) ∙ here.numbers;
+      places = here.places;
       countdowns = λ j d lt. by_test j d (simp length-set at lt) (eqb j i) refl;
     }
       where
-        by_test : (j : ℕ) (d : Tpdo) → j < length tpdos → (b : Bool) → eqb j i ≡ b → IsPlacedAfter dict (get_or (set tpdos i new) j d) (log_of (get_or (set tpdos i new) j d).number (m ∷ history))
+        by_test : (j : ℕ) (d : Tpdo) → j < length tpdos → (b : Bool) → eqb j i ≡ b → IsAfter (get_or (set tpdos i new) j d) (log_of (get_or (set tpdos i new) j d).number (m ∷ history))
         by_test j d below true e =
             let place : j ≡ i = grind (arith, nat_tests) in
             let inside : i < length tpdos = within in
             let number : new.number ≡ k = kept ∙ is_k in
             let written : get_or (set tpdos i new) j d ≡ new = ap (λ n. get_or (set tpdos i new) n d) place ∙ get_or-set_same tpdos i new d inside in
-            subst (λ (t : Tpdo). IsPlacedAfter dict t (log_of t.number (m ∷ history))) (sym written) (subst (λ (n : ℕ). IsPlacedAfter dict new (log_of n (m ∷ history))) (sym number) h)
+            subst (λ (t : Tpdo). IsAfter t (log_of t.number (m ∷ history))) (sym written) (subst (λ (n : ℕ). IsAfter new (log_of n (m ∷ history))) (sym number) h)
         by_test j d below false e =
             let place : j ≢ i = grind (arith, nat_tests) in
             let apart : eqb k (get_or tpdos j d).number ≡ false = other_number (eqb k (get_or tpdos j d).number) refl place below in
             let unchanged : get_or (set tpdos i new) j d ≡ get_or tpdos j d = get_or-set_other tpdos i j new d place in
-            subst (λ (t : Tpdo). IsPlacedAfter dict t (log_of t.number (m ∷ history))) (sym unchanged)
-            (subst (λ (log : Log). IsPlacedAfter dict (get_or tpdos j d) log) (sym (others (get_or tpdos j d).number apart)) (here.countdowns j d below))
+            subst (λ (t : Tpdo). IsAfter t (log_of t.number (m ∷ history))) (sym unchanged)
+            (subst (λ (log : Log). IsAfter (get_or tpdos j d) log) (sym (others (get_or tpdos j d).number apart)) (here.countdowns j d below))
           where
             other_number : (b : Bool) → eqb k (get_or tpdos j d).number ≡ b → j ≢ i → j < length tpdos → b ≡ false
             other_number true t place below =
@@ -197,22 +211,31 @@ module _ (dict : Description) (tpdos value : List Tpdo) (history : History) (k :
                 absurd (place (one_tpdo (has_tpdo dict.rows) 512 tpdos (here.numbers ∙ numbers_range dict.rows) j i d old below within (equal ∙ sym here_too)))
             other_number false t place below = refl
 
-    -- an event
-    pub event_due : (contents : Contents) (sent : Bool) → k < 512 → AllCurrent contents history → ((log : Log) → IsPlacedAfter dict old log → IsCurrent (settings_of contents old.number) log → sent ≡ is_due (settings_of contents old.number) log Event) → sent ≡ is_tpdo_due contents history Event k
-    event_due contents sent lt current due =
-        subst (λ (n : ℕ). (log : Log) → IsPlacedAfter dict old log → IsCurrent (settings_of contents n) log → sent ≡ is_due (settings_of contents n) log Event) is_k due (log_of k history) old_after (current k lt)
+    -- the places at its place are its own
+    pub own_places : (p : Places) → get_or places i p ≡ places_of dict k
+    own_places p =
+        let placed : ArePlaces dict (map (λ t. t.number) tpdos) places = here.places ∙ ap (map (places_of dict)) (sym here.numbers) in
+        places_at dict tpdos places i old p within placed ∙ ap (λ (t : Tpdo). places_of dict t.number) (sym read) ∙ ap (places_of dict) is_k
 
-    pub event_after : (contents : Contents) (sent : Bool) → k < 512 → AllCurrent contents history → ((log : Log) → IsPlacedAfter dict old log → IsCurrent (settings_of contents old.number) log → IsPlacedAfter dict new (Happened Event (settings_of contents old.number) sent ∷ log))
-        → IsScheduleAfter dict (set tpdos i new) (with_event k contents sent history)
+    pub numbered_places : (p : Places) → get_or places i p ≡ places_of dict old.number
+    numbered_places p = own_places p ∙ ap (places_of dict) (sym is_k)
+
+    -- an event
+    pub event_due : (contents : Contents) (sent : Bool) → k < 512 → AllCurrent contents history → ((log : Log) → IsAfter old log → IsCurrent (settings_of contents old.number) log → sent ≡ is_due (settings_of contents old.number) log Event) → sent ≡ is_tpdo_due contents history Event k
+    event_due contents sent lt current due =
+        subst (λ (n : ℕ). (log : Log) → IsAfter old log → IsCurrent (settings_of contents n) log → sent ≡ is_due (settings_of contents n) log Event) is_k due (log_of k history) old_after (current k lt)
+
+    pub event_after : (contents : Contents) (sent : Bool) → k < 512 → AllCurrent contents history → ((log : Log) → IsAfter old log → IsCurrent (settings_of contents old.number) log → IsAfter new (Happened Event (settings_of contents old.number) sent ∷ log))
+        → IsScheduleAfter dict (timetable (set tpdos i new) places) (with_event k contents sent history)
     event_after contents sent lt current after = after_present _ (log_not_raised k contents sent history) (
-        subst (λ (log : Log). IsPlacedAfter dict new log) (sym (log_raised k contents sent history))
-        (subst (λ (n : ℕ). (log : Log) → IsPlacedAfter dict old log → IsCurrent (settings_of contents n) log → IsPlacedAfter dict new (Happened Event (settings_of contents n) sent ∷ log)) is_k after (log_of k history) old_after (current k lt)))
+        subst (λ (log : Log). IsAfter new log) (sym (log_raised k contents sent history))
+        (subst (λ (n : ℕ). (log : Log) → IsAfter old log → IsCurrent (settings_of contents n) log → IsAfter new (Happened Event (settings_of contents n) sent ∷ log)) is_k after (log_of k history) old_after (current k lt)))
 
     -- a start
-    pub start_after : (contents : Contents) (settings : Settings) (part : Part) → k < 512 → ((n : ℕ) → n < 512 → old.places ≡ places_of dict n → settings ≡ settings_of contents n) → ((log : Log) → IsPlacedAfter dict old log → IsPlacedAfter dict new (Started part settings ∷ log)) → IsScheduleAfter dict (set tpdos i new) (with_start k part contents history)
-    start_after contents settings part lt read after = after_present _ (log_not_started k part contents history) (
-        subst (λ (log : Log). IsPlacedAfter dict new log) (sym (log_started k part contents history))
-        (subst (λ (s : Settings). IsPlacedAfter dict new (Started part s ∷ log_of k history)) (read k lt (old_after.places ∙ ap (places_of dict) is_k)) (after (log_of k history) old_after)))
+    pub start_after : (contents : Contents) (settings : Settings) (part : Part) → settings ≡ settings_of contents k → ((log : Log) → IsAfter old log → IsAfter new (Started part settings ∷ log)) → IsScheduleAfter dict (timetable (set tpdos i new) places) (with_start k part contents history)
+    start_after contents settings part read after = after_present _ (log_not_started k part contents history) (
+        subst (λ (log : Log). IsAfter new log) (sym (log_started k part contents history))
+        (subst (λ (s : Settings). IsAfter new (Started part s ∷ log_of k history)) read (after (log_of k history) old_after)))
 
 -- ---- a call that concerns all
 
@@ -226,7 +249,7 @@ pub all_written : (n : ℕ) (new rest : List Tpdo) → length new ≡ n → take
 all_written n new rest e = ap (λ m. take m (new ++ rest)) (sym e) ∙ take-append_seam new rest
 
 -- where there is no TPDO, a SYNC does the same whatever the counter overflow value is
-module _ (d : Description) (old new : List Tpdo) (numbers : map (λ t. t.number) new ≡ map (λ t. t.number) old) (contents : Contents) (counter : Option ℕ) (n m : ℕ) (same : 0 < length old → n ≡ m) where
+module _ (old new : List Tpdo) (numbers : map (λ t. t.number) new ≡ map (λ t. t.number) old) (contents : Contents) (counter : Option ℕ) (n m : ℕ) (same : 0 < length old → n ≡ m) (Placed : Type 0) where
   by_overflow : (P : ℕ → Type 0) → (old ≡ [] → P n → P m) → P n → P m
   by_overflow P none p = by_list old refl same
     where
@@ -234,60 +257,83 @@ module _ (d : Description) (old new : List Tpdo) (numbers : map (λ t. t.number)
       by_list [] e h = none e p
       by_list (t ∷ ts) e h = subst P (h (omega arith)) p
 
-  pub due_with : (sent : List ℕ) → ((logs : ℕ → Log) → AllAfter d old logs → AllCurrentAfter contents logs → sent ≡ filter (λ k. is_due (settings_of contents k) (logs k) (Sync n counter)) (map (λ t. t.number) old))
-      → (logs : ℕ → Log) → AllAfter d old logs → AllCurrentAfter contents logs → sent ≡ filter (λ k. is_due (settings_of contents k) (logs k) (Sync m counter)) (map (λ t. t.number) old)
-  due_with sent = by_overflow (λ v. (logs : ℕ → Log) → AllAfter d old logs → AllCurrentAfter contents logs → sent ≡ filter (λ k. is_due (settings_of contents k) (logs k) (Sync v counter)) (map (λ t. t.number) old))
-      (λ e due logs all current. due logs all current
+  pub due_with : (sent : List ℕ) → ((logs : ℕ → Log) → Placed → AllAfter old logs → AllCurrentAfter contents logs → sent ≡ filter (λ k. is_due (settings_of contents k) (logs k) (Sync n counter)) (map (λ t. t.number) old))
+      → (logs : ℕ → Log) → Placed → AllAfter old logs → AllCurrentAfter contents logs → sent ≡ filter (λ k. is_due (settings_of contents k) (logs k) (Sync m counter)) (map (λ t. t.number) old)
+  due_with sent = by_overflow (λ v. (logs : ℕ → Log) → Placed → AllAfter old logs → AllCurrentAfter contents logs → sent ≡ filter (λ k. is_due (settings_of contents k) (logs k) (Sync v counter)) (map (λ t. t.number) old))
+      (λ e due logs placed all current. due logs placed all current
       ∙ ap (λ (ts : List Tpdo). filter (λ k. is_due (settings_of contents k) (logs k) (Sync n counter)) (map (λ t. t.number) ts)) e
       ∙ sym (ap (λ (ts : List Tpdo). filter (λ k. is_due (settings_of contents k) (logs k) (Sync m counter)) (map (λ t. t.number) ts)) e))
 
-  pub after_with : ((logs : ℕ → Log) → AllAfter d old logs → AllCurrentAfter contents logs → AllAfter d new (with_occasion contents (Sync n counter) logs))
-      → (logs : ℕ → Log) → AllAfter d old logs → AllCurrentAfter contents logs → AllAfter d new (with_occasion contents (Sync m counter) logs)
-  after_with = by_overflow (λ v. (logs : ℕ → Log) → AllAfter d old logs → AllCurrentAfter contents logs → AllAfter d new (with_occasion contents (Sync v counter) logs))
-      (λ e after logs all current i t lt.
+  pub after_with : ((logs : ℕ → Log) → Placed → AllAfter old logs → AllCurrentAfter contents logs → AllAfter new (with_occasion contents (Sync n counter) logs))
+      → (logs : ℕ → Log) → Placed → AllAfter old logs → AllCurrentAfter contents logs → AllAfter new (with_occasion contents (Sync m counter) logs)
+  after_with = by_overflow (λ v. (logs : ℕ → Log) → Placed → AllAfter old logs → AllCurrentAfter contents logs → AllAfter new (with_occasion contents (Sync v counter) logs))
+      (λ e after logs placed all current i t lt.
       let as_many : length new ≡ length old = simp length-map at (ap length numbers) in
       let none : length old ≡ 0 = ap length e in
       absurd (omega arith))
 
-module _ (d : Description) (value old new : List Tpdo) (history : History) (same : old ≡ value) (given : IsScheduleAfter d value history) where
-  had : IsScheduleAfter d old history
-  had = subst (λ (ts : List Tpdo). IsScheduleAfter d ts history) (sym same) given
+-- the same TPDOs in the slice of a list
+pub same_timetable : (slice tpdos : List Tpdo) (places : List Places) (value : Timetable) → slice ≡ tpdos → timetable tpdos places ≡ value → timetable slice places ≡ value
+same_timetable slice tpdos places value e same = ap (λ (ts : List Tpdo). timetable ts places) e ∙ same
+
+-- a call that keeps the numbers leaves a timetable
+pub timetable_kept : (tpdos slice new written : List Tpdo) (places : List Places) → slice ≡ tpdos → IsTimetable tpdos places → map (λ t. t.number) new ≡ map (λ t. t.number) slice → written ≡ new → IsTimetable written places
+timetable_kept tpdos slice new written places s was numbers e =
+    let table : IsTable slice = subst (λ (ts : List Tpdo). IsTable ts) (sym s) was.table in
+    let as_many : length new ≡ length slice = simp length-map at (ap length numbers) in
+    rw e (record {
+      table = table_kept slice new table numbers;
+      placed = was.placed ∙ sym (ap length s) ∙ sym as_many;
+    })
+
+module _ (d : Description) (value : Timetable) (old : List Tpdo) (places : List Places) (new : List Tpdo) (history : History) (same : timetable old places ≡ value) (given : IsScheduleAfter d value history) where
+  had : IsScheduleAfter d (timetable old places) history
+  had = subst (λ (v : Timetable). IsScheduleAfter d v history) (sym same) given
+
+  -- the places of the TPDOs
+  pub had_places : ArePlaces d (map (λ t. t.number) old) places
+  had_places = had.places ∙ ap (map (places_of d)) (sym had.numbers)
 
   -- the counter overflow value, where there is a TPDO
-  pub overflow_of : (contents : Contents) (slice : List Tpdo) (n : ℕ) → slice ≡ value → ((logs : ℕ → Log) → AllAfter d slice logs → 0 < length slice → n ≡ number_at contents counter_overflow_key) → 0 < length old → n ≡ number_at contents counter_overflow_key
+  pub overflow_of : (contents : Contents) (slice : List Places) (n : ℕ) → slice ≡ places → ((numbers : List ℕ) → ArePlaces d numbers slice → 0 < length numbers → n ≡ number_at contents counter_overflow_key) → 0 < length old → n ≡ number_at contents counter_overflow_key
   overflow_of contents slice n e read lt =
-      read (λ k. log_of k history) (subst (λ (ts : List Tpdo). AllAfter d ts (λ k. log_of k history)) (sym e) given.countdowns) (subst (λ (ts : List Tpdo). 0 < length ts) (same ∙ sym e) lt)
+      let there : 0 < length (map (λ (t : Tpdo). t.number) old) = simp length-map lt in
+      read (map (λ t. t.number) old) (e ∙ had_places) there
 
   -- after a call that gives each its longer log
-  after_call : IsTable old → map (λ t. t.number) new ≡ map (λ t. t.number) old → (next : ℕ → Log) → AllAfter d new next → (m : Moment) → ((k : ℕ) → k < 512 → next k ≡ log_of k (m ∷ history)) → IsScheduleAfter d new (m ∷ history)
+  after_call : IsTable old → map (λ t. t.number) new ≡ map (λ t. t.number) old → (next : ℕ → Log) → AllAfter new next → (m : Moment) → ((k : ℕ) → k < 512 → next k ≡ log_of k (m ∷ history)) → IsScheduleAfter d (timetable new places) (m ∷ history)
   after_call table numbers next after m is = record {
     numbers = numbers ∙ had.numbers;
-    countdowns = λ i t lt. subst (λ (log : Log). IsPlacedAfter d (get_or new i t) log) (is (get_or new i t).number ((table_kept old new table numbers).small i t lt)) (after i t lt);
+    places = had.places;
+    countdowns = λ i t lt. subst (λ (log : Log). IsAfter (get_or new i t) log) (is (get_or new i t).number ((table_kept old new table numbers).small i t lt)) (after i t lt);
   }
 
-  module _ (table : IsTable old) (numbers : map (λ t. t.number) new ≡ map (λ t. t.number) old) (contents : Contents) where
-    pub after_all_started : ((logs : ℕ → Log) → AllAfter d old logs → AllAfter d new (with_whole_start contents logs)) → (written : List Tpdo) → written ≡ new → IsScheduleAfter d written (with_all_started contents history)
-    after_all_started after written e = rw e (after_call table numbers _ (after (λ k. log_of k history) had.countdowns) _ (λ k lt. refl))
+  module _ (table : IsTable old) (numbers : map (λ t. t.number) new ≡ map (λ t. t.number) old) (contents : Contents) (slice : List Places) (sliced : slice ≡ places) where
+    placed : ArePlaces d (map (λ t. t.number) old) slice
+    placed = sliced ∙ had_places
+
+    pub after_all_started : ((logs : ℕ → Log) → ArePlaces d (map (λ t. t.number) old) slice → AllAfter old logs → AllAfter new (with_whole_start contents logs)) → (written : List Tpdo) → written ≡ new → IsScheduleAfter d (timetable written places) (with_all_started contents history)
+    after_all_started after written e = rw e (after_call table numbers _ (after (λ k. log_of k history) placed had.countdowns) _ (λ k lt. refl))
 
     module _ (laws : IsDictionary d contents) (current : AllCurrent contents history) (sent : List ℕ) where
-      module _ (o : Occasion) (due : (logs : ℕ → Log) → AllAfter d old logs → AllCurrentAfter contents logs → sent ≡ filter (λ k. is_due (settings_of contents k) (logs k) o) (map (λ t. t.number) old)) where
+      module _ (o : Occasion) (due : (logs : ℕ → Log) → ArePlaces d (map (λ t. t.number) old) slice → AllAfter old logs → AllCurrentAfter contents logs → sent ≡ filter (λ k. is_due (settings_of contents k) (logs k) o) (map (λ t. t.number) old)) where
         pub all_due_is : sent ≡ all_due contents history o
-        all_due_is = due_numbers d (λ k. is_tpdo_due contents history o k) old sent (λ k h. absent_not_due d contents history o k laws h) had.numbers (due (λ k. log_of k history) had.countdowns current)
+        all_due_is = due_numbers d (λ k. is_tpdo_due contents history o k) old sent (λ k h. absent_not_due d contents history o k laws h) had.numbers (due (λ k. log_of k history) placed had.countdowns current)
 
-        pub after_occasion : ((logs : ℕ → Log) → AllAfter d old logs → AllCurrentAfter contents logs → AllAfter d new (with_occasion contents o logs))
+        pub after_occasion : ((logs : ℕ → Log) → ArePlaces d (map (λ t. t.number) old) slice → AllAfter old logs → AllCurrentAfter contents logs → AllAfter new (with_occasion contents o logs))
             → (call : Call) → ((k : ℕ) → Happened o (settings_of contents k) (is_among k sent) ∷ [] ≡ part_of k call contents sent) → (written : List Tpdo) → written ≡ new
-            → IsScheduleAfter d written (record { call = call; contents = contents; sent = sent } ∷ history)
-        after_occasion after call each written e = rw e (after_call table numbers _ (after (λ k. log_of k history) had.countdowns current) _ (λ k lt.
+            → IsScheduleAfter d (timetable written places) (record { call = call; contents = contents; sent = sent } ∷ history)
+        after_occasion after call each written e = rw e (after_call table numbers _ (after (λ k. log_of k history) placed had.countdowns current) _ (λ k lt.
             ap (λ b. Happened o (settings_of contents k) b ∷ log_of k history) (sym (ap (is_among k) all_due_is ∙ among_range (λ j. is_tpdo_due contents history o j) k lt))
             ∙ ap (λ (entries : Log). entries ++ log_of k history) (each k)))
 
-      module _ (asked : List ℕ) (due : (logs : ℕ → Log) → AllAfter d old logs → AllCurrentAfter contents logs → sent ≡ filter (λ k. is_among k asked && is_due (settings_of contents k) (logs k) Event) (map (λ t. t.number) old)) where
+      module _ (asked : List ℕ) (due : (logs : ℕ → Log) → ArePlaces d (map (λ t. t.number) old) slice → AllAfter old logs → AllCurrentAfter contents logs → sent ≡ filter (λ k. is_among k asked && is_due (settings_of contents k) (logs k) Event) (map (λ t. t.number) old)) where
         pub all_due_among_is : sent ≡ all_due_among asked contents history
         all_due_among_is =
             due_numbers d (λ k. is_among k asked && is_tpdo_due contents history Event k) old sent (λ k h. ap (λ b. is_among k asked && b) (absent_not_due d contents history Event k laws h) ∙ and-false (is_among k asked))
-            had.numbers (due (λ k. log_of k history) had.countdowns current)
+            had.numbers (due (λ k. log_of k history) placed had.countdowns current)
 
-        pub after_events : ((logs : ℕ → Log) → AllAfter d old logs → AllCurrentAfter contents logs → AllAfter d new (with_events_among asked contents logs)) → (written : List Tpdo) → written ≡ new → IsScheduleAfter d written (with_events asked contents sent history)
-        after_events after written e = rw e (after_call table numbers _ (after (λ k. log_of k history) had.countdowns current) _ (λ k lt.
+        pub after_events : ((logs : ℕ → Log) → ArePlaces d (map (λ t. t.number) old) slice → AllAfter old logs → AllCurrentAfter contents logs → AllAfter new (with_events_among asked contents logs)) → (written : List Tpdo) → written ≡ new → IsScheduleAfter d (timetable written places) (with_events asked contents sent history)
+        after_events after written e = rw e (after_call table numbers _ (after (λ k. log_of k history) placed had.countdowns current) _ (λ k lt.
             log_asked (is_among k asked) (is_among k sent) (is_tpdo_due contents history Event k) (settings_of contents k) (log_of k history)
             (ap (is_among k) all_due_among_is ∙ among_range (λ j. is_among j asked && is_tpdo_due contents history Event j) k lt)))

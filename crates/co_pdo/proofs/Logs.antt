@@ -5,16 +5,14 @@ use Rattle.std.specs.List.{list_all}
 use Rattle.std.proofs.lemmas.Bool.Decides.{nat_tests}
 use Rattle.std.proofs.Math.Bool.{and-true, and-false, or-true, or-false}
 use Rattle.co_frame.specs.InhibitTimes.{in_ms}
-use Rattle.co_dict.specs.Stores.{Description}
 use Rattle.co_pdo.specs.declared.settings.Settings.{Settings}
 use Rattle.co_pdo.specs.declared.tpdo.Occasion.{Occasion}
 use Rattle.co_pdo.specs.declared.tpdo.Occasion.TheVariants.{Sync, Event, Tick}
 use Rattle.co_pdo.specs.declared.tpdo.Part.TheVariants.{Whole, Timer}
 use Rattle.co_pdo.specs.declared.tpdo.Tpdo.{Tpdo}
-use Rattle.co_pdo.specs.Tpdos.{places_of}
 use Rattle.co_pdo.specs.Log.{Log, Started, Happened, started_with}
 use Rattle.co_pdo.specs.Due.{begins_count, syncs, has_begun, since_beginning, counted_syncs, event_since_sync, timer_ticks, event_waits, sendings, is_due_by_count, is_due_at_sync, is_event_driven, is_due_by_event, is_due}
-use Rattle.co_pdo.specs.Countdowns.{left_of, type_of, inhibit_of, CountsSyncs, HasPlaces, IsAfter, IsAsAt, IsCurrent}
+use Rattle.co_pdo.specs.Countdowns.{left_of, type_of, inhibit_of, CountsSyncs, IsAfter, IsAsAt, IsCurrent}
 use Rattle.co_pdo.specs.Steps.{passes_over, counted, counted_with, wants_with, marked}
 use Rattle.co_pdo.proofs.Counts.{last_sync, next_sync, left-tick, last_tick}
 
@@ -208,20 +206,9 @@ number_counted (Sync overflow counter) c t = refl
 number_counted Event c t = refl
 number_counted Tick c t = refl
 
-places_counted : (o : Occasion) (c : Bool) (t : Tpdo) → (counted o c t).places ≡ t.places
-places_counted (Sync overflow counter) c t = refl
-places_counted Event c t = refl
-places_counted Tick c t = refl
-
--- the number and the places stay
+-- the number stays
 pub number_then : (o : Occasion) (c : Bool) (t new : Tpdo) → new ≡ counted o c t → new.number ≡ t.number
 number_then o c t new e = ap (λ u. u.number) e ∙ number_counted o c t
-
-pub placed_counted : (d : Description) (o : Occasion) (c : Bool) (t new : Tpdo) → new ≡ counted o c t → HasPlaces d t → HasPlaces d new
-placed_counted d o c t new e p = ap (λ u. u.places) e ∙ places_counted o c t ∙ p ∙ ap (places_of d) (sym (number_then o c t new e))
-
-pub placed_marked : (d : Description) (t new : Tpdo) → new ≡ marked t → HasPlaces d t → HasPlaces d new
-placed_marked d t new e p = rw e p
 
 -- the countdowns after a call, by what was done to them
 pub after_unsent : (t new : Tpdo) (log : Log) (s : Settings) (o : Occasion) → new ≡ counted_with s o t → IsAfter t log → IsCurrent s log → IsAfter new (Happened o s false ∷ log)

@@ -1,10 +1,8 @@
--- Which countdowns a TPDO has after its log, and where the dictionary has what is read of it.
+-- Which countdowns a TPDO has after its log.
 use Rattle.std.specs.Prelude.{◌≡◌, ℕ, ◌-◌, ◌%◌, nat_le, true, List, [], ◌∷◌, Option, Some, None}
 use Rattle.co_frame.specs.InhibitTimes.{in_ms}
-use Rattle.co_dict.specs.Stores.{Description}
 use Rattle.co_pdo.specs.declared.settings.Settings.{Settings}
 use Rattle.co_pdo.specs.declared.tpdo.Tpdo.{Tpdo}
-use Rattle.co_pdo.specs.Tpdos.{places_of}
 use Rattle.co_pdo.specs.Log.{Log, started_with, timer_of}
 use Rattle.co_pdo.specs.Due.{syncs, has_begun, counted_syncs, event_since_sync, timer_ticks, event_waits, sendings}
 
@@ -38,15 +36,6 @@ pub record IsAfter (t : Tpdo) (log : Log) : Type 0 where
   pub event_waits : t.event_waits ≡ event_waits log
   pub inhibit_left : t.inhibit_left ≡ left_of t.inhibit (sendings log)
   pub timer_left : t.timer_left ≡ t.timer - timer_ticks log
-
--- a TPDO has the places of what the dictionary says of it
-abbrev pub HasPlaces : Description → Tpdo → Type 0
-HasPlaces d t = t.places ≡ places_of d t.number
-
--- a TPDO of a dictionary after this log
-pub record IsPlacedAfter (d : Description) (t : Tpdo) (log : Log) : Type 0 where
-  pub places : HasPlaces d t
-  pub countdowns : IsAfter t log
 
 -- the same transmission type and inhibit time as at a start
 abbrev pub IsAsAt : Option Settings → Settings → Type 0

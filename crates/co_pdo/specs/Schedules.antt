@@ -9,10 +9,11 @@ use Rattle.co_pdo.specs.declared.tpdo.Part.TheVariants.{Whole}
 use Rattle.co_pdo.specs.declared.tpdo.Occasion.{Occasion}
 use Rattle.co_pdo.specs.declared.tpdo.Occasion.TheVariants.{Sync, Event, Tick}
 use Rattle.co_pdo.specs.declared.tpdo.Tpdo.{Tpdo}
-use Rattle.co_pdo.specs.Tpdos.{counter_overflow_key, settings_of, tpdo_numbers, tpdos_of}
+use Rattle.co_pdo.specs.declared.places.Places.{Places}
+use Rattle.co_pdo.specs.Tpdos.{counter_overflow_key, places_of, settings_of, tpdo_numbers, tpdos_of}
 use Rattle.co_pdo.specs.Log.{Log, Started, Happened}
 use Rattle.co_pdo.specs.Due.{is_due}
-use Rattle.co_pdo.specs.Countdowns.{IsPlacedAfter, IsCurrent}
+use Rattle.co_pdo.specs.Countdowns.{IsAfter, IsCurrent}
 
 -- one call of a schedule
 pub data Call : Type 0 where
@@ -92,9 +93,23 @@ pub record IsTable (tpdos : List Tpdo) : Type 0 where
   pub few : length tpdos ≤ 512
   pub small : (i : ℕ) (d : Tpdo) → i < length tpdos → (slice_index_or tpdos i d).number < 512
 
--- each TPDO has its places in the dictionary and the countdowns after its log
-abbrev pub AllAfter : Description → List Tpdo → (ℕ → Log) → Type 0
-AllAfter d tpdos logs = (i : ℕ) (e : Tpdo) → i < length tpdos → IsPlacedAfter d (slice_index_or tpdos i e) (logs (slice_index_or tpdos i e).number)
+-- the TPDOs of a schedule, and of each where the dictionary has what it says of it
+pub record Timetable : Type 0 where
+  pub tpdos : List Tpdo
+  pub places : List Places
+
+-- a table, with places of each TPDO
+pub record IsTimetable (tpdos : List Tpdo) (places : List Places) : Type 0 where
+  pub table : IsTable tpdos
+  pub placed : length places ≡ length tpdos
+
+-- those are the places of the TPDOs with these numbers
+abbrev pub ArePlaces : Description → List ℕ → List Places → Type 0
+ArePlaces d numbers places = places ≡ map (places_of d) numbers
+
+-- each TPDO has the countdowns after its log
+abbrev pub AllAfter : List Tpdo → (ℕ → Log) → Type 0
+AllAfter tpdos logs = (i : ℕ) (e : Tpdo) → i < length tpdos → IsAfter (slice_index_or tpdos i e) (logs (slice_index_or tpdos i e).number)
 
 -- the last starts of each log took what the dictionary says now
 abbrev pub AllCurrentAfter : Contents → (ℕ → Log) → Type 0
@@ -119,9 +134,10 @@ with_events_among numbers contents logs = λ k. with_event_if (is_among k number
 
 -- a schedule over a dictionary is one after this history: it has the TPDOs of the dictionary, each with its places there
 -- and the countdowns after its log
-pub record IsScheduleAfter (d : Description) (tpdos : List Tpdo) (history : History) : Type 0 where
-  pub numbers : map (λ t. t.number) tpdos ≡ tpdos_of d.rows
-  pub countdowns : AllAfter d tpdos (λ k. log_of k history)
+pub record IsScheduleAfter (d : Description) (schedule : Timetable) (history : History) : Type 0 where
+  pub numbers : map (λ t. t.number) schedule.tpdos ≡ tpdos_of d.rows
+  pub places : ArePlaces d (tpdos_of d.rows) schedule.places
+  pub countdowns : AllAfter schedule.tpdos (λ k. log_of k history)
 
 -- the last starts of TPDO k took what the dictionary says now
 abbrev pub IsCurrentOn : Contents → ℕ → History → Type 0

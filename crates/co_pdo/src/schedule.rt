@@ -10,9 +10,10 @@ ghost use Rattle.co_pdo.specs.Countdowns.{IsCurrent, IsAsStarted};
 ghost use Rattle.co_pdo.specs.Schedules.{History, log_of, sync_with, with_start, with_all_started, with_sync, with_event, with_events, with_tick, is_tpdo_due, all_due, all_due_among, IsScheduleAfter, IsCurrentOn, AllCurrent};
 
 use crate::pdos::cob_id;
+use crate::places::Places;
 use crate::tpdo::{Occasion, Part, Tpdo};
 use crate::tpdos::{
-    Due, all_happen, all_happen_among, all_start, counter_overflow, place_of, tpdos_in,
+    Due, all_happen, all_happen_among, all_start, counter_overflow, place_of, places_in, tpdos_in,
 };
 use co_dict::{CobId, ObjectStore, Side};
 use std::alloc::{AllocError, Global};
@@ -28,18 +29,18 @@ use std::marker::Model;
 #[derive(Drop)]
 pub struct Schedule {
     tpdos: Vec<Tpdo>,
+    // of each TPDO where the dictionary has what it says of it, apart from what each tick counts
+    places: Vec<Places>,
 }
 
 impl Model for Schedule {
-    ghost use Rattle.std.specs.Prelude.{List};
-    ghost use Rattle.co_pdo.specs.declared.tpdo.Tpdo.{Tpdo};
-    ghost use Rattle.co_pdo.specs.Schedules.{IsTable};
+    ghost use Rattle.co_pdo.specs.Schedules.{Timetable, IsTimetable};
 
-    ghost Value = { List Tpdo };
+    ghost Value = { Timetable };
 
-    ghost view = { λ s. s.tpdos.items };
+    ghost view = { λ s. record { tpdos = s.tpdos.items; places = s.places.items } };
 
-    ghost invariant = { λ s. IsTable s.tpdos.items };
+    ghost invariant = { λ s. IsTimetable s.tpdos.items s.places.items };
 }
 
 impl Schedule {
@@ -48,12 +49,13 @@ impl Schedule {
         ensures { IfOk result (λ schedule. IsScheduleAfter (S.description store.now) schedule []) }
     {
         let tpdos = tpdos_in(alloc, store)?;
-        Ok(Schedule { tpdos })
+        let places = places_in(alloc, store, &tpdos)?;
+        Ok(Schedule { tpdos, places })
     }
 
     /// How many TPDOs the dictionary has, at most 512.
     pub fn tpdo_count(&self) -> usize
-        ensures count { result ≡ length self.now }
+        ensures count { result ≡ length self.now.tpdos }
         ensures few { result ≤ 512 }
     {
         self.tpdos.len()
@@ -67,8 +69,9 @@ impl Schedule {
             IsScheduleAfter (S.description store.now) self.now history →
             result.0 ≡ cob_id_of Side.Tpdo (S.contents store.now) k }
     {
-        match self.tpdos.get(usize::from(k)) {
-            Some(tpdo) if tpdo.number == k => tpdo.places.cob_id(store),
+        let place = usize::from(k);
+        match self.tpdos.get(place) {
+            Some(tpdo) if tpdo.number == k => self.places[place].cob_id(store),
             _ => cob_id(store, Side::Tpdo, k),
         }
     }
@@ -91,12 +94,11 @@ impl Schedule {
         ensures others { (history : History) (j : ℕ) (s : Settings) → (k == j) ≡ false →
             IsCurrent s (log_of j history) →
             IsCurrent s (log_of j (with_start k part (S.contents store.now) history)) }
-        ensures size { length self.new ≡ length self.old }
+        ensures size { length self.new.tpdos ≡ length self.old.tpdos }
     {
         if let Some(i) = place_of(&self.tpdos, k) {
-            let tpdo = &mut self.tpdos[i];
-            let settings = tpdo.places.settings(store);
-            tpdo.start(&settings, part);
+            let settings = self.places[i].settings(store);
+            self.tpdos[i].start(&settings, part);
         }
     }
 
@@ -108,9 +110,9 @@ impl Schedule {
             (with_all_started (S.contents store.now) history) }
         ensures current { (history : History) →
             AllCurrent (S.contents store.now) (with_all_started (S.contents store.now) history) }
-        ensures size { length self.new ≡ length self.old }
+        ensures size { length self.new.tpdos ≡ length self.old.tpdos }
     {
-        all_start(&mut self.tpdos, store);
+        all_start(&mut self.tpdos, &self.places, store);
     }
 
     /// A SYNC came, with the counter in its one byte or with none: leaves in `sent` the numbers of the TPDOs that are due,
@@ -133,13 +135,13 @@ impl Schedule {
             IsCurrent s (log_of j history) →
             IsCurrent s
             (log_of j (with_sync counter (S.contents store.now) sent.new.items history)) }
-        ensures few { length sent.new.items ≤ length self.old }
+        ensures few { length sent.new.items ≤ length self.old.tpdos }
         ensures small { (i e : ℕ) → i < length sent.new.items →
             slice_index_or sent.new.items i e < 512 }
-        ensures size { length self.new ≡ length self.old }
+        ensures size { length self.new.tpdos ≡ length self.old.tpdos }
     {
-        let sync = Occasion::Sync(counter_overflow(&self.tpdos, store), counter);
-        all_happen(&mut self.tpdos, sync, store, sent);
+        let sync = Occasion::Sync(counter_overflow(&self.places, store), counter);
+        all_happen(&mut self.tpdos, &self.places, sync, store, sent);
     }
 
     /// An event came for TPDO k, 0 to 511: whether the TPDO is due, and then counts as sent. False where there is none.
@@ -157,10 +159,10 @@ impl Schedule {
         ensures current { (history : History) (j : ℕ) (s : Settings) →
             IsCurrent s (log_of j history) →
             IsCurrent s (log_of j (with_event k (S.contents store.now) result history)) }
-        ensures size { length self.new ≡ length self.old }
+        ensures size { length self.new.tpdos ≡ length self.old.tpdos }
     {
         match place_of(&self.tpdos, k) {
-            Some(i) => self.tpdos[i].happens(Occasion::Event, store),
+            Some(i) => self.tpdos[i].happens(Occasion::Event, store, &self.places[i]),
             None => false,
         }
     }
@@ -180,12 +182,12 @@ impl Schedule {
         ensures current { (history : History) (j : ℕ) (s : Settings) →
             IsCurrent s (log_of j history) → IsCurrent s
             (log_of j (with_events numbers.now (S.contents store.now) sent.new.items history)) }
-        ensures few { length sent.new.items ≤ length self.old }
+        ensures few { length sent.new.items ≤ length self.old.tpdos }
         ensures small { (i e : ℕ) → i < length sent.new.items →
             slice_index_or sent.new.items i e < 512 }
-        ensures size { length self.new ≡ length self.old }
+        ensures size { length self.new.tpdos ≡ length self.old.tpdos }
     {
-        all_happen_among(&mut self.tpdos, numbers, store, sent);
+        all_happen_among(&mut self.tpdos, &self.places, numbers, store, sent);
     }
 
     /// A tick of 1 ms: leaves in `sent` the numbers of the TPDOs that are due, increasing. They count as sent.
@@ -203,11 +205,11 @@ impl Schedule {
         ensures current { (history : History) (j : ℕ) (s : Settings) →
             IsCurrent s (log_of j history) →
             IsCurrent s (log_of j (with_tick (S.contents store.now) sent.new.items history)) }
-        ensures few { length sent.new.items ≤ length self.old }
+        ensures few { length sent.new.items ≤ length self.old.tpdos }
         ensures small { (i e : ℕ) → i < length sent.new.items →
             slice_index_or sent.new.items i e < 512 }
-        ensures size { length self.new ≡ length self.old }
+        ensures size { length self.new.tpdos ≡ length self.old.tpdos }
     {
-        all_happen(&mut self.tpdos, Occasion::Tick, store, sent);
+        all_happen(&mut self.tpdos, &self.places, Occasion::Tick, store, sent);
     }
 }

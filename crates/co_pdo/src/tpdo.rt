@@ -1,12 +1,11 @@
 //! One TPDO: what is counted for it.
 
 ghost use Rattle.std.specs.Prelude.{◌≡◌, ◌<◌, ◌&&◌, [], ◌∷◌};
-ghost use Rattle.co_dict.specs.Stores.{Description};
 ghost use Rattle.co_pdo.specs.declared.settings.Settings.{Settings};
-ghost use Rattle.co_pdo.specs.Tpdos.{settings_of};
+ghost use Rattle.co_pdo.specs.Tpdos.{places_of, settings_of};
 ghost use Rattle.co_pdo.specs.Log.{Log, Started, Happened};
 ghost use Rattle.co_pdo.specs.Due.{is_due, is_event_driven};
-ghost use Rattle.co_pdo.specs.Countdowns.{HasPlaces, IsAfter, IsPlacedAfter, IsCurrent};
+ghost use Rattle.co_pdo.specs.Countdowns.{IsAfter, IsCurrent};
 ghost use Rattle.co_pdo.specs.Schedules.{is_among, with_event_if};
 ghost use Rattle.co_pdo.specs.Steps.{counts, counted, passes_over, wants, marked};
 
@@ -34,13 +33,11 @@ pub enum Part {
     Timer,
 }
 
-/// What is counted for one TPDO.
+/// What is counted for one TPDO: all that a tick reads of it, in 16 bytes.
 #[derive(Clone, Copy, Debug)]
 pub struct Tpdo {
     /// k of 1800h + k, 0 to 511.
     pub number: u16,
-    /// Where the dictionary has what is read of it.
-    pub places: Places,
     /// As at the last whole start.
     pub transmission_type: u8,
     /// The inhibit time in ms, as at the last whole start.
@@ -63,14 +60,12 @@ pub struct Tpdo {
 
 impl Tpdo {
     /// A TPDO that was never started.
-    pub(crate) fn new(number: u16, places: Places) -> Tpdo
+    pub(crate) fn new(number: u16) -> Tpdo
         ensures number { result.number ≡ number }
-        ensures places { result.places ≡ places }
         ensures after { IsAfter result [] }
     {
         Tpdo {
             number,
-            places,
             transmission_type: 0,
             inhibit: 0,
             timer: 0,
@@ -86,14 +81,13 @@ impl Tpdo {
     /// Starts all of it, or its event timer alone.
     pub(crate) fn start(&mut self, settings: &Settings, part: Part)
         ensures number { self.new.number ≡ self.old.number }
-        ensures after { (d : Description) (log : Log) → IsPlacedAfter d self.old log →
-            IsPlacedAfter d self.new (Started part settings.now ∷ log) }
+        ensures after { (log : Log) → IsAfter self.old log →
+            IsAfter self.new (Started part settings.now ∷ log) }
     {
         match part {
             Part::Whole => {
                 *self = Tpdo {
                     number: self.number,
-                    places: self.places,
                     transmission_type: settings.transmission_type,
                     inhibit: settings.inhibit_time.div_ceil(10),
                     timer: settings.event_timer,
@@ -133,14 +127,14 @@ impl Tpdo {
 
     /// Whether it is a SYNC that counts: the count has begun, or begins with it.
     #[inline(always)]
-    fn counts<S: ObjectStore>(&self, occasion: Occasion, store: &S) -> bool
+    fn counts<S: ObjectStore>(&self, occasion: Occasion, store: &S, places: &Places) -> bool
         requires { self.now.number < 512 }
-        ensures { HasPlaces (S.description store.now) self.now → result ≡
+        ensures { places.now ≡ places_of (S.description store.now) self.now.number → result ≡
             counts (settings_of (S.contents store.now) self.now.number) occasion self.now }
     {
         match occasion {
             Occasion::Sync(overflow, counter) => {
-                self.has_begun || begins_count(self.places.start_value(store), overflow, counter)
+                self.has_begun || begins_count(places.start_value(store), overflow, counter)
             }
             Occasion::Event | Occasion::Tick => false,
         }
@@ -195,23 +189,30 @@ impl Tpdo {
         self.timer_left = self.timer;
     }
 
-    /// A SYNC, an event or a tick; answers whether the TPDO is sent, which it is exactly if it is due.
+    /// A SYNC, an event or a tick; answers whether the TPDO is sent, which it is exactly if it is due. Its places are read
+    /// where a SYNC may begin its count, and where the countdowns make it due.
     #[inline(always)]
-    pub(crate) fn happens<S: ObjectStore>(&mut self, occasion: Occasion, store: &S) -> bool
+    pub(crate) fn happens<S: ObjectStore>(
+        &mut self,
+        occasion: Occasion,
+        store: &S,
+        places: &Places,
+    ) -> bool
         requires { self.old.number < 512 }
         ensures number { self.new.number ≡ self.old.number }
-        ensures due { (log : Log) → let s = settings_of (S.contents store.now) self.old.number in
-            IsPlacedAfter (S.description store.now) self.old log → IsCurrent s log →
-            result ≡ is_due s log occasion }
-        ensures after { (log : Log) → let s = settings_of (S.contents store.now) self.old.number in
-            IsPlacedAfter (S.description store.now) self.old log → IsCurrent s log →
-            IsPlacedAfter (S.description store.now) self.new (Happened occasion s result ∷ log) }
+        ensures due { places.now ≡ places_of (S.description store.now) self.old.number →
+            (log : Log) → let s = settings_of (S.contents store.now) self.old.number in
+            IsAfter self.old log → IsCurrent s log → result ≡ is_due s log occasion }
+        ensures after { places.now ≡ places_of (S.description store.now) self.old.number →
+            (log : Log) → let s = settings_of (S.contents store.now) self.old.number in
+            IsAfter self.old log → IsCurrent s log →
+            IsAfter self.new (Happened occasion s result ∷ log) }
     {
         if self.passes_over(occasion) {
             return false;
         }
-        let counts = self.counts(occasion, store);
-        let due = self.count(occasion, counts) && self.places.is_active(store);
+        let counts = self.counts(occasion, store, places);
+        let due = self.count(occasion, counts) && places.is_active(store);
         if due {
             self.mark_sent();
         }
@@ -219,19 +220,25 @@ impl Tpdo {
     }
 
     /// An event, if the TPDO's number is among these; answers whether the TPDO is sent.
-    pub(crate) fn happens_among<S: ObjectStore>(&mut self, numbers: &[u16], store: &S) -> bool
+    pub(crate) fn happens_among<S: ObjectStore>(
+        &mut self,
+        numbers: &[u16],
+        store: &S,
+        places: &Places,
+    ) -> bool
         requires { self.old.number < 512 }
         ensures number { self.new.number ≡ self.old.number }
-        ensures due { (log : Log) → let s = settings_of (S.contents store.now) self.old.number in
-            IsPlacedAfter (S.description store.now) self.old log → IsCurrent s log →
+        ensures due { places.now ≡ places_of (S.description store.now) self.old.number →
+            (log : Log) → let s = settings_of (S.contents store.now) self.old.number in
+            IsAfter self.old log → IsCurrent s log →
             result ≡ is_among self.old.number numbers.now && is_due s log Occasion.Event }
-        ensures after { (log : Log) → let s = settings_of (S.contents store.now) self.old.number in
-            IsPlacedAfter (S.description store.now) self.old log → IsCurrent s log →
-            IsPlacedAfter (S.description store.now) self.new
-            (with_event_if (is_among self.old.number numbers.now) s log) }
+        ensures after { places.now ≡ places_of (S.description store.now) self.old.number →
+            (log : Log) → let s = settings_of (S.contents store.now) self.old.number in
+            IsAfter self.old log → IsCurrent s log →
+            IsAfter self.new (with_event_if (is_among self.old.number numbers.now) s log) }
     {
         if numbers.contains(&self.number) {
-            self.happens(Occasion::Event, store)
+            self.happens(Occasion::Event, store, places)
         } else {
             false
         }

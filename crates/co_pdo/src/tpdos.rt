@@ -1,12 +1,12 @@
 //! All TPDOs of a dictionary.
 
-ghost use Rattle.std.specs.Prelude.{◌≡◌, ℕ, ◌<◌, ◌≤◌, ◌==◌, ◌&&◌, [], length, map, position, IfOk};
+ghost use Rattle.std.specs.Prelude.{◌≡◌, ℕ, ◌<◌, ◌≤◌, ◌==◌, ◌&&◌, List, [], length, map, position, IfOk};
 ghost use Rattle.std.specs.List.{filter, slice_index_or};
 ghost use Rattle.co_dict.specs.Rows.{number_at};
 ghost use Rattle.co_pdo.specs.Tpdos.{counter_overflow_key, settings_of, tpdos_of};
 ghost use Rattle.co_pdo.specs.Log.{Log};
 ghost use Rattle.co_pdo.specs.Due.{is_due};
-ghost use Rattle.co_pdo.specs.Schedules.{IsTable, AllAfter, AllCurrentAfter, is_among, with_occasion, with_whole_start, with_events_among};
+ghost use Rattle.co_pdo.specs.Schedules.{IsTable, ArePlaces, AllAfter, AllCurrentAfter, is_among, with_occasion, with_whole_start, with_events_among};
 
 use crate::pdos::has_pdo;
 use crate::places::Places;
@@ -22,26 +22,42 @@ pub type Due = ArrayVec<u16, 512>;
 pub(crate) fn tpdos_in<S: ObjectStore>(alloc: Global, store: &S) -> Result<Vec<Tpdo>, AllocError>
     ensures numbers { IfOk result (λ tpdos.
         map (λ t. t.number) tpdos.items ≡ tpdos_of (S.description store.now).rows) }
-    ensures after { IfOk result (λ tpdos.
-        AllAfter (S.description store.now) tpdos.items (λ _. [])) }
+    ensures after { IfOk result (λ tpdos. AllAfter tpdos.items (λ _. [])) }
     ensures table { IfOk result (λ tpdos. IsTable tpdos.items) }
 {
     let mut tpdos = Vec::with_capacity(alloc, 512)?;
     for k in 0..512u16 {
         if has_pdo(store, Side::Tpdo, k) {
-            tpdos.push_reserved(Tpdo::new(k, Places::of(store, k)));
+            tpdos.push_reserved(Tpdo::new(k));
         }
     }
     Ok(tpdos)
 }
 
-/// The synchronous counter overflow value, by the place of it that each TPDO has; 0 where there is no TPDO.
-pub(crate) fn counter_overflow<S: ObjectStore>(tpdos: &[Tpdo], store: &S) -> u8
-    ensures { (logs : ℕ → Log) → AllAfter (S.description store.now) tpdos.now logs →
-        0 < length tpdos.now → result ≡ number_at (S.contents store.now) counter_overflow_key }
+/// The places of each of these TPDOs.
+pub(crate) fn places_in<S: ObjectStore>(
+    alloc: Global,
+    store: &S,
+    tpdos: &[Tpdo],
+) -> Result<Vec<Places>, AllocError>
+    requires { IsTable tpdos.now }
+    ensures { IfOk result (λ places.
+        ArePlaces (S.description store.now) (map (λ t. t.number) tpdos.now) places.items) }
 {
-    match tpdos.first() {
-        Some(tpdo) => tpdo.places.counter_overflow(store),
+    let mut places = Vec::with_capacity(alloc, tpdos.len())?;
+    for tpdo in tpdos {
+        places.push_reserved(Places::of(store, tpdo.number));
+    }
+    Ok(places)
+}
+
+/// The synchronous counter overflow value, by the place of it that each TPDO has; 0 where there is no TPDO.
+pub(crate) fn counter_overflow<S: ObjectStore>(places: &[Places], store: &S) -> u8
+    ensures { (numbers : List ℕ) → ArePlaces (S.description store.now) numbers places.now →
+        0 < length numbers → result ≡ number_at (S.contents store.now) counter_overflow_key }
+{
+    match places.first() {
+        Some(places) => places.counter_overflow(store),
         None => 0,
     }
 }
@@ -50,28 +66,35 @@ pub(crate) fn counter_overflow<S: ObjectStore>(tpdos: &[Tpdo], store: &S) -> u8
 #[inline(always)]
 pub(crate) fn all_happen<S: ObjectStore>(
     tpdos: &mut [Tpdo],
+    places: &[Places],
     occasion: Occasion,
     store: &S,
     sent: &mut Due,
 )
-    requires { IsTable tpdos.old }
+    requires table { IsTable tpdos.old }
+    requires places { length places.now ≡ length tpdos.old }
     ensures numbers { map (λ t. t.number) tpdos.new ≡ map (λ t. t.number) tpdos.old }
-    ensures due { (logs : ℕ → Log) → AllAfter (S.description store.now) tpdos.old logs →
+    ensures due { (logs : ℕ → Log) →
+        ArePlaces (S.description store.now) (map (λ t. t.number) tpdos.old) places.now →
+        AllAfter tpdos.old logs →
         AllCurrentAfter (S.contents store.now) logs →
         sent.new.items ≡
         filter (λ k. is_due (settings_of (S.contents store.now) k) (logs k) occasion)
         (map (λ t. t.number) tpdos.old) }
-    ensures after { (logs : ℕ → Log) → AllAfter (S.description store.now) tpdos.old logs →
+    ensures after { (logs : ℕ → Log) →
+        ArePlaces (S.description store.now) (map (λ t. t.number) tpdos.old) places.now →
+        AllAfter tpdos.old logs →
         AllCurrentAfter (S.contents store.now) logs →
-        AllAfter (S.description store.now) tpdos.new
+        AllAfter tpdos.new
         (with_occasion (S.contents store.now) occasion logs) }
     ensures few { length sent.new.items ≤ length tpdos.old }
     ensures small { (i e : ℕ) → i < length sent.new.items →
         slice_index_or sent.new.items i e < 512 }
 {
     sent.clear();
-    for tpdo in tpdos.iter_mut() {
-        if tpdo.happens(occasion, store) {
+    for i in 0..tpdos.len() {
+        let tpdo = &mut tpdos[i];
+        if tpdo.happens(occasion, store, &places[i]) {
             sent.push(tpdo.number);
         }
     }
@@ -80,44 +103,54 @@ pub(crate) fn all_happen<S: ObjectStore>(
 /// An event for each of them whose number is among these, and in `sent` the numbers of those that are sent.
 pub(crate) fn all_happen_among<S: ObjectStore>(
     tpdos: &mut [Tpdo],
+    places: &[Places],
     numbers: &[u16],
     store: &S,
     sent: &mut Due,
 )
-    requires { IsTable tpdos.old }
+    requires table { IsTable tpdos.old }
+    requires places { length places.now ≡ length tpdos.old }
     ensures numbers { map (λ t. t.number) tpdos.new ≡ map (λ t. t.number) tpdos.old }
-    ensures due { (logs : ℕ → Log) → AllAfter (S.description store.now) tpdos.old logs →
+    ensures due { (logs : ℕ → Log) →
+        ArePlaces (S.description store.now) (map (λ t. t.number) tpdos.old) places.now →
+        AllAfter tpdos.old logs →
         AllCurrentAfter (S.contents store.now) logs →
         sent.new.items ≡ filter (λ k. is_among k numbers.now &&
         is_due (settings_of (S.contents store.now) k) (logs k) Occasion.Event)
         (map (λ t. t.number) tpdos.old) }
-    ensures after { (logs : ℕ → Log) → AllAfter (S.description store.now) tpdos.old logs →
+    ensures after { (logs : ℕ → Log) →
+        ArePlaces (S.description store.now) (map (λ t. t.number) tpdos.old) places.now →
+        AllAfter tpdos.old logs →
         AllCurrentAfter (S.contents store.now) logs →
-        AllAfter (S.description store.now) tpdos.new
+        AllAfter tpdos.new
         (with_events_among numbers.now (S.contents store.now) logs) }
     ensures few { length sent.new.items ≤ length tpdos.old }
     ensures small { (i e : ℕ) → i < length sent.new.items →
         slice_index_or sent.new.items i e < 512 }
 {
     sent.clear();
-    for tpdo in tpdos.iter_mut() {
-        if tpdo.happens_among(numbers, store) {
+    for i in 0..tpdos.len() {
+        let tpdo = &mut tpdos[i];
+        if tpdo.happens_among(numbers, store, &places[i]) {
             sent.push(tpdo.number);
         }
     }
 }
 
 /// Starts each of them whole.
-pub(crate) fn all_start<S: ObjectStore>(tpdos: &mut [Tpdo], store: &S)
-    requires { IsTable tpdos.old }
+pub(crate) fn all_start<S: ObjectStore>(tpdos: &mut [Tpdo], places: &[Places], store: &S)
+    requires table { IsTable tpdos.old }
+    requires places { length places.now ≡ length tpdos.old }
     ensures numbers { map (λ t. t.number) tpdos.new ≡ map (λ t. t.number) tpdos.old }
-    ensures after { (logs : ℕ → Log) → AllAfter (S.description store.now) tpdos.old logs →
-        AllAfter (S.description store.now) tpdos.new
+    ensures after { (logs : ℕ → Log) →
+        ArePlaces (S.description store.now) (map (λ t. t.number) tpdos.old) places.now →
+        AllAfter tpdos.old logs →
+        AllAfter tpdos.new
         (with_whole_start (S.contents store.now) logs) }
 {
-    for tpdo in tpdos.iter_mut() {
-        let settings = tpdo.places.settings(store);
-        tpdo.start(&settings, Part::Whole);
+    for i in 0..tpdos.len() {
+        let settings = places[i].settings(store);
+        tpdos[i].start(&settings, Part::Whole);
     }
 }
 

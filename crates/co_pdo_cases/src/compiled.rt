@@ -17,7 +17,11 @@ fn exchange<S: ObjectStore>(
     let number = Compiled::of(store, Side::Tpdo, 0);
     let limited = Compiled::of(store, Side::Tpdo, 1);
     let answer = apply_at(store, &rpdo, bytes);
-    (answer, image_at(store, &number), image_at(store, &limited))
+    (
+        answer,
+        image_at(store, &number).to_list(),
+        image_at(store, &limited).to_list(),
+    )
 }
 
 #[test]

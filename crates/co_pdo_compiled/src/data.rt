@@ -10,7 +10,6 @@ ghost use Rattle.co_pdo_compiled.specs.CompiledMappings.{mapped_in, mapping_in, 
 
 use crate::compiled::Compiled;
 use crate::part::{Part, PlacedEntry};
-use arrayvec::ArrayVec;
 use co_dict::{ObjectStore, Row, place_laws, store_laws};
 use co_pdo::PdoFault;
 use co_value::{DataType, PackedBytes};
@@ -63,19 +62,11 @@ fn joined<S: ObjectStore>(store: &S, parts: &[Part]) -> PackedBytes
 /// have the mapped entries, with the rows and at the places that they were compiled with, as it has after every call of
 /// its own.
 #[inline(always)]
-pub fn packed_image_at<S: ObjectStore>(store: &S, compiled: &Compiled) -> PackedBytes
+pub fn image_at<S: ObjectStore>(store: &S, compiled: &Compiled) -> PackedBytes
     requires { HasParts (S.description store.now) compiled.now }
     ensures { result ≡ image_of (S.contents store.now) (mapping_in compiled.now) }
 {
     joined(store, compiled.parts())
-}
-
-/// The same as a list of bytes.
-pub fn image_at<S: ObjectStore>(store: &S, compiled: &Compiled) -> ArrayVec<u8, 8>
-    requires { HasParts (S.description store.now) compiled.now }
-    ensures { result.items ≡ image_of (S.contents store.now) (mapping_in compiled.now) }
-{
-    packed_image_at(store, compiled).to_list()
 }
 
 /// The number of one byte of UNSIGNED8.

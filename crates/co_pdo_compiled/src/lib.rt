@@ -8,5 +8,5 @@ mod laws;
 mod part;
 
 pub use compiled::Compiled;
-pub use data::{apply_at, image_at, packed_image_at};
+pub use data::{apply_at, image_at};
 pub use laws::{compiled_stays, mapping_by_words};

@@ -6,20 +6,20 @@ use Rattle.co_pdo.specs.declared.tpdo.Tpdo.{Tpdo}
 use Rattle.co_pdo.specs.Tpdos.{settings_of}
 use Rattle.co_pdo.specs.Log.{Log}
 use Rattle.co_pdo.specs.Due.{is_due}
-use Rattle.co_pdo.specs.Countdowns.{IsPlacedAfter}
-use Rattle.co_pdo.specs.Schedules.{AllAfter, AllCurrentAfter, is_among, with_events_among}
+use Rattle.co_pdo.specs.Countdowns.{IsAfter}
+use Rattle.co_pdo.specs.Schedules.{ArePlaces, AllAfter, AllCurrentAfter, is_among, with_events_among}
 use Rattle.co_pdo.proofs.tpdos.all_happen_among.Given as goal
 
 -- the TPDOs before the index have the countdowns after the longer logs, the others are as they were, and the due ones
 -- before it are answered
-abbrev pub invariant-loop-tpdo : goal.invariant-loop-tpdo
-invariant-loop-tpdo g l = record {
-  few : length l.sent.items ≤ l.tpdo-index;
+abbrev pub invariant-loop-i : goal.invariant-loop-i
+invariant-loop-i g l = record {
+  few : length l.sent.items ≤ l.i;
   small : (j e : ℕ) → j < length l.sent.items → get_or l.sent.items j e < 512;
   numbers : map (λ t. t.number) l.tpdos ≡ map (λ t. t.number) l.fn.tpdos;
-  rest : (j : ℕ) (d : Tpdo) → l.tpdo-index ≤ j → get_or l.tpdos j d ≡ get_or l.fn.tpdos j d;
-  due : (logs : ℕ → Log) → AllAfter (g.S.ObjectStore.description l.fn.store) l.fn.tpdos logs → AllCurrentAfter (g.S.ObjectStore.contents l.fn.store) logs
-      → l.sent.items ≡ filter (λ k. is_among k l.numbers && is_due (settings_of (g.S.ObjectStore.contents l.fn.store) k) (logs k) Event) (take l.tpdo-index (map (λ t. t.number) l.fn.tpdos));
-  done : (logs : ℕ → Log) → AllAfter (g.S.ObjectStore.description l.fn.store) l.fn.tpdos logs → AllCurrentAfter (g.S.ObjectStore.contents l.fn.store) logs
-      → (j : ℕ) (d : Tpdo) → j < l.tpdo-index → IsPlacedAfter (g.S.ObjectStore.description l.fn.store) (get_or l.tpdos j d) (with_events_among l.numbers (g.S.ObjectStore.contents l.fn.store) logs (get_or l.fn.tpdos j d).number);
+  rest : (j : ℕ) (d : Tpdo) → l.i ≤ j → get_or l.tpdos j d ≡ get_or l.fn.tpdos j d;
+  due : (logs : ℕ → Log) → ArePlaces (g.S.ObjectStore.description l.fn.store) (map (λ t. t.number) l.fn.tpdos) l.fn.places → AllAfter l.fn.tpdos logs → AllCurrentAfter (g.S.ObjectStore.contents l.fn.store) logs
+      → l.sent.items ≡ filter (λ k. is_among k l.numbers && is_due (settings_of (g.S.ObjectStore.contents l.fn.store) k) (logs k) Event) (take l.i (map (λ t. t.number) l.fn.tpdos));
+  done : (logs : ℕ → Log) → ArePlaces (g.S.ObjectStore.description l.fn.store) (map (λ t. t.number) l.fn.tpdos) l.fn.places → AllAfter l.fn.tpdos logs → AllCurrentAfter (g.S.ObjectStore.contents l.fn.store) logs
+      → (j : ℕ) (d : Tpdo) → j < l.i → IsAfter (get_or l.tpdos j d) (with_events_among l.numbers (g.S.ObjectStore.contents l.fn.store) logs (get_or l.fn.tpdos j d).number);
 }

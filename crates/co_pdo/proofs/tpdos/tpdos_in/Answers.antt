@@ -1,6 +1,6 @@
-use Rattle.std.proofs.Common.{◌≡◌, ◌<◌, [], refl, sym, ap, ◌∙◌, arith}
-use Rattle.co_pdo.specs.Tpdos.{has_tpdo, places_of, tpdo_numbers}
-use Rattle.co_pdo.specs.Countdowns.{IsPlacedAfter}
+use Rattle.std.proofs.Common.{◌≡◌, ◌<◌, [], refl, sym, ◌∙◌, arith}
+use Rattle.co_pdo.specs.Tpdos.{has_tpdo, tpdo_numbers}
+use Rattle.co_pdo.specs.Countdowns.{IsAfter}
 use Rattle.co_pdo.proofs.Built.{numbers_at_the_end, numbers_pushed, numbers_kept, each_pushed}
 use Rattle.co_pdo.proofs.tpdos.tpdos_in.Goals as goal
 use Rattle.co_pdo.proofs.tpdos.tpdos_in.Goals.{then-has_pdo, else-has_pdo}
@@ -11,11 +11,7 @@ loop-k-preserved g c = let i = c.loop-k.invariant in let p = has_tpdo (g.S.Objec
     room = w.push_reserved.ensures.capacity ∙ i.room;
     few = omega (arith, w.push_reserved.ensures.len);
     numbers = numbers_pushed p c.loop-k.k c.loop-k.tpdos.items _ _ w.new.ensures.number w.push_reserved.ensures.items (sym c.has_pdo.ensures ∙ w.if-has_pdo.true) i.numbers;
-    after = each_pushed (λ t. IsPlacedAfter (g.S.ObjectStore.description c.args.store.now) t []) c.loop-k.tpdos.items _ _ w.push_reserved.ensures.items
-        (record {
-          places = w.new.ensures.places ∙ w.of.ensures ∙ ap (places_of (g.S.ObjectStore.description c.args.store.now)) (sym w.new.ensures.number);
-          countdowns = w.new.ensures.after;
-        }) i.after;
+    after = each_pushed (λ t. IsAfter t []) c.loop-k.tpdos.items _ _ w.push_reserved.ensures.items w.new.ensures.after i.after;
     small = each_pushed (λ t. t.number < 512) c.loop-k.tpdos.items _ _ w.push_reserved.ensures.items (omega (arith, w.new.ensures.number)) i.small;
   })
   | else-has_pdo w ↦ rw w.tpdos-is (record {

@@ -1,61 +1,55 @@
-use Rattle.std.proofs.Common.{◌≡◌, ℕ, ◌<◌, Bool, true, false, ◌∷◌, ap, sym, ◌∙◌, subst}
+use Rattle.std.proofs.Common.{◌≡◌, Bool, true, false, ◌∷◌, ap, ◌∙◌}
 use Rattle.co_dict.specs.Rows.{Contents}
-use Rattle.co_dict.specs.Stores.{Description}
 use Rattle.co_pdo.specs.declared.tpdo.Tpdo.{Tpdo}
 use Rattle.co_pdo.specs.declared.tpdo.Occasion.{Occasion}
 use Rattle.co_pdo.specs.Tpdos.{is_active, settings_of}
 use Rattle.co_pdo.specs.Steps.{counts, counted, wants, marked}
 use Rattle.co_pdo.specs.Log.{Log, Happened}
 use Rattle.co_pdo.specs.Due.{is_due}
-use Rattle.co_pdo.specs.Countdowns.{HasPlaces, IsPlacedAfter, IsCurrent}
-use Rattle.co_pdo.proofs.Logs.{number_then, placed_counted, placed_marked, after_unsent, after_sent, due_wanted, due_unwanted}
+use Rattle.co_pdo.specs.Countdowns.{IsAfter, IsCurrent}
+use Rattle.co_pdo.proofs.Logs.{after_unsent, after_sent, due_wanted, due_unwanted}
 use Rattle.co_pdo.proofs.tpdo.Tpdo.happens.Goals as goal
 use Rattle.co_pdo.proofs.tpdo.Tpdo.happens.Goals.{then-count, else-count}
 
 -- one occasion of a TPDO: what counted it, and whether it wants to go
-module _ (d : Description) (contents : Contents) (t mid : Tpdo) (o : Occasion) (c wanted : Bool) (log : Log)
-    (counting : HasPlaces d t → c ≡ counts (settings_of contents t.number) o t) (state : mid ≡ counted o c t) (due : wanted ≡ wants o c t)
-    (given : IsPlacedAfter d t log) (current : IsCurrent (settings_of contents t.number) log) where
+module _ (contents : Contents) (t mid : Tpdo) (o : Occasion) (c wanted : Bool) (log : Log)
+    (counting : c ≡ counts (settings_of contents t.number) o t) (state : mid ≡ counted o c t) (due : wanted ≡ wants o c t)
+    (given : IsAfter t log) (current : IsCurrent (settings_of contents t.number) log) where
   -- counted by what the dictionary says of it
   state_with : mid ≡ counted o (counts (settings_of contents t.number) o t) t
-  state_with = state ∙ ap (λ b. counted o b t) (counting given.places)
+  state_with = state ∙ ap (λ b. counted o b t) counting
 
   due_with : wanted ≡ wants o (counts (settings_of contents t.number) o t) t
-  due_with = due ∙ ap (λ b. wants o b t) (counting given.places)
+  due_with = due ∙ ap (λ b. wants o b t) counting
 
-  placed : HasPlaces d mid
-  placed = placed_counted d o c t mid state given.places
-
-  if_wanted : (active : Bool) → wanted ≡ true → (HasPlaces d mid → active ≡ is_active contents mid.number) → active ≡ is_due (settings_of contents t.number) log o
-  if_wanted active h is = is placed ∙ ap (is_active contents) (number_then o c t mid state) ∙ due_wanted t log (settings_of contents t.number) o wanted given.countdowns current due_with h
+  if_wanted : (active : Bool) → wanted ≡ true → active ≡ is_active contents t.number → active ≡ is_due (settings_of contents t.number) log o
+  if_wanted active h is = is ∙ due_wanted t log (settings_of contents t.number) o wanted given current due_with h
 
   if_unwanted : wanted ≡ false → false ≡ is_due (settings_of contents t.number) log o
-  if_unwanted h = due_unwanted t log (settings_of contents t.number) o wanted given.countdowns current due_with h
+  if_unwanted h = due_unwanted t log (settings_of contents t.number) o wanted given current due_with h
 
-  after_none : IsPlacedAfter d mid (Happened o (settings_of contents t.number) false ∷ log)
-  after_none = record { places = placed; countdowns = after_unsent t mid log (settings_of contents t.number) o state_with given.countdowns current }
+  after_none : IsAfter mid (Happened o (settings_of contents t.number) false ∷ log)
+  after_none = after_unsent t mid log (settings_of contents t.number) o state_with given current
 
-  after_one : (new : Tpdo) → new ≡ marked mid → IsPlacedAfter d new (Happened o (settings_of contents t.number) true ∷ log)
-  after_one new e = record { places = placed_marked d mid new e placed; countdowns = after_sent t mid new log (settings_of contents t.number) o state_with e given.countdowns current }
+  after_one : (new : Tpdo) → new ≡ marked mid → IsAfter new (Happened o (settings_of contents t.number) true ∷ log)
+  after_one new e = after_sent t mid new log (settings_of contents t.number) o state_with e given current
 
 pub returns-then-due-clause-due : goal.returns-then-due-clause-due
-returns-then-due-clause-due g c = λ log h f. elim c.if-count.branch [
+returns-then-due-clause-due g c = λ places log h f. elim c.if-count.branch [
   | then-count w ↦
-      let below : c.count.new.self.number < 512 = subst (λ (n : ℕ). n < 512) (sym (number_then c.args.occasion _ c.args.self.now _ c.count.ensures.state)) c.requires in
-      w.due-is ∙ if_wanted (g.S.ObjectStore.description c.args.store.now) (g.S.ObjectStore.contents c.args.store.now) _ _ c.args.occasion _ _ log c.counts-counts.ensures c.count.ensures.state c.count.ensures.due h f _ w.if-count.true (w.is_active-due.ensures _ below)
-  | else-count w ↦ w.due-is ∙ w.if-count.false ∙ if_unwanted (g.S.ObjectStore.description c.args.store.now) (g.S.ObjectStore.contents c.args.store.now) _ _ c.args.occasion _ _ log c.counts-counts.ensures c.count.ensures.state c.count.ensures.due h f w.if-count.false
+      w.due-is ∙ if_wanted (g.S.ObjectStore.contents c.args.store.now) _ _ c.args.occasion _ _ log (c.counts-counts.ensures places) c.count.ensures.state c.count.ensures.due h f _ w.if-count.true (w.is_active-due.ensures _ c.requires places)
+  | else-count w ↦ w.due-is ∙ w.if-count.false ∙ if_unwanted (g.S.ObjectStore.contents c.args.store.now) _ _ c.args.occasion _ _ log (c.counts-counts.ensures places) c.count.ensures.state c.count.ensures.due h f w.if-count.false
 ]
 
 pub returns-then-due-clause-after : goal.returns-then-due-clause-after
-returns-then-due-clause-after g c = λ log h f. rw c.if-due.true (after_one (g.S.ObjectStore.description c.args.store.now) (g.S.ObjectStore.contents c.args.store.now) _ _ c.args.occasion _ _ log c.counts-counts.ensures c.count.ensures.state c.count.ensures.due h f _ c.mark_sent.ensures)
+returns-then-due-clause-after g c = λ places log h f. rw c.if-due.true (after_one (g.S.ObjectStore.contents c.args.store.now) _ _ c.args.occasion _ _ log (c.counts-counts.ensures places) c.count.ensures.state c.count.ensures.due h f _ c.mark_sent.ensures)
 
 pub returns-else-due-clause-due : goal.returns-else-due-clause-due
-returns-else-due-clause-due g c = λ log h f. elim c.if-count.branch [
+returns-else-due-clause-due g c = λ places log h f. elim c.if-count.branch [
   | then-count w ↦
-      let below : c.count.new.self.number < 512 = subst (λ (n : ℕ). n < 512) (sym (number_then c.args.occasion _ c.args.self.now _ c.count.ensures.state)) c.requires in
-      w.due-is ∙ if_wanted (g.S.ObjectStore.description c.args.store.now) (g.S.ObjectStore.contents c.args.store.now) _ _ c.args.occasion _ _ log c.counts-counts.ensures c.count.ensures.state c.count.ensures.due h f _ w.if-count.true (w.is_active-due.ensures _ below)
-  | else-count w ↦ w.due-is ∙ w.if-count.false ∙ if_unwanted (g.S.ObjectStore.description c.args.store.now) (g.S.ObjectStore.contents c.args.store.now) _ _ c.args.occasion _ _ log c.counts-counts.ensures c.count.ensures.state c.count.ensures.due h f w.if-count.false
+      w.due-is ∙ if_wanted (g.S.ObjectStore.contents c.args.store.now) _ _ c.args.occasion _ _ log (c.counts-counts.ensures places) c.count.ensures.state c.count.ensures.due h f _ w.if-count.true (w.is_active-due.ensures _ c.requires places)
+  | else-count w ↦ w.due-is ∙ w.if-count.false ∙ if_unwanted (g.S.ObjectStore.contents c.args.store.now) _ _ c.args.occasion _ _ log (c.counts-counts.ensures places) c.count.ensures.state c.count.ensures.due h f w.if-count.false
 ]
 
 pub returns-else-due-clause-after : goal.returns-else-due-clause-after
-returns-else-due-clause-after g c = λ log h f. rw c.if-due.false (after_none (g.S.ObjectStore.description c.args.store.now) (g.S.ObjectStore.contents c.args.store.now) _ _ c.args.occasion _ _ log c.counts-counts.ensures c.count.ensures.state c.count.ensures.due h f)
+returns-else-due-clause-after g c = λ places log h f. rw c.if-due.false (after_none (g.S.ObjectStore.contents c.args.store.now) _ _ c.args.occasion _ _ log (c.counts-counts.ensures places) c.count.ensures.state c.count.ensures.due h f)
