@@ -1,6 +1,6 @@
 //! CAN frames as C has them.
 
-ghost use Rattle.std.specs.Prelude.{◌≡◌, ◌≤◌, IfSome, Some, None};
+ghost use Rattle.std.specs.Prelude.{◌≡◌, IfSome, Some, None};
 ghost use Rattle.bafokun.specs.Frames.{ArePut, IsCan, c_frame, content_of};
 
 use co_frame::Frame;

@@ -3,7 +3,6 @@
 ghost use Rattle.std.specs.Prelude.{◌≡◌, [], ◌∷◌};
 ghost use Rattle.co_node_inputs.specs.Inputs.{Inputs};
 ghost use Rattle.co_node_history.specs.Moments.{Constants};
-ghost use Rattle.co_node_history.specs.Histories.{frame_bound, prescribed};
 ghost use Rattle.co_node_history.specs.Laws.{boot_up};
 ghost use Rattle.co_node.specs.Nodes.{Stands};
 ghost use Rattle.bafokun.specs.Devices.{Gave, given};

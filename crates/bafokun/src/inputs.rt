@@ -1,7 +1,6 @@
 //! What comes to a device.
 
-ghost use Rattle.std.specs.Prelude.{◌≡◌, [], ◌∷◌};
-ghost use Rattle.co_frame.specs.FrameContent.{FrameContent};
+ghost use Rattle.std.specs.Prelude.{◌≡◌};
 ghost use Rattle.co_node_inputs.specs.Inputs.{Inputs, Framed, Ticked, Applied, Written, EventOn, ChangedAt, Raised, Cleared};
 ghost use Rattle.co_node_history.specs.Moments.{Constants};
 ghost use Rattle.bafokun.specs.Devices.{Gives, GivesBootUp, IsDevice, IsEmpty, IsQuiet};

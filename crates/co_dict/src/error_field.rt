@@ -1,6 +1,6 @@
 //! 1003h, the pre-defined error field.
 
-ghost use Rattle.std.specs.Prelude.{◌≡◌, ◌≤◌, ◌<◌, Some, true, length};
+ghost use Rattle.std.specs.Prelude.{◌≡◌, ◌≤◌, ◌<◌, Some, true};
 ghost use Rattle.co_value.specs.Numbers.{low_bytes};
 ghost use Rattle.co_profile.specs.Indices.{error_field};
 ghost use Rattle.co_dict.specs.Rows.{written};

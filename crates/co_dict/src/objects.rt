@@ -1,6 +1,6 @@
 //! Which objects and sub-indices are there.
 
-ghost use Rattle.std.specs.Prelude.{◌≡◌, ◌≤◌, ℕ, Some, None, IfOk};
+ghost use Rattle.std.specs.Prelude.{◌≡◌, ◌≤◌, Some, None, IfOk};
 ghost use Rattle.co_dict.specs.Refusals.{refusal_in};
 ghost use Rattle.co_dict.specs.Objects.{has_object, has_sub, missing_entry, subs_present};
 ghost use Rattle.co_dict.specs.Places.{place_of};

@@ -1,6 +1,6 @@
 //! Which entries have a rule of their own.
 
-ghost use Rattle.std.specs.Prelude.{◌≡◌, ◌||◌, ℕ, true, IfSome};
+ghost use Rattle.std.specs.Prelude.{◌≡◌, ◌||◌, true, IfSome};
 ghost use Rattle.co_profile.specs.Indices.{is_within, rpdo_communication, tpdo_communication};
 ghost use Rattle.co_profile.specs.FixedTypes.{fixed_type_of};
 ghost use Rattle.co_dict.specs.OwnRules.{own_rule_of, rule_type, is_rule_index};

@@ -1,7 +1,7 @@
 //! The SDO channels of the device as a server.
 
 ghost use Rattle.std.specs.Prelude.{◌≡◌, ◌<◌, ◌≤◌, is_some, IfSome};
-ghost use Rattle.co_dict.specs.SdoChannels.{is_channel, request_id, answer_id, is_id_of_channel, is_sdo_id};
+ghost use Rattle.co_dict.specs.SdoChannels.{is_channel, request_id, answer_id, is_sdo_id};
 
 use crate::cob_id::CobId;
 use crate::numbers::number_u32;

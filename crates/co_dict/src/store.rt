@@ -1,6 +1,6 @@
 //! The trait of stores.
 
-ghost use Rattle.std.specs.Prelude.{◌≡◌, ◌≤◌, ℕ, Bool, true, length, List, Some, is_some};
+ghost use Rattle.std.specs.Prelude.{◌≡◌, ◌≤◌, ℕ, true, length, List, Some, is_some};
 ghost use Rattle.std.specs.Option.{option_map};
 ghost use Rattle.co_dict.specs.Rows.{Contents, takes, capacity_at, written, restored};
 ghost use Rattle.co_dict.specs.Stores.{Description, IsDictionary};

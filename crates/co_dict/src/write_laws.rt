@@ -1,6 +1,6 @@
 //! What follows from a write that is not refused.
 
-ghost use Rattle.std.specs.Prelude.{◌≡◌, ◌<◌, ◌+◌, ℕ, List, Option, None, false};
+ghost use Rattle.std.specs.Prelude.{◌≡◌, ◌<◌, ℕ, List, Option, None, false};
 ghost use Rattle.co_value.specs.declared.key.Key.{Key};
 ghost use Rattle.co_profile.specs.Indices.{nth, tpdo_communication, tpdo_mapping};
 ghost use Rattle.co_dict.specs.Rows.{Contents};

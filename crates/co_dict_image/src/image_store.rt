@@ -1,6 +1,6 @@
 //! A store that keeps all values in one piece of memory.
 
-ghost use Rattle.std.specs.Prelude.{◌≡◌, ◌≤◌, ◌<◌, ℕ, true, length, position, fold, max, IfOk, IfErr, None};
+ghost use Rattle.std.specs.Prelude.{◌≡◌, ◌≤◌, ◌<◌, true, length, position, fold, max, IfOk, IfErr, None};
 ghost use Rattle.std.proofs.Props.{props};
 ghost use Rattle.co_value.specs.Keys.{same_key};
 ghost use Rattle.co_value.specs.Numbers.{AreBytes};

@@ -1,21 +1,20 @@
 -- The places of a dictionary that is a list of entries in increasing key: the positions in the list.
-use Rattle.std.proofs.Common.{◌≡◌, ◌+◌, ◌*◌, ◌<◌, ◌≤◌, ℕ, zero, suc, Bool, true, false, cond, List, [], ◌∷◌, length, get_or, map, Option, Some, None, refl, sym, ap, ◌∙◌, subst, arith, eqb, ltb, ◌||◌, ◌&&◌}
+use Rattle.std.proofs.Common.{◌≡◌, ◌+◌, ◌*◌, ◌<◌, ◌≤◌, ℕ, zero, suc, Bool, true, false, cond, List, [], ◌∷◌, length, get_or, Some, None, refl, sym, ap, ◌∙◌, arith, eqb, ltb, ◌||◌, ◌&&◌}
 use Rattle.std.specs.Prelude.{position, slice_get, nat_lt}
 use Rattle.std.specs.Option.{option_map, option_map_or, option_and_then}
 use Rattle.std.specs.List.{AllByRecursion}
-use Rattle.std.proofs.lemmas.Bool.{false≢true, and_parts}
+use Rattle.std.proofs.lemmas.Bool.{false≢true}
 use Rattle.std.proofs.lemmas.Bool.Decides.{nat_tests}
 use Rattle.std.proofs.lemmas.Option.{none-some, slice_get-map, slice_get-get_or, slice_get_past}
-use Rattle.std.proofs.lemmas.List.Quantifiers.{position-Some}
 use Rattle.std.specs.Ordering.{is_eq}
 use Rattle.co_value.specs.declared.key.Key.{Key}
 use Rattle.co_value.specs.Keys.{same_key, is_key_before}
 use Rattle.co_dict.specs.Rows.{fits, takes, written}
 use Rattle.co_dict.specs.Stores.{IsKey}
-use Rattle.co_dict.specs.Places.{place_of, bytes_at, takes_at, written_at}
+use Rattle.co_dict.specs.Places.{place_of, takes_at, written_at}
 use Rattle.co_dict_list.specs.ListedEntries.{ListedEntry, IsEntry, entry_at, rows_in, contents_in, keys_in, are_increasing, description_in}
 use Rattle.co_dict_list.proofs.Places.{part_at-place, place_within, fits_at-place, position-map, place_of as list_place}
-use Rattle.co_dict_list.proofs.Search.{position_is, before_later, other_compares, same_itself, before_compares, key_cmp}
+use Rattle.co_dict_list.proofs.Search.{position_is, before_later, other_compares, same_itself, before_compares}
 use Rattle.co_dict_list.proofs.Changes.{with_bytes, contents_in-with_bytes}
 
 -- the place of a key in the list is that in the list of the keys

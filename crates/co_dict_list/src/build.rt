@@ -1,6 +1,6 @@
 //! From a data sheet, a node-ID and limits to a dictionary, or to the first fault.
 
-ghost use Rattle.std.specs.Prelude.{◌≡◌, ℕ, option_map, ◌≤◌, map, All, AllPairs, true, Err, IfOk, IfErr, None, false};
+ghost use Rattle.std.specs.Prelude.{◌≡◌, ℕ, option_map, ◌≤◌, map, All, AllPairs, true, Err, IfOk, IfErr, None};
 ghost use Rattle.co_sheet.specs.SheetViews.{row_view};
 ghost use Rattle.co_value.specs.declared.key.Key.{Key};
 ghost use Rattle.co_value.specs.Keys.{is_key_before};
@@ -10,7 +10,7 @@ ghost use Rattle.co_dict_list.specs.Capacities.{limits_view};
 ghost use Rattle.co_dict_list.specs.Built.{Plan, dummies_of, plan_of, plan_in, built_description, built_contents};
 ghost use Rattle.co_dict.specs.Objects.{has_object, has_sub};
 ghost use Rattle.co_profile.specs.Indices.{pdo_cob_id};
-ghost use Rattle.co_dict_list.specs.BuildFaults.{is_node, is_communication, bad_cob_id, unpaired, bad_mapping, parameter_fault, build_fault, IsBuildFault};
+ghost use Rattle.co_dict_list.specs.BuildFaults.{is_communication, bad_cob_id, unpaired, bad_mapping, parameter_fault, build_fault, IsBuildFault};
 
 mod cob_ids;
 mod entries;

@@ -3,7 +3,6 @@
 ghost use Rattle.std.specs.Prelude.{◌≡◌, ◌<◌, ℕ, List, length, true, Some, IfOk};
 ghost use Rattle.std.specs.Char.{digit_value};
 ghost use Rattle.std.specs.List.{list_all};
-ghost use Rattle.co_value.specs.Types.{InRange};
 ghost use Rattle.co_sheet.specs.Names.{is_hexadecimal_digit};
 ghost use Rattle.co_sheet.specs.Views.{default_view};
 ghost use Rattle.co_sheet.specs.Limits.{pairs};
@@ -11,7 +10,7 @@ ghost use Rattle.co_sheet.specs.SheetViews.{row_view};
 ghost use Rattle.co_dict_list.specs.Capacities.{decoded, default_bytes};
 ghost use Rattle.co_value.specs.Types.{width_of};
 ghost use Rattle.co_sheet.specs.SheetLaws.{limit_or};
-ghost use Rattle.co_dict_list.specs.InitialBytes.{nearest_to_zero, number_with, initial_number, initial_of};
+ghost use Rattle.co_dict_list.specs.InitialBytes.{nearest_to_zero, initial_number, initial_of};
 ghost use Rattle.co_dict_list.specs.SheetRows.{IsReady};
 
 use crate::capacity::limit_or;

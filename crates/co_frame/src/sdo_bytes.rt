@@ -1,6 +1,6 @@
 //! The eight bytes of an SDO frame as they are written: reserved bits and bytes are 0.
 
-ghost use Rattle.std.specs.Prelude.{◌≡◌, ℕ, ◌<◌, ◌≤◌, length};
+ghost use Rattle.std.specs.Prelude.{◌≡◌, ℕ, ◌<◌, ◌≤◌};
 ghost use Rattle.co_value.specs.declared.key.Key.{Key};
 ghost use Rattle.co_value.specs.Numbers.{low_bytes};
 ghost use Rattle.co_frame.specs.SdoFields.{command_with, weight, padded, key_in, number_in, specifier as specifier_of};

@@ -1,6 +1,6 @@
 //! What an SDO client asks of a server.
 
-ghost use Rattle.std.specs.Prelude.{◌≡◌, ◌↔◌, ◌<◌, List, length, ℕ, Some, None, IfSome, IsTrue};
+ghost use Rattle.std.specs.Prelude.{◌≡◌, ◌↔◌, ◌<◌, length, Some, None, IfSome, IsTrue};
 ghost use Rattle.co_frame.specs.declared.sdo_request.SdoRequest.{SdoRequest};
 ghost use Rattle.co_frame.specs.SdoRequests.{request_in, request_row_in, download_in, block_upload_in, block_download_in, SpellsRequestRow, SpellsSdoRequest, IsSdoRequest, request_bytes};
 ghost use Rattle.co_frame.specs.SdoParts.{IsExpeditedData};

@@ -1,6 +1,6 @@
 //! The responses of an SDO server.
 
-ghost use Rattle.std.specs.Prelude.{◌≡◌, ◌↔◌, ◌<◌, List, length, ℕ, Some, None, IfSome, IsTrue};
+ghost use Rattle.std.specs.Prelude.{◌≡◌, ◌↔◌, ◌<◌, length, Some, None, IfSome, IsTrue};
 ghost use Rattle.co_frame.specs.declared.sdo_response.SdoResponse.{SdoResponse};
 ghost use Rattle.co_frame.specs.SdoResponses.{response_in, response_row_in, upload_in, block_upload_in, block_download_in, SpellsResponseRow, SpellsSdoResponse, IsSdoResponse, response_bytes};
 

@@ -2,7 +2,7 @@
 use Rattle.std.proofs.Common.{◌≡◌, ℕ, ◌+◌, ◌<◌, List, refl, ◌∙◌, arith}
 use Rattle.std.specs.Prelude.{Option}
 use Rattle.co_dict.specs.declared.side.Side.TheVariants.{Rpdo}
-use Rattle.co_dict.specs.Rows.{Contents, number_at}
+use Rattle.co_dict.specs.Rows.{Contents}
 use Rattle.co_pdo.specs.Pdos.{communication_key}
 use Rattle.co_node_inputs.specs.Addresses.{is_rpdo_with, rpdo_with}
 use Rattle.co_node_addresses.specs.AddressTables.{AgreeOnAddresses, AgreeOnRpdos, AreRpdosOf, IsTableOf, TableContent}

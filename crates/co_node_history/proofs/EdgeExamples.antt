@@ -3,7 +3,7 @@ use Rattle.std.proofs.Common.{◌≡◌, ℕ, true, None, [], ◌∷◌, refl}
 use Rattle.std.specs.Prelude.{List, negsuc, pos, ◌==◌, if◌then◌else◌}
 use Rattle.co_value.specs.declared.data_type.DataType.TheVariants.{Integer16}
 use Rattle.co_profile.specs.declared.access.Access.TheVariants.{Rw, Constant}
-use Rattle.co_dict.specs.Rows.{Rows, Contents}
+use Rattle.co_dict.specs.Rows.{Rows}
 use Rattle.co_dict.proofs.ExampleDevice.{at, number_row}
 use Rattle.co_node_parts.specs.declared.nmt_state.NodeState.TheVariants.{PreOperational}
 use Rattle.co_node_inputs.specs.Inputs.{InputView, Ticked, Applied, Written, ChangedAt}
@@ -11,7 +11,7 @@ use Rattle.co_node_inputs.specs.declared.app_answer.AppAnswer.{AppAnswer}
 use Rattle.co_node_inputs.specs.declared.app_answer.AppAnswer.TheVariants.{Done, Refused}
 use Rattle.co_node_history.specs.Moments.{Constants}
 use Rattle.co_node_history.specs.Histories.{after_all, app_after}
-use Rattle.co_node_history.proofs.ExampleNode.{Entry, device, device_with, u8, u16, u32, frame, came, request, response, emcy, start, stop, reset_communication, sync, raise, ticks, first_answered, number_after, state_after, searches}
+use Rattle.co_node_history.proofs.ExampleNode.{device, device_with, u8, u16, u32, frame, came, request, response, emcy, start, stop, reset_communication, sync, raise, ticks, first_answered, number_after, state_after, searches}
 
 -- a write of the application
 abbrev write : ℕ → ℕ → List ℕ → InputView

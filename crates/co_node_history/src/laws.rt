@@ -6,7 +6,6 @@ ghost use Rattle.co_dict.specs.declared.area.Area.{Area};
 ghost use Rattle.co_frame.specs.FrameContent.{FrameContent};
 ghost use Rattle.co_node_inputs.specs.AppAnswers.{app_answer};
 ghost use Rattle.co_node_inputs.specs.Inputs.{Inputs, AppView, Framed, Ticked, Applied};
-ghost use Rattle.co_node_inputs.specs.declared.app_answer.AppAnswer.{AppAnswer};
 ghost use Rattle.co_node_inputs.specs.declared.app_answer.AppAnswer.TheVariants as answer;
 ghost use Rattle.co_node_parts.specs.declared.nmt_state.NodeState.TheVariants.{PreOperational};
 ghost use Rattle.co_node_history.specs.Moments.{Constants};

@@ -20,7 +20,7 @@ ghost use Rattle.co_node_history.specs.Logs.{channel_logs};
 ghost use Rattle.co_node_history.specs.Moments.{Constants};
 ghost use Rattle.co_node_history.specs.Received.{address_at, service_for};
 ghost use Rattle.co_node_history.specs.Histories.{contents_of, moments, prescribed, state_of};
-ghost use Rattle.co_node_laws.specs.Changes.{changed_by, reset_service, reset_to, is_for};
+ghost use Rattle.co_node_laws.specs.Changes.{changed_by, reset_to, is_for};
 
 /// The entries after one more input, whatever it is: `changed_by` says it by the kind of input, and of a frame by who takes
 /// it. A reset restores its area; a SYNC and the frame of an RPDO raise the errors of their lengths, then the data that

@@ -7,7 +7,6 @@ ghost use Rattle.co_dict.specs.Rows.{Contents};
 ghost use Rattle.co_dict.specs.Stores.{Description};
 ghost use Rattle.co_pdo.specs.Images.{answered, contents_after, fault_of, image_of};
 ghost use Rattle.co_pdo.specs.Mappings.{mapping_of, total_of};
-ghost use Rattle.co_pdo_compiled.specs.CompiledMappings.{IsCompiledForm};
 ghost use Rattle.co_node_mappings.specs.MappingChanges.{may_change_mappings};
 ghost use Rattle.co_node_mappings.specs.MappingTables.{AreForms, AgreeOnMappings, Covers, HaveParts, IsMappingTable};
 

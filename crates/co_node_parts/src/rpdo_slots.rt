@@ -1,6 +1,6 @@
 //! The RPDO frames that wait for a SYNC.
 
-ghost use Rattle.std.specs.Prelude.{◌≡◌, ℕ, ◌<◌, ◌≤◌, [], ◌∷◌, length, slice_set, slice_index, Option, None, IfOk, vec_capacity};
+ghost use Rattle.std.specs.Prelude.{◌≡◌, ℕ, ◌<◌, ◌≤◌, [], ◌∷◌, length, slice_set, Option, None, IfOk, vec_capacity};
 ghost use Rattle.std.specs.List.{filter_map, range_with_len, slice_index_or};
 ghost use Rattle.co_frame.specs.FrameContent.{FrameContent};
 ghost use Rattle.co_node_parts.specs.RpdoSlots.{AreEmptyFrom, SlotLog, SlotsStand, taken_at, numbered};

@@ -1,6 +1,6 @@
 //! A device as it is built, and what is read of it.
 
-ghost use Rattle.std.specs.Prelude.{◌≡◌, ◌≤◌, ◌+◌, ◌&&◌, ℕ, [], ◌∷◌, IfOk, IfSome, is_some, max, nat_lt, option_map};
+ghost use Rattle.std.specs.Prelude.{◌≡◌, ◌≤◌, ◌+◌, ◌&&◌, [], ◌∷◌, IfOk, IfSome, is_some, max, nat_lt, option_map};
 ghost use Rattle.co_value.specs.declared.key.Key.{Key};
 ghost use Rattle.co_dict.specs.Rows.{capacity_at, number_at};
 ghost use Rattle.co_node_parts.specs.ConsumerTables.{AllBegun, ConsumersStand};

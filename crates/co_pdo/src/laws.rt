@@ -1,6 +1,6 @@
 //! Laws of PDOs. Each is the contract of a function that does nothing when it is called.
 
-ghost use Rattle.std.specs.Prelude.{◌≡◌, ◌<◌, ℕ, List, false, true};
+ghost use Rattle.std.specs.Prelude.{◌≡◌, ◌<◌, ℕ, List, true};
 ghost use Rattle.co_value.specs.declared.key.Key.{Key};
 ghost use Rattle.co_dict.specs.declared.side.Side.{Side};
 ghost use Rattle.co_dict.specs.Rows.{Contents, number_at};

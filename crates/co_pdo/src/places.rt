@@ -9,7 +9,7 @@ ghost use Rattle.co_dict.specs.Places.{place_of};
 ghost use Rattle.co_dict.specs.declared.side.Side.{Side};
 ghost use Rattle.co_pdo.specs.Mappings.{count_of};
 ghost use Rattle.co_pdo.specs.Pdos.{cob_id_of};
-ghost use Rattle.co_pdo.specs.Tpdos.{tpdo_key, tpdo_count_key, counter_overflow_key, is_active, places_of, settings_of};
+ghost use Rattle.co_pdo.specs.Tpdos.{tpdo_key, counter_overflow_key, is_active, places_of, settings_of};
 
 use crate::pdos::is_supported;
 use crate::settings::Settings;

@@ -1,6 +1,6 @@
 //! What the dictionary refuses, as the channel answers it, and the value that it lets be read.
 
-ghost use Rattle.std.specs.Prelude.{◌≡◌, ◌≤◌, ℕ, true, length, None, option_map, IfOk};
+ghost use Rattle.std.specs.Prelude.{◌≡◌, ◌≤◌, true, length, None, option_map, IfOk};
 ghost use Rattle.co_dict.specs.Rows.{takes};
 ghost use Rattle.co_dict.specs.Refusals.{refusal_in};
 ghost use Rattle.co_sdo.specs.Refused.{capacity_at, reading_refusal, initiate_refusal, completion_refusal};

@@ -1,6 +1,6 @@
 //! The calls of a client: its begin, the answers and the time.
 
-ghost use Rattle.std.specs.Prelude.{◌≡◌, ℕ, ◌+◌, ◌-◌, ◌<◌, ◌≤◌, ◌++◌, [], ◌∷◌, true, false, length, List};
+ghost use Rattle.std.specs.Prelude.{◌≡◌, ◌+◌, ◌-◌, ◌<◌, ◌≤◌, ◌++◌, [], ◌∷◌, true, false, length, List};
 ghost use Rattle.arrayvec.specs.ArrayVec.{array_vec_len};
 ghost use Rattle.co_frame.specs.SegmentSizes.{segments_per_sub_block};
 ghost use Rattle.co_frame.specs.Outboxes.{HasRoomFor};
@@ -8,7 +8,7 @@ ghost use Rattle.co_frame.specs.SdoRequests.{IsSdoRequest};
 ghost use Rattle.co_sdo_client.specs.Calls.{Call, Event, Ticked, Request, frames_on};
 ghost use Rattle.co_sdo_client.specs.Segments.{initiate_messages, size_sent};
 ghost use Rattle.co_sdo_client.specs.Outcomes.{asked_by};
-ghost use Rattle.co_sdo_client.specs.Standing.{ClientStands, IsReady, counted, waits, events_with, asked_with};
+ghost use Rattle.co_sdo_client.specs.Standing.{ClientStands, IsReady, waits, events_with, asked_with};
 ghost use Rattle.co_sdo_client.specs.Steps.{messages_to_tick, after_tick};
 
 use crate::client::Client;

@@ -1,11 +1,10 @@
 //! An SDO client.
 
-ghost use Rattle.std.specs.Prelude.{◌≡◌, ℕ, ◌+◌, ◌<◌, ◌≤◌, ◌++◌, [], ◌∷◌, Some, None, true, false, length, List, IfOk};
-ghost use Rattle.arrayvec.specs.ArrayVec.{array_vec_len};
-ghost use Rattle.co_sdo_client.specs.Calls.{Call, Download, Upload, Event, Ticked, frames_on};
-ghost use Rattle.co_sdo_client.specs.Segments.{initiate_messages, transfer_of};
-ghost use Rattle.co_sdo_client.specs.Outcomes.{outcome, asked_by, sent, result as value_of};
-ghost use Rattle.co_sdo_client.specs.Standing.{ClientStands, IsReady, counted, shown_by, events_with, asked_with};
+ghost use Rattle.std.specs.Prelude.{◌≡◌, ◌+◌, ◌<◌, ◌≤◌, [], false, length, List, IfOk};
+ghost use Rattle.co_sdo_client.specs.Calls.{Call, Download, Upload, Event};
+ghost use Rattle.co_sdo_client.specs.Segments.{transfer_of};
+ghost use Rattle.co_sdo_client.specs.Outcomes.{outcome, sent, result as value_of};
+ghost use Rattle.co_sdo_client.specs.Standing.{ClientStands, IsReady, counted, shown_by};
 ghost use Rattle.co_sdo_client.specs.declared.state.ClientState.TheVariants.{Waiting};
 
 use crate::buffer::Buffer;

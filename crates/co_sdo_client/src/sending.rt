@@ -7,11 +7,11 @@ ghost use Rattle.co_frame.specs.SegmentSizes.{segments_per_sub_block, bytes_per_
 ghost use Rattle.co_frame.specs.Outboxes.{HasRoomFor};
 ghost use Rattle.co_frame.specs.SdoRequests.{IsSdoRequest};
 ghost use Rattle.co_sdo_client.specs.Calls.{Request, frames_on};
-ghost use Rattle.co_sdo_client.specs.Segments.{bytes_of, part_after};
+ghost use Rattle.co_sdo_client.specs.Segments.{part_after};
 ghost use Rattle.co_sdo_client.specs.Verdicts.{GivesUp};
 ghost use Rattle.co_sdo_client.specs.Outcomes.{messages_by};
 ghost use Rattle.co_sdo_client.specs.Standing.{counted};
-ghost use Rattle.co_sdo_client.specs.declared.state.ClientState.TheVariants.{Done, Failed};
+ghost use Rattle.co_sdo_client.specs.declared.state.ClientState.TheVariants.{Failed};
 
 use crate::client::Client;
 use crate::state::ClientState;

@@ -1,6 +1,6 @@
 //! Uploads: expedited and segmented.
 
-ghost use Rattle.std.specs.Prelude.{◌≡◌, ◌+◌, ◌<◌, ◌≤◌, ◌++◌, [], ◌∷◌, Some, length};
+ghost use Rattle.std.specs.Prelude.{◌≡◌, ◌+◌, ◌<◌, ◌≤◌, ◌++◌, [], Some};
 ghost use Rattle.arrayvec.specs.ArrayVec.{array_vec_len};
 ghost use Rattle.co_frame.specs.SegmentSizes.{segments_per_sub_block};
 ghost use Rattle.co_frame.specs.Outboxes.{HasRoomFor};

@@ -1,6 +1,6 @@
 //! A channel of a server and its dictionary.
 
-ghost use Rattle.std.specs.Prelude.{◌≡◌, ◌≤◌};
+ghost use Rattle.std.specs.Prelude.{◌≤◌};
 ghost use Rattle.co_value.specs.declared.key.Key.{Key};
 ghost use Rattle.co_sdo.specs.Refused.{capacity_at};
 

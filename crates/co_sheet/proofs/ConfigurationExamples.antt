@@ -1,6 +1,6 @@
 -- Device configuration files, computed from the definitions: the node-ID, and ParameterValue beside DefaultValue.
-use Rattle.std.proofs.Common.{◌≡◌, ◌++◌, List, ℕ, [], ◌∷◌, refl, codes, Some, None, Option, Bool}
-use Rattle.std.specs.Prelude.{map, take, drop, pos, neg_ℤ, false, true, slice_get, option_map, replicate}
+use Rattle.std.proofs.Common.{◌≡◌, ◌++◌, List, ℕ, [], ◌∷◌, refl, codes, Some, None, Option}
+use Rattle.std.specs.Prelude.{pos, neg_ℤ, slice_get, option_map}
 use Rattle.co_sheet_rows.specs.declared.fault.FaultKind.TheVariants.{BadLine, DuplicateSection, DuplicateKey, MissingSection, BadNumber, AmbiguousNumber, BadLimits, BadDefault}
 use Rattle.co_sheet_rows.specs.declared.note.Note.{Note}
 use Rattle.co_sheet_rows.specs.declared.note.NoteKind.TheVariants.{SubNumber, Unlisted, NodeId}

@@ -1,7 +1,6 @@
 //! The sections of a text, and their properties.
 
 ghost use Rattle.std.specs.Prelude.{◌≡◌, option_map};
-ghost use Rattle.std.specs.Option.{option_copied};
 ghost use Rattle.co_sheet_text.specs.Sections.{property_at};
 ghost use Rattle.co_sheet_text.specs.Properties.{property_number, number_at};
 ghost use Rattle.co_sheet_text.specs.Views.{property_view, section_view};

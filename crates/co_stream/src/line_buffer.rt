@@ -1,6 +1,6 @@
 //! A line as it grows.
 
-ghost use Rattle.std.specs.Prelude.{◌≡◌, ◌≢◌, ◌<◌, ◌≤◌, ◌++◌, ◌==◌, [], length, IsTrue, OnOk, OnErr, IfErr};
+ghost use Rattle.std.specs.Prelude.{◌≡◌, ◌<◌, ◌≤◌, ◌++◌, ◌==◌, [], length, OnOk, OnErr, IfErr};
 ghost use Rattle.std.specs.Str.Lines.{strip_carriage_return};
 ghost use Rattle.co_stream.specs.declared.fault.LineFault.TheVariants.{TooLong};
 ghost use Rattle.co_stream.specs.Lines.{with_return};

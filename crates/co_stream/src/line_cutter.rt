@@ -1,9 +1,8 @@
 //! Lines cut out of pieces.
 
-ghost use Rattle.std.specs.Prelude.{◌≡◌, ◌≢◌, ◌<◌, ◌≤◌, [], IfOk, IfErr, IfSome, OnOk, Ok, true, false, length};
-ghost use Rattle.std.specs.Io.KnownBytes.{Consumes, Keeps, IsAtEnd};
+ghost use Rattle.std.specs.Prelude.{◌≡◌, ◌≢◌, ◌<◌, ◌≤◌, [], IfErr, IfSome, OnOk, Ok, true, false, length};
+ghost use Rattle.std.specs.Io.KnownBytes.{Keeps, IsAtEnd};
 ghost use Rattle.std.specs.Str.Lines.{strip_carriage_return};
-ghost use Rattle.co_stream.specs.declared.fault.LineFault.TheVariants.{TooLong, NeverEnds};
 ghost use Rattle.co_stream.specs.declared.fault.AskFault.TheVariants as ask;
 ghost use Rattle.co_stream.specs.Lines.{has_line_feed, IsTooLong, GivesLine};
 ghost use Rattle.co_stream.specs.Readings.{known_bytes, most_bytes, LosesPartOfLine};

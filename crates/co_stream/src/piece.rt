@@ -1,10 +1,7 @@
 //! What a reader gives at once.
 
-ghost use Rattle.std.specs.Prelude.{◌≡◌, ℕ, ◌<◌, ◌≤◌, List, [], ◌∷◌, ◌++◌, length, IfOk, IfErr, OnOk, OnErr, Ok, true, false};
+ghost use Rattle.std.specs.Prelude.{◌≡◌, ℕ, ◌<◌, ◌≤◌, List, [], ◌∷◌, ◌++◌, IfErr, OnOk, OnErr, Ok, true, false};
 ghost use Rattle.std.specs.Io.KnownBytes.{Consumes, Keeps, IsAtEnd};
-ghost use Rattle.std.specs.Str.Lines.{strip_carriage_return};
-ghost use Rattle.co_stream.specs.declared.fault.LineFault.TheVariants.{TooLong};
-ghost use Rattle.co_stream.specs.declared.fault.AskFault.TheVariants.{NeverEnds};
 ghost use Rattle.co_stream.specs.Lines.{has_line_feed, BeginsTooLong, EndsAt};
 ghost use Rattle.co_stream.specs.Readings.{most_bytes};
 

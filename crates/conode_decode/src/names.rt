@@ -1,10 +1,10 @@
 //! The names of entries.
 
-ghost use Rattle.std.specs.Prelude.{◌≡◌, ◌++◌, OnOk, Option, Some, map, option_map, string_bytes, All, AllPairs, List, true};
+ghost use Rattle.std.specs.Prelude.{◌≡◌, ◌++◌, OnOk, Option, Some, map, option_map, string_bytes, AllPairs, true};
 ghost use Rattle.std.specs.Option.{option_copied};
 ghost use Rattle.co_value.specs.Keys.{is_key_before};
 ghost use Rattle.co_sheet.specs.SheetViews.{row_view};
-ghost use Rattle.conode_decode.specs.Names.{names_view, if_utf8, row_at, name_at, are_for, name_of, name_text};
+ghost use Rattle.conode_decode.specs.Names.{names_view, if_utf8, row_at, name_at, name_of, name_text};
 
 use crate::numbers::push_words;
 use co_sheet::{EntryRow, Sheet};

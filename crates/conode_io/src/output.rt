@@ -1,6 +1,6 @@
 //! What goes to a writer: lines as they are made, and the rest at the end of a command.
 
-ghost use Rattle.std.specs.Prelude.{◌≡◌, ◌≢◌, ◌⊎◌, ℕ, List, IfOk, IfErr, OnOk, Ok, Err};
+ghost use Rattle.std.specs.Prelude.{◌≡◌, ◌≢◌, ◌⊎◌, IfOk, IfErr, OnOk, Ok, Err};
 ghost use Rattle.std.specs.Io.KnownBytes.{Appends, Keeps};
 ghost use Rattle.conode_io.specs.Endings.{stopped_line};
 ghost use Rattle.conode_io.specs.Messages.{message_line};

@@ -1,6 +1,6 @@
 //! Frames that are printed, and that come to the client.
 
-ghost use Rattle.std.specs.Prelude.{◌≡◌, ◌⊎◌, ◌++◌, ◌∷◌, ℕ, List, OnOk, IfErr, Err};
+ghost use Rattle.std.specs.Prelude.{◌≡◌, ◌⊎◌, ◌++◌, ◌∷◌, List, OnOk, IfErr, Err};
 ghost use Rattle.co_sdo_client.specs.Calls.{Call, Event, Ticked, frames_on};
 ghost use Rattle.co_sdo_client.specs.Outcomes.{asked_by};
 ghost use Rattle.co_sdo_client.specs.Standing.{ClientStands};

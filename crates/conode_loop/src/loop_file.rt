@@ -1,6 +1,6 @@
 //! A download looped against the node of a data sheet's file.
 
-ghost use Rattle.std.specs.Prelude.{◌≡◌, ◌⊎◌, ◌≤◌, ◌++◌, length, None, Some, IfOk, IfSome, option_map};
+ghost use Rattle.std.specs.Prelude.{◌≡◌, ◌⊎◌, ◌≤◌, length, None, Some, IfOk, IfSome, option_map};
 ghost use Rattle.std.specs.Option.{option_or};
 ghost use Rattle.std.specs.Process.{exit_status};
 ghost use Rattle.co_value.specs.KeyTexts.{key_in};

@@ -1,17 +1,14 @@
 //! The rounds of a client and a node.
 
-ghost use Rattle.std.specs.Prelude.{◌≡◌, ◌⊎◌, ◌<◌, ◌≤◌, ◌||◌, ◌++◌, ◌∷◌, [], length, List, ℕ, OnOk, IfOk, IfErr, Err};
-ghost use Rattle.co_sdo_client.specs.Calls.{Call, Event, frames_on};
+ghost use Rattle.std.specs.Prelude.{◌≡◌, ◌⊎◌, ◌<◌, ◌∷◌, [], length, OnOk, IfErr, Err};
 ghost use Rattle.co_sdo_client.specs.Calls as client;
-ghost use Rattle.co_sdo_client.specs.Outcomes.{asked_by};
-ghost use Rattle.co_sdo_client.specs.Standing.{ClientStands, waits};
-ghost use Rattle.co_frame.specs.FrameContent.{FrameContent};
-ghost use Rattle.co_node_inputs.specs.Inputs.{InputView, Inputs, Framed, Ticked, input_view};
+ghost use Rattle.co_sdo_client.specs.Standing.{ClientStands};
+ghost use Rattle.co_node_inputs.specs.Inputs.{Inputs, Framed, Ticked};
 ghost use Rattle.co_node_history.specs.Histories.{prescribed};
 ghost use Rattle.co_node_history.specs.Moments.{Constants};
 ghost use Rattle.co_node.specs.Nodes.{Stands};
-ghost use Rattle.conode_io.specs.Written.{WritesFront, WritesLines, WritesSome};
-ghost use Rattle.co_node_loop.specs.Rounds.{Loop, BothEnds, after_round, asked_after, events_after, first_ends, frames_of, frames_in, rounds, goes_on, some_wait};
+ghost use Rattle.conode_io.specs.Written.{WritesFront, WritesLines};
+ghost use Rattle.co_node_loop.specs.Rounds.{Loop, BothEnds, after_round, frames_of, frames_in, rounds, goes_on};
 ghost use Rattle.conode_loop.specs.Printed.{frame_lines, WritesFirst};
 ghost use Rattle.conode_loop.specs.Standing.{EndsStand, StandsAfterSome};
 

@@ -1,9 +1,9 @@
 -- Inputs in parts: what a device takes, and the lines of it.
-use Rattle.std.proofs.Common.{◌≡◌, ℕ, zero, suc, ◌+◌, ◌-◌, ◌<◌, List, [], ◌∷◌, ◌++◌, length, map, take, Option, None, Some, Result, Ok, Err, refl, ap, sym, subst, ◌∙◌, arith, append_assoc, append-nil, length-append, add-one}
+use Rattle.std.proofs.Common.{◌≡◌, ℕ, zero, suc, ◌+◌, ◌-◌, ◌<◌, List, [], ◌∷◌, ◌++◌, length, map, take, Option, None, Some, Result, Ok, Err, refl, ap, sym, subst, ◌∙◌, arith, append_assoc, append-nil, length-append}
 use Rattle.std.specs.Prelude.{sum_by, OnOk}
 use Rattle.std.specs.List.{flat_map}
-use Rattle.std.specs.Io.KnownBytes.{Appends, Keeps}
-use Rattle.std.proofs.KnownBytes.{Appends-trans, Appends-nil, Appends-kept}
+use Rattle.std.specs.Io.KnownBytes.{Appends}
+use Rattle.std.proofs.KnownBytes.{Appends-trans, Appends-nil}
 use Rattle.std.proofs.Math.Nat.{add-zero, suc-add, zero-add}
 use Rattle.std.specs.Option.{option_map_or}
 use Rattle.std.proofs.lemmas.List.Sums.{sum_by-append}
@@ -15,18 +15,18 @@ use Rattle.conode_trace.specs.declared.trace_line.TraceLine.TheVariants.{Skipped
 use Rattle.conode_trace.specs.declared.event_line.EventLine.TheVariants.{Ticks, App}
 use Rattle.conode_trace.specs.Traces.{Input, TimedInput, inputs_of, own_input, ticks_after, tick}
 use Rattle.conode_trace.specs.Printed.{frame_line}
-use Rattle.conode_io.specs.Written.{IsFront, WritesFront, WritesLines, WritesSome}
+use Rattle.conode_io.specs.Written.{WritesFront, WritesLines, WritesSome}
 use Rattle.conode_io.proofs.WriteLemmas.{lines_after}
 use Rattle.co_node_inputs.specs.Inputs.{InputView, Inputs, Ticked}
 use Rattle.co_node_inputs.specs.declared.app_answer.AppAnswer.{AppAnswer}
 use Rattle.co_node_history.specs.Moments.{Constants}
-use Rattle.co_node_history.specs.Histories.{after_all, all_frames, app_after, prescribed}
+use Rattle.co_node_history.specs.Histories.{all_frames, app_after, prescribed}
 use Rattle.co_node.specs.declared.node.Node.{Node}
 use Rattle.co_node.specs.Nodes.{Stands}
 use Rattle.conode_replay.specs.declared.totals.Totals.{Totals}
 use Rattle.conode_replay.specs.Counts.{counted, handed_in}
 use Rattle.conode_replay.specs.Lines.{after_inputs, handed_by, input_lines, own_inputs, refused_lines, replayed_lines, ticks_by, totals_of, view_of, views_of}
-use Rattle.conode_replay.specs.Runs.{AfterAny, HasPrinted, StopsAt, StopsIn, TakesOwn, WritesPart, WritesWhole}
+use Rattle.conode_replay.specs.Runs.{AfterAny, HasPrinted, StopsIn, TakesOwn, WritesPart, WritesWhole}
 
 -- ---- inputs in two parts
 

@@ -1,5 +1,5 @@
 -- How far a trace is replayed.
-use Rattle.std.proofs.Common.{◌≡◌, ℕ, ◌<◌, List, [], ◌∷◌, ◌++◌, length, Option, None, Some, Result, Ok, Err, IfSome, refl, inl, inr, ap, sym, subst, ◌∙◌}
+use Rattle.std.proofs.Common.{◌≡◌, ℕ, List, [], ◌∷◌, ◌++◌, Option, None, Some, Ok, Err, IfSome, refl, inl, inr, sym, subst, ◌∙◌}
 use Rattle.std.specs.Prelude.{◌≢◌, ◌⊎◌}
 use Rattle.std.specs.List.{flat_map}
 use Rattle.std.specs.Io.KnownBytes.{Appends, Keeps, IsAtEnd}
@@ -9,7 +9,7 @@ use Rattle.co_stream.specs.Readings.{LosesPartOfLine}
 use Rattle.co_stream.specs.declared.fault.LineFault.{LineFault}
 use Rattle.co_stream.specs.declared.fault.LineFault.TheVariants as reader
 use Rattle.conode_trace.specs.declared.timed_line.TimedLine.{TimedLine}
-use Rattle.conode_trace.specs.Traces.{TimedInput, Trace, Progress, inputs_of, preceded, trace_next, trace_of}
+use Rattle.conode_trace.specs.Traces.{TimedInput, Progress, inputs_of, preceded, trace_next, trace_of}
 use Rattle.conode_io.specs.declared.fault.CmdFault.{CmdFault}
 use Rattle.conode_io.specs.declared.fault.CmdFault.TheVariants.{Read, Write, BadLine, Memory, NeverEnds}
 use Rattle.conode_io.specs.Written.{WritesFront, WritesLines, WritesSome}
@@ -22,8 +22,8 @@ use Rattle.co_node.specs.declared.node.Node.{Node}
 use Rattle.co_node.specs.Nodes.{Stands}
 use Rattle.conode_replay.specs.declared.totals.Totals.{Totals}
 use Rattle.conode_replay.specs.Counts.{counted}
-use Rattle.conode_replay.specs.Lines.{after_inputs, boot_line, input_lines, replayed_lines, started_lines, totals_line, totals_of}
-use Rattle.conode_replay.specs.Runs.{AfterAny, BreaksOff, FailsToWrite, HasCounted, HasEnded, HasPrinted, HasRun, HasRunSome, Replayed, StopsAt, StopsIn, WritesPart, WritesWhole}
+use Rattle.conode_replay.specs.Lines.{after_inputs, boot_line, replayed_lines, started_lines, totals_line}
+use Rattle.conode_replay.specs.Runs.{AfterAny, BreaksOff, FailsToWrite, HasCounted, HasEnded, HasPrinted, HasRun, Replayed, StopsIn, WritesPart, WritesWhole}
 use Rattle.conode_replay.proofs.Inputs.{after_append, counted_more, part_after, part_more, replayed_append, stops_after, stops_later, whole_after, whole_more}
 
 -- the lines of a trace so far are taken, and their inputs replayed

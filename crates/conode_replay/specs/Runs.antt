@@ -2,7 +2,7 @@
 use Rattle.std.specs.Prelude.{◌≡◌, ℕ, ◌<◌, ◌⊎◌, List, [], ◌∷◌, ◌++◌, length, take, Option, Some, None, Result, Ok, Err, IfSome}
 use Rattle.std.specs.List.{flat_map}
 use Rattle.std.specs.Io.KnownBytes.{Appends}
-use Rattle.conode_trace.specs.Traces.{Input, Trace, TimedInput, own_input, trace_of}
+use Rattle.conode_trace.specs.Traces.{Input, TimedInput, own_input, trace_of}
 use Rattle.conode_trace.specs.declared.trace_line.TraceLine.{TraceLine}
 use Rattle.co_frame.specs.FrameContent.{FrameContent}
 use Rattle.conode_io.specs.declared.fault.CmdFault.{CmdFault}

@@ -1,6 +1,6 @@
 //! What is counted of a trace.
 
-ghost use Rattle.std.specs.Prelude.{◌≡◌, ◌+◌, ◌*◌, ◌≤◌, ◌<◌, ◌^◌};
+ghost use Rattle.std.specs.Prelude.{◌≡◌, ◌+◌, ◌≤◌, ◌<◌, ◌^◌};
 ghost use Rattle.conode_replay.specs.Counts.{counted, room_taken};
 
 use conode_trace::{TimedLine, TraceLine};

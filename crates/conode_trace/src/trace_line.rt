@@ -1,6 +1,6 @@
 //! What the lines of a CAN trace say.
 
-ghost use Rattle.std.specs.Prelude.{◌≡◌, ◌+◌, ◌*◌, ◌^◌, ◌<◌, ℕ, List, length, Option, Some, IfSome};
+ghost use Rattle.std.specs.Prelude.{◌≡◌, ◌<◌, Option, Some, IfSome};
 ghost use Rattle.conode_trace.specs.declared.trace_line.TraceLine.{TraceLine};
 ghost use Rattle.conode_trace.specs.Grammar.{SpellsLine};
 ghost use Rattle.conode_trace.specs.FrameLines.{frame_at, frame_line_in, is_skipped, line_in, line_of, IsIdentifier, WritesFewBytes};

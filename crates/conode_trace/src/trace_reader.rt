@@ -1,6 +1,6 @@
 //! A trace, line by line.
 
-ghost use Rattle.std.specs.Prelude.{◌≡◌, ◌+◌, ◌<◌, [], ◌∷◌, length, Some, None, IfSome, IfNone, IfOk, IfErr};
+ghost use Rattle.std.specs.Prelude.{◌≡◌, ◌+◌, ◌<◌, [], length, Some, None, IfSome, IfNone, IfOk, IfErr};
 ghost use Rattle.conode_trace.specs.Clocks.{clock_at_start};
 ghost use Rattle.conode_trace.specs.FrameLines.{WritesFewBytes};
 ghost use Rattle.std.specs.Str.Lines.{lines};

@@ -1,6 +1,6 @@
 //! The entries of a dictionary, made from the rows of a data sheet.
 
-ghost use Rattle.std.specs.Prelude.{◌≡◌, ℕ, map, length, All, Some, IfOk};
+ghost use Rattle.std.specs.Prelude.{◌≡◌, map, All, IfOk};
 ghost use Rattle.co_sheet.specs.SheetViews.{row_view};
 ghost use Rattle.co_dict_list.specs.Capacities.{limits_view};
 ghost use Rattle.co_dict_list.specs.StoredEntries.{entry_view, entry_views};

@@ -1,4 +1,4 @@
-use Rattle.std.proofs.Common.{◌≡◌, ◌<◌, ◌∷◌, ◌∙◌, List, [], sym, ap, subst}
+use Rattle.std.proofs.Common.{◌≡◌, ◌<◌, ◌∷◌, ◌∙◌, [], sym, ap, subst}
 use Rattle.std.specs.Prelude.{if◌then◌else◌}
 use Rattle.std.specs.List.{All, cons_option}
 use Rattle.co_dict.specs.declared.side.Side.TheVariants.{Rpdo}
@@ -8,7 +8,6 @@ use Rattle.co_node_parts.specs.declared.rpdo_slots.SlotEvent.{SlotEvent}
 use Rattle.co_node_parts.specs.RpdoSlots.{SlotLog, SlotsStand, taken_at}
 use Rattle.co_node_parts.specs.EmergencyQueues.{EmergenciesStand}
 use Rattle.co_node_inputs.specs.Slots.{IsMappedLength, slot_event}
-use Rattle.co_node_effects.specs.Settings.{HasSameSettings}
 use Rattle.co_node_mappings.specs.MappingTables.{IsMappingTable}
 use Rattle.co_node_phases.specs.Effects.{after_lengths, length_errors_of}
 use Rattle.co_node_phases.proofs.Taken.{AreEffects, taken_below, effects_are, effects_queued}

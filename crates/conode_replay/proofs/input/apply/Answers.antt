@@ -1,5 +1,4 @@
-use Rattle.std.proofs.Common.{◌≡◌, ℕ, List, ◌∷◌, sym, ap, subst, ◌∙◌, rules}
-use Rattle.conode_trace.specs.declared.event_line.AppLine.{AppLine}
+use Rattle.std.proofs.Common.{◌≡◌, ◌∷◌, sym, ap, subst, ◌∙◌, rules}
 use Rattle.conode_trace.specs.declared.event_line.AppLine.TheVariants as line
 use Rattle.co_node_inputs.specs.Inputs.{AppView, Applied, Written}
 use Rattle.co_node_history.specs.Histories.{prescribed}

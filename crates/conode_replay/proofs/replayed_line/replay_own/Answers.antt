@@ -1,4 +1,4 @@
-use Rattle.std.proofs.Common.{◌≡◌, ℕ, List, Err, true, false, ap, map, subst, sym, ◌++◌, ◌∙◌, rules}
+use Rattle.std.proofs.Common.{◌≡◌, List, Err, true, ap, map, subst, ◌++◌, rules}
 use Rattle.std.proofs.lemmas.Result.{err_from_is_err_and}
 use Rattle.conode_io.specs.declared.fault.CmdFault.{CmdFault}
 use Rattle.conode_io.specs.declared.fault.CmdFault.TheVariants.{Write, Memory}
@@ -6,7 +6,7 @@ use Rattle.conode_io.specs.Written.{WritesFront, WritesLines, WritesSome}
 use Rattle.conode_trace.specs.Printed.{frame_line}
 use Rattle.co_frame.specs.FrameContent.{FrameContent}
 use Rattle.conode_replay.specs.Lines.{refused_lines}
-use Rattle.conode_replay.proofs.Inputs.{own_none, part_own, printed_own, whole_own}
+use Rattle.conode_replay.proofs.Inputs.{part_own, printed_own, whole_own}
 use Rattle.conode_replay.proofs.replayed_line.replay_own.Goals as goal
 
 pub returns-in_err-print_input-clause-write : goal.returns-in_err-print_input-clause-write

@@ -1,4 +1,4 @@
-use Rattle.std.proofs.Common.{◌≡◌, ap, sym, subst, ◌∙◌}
+use Rattle.std.proofs.Common.{ap, sym, subst, ◌∙◌}
 use Rattle.conode_trace.specs.declared.trace_line.TraceLine.{TraceLine}
 use Rattle.conode_trace.specs.Traces.{frame, own_input}
 use Rattle.conode_replay.specs.Runs.{TakesOwn}

@@ -2,10 +2,10 @@
 use mathlib.Core.Path.{refl, sym, subst}
 use mathlib.Core.List.{List, [], ◌∷◌, ◌++◌}
 use seplogic.Ra.Ura.{Ura}
-use mir.Val.{Val, vptr, vstruct, vcons, vnil, of_list, vint}
+use mir.Val.{Val, vptr, vstruct, vcons, vnil, of_list}
 use mir.Raw.{raw as bare}
 use denote.Memory.{lone}
-use base.Logic.{SProp, ent, emp, id⊢, never, fst∗}
+use base.Logic.{SProp, ent, id⊢, never, fst∗}
 use base.Fml.{ftrue, fsep}
 use prog.Memory.{Memory}
 use prog.Routine.{Routine}
@@ -14,24 +14,21 @@ use types.Logic.{Logic, sem}
 use contract.Monad.{Fun, fact}
 use contract.Running.{tables, tables_of}
 use sound.WpLaws.{WpFn-mono}
-use types.Kit.{Item, ‵, raw, ◌⊛◌, ◌$◌, ◌∵◌, !, qed, by, move, keep, drop, use1, join, split, fsplit, fjoin, fpick, fpack, feq_i, feq_l, rewrite, suffices, done}
+use types.Kit.{Item, ‵, raw, ◌⊛◌, ◌$◌, ◌∵◌, !, qed, by, move, keep, drop, use1, join, split, fsplit, fjoin, fpick, feq_l, rewrite, suffices, done}
 use types.Part.{whole, sub, agg}
-use types.Run.{stop, fld, lit, no_more, and_then, of_opd, returns, enter}
+use types.Run.{stop, fld, no_more, and_then, of_opd, returns, enter}
 use types.ByLocal.{alloc_all, pass_all, free_all, look_at, get, get_in, sets}
 use denote.Exit.{yes}
-use denote.RattleType.{Valss}
-use denote.RawPtr.{Ptr, RawPtr, block_ptr, null_ptr, ptr_val, in_a_block}
+use denote.RawPtr.{Ptr, block_ptr, null_ptr, ptr_val, in_a_block}
 use denote.Signature.{type_at}
 use denote.Steps.{nothing, heard}
-use denote.Struct.Struct.{within}
-use denote.Struct.Owning.{shape}
 use denote.Triple.Spec.{triple_of}
 use denote.Triple.Table.{entered}
 use denote.Triple.Walked.{says, Stays, stay_dropped, walk_of, ends_at, Goes-dropped, walk_Meets}
 use Rattle.std.specs.Prelude.{Some, None, Option, ◌≡◌}
 use Rattle.std_alloc.specs.Box.Ownership.{box_owns}
-use Rattle.std_alloc.proofs.BoxSteps.Form.{D, B, word, box_typed}
-use Rattle.std_alloc.proofs.BoxSteps.Steps.{box_out, box_in}
+use Rattle.std_alloc.proofs.BoxSteps.Form.{D, word, box_typed}
+use Rattle.std_alloc.proofs.BoxSteps.Steps.{box_in}
 use Rattle.bafokun.specs.Seals.{seal_owns}
 use Rattle.bafokun.specs.contracts.seal.Seal as Seal
 use Rattle.core.proofs.alloc.Calls.{handle_tells}

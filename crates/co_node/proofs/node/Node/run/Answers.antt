@@ -1,8 +1,8 @@
-use Rattle.std.proofs.Common.{◌≡◌, ◌≤◌, ◌+◌, ◌<◌, true, List, length, map, take, ap, ◌∙◌, rules, arith}
+use Rattle.std.proofs.Common.{◌≡◌, true, length, map, take, ap, ◌∙◌, rules, arith}
 use Rattle.std.proofs.lemmas.Iterator.{YieldsList-from_slice}
-use Rattle.std.proofs.lemmas.Iterator.Consumers.{YieldsList-from_copied, YieldsList-turn, YieldsList-end}
+use Rattle.std.proofs.lemmas.Iterator.Consumers.{YieldsList-from_copied, YieldsList-turn}
 use Rattle.std.proofs.lemmas.List.{length_push}
-use Rattle.co_node_inputs.specs.Inputs.{Inputs, InputView, input_view}
+use Rattle.co_node_inputs.specs.Inputs.{Inputs, input_view}
 use Rattle.co_node_history.specs.Moments.{Constants}
 use Rattle.co_node_history.specs.Histories.{after_all}
 use Rattle.co_node.specs.Nodes.{Stands}

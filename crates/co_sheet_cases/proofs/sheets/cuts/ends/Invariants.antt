@@ -1,4 +1,4 @@
-use Rattle.std.proofs.Common.{◌≡◌, ℕ, ◌+◌, ◌-◌, ◌*◌, ◌<◌, ◌≤◌, length}
+use Rattle.std.proofs.Common.{◌-◌}
 use denote.Text.{Utf8}
 use denote.Shadow.{shadow}
 use Rattle.co_sheet_cases.proofs.sheets.cuts.ends.Given as goal
