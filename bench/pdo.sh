@@ -2,7 +2,7 @@
 # Nanoseconds that the data of a PDO of eight entries of one byte take by its compiled mapping, read and written, beside a copy
 # of eight bytes at eight places written by hand in Rust, in the same run; and those of a tick at which no TPDO is due, by
 # TPDO, on a device with 4 TPDOs and on one with 512. Status 1 where the data take more than 4 times the copy, a TPDO
-# more than 8 ns, or one of 512 more than 1.5 times one of 4 (aim: not more).
+# more than 8 ns, or one of 512 more than 1.1 times one of 4 (aim: not more).
 set -eu
 # shellcheck source=bench/crate.sh
 . "$(dirname "$(readlink -f "$0")")/crate.sh"
@@ -215,5 +215,5 @@ awk '
         compare("apply_at", "copy_apply")
         printf "on_tick:  %6.2f ns a TPDO of 4, %.2f ns of 512\n", best["tick_4"], best["tick_512"]
         exit (best["image_at"] > 4 * best["copy_image"] || best["apply_at"] > 4 * best["copy_apply"] \
-            || best["tick_4"] > 8 || best["tick_512"] > 8 || best["tick_512"] > 1.5 * best["tick_4"])
+            || best["tick_4"] > 8 || best["tick_512"] > 8 || best["tick_512"] > 1.1 * best["tick_4"])
     }' "$folder/best"
