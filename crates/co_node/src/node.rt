@@ -36,8 +36,8 @@ pub struct Node {
 }
 
 impl Node {
-    /// The device of a data sheet at a node-ID, in NMT state pre-operational and with nothing received. The faults are those
-    /// of `ImageStore::build`; `Memory` also where there is none for the device.
+    /// The device of a data sheet at a node-ID, in NMT state pre-operational and with nothing received. The faults are
+    /// those of `ImageStore::build`; `Memory` also where there is none for the device.
     pub fn build(
         alloc: Global,
         sheet: &Sheet<'_>,
@@ -132,8 +132,8 @@ impl Node {
         self.device.state()
     }
 
-    /// How many bytes are held for the transfer of an SDO channel; 0 where there is no such channel. They are at most 889
-    /// more than the entry that is transferred has room for.
+    /// How many bytes are held for the transfer of an SDO channel; 0 where there is no such channel. They are at most
+    /// 889 more than the entry that is transferred has room for.
     pub fn held(&self, channel: u8) -> usize
         ensures held { (k : Constants) (before : Inputs) → Stands k self.now before →
             result ≡ held_of k before channel }
@@ -143,8 +143,8 @@ impl Node {
         self.device.held(channel)
     }
 
-    /// The compiled mapping of PDO `number` of a side, of what it maps as the dictionary is now; `None` where there is no such
-    /// PDO (CiA 301, 7.5.2.36, 7.5.2.38).
+    /// The compiled mapping of PDO `number` of a side, of what it maps as the dictionary is now; `None` where there is
+    /// no such PDO (CiA 301, 7.5.2.36, 7.5.2.38).
     pub fn compiled(&self, side: Side, number: u16) -> Option<&Compiled>
         ensures there { (k : Constants) (before : Inputs) → Stands k self.now before →
             is_some result ≡ (nat_lt number 512 && has_pdo side k.description.rows number) }
@@ -163,9 +163,9 @@ impl Node {
         self.device.last_app()
     }
 
-    /// Takes inputs in order, and appends to the record the frames of each and where they end. It takes one only where the
-    /// record has room for one more input and for as many frames as an input gives at most: 127, or as many as there are
-    /// TPDOs where those are more, and 2. It gives how many it took.
+    /// Takes inputs in order, and appends to the record the frames of each and where they end. It takes one only where
+    /// the record has room for one more input and for as many frames as an input gives at most: 127, or as many as
+    /// there are TPDOs where those are more, and 2. It gives how many it took.
     pub fn run(&mut self, inputs: &[Input<'_>], kept: &mut Record) -> usize
         ensures within { result ≤ length inputs.now }
         ensures frames { (k : Constants) (before : Inputs) → Stands k self.old before →

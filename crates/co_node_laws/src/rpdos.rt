@@ -1,4 +1,5 @@
-//! What an input changes of the addresses of SYNC and RPDOs, and of what PDOs map. Each is a law: a call of it changes nothing.
+//! What an input changes of the addresses of SYNC and RPDOs, and of what PDOs map. Each is a law: a call of it changes
+//! nothing.
 
 ghost use Rattle.std.specs.Prelude.{◌≡◌, ◌≤◌, ◌<◌, ◌∷◌, false};
 ghost use Rattle.co_value.specs.declared.key.Key.{Key};
@@ -15,8 +16,9 @@ use co_dict::{invalid_pdo_law, own_rule_law};
 use co_pdo::written_from_2000;
 use co_sdo_bank::Bank;
 
-/// An input that is no reset and writes neither 1005h nor a parameter of an RPDO leaves all of these, 1005h and 1400h to
-/// 17FFh, as they are. So who takes the frames of SYNC and of RPDOs has to be looked up anew after the other inputs alone.
+/// An input that is no reset and writes neither 1005h nor a parameter of an RPDO leaves all of these, 1005h and 1400h
+/// to 17FFh, as they are. So who takes the frames of SYNC and of RPDOs has to be looked up anew after the other inputs
+/// alone.
 pub fn addresses_kept()
     ensures sync { (k : Constants) (inputs : Inputs) (input : InputView) →
         may_change_addresses (moment k (moments k inputs) input).marks ≡ false →
@@ -32,9 +34,9 @@ pub fn addresses_kept()
     Bank::set_is_permitted();
 }
 
-/// An input that is no reset and writes no mapping parameter leaves all of them, 1600h to 17FFh and 1A00h to 1BFFh, as they
-/// are. So mappings have to be compiled anew after the other inputs alone; and from the lost heartbeats on, after which SYNC
-/// and RPDOs take effect, no input changes them any more.
+/// An input that is no reset and writes no mapping parameter leaves all of them, 1600h to 17FFh and 1A00h to 1BFFh, as
+/// they are. So mappings have to be compiled anew after the other inputs alone; and from the lost heartbeats on, after
+/// which SYNC and RPDOs take effect, no input changes them any more.
 pub fn mappings_kept()
     ensures before { (k : Constants) (inputs : Inputs) (input : InputView) →
         may_change_mappings (moment k (moments k inputs) input).marks ≡ false →

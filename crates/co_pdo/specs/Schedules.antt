@@ -98,7 +98,7 @@ pub record Timetable : Type 0 where
   pub tpdos : List Tpdo
   pub places : List Places
 
--- a table, with places of each TPDO
+-- a table, and as many places
 pub record IsTimetable (tpdos : List Tpdo) (places : List Places) : Type 0 where
   pub table : IsTable tpdos
   pub placed : length places ≡ length tpdos

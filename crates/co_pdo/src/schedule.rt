@@ -24,8 +24,9 @@ use std::marker::Model;
 ///
 /// Each call has the contents of the dictionary then, and reads them by their places, which `new` looks up. What the
 /// dictionary says of a TPDO has to be current when a SYNC, an event or a tick comes: after a write of its COB-ID,
-/// transmission type, inhibit time or mapping it was started whole if it is active, and after a write of its event timer it
-/// was started, whole or its timer alone. Its SYNC start value and 1019h are read at each SYNC before its count begins.
+/// transmission type, inhibit time or mapping it was started whole if it is active, and after a write of its event
+/// timer it was started, whole or its timer alone. Its SYNC start value and 1019h are read at each SYNC before its
+/// count begins.
 #[derive(Drop)]
 pub struct Schedule {
     tpdos: Vec<Tpdo>,
@@ -61,8 +62,8 @@ impl Schedule {
         self.tpdos.len()
     }
 
-    /// The COB-ID word of TPDO k, 0 to 511; 0 where there is no such TPDO (CiA 301, 7.5.2.37). Where the dictionary has each
-    /// TPDO before it, it is read by its place, without a search.
+    /// The COB-ID word of TPDO k, 0 to 511; 0 where there is no such TPDO (CiA 301, 7.5.2.37). Where the dictionary has
+    /// each TPDO before it, it is read by its place, without a search.
     pub fn cob_id<S: ObjectStore>(&self, store: &S, k: u16) -> CobId
         requires { k < 512 }
         ensures { (history : History) →
@@ -115,10 +116,10 @@ impl Schedule {
         all_start(&mut self.tpdos, &self.places, store);
     }
 
-    /// A SYNC came, with the counter in its one byte or with none: leaves in `sent` the numbers of the TPDOs that are due,
-    /// increasing. They count as sent. A TPDO of type 1 to 240 with a SYNC start value of 1 to 240 counts from the SYNC
-    /// whose counter is that value, unless 1019h is 0 or absent; each other one from the first SYNC after its start
-    /// (CiA 301, 7.5.2.37).
+    /// A SYNC came, with the counter in its one byte or with none: leaves in `sent` the numbers of the TPDOs that are
+    /// due, increasing. They count as sent. A TPDO of type 1 to 240 with a SYNC start value of 1 to 240 counts from the
+    /// SYNC whose counter is that value, unless 1019h is 0 or absent; each other one from the first SYNC after its
+    /// start (CiA 301, 7.5.2.37).
     #[inline(always)]
     pub fn on_sync<S: ObjectStore>(&mut self, store: &S, counter: Option<u8>, sent: &mut Due)
         ensures due { (history : History) →

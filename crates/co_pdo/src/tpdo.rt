@@ -33,7 +33,7 @@ pub enum Part {
     Timer,
 }
 
-/// What is counted for one TPDO: all that a tick reads of it, in 16 bytes.
+/// What is counted for one TPDO, in 16 bytes. A tick reads more of it only where these countdowns make it due.
 #[derive(Clone, Copy, Debug)]
 pub struct Tpdo {
     /// k of 1800h + k, 0 to 511.
@@ -189,8 +189,8 @@ impl Tpdo {
         self.timer_left = self.timer;
     }
 
-    /// A SYNC, an event or a tick; answers whether the TPDO is sent, which it is exactly if it is due. Its places are read
-    /// where a SYNC may begin its count, and where the countdowns make it due.
+    /// A SYNC, an event or a tick; answers whether the TPDO is sent, which it is exactly if it is due. Its places are
+    /// read where a SYNC may begin its count, and where the countdowns make it due.
     #[inline(always)]
     pub(crate) fn happens<S: ObjectStore>(
         &mut self,
