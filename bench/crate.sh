@@ -3,6 +3,8 @@
 # own over crates of the repository.
 # shellcheck source=bench/folder.sh
 . "$(dirname -- "$(readlink -f -- "$0")")/folder.sh"
+# shellcheck source=bin/common.sh
+. "$root/bin/common.sh"
 
 # The folder $folder/crates/NAME/src of a program, beside copies of the crates that it needs:
 #     new_crate NAME 'CRATE..' 'USED..'     crates with all that they use; what the program uses itself
@@ -10,8 +12,9 @@ new_crate() {
     mkdir -p "$folder/crates/$1/src"
     cp "$root/HANDLES" "$folder"
     # shellcheck disable=SC2086 # the names are words of their own
-    "$root/bench/below.sh" $2 > "$folder/crates.txt"
-    cut -d: -f1 "$folder/crates.txt" | while read -r crate; do cp -R "$root/crates/$crate" "$folder/crates"; done
+    crates_below $2 > "$folder/crates.txt"
+    # shellcheck disable=SC2086
+    names_below $2 | while read -r crate; do cp -R "$root/crates/$crate" "$folder/crates"; done
     echo "$1: $3" >> "$folder/crates.txt"
 }
 

@@ -1,11 +1,11 @@
 #!/bin/sh
-# To be sourced, by `. "$(dirname "$(readlink -f "$0")")/program.sh"`: what folder.sh has; $program, the program, built where it
-# isn't there or a source is newer; and functions on times.
+# To be sourced, by `. "$(dirname "$(readlink -f "$0")")/program.sh"`: what folder.sh has; $program, the program that bin/conode
+# runs, built where it has to be; and functions on times.
 # shellcheck source=bench/folder.sh
 . "$(dirname -- "$(readlink -f -- "$0")")/folder.sh"
 "$root/bin/conode" --help > /dev/null
 # shellcheck disable=SC2034 # for the script that sources this
-program=$root/crates/conode/out/conode
+program=$("$root/bin/conode" --which | head -n 1)
 
 # the smallest number of a file of the folder, with a number on each line
 best() { sort -n "$folder/$1" | head -n 1; }

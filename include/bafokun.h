@@ -10,8 +10,8 @@
  *     count = bafokun_tick(&node, frames, BAFOKUN_MOST_FRAMES);     each ms
  *     count = bafokun_take(&node, &frame, frames, BAFOKUN_MOST_FRAMES);
  *
- * For Linux on x86-64 (x86-64-v2 and later). Link with libbafokun.a alone; it calls malloc, realloc and free of the
- * program.
+ * For Linux on x86-64, on every such processor, with glibc. Link with libbafokun.a or libbafokun.so alone; it calls malloc,
+ * realloc and free of the program.
  *
  * What holds of every call:
  * - No pointer is NULL, also where the count beside it is 0. An array has as many elements as its count says.
@@ -36,8 +36,10 @@
 extern "C" {
 #endif
 
+#define BAFOKUN_VERSION "0.2.0"
 #define BAFOKUN_VERSION_MAJOR 0
-#define BAFOKUN_VERSION_MINOR 1
+#define BAFOKUN_VERSION_MINOR 2
+#define BAFOKUN_VERSION_PATCH 0
 
 /* No input gives more frames: an array of so many has room for all. */
 #define BAFOKUN_MOST_FRAMES 514

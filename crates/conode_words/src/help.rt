@@ -1,7 +1,7 @@
 //! The longer texts of help, in lines of at most 80 columns.
 
 /// What `--version` prints after the program's name: its version, and the kit that proves it.
-pub const VERSION: &str = "0.1.0, proved with rattle-kit-13b logic dac8208d650f15bf";
+pub const VERSION: &str = "0.2.0, proved with rattle-kit-13f logic dac8208d650f15bf";
 
 /// What the program does without a command.
 pub const TRACES: &str = "\
@@ -101,7 +101,7 @@ are what its application does, and time. An event that is refused is printed as
 `; line 7 refused 06090030`. The last line has the numbers of frames received
 and sent and of ms: `; in 1, out 3, ticks 1000`. `-` as TRACE is standard input:
 
-  candump -L can0 | conode replay sensor.eds - --node 5 | canplayer
+  candump -L can0 | conode replay sensor.eds - --node 5 | canplayer -t
 
 Without --node the device has the node-ID of the sheet, a device configuration
 file (DCF); where that has none, standard error has `no node-ID`.

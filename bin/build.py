@@ -1,0 +1,370 @@
+#!/usr/bin/env python3
+"""Proves crates with the Rattle kit, as many side by side as processors and memory allow, and builds what is made of them, for
+every x86-64 processor.
+
+    build.py conode [-- WORD..]    the program, crates/conode/out/release/conode, which then runs on the words
+    build.py bafokun               the static library for C, crates/bafokun/out/release/libbafokun.a
+
+A crate is proved again where a file of its own or a library below it is newer. What is proved stays so when this is interrupted.
+It says how long it will take, by the seconds that each crate took when the last release was made (release/proving.txt) and by
+how fast this machine is, and notes what each crate took here in crates/conode/out/proving.txt.
+"""
+
+import fcntl
+import os
+import re
+import shutil
+import signal
+import subprocess
+import sys
+import tempfile
+import time
+
+ROOT = os.path.dirname(os.path.dirname(os.path.realpath(__file__)))
+MEASURED = f"{ROOT}/release/proving.txt"
+MEASURED_HERE = f"{ROOT}/crates/conode/out/proving.txt"
+# The oldest x86-64 processor: rt builds for a later one.
+CPU = "--cpu=x86-64"
+# Of a crate that wasn't measured: the seconds for each line of code, and the memory.
+SECONDS_A_LINE = 0.06
+MEGABYTES = 1500
+# How much faster a crate is proved by each further job.
+GAIN = 0.5
+
+
+class Crate:
+    """A line of crates.txt."""
+
+    def __init__(self, name, words, uses):
+        self.name, self.uses = name, uses
+        self.folder = f"{ROOT}/crates/{name}"
+        self.is_program = os.path.isfile(f"{self.folder}/src/main.rt")
+        self.is_archive = "staticlib" in words
+        self.deps, self.below = [], []
+        self.seconds, self.megabytes = 0.0, MEGABYTES
+
+    def made(self):
+        """The path of what is built of the crate."""
+        if self.is_program:
+            return f"{self.folder}/out/release/{self.name}"
+        return f"{self.folder}/out/" + (f"release/lib{self.name}.a" if self.is_archive else f"rlib/{self.name}.rlib")
+
+    def sources(self):
+        """The crate's files and folders."""
+        for part in ("src", "specs", "proofs"):
+            for at, _, names in os.walk(f"{self.folder}/{part}"):
+                yield at
+                yield from (f"{at}/{name}" for name in names)
+
+    def is_current(self):
+        """Whether it is built, and neither a file of the crate nor a library below it is newer."""
+        try:
+            made = os.stat(self.made()).st_mtime_ns
+            newest = max(os.stat(it).st_mtime_ns for it in [*self.sources(), *(it.made() for it in self.below)])
+        except OSError:
+            return False
+        return newest <= made
+
+    def words(self, kit, jobs):
+        """The words of the kit's prover that prove and build it."""
+        words = ["--crate-name", self.name, "src/main.rt" if self.is_program else "src/lib.rt"]
+        for name in dict.fromkeys(["std", *self.uses]):
+            if name not in [it.name for it in self.deps]:
+                words += ["--extern", f"{name}={kit}/rlibs/{name}.rlib"]
+        words += ["-L", f"dependency={kit}/rlibs"]
+        for it in self.deps:
+            words += ["--extern", f"{it.name}={it.made()}"]
+        for it in self.below:
+            words += ["-L", f"dependency={os.path.dirname(it.made())}"]
+        words += ["--antt-project", f"{kit}/rattle/logic/antt-project.json", "--logic-built", f"{kit}/logic_built"]
+        words += ["--links", f"{self.name}=", "--jobs", str(jobs)]
+        if self.is_program or self.is_archive:
+            words += ["--crate-type", "staticlib"] * self.is_archive
+            return [*words, CPU, "--toolchain", f"{kit}/toolchain", "--backend", "llvm", "-o", self.object()]
+        return [*words, "--statements", "-o", self.made()]
+
+    def object(self):
+        return f"{self.made()}.o" if self.is_program else self.made()
+
+    def finish(self, kit):
+        """Links a program that is compiled."""
+        if not self.is_program:
+            return 0
+        words = ["--target", "x86_64-unknown-linux-gnu", "--toolchain", f"{kit}/toolchain"]
+        words += ["-o", self.made(), self.object(), f"{kit}/c/libos_c.a", f"{kit}/c/liblibc_c.a"]
+        return subprocess.run([f"{kit}/bin/rattle-link", *words], stdin=subprocess.DEVNULL).returncode
+
+
+def read_crates(wanted):
+    """The crates of the repository that one stands on and then itself, lowest first."""
+    crates, found = {}, []
+    with open(f"{ROOT}/crates.txt", encoding="utf-8") as lines:
+        for line in lines:
+            head, colon, uses = line.partition("#")[0].partition(":")
+            if colon:
+                name, *words = head.split()
+                crates[name] = Crate(name, words, uses.split())
+
+    def visit(crate):
+        if crate in found:
+            return
+        crate.deps = [crates[it] for it in crate.uses if it in crates]
+        for it in crate.deps:
+            visit(it)
+        for it in crate.deps:
+            crate.below += [one for one in [*it.below, it] if one not in crate.below]
+        found.append(crate)
+
+    visit(crates[wanted])
+    return found
+
+
+def speed():
+    """How many thousand turns of a small loop this machine makes in a second: the best of three short tries."""
+    best = 0.0
+    for _ in range(3):
+        begun, count = time.perf_counter(), 0
+        while time.perf_counter() - begun < 0.1:
+            sum(it & 7 for it in range(1000))
+            count += 1
+        best = max(best, count / (time.perf_counter() - begun))
+    return best
+
+
+def read_measured(crates):
+    """Gives each crate the seconds that it should take on this machine, and the memory."""
+    said, rate = {}, 0.0
+    for file in (MEASURED, MEASURED_HERE):
+        try:
+            with open(file, encoding="utf-8") as lines:
+                for line in lines:
+                    words = line.split()
+                    if words and words[0] == "speed":
+                        rate = float(words[1])
+                    elif len(words) == 3 and words[0] != "#":
+                        said[words[0]] = float(words[1]) * rate, int(words[2])
+        except OSError:
+            pass
+    now = speed()
+    for it in crates:
+        lines = sum(open(path, "rb").read().count(b"\n") for path in it.sources() if path.endswith(".rt"))
+        turns, it.megabytes = said.get(it.name, (SECONDS_A_LINE * lines * 9000, MEGABYTES))
+        it.seconds = turns / now
+
+
+def write_measured(crate, seconds, megabytes):
+    """Notes what a crate took here."""
+    lines = {}
+    try:
+        with open(MEASURED_HERE, encoding="utf-8") as old:
+            lines = {line.split()[0]: line for line in old if line.strip()}
+    except OSError:
+        pass
+    lines["speed"] = f"speed {speed():.0f}\n"
+    lines[crate.name] = f"{crate.name} {seconds:.0f} {megabytes:.0f}\n"
+    with open(f"{MEASURED_HERE}.new", "w", encoding="utf-8") as new:
+        new.write(lines.pop("speed"))
+        new.writelines(lines[it] for it in sorted(lines))
+    os.replace(f"{MEASURED_HERE}.new", MEASURED_HERE)
+
+
+def processors():
+    """How many processors there are to use, also under the quota of a container."""
+    found = len(os.sched_getaffinity(0))
+    try:
+        with open("/sys/fs/cgroup/cpu.max", encoding="utf-8") as it:
+            quota, period = it.read().split()
+        found = min(found, max(1, int(quota) // int(period))) if quota != "max" else found
+    except (OSError, ValueError):
+        pass
+    return found
+
+
+def free_megabytes():
+    with open("/proc/meminfo", encoding="utf-8") as it:
+        return int(re.search(r"MemAvailable:\s+(\d+)", it.read())[1]) // 1024
+
+
+class Schedule:
+    """Which crate is begun next, and with how many jobs: the one with the longest chain of work above it first."""
+
+    def __init__(self, left):
+        self.left = {it.name: it for it in left}
+        self.above = {}
+        for it in reversed(left):
+            chains = [self.above[up.name] for up in left if it in up.deps]
+            self.above[it.name] = it.seconds + max(chains, default=0.0)
+
+    def next(self, running, idle, memory):
+        """A crate and its jobs, or None: running are the names of those at work, idle the processors, memory the free MB."""
+        waiting = {*self.left, *running}
+        ready = [it for it in self.left.values() if not any(below.name in waiting for below in it.below)]
+        ready.sort(key=lambda it: -self.above[it.name])
+        for at, it in enumerate(ready):
+            if idle > 0 and (it.megabytes <= memory or not running):
+                del self.left[it.name]
+                spare = idle // (len(ready) - at)
+                room = int((memory / it.megabytes - 1) / 0.6) + 1
+                return it, max(1, min(4, spare, room))
+        return None
+
+
+def estimate(left, running, cores):
+    """The seconds until all are done: running are pairs of the seconds left and a crate."""
+    schedule, now = Schedule(left), 0.0
+    at_work = [(seconds, crate, jobs) for seconds, crate, jobs in running]
+    memory = free_megabytes() * 0.85
+    while True:
+        while True:
+            names = [it.name for _, it, _ in at_work]
+            room = memory - sum(it.megabytes for _, it, _ in at_work)
+            found = schedule.next(names, cores - sum(jobs for _, _, jobs in at_work), room)
+            if not found:
+                break
+            crate, jobs = found
+            at_work.append((now + crate.seconds / (1 + GAIN * (jobs - 1)), crate, jobs))
+        if not at_work:
+            return now
+        ended = min(at_work, key=lambda it: it[0])
+        at_work.remove(ended)
+        now = max(now, ended[0])
+
+
+class Run:
+    """A crate at work."""
+
+    def __init__(self, crate, jobs, kit, room):
+        self.crate, self.jobs, self.begun = crate, jobs, time.monotonic()
+        self.log = open(f"{room}/{crate.name}", "w+", errors="replace", encoding="utf-8")
+        os.makedirs(os.path.dirname(crate.made()), exist_ok=True)
+        if not crate.is_program and not crate.is_archive:
+            # what rt keeps beside a library says of it that it is rt's own
+            shutil.rmtree(crate.made(), ignore_errors=True)
+            if os.path.exists(f"{os.path.dirname(crate.made())}/stamp"):
+                os.remove(f"{os.path.dirname(crate.made())}/stamp")
+        how = {"cwd": crate.folder, "stdin": subprocess.DEVNULL, "stdout": self.log, "stderr": subprocess.STDOUT}
+        words = [f"{kit}/bin/rattle", "build", *crate.words(kit, jobs)]
+        self.process = subprocess.Popen(words, start_new_session=True, **how)
+        self.status = None
+
+    def seconds_left(self):
+        whole = self.crate.seconds / (1 + GAIN * (self.jobs - 1))
+        return max(whole - (time.monotonic() - self.begun), 0.1 * whole)
+
+    def has_ended(self):
+        pid, status, usage = os.wait4(self.process.pid, os.WNOHANG)
+        if not pid:
+            return False
+        self.status = os.waitstatus_to_exitcode(status)
+        self.process.returncode = self.status
+        self.used = usage.ru_utime + usage.ru_stime
+        self.megabytes = usage.ru_maxrss / 1024
+        return True
+
+    def stop(self):
+        if self.status is None:
+            try:
+                os.killpg(self.process.pid, signal.SIGKILL)
+            except ProcessLookupError:
+                pass
+
+
+def say(text):
+    print(f"conode: {text}", file=sys.stderr, flush=True)
+
+
+def minutes(seconds):
+    if seconds < 90:
+        return f"{max(1, round(seconds))} s"
+    return f"{round(seconds / 60)} min"
+
+
+def build(crates, kit):
+    """Proves and builds those that are not current; whether all could be."""
+    left = [it for it in crates if not it.is_current()]
+    stale = {it.name for it in left}
+    left = [it for it in crates if it.name in stale or any(below.name in stale for below in it.below)]
+    if not left:
+        return True
+    read_measured(crates)
+    cores, count, ended, running = processors(), len(left), 0, []
+    say(
+        f"proving {count} of {len(crates)} crates, about {minutes(estimate(left, [], cores))} on {cores} processors;"
+        " Ctrl-C stops it, and the next start goes on from there"
+    )
+    schedule, used, foreseen = Schedule(left), 0.0, 0.0
+    with tempfile.TemporaryDirectory(prefix="conode-") as room:
+        try:
+            while ended < count:
+                memory = free_megabytes() * 0.85
+                idle = cores - sum(it.jobs for it in running)
+                found = schedule.next([it.crate.name for it in running], idle, memory)
+                if found:
+                    running.append(Run(*found, kit, room))
+                    continue
+                done = [it for it in running if it.has_ended()]
+                for it in done:
+                    running.remove(it)
+                    if it.status or it.crate.finish(kit):
+                        it.log.seek(0)
+                        sys.stderr.write(it.log.read())
+                        say(f"{it.crate.name} is not proved and built")
+                        return False
+                    ended += 1
+                    used, foreseen = used + it.used, foreseen + it.crate.seconds
+                    write_measured(it.crate, it.used, it.megabytes)
+                    # what has ended says how fast this machine really is
+                    at_work = [(it.seconds_left(), it.crate, it.jobs) for it in running]
+                    rest = used / foreseen * estimate([*schedule.left.values()], at_work, cores)
+                    after = f"; about {minutes(rest)} left" if ended < count else ""
+                    say(f"{ended} of {count}: {it.crate.name}, {minutes(time.monotonic() - it.begun)}{after}")
+                if not done:
+                    time.sleep(0.2)
+        finally:
+            for it in running:
+                it.stop()
+    return True
+
+
+def lock(crates):
+    """Keeps other builds, and rt, out of these crates' folders until this process ends."""
+    held = []
+    for folder in sorted(it.folder for it in crates):
+        it = os.open(folder, os.O_RDONLY)
+        try:
+            fcntl.flock(it, fcntl.LOCK_EX | fcntl.LOCK_NB)
+        except BlockingIOError:
+            say(f"waiting until another build in {folder} has ended")
+            fcntl.flock(it, fcntl.LOCK_EX)
+        except OSError:
+            pass
+        held.append(it)
+    return held
+
+
+def main(words):
+    wanted, *rest = words
+    rt = shutil.which("rt")
+    if not rt:
+        say("the Rattle kit's command rt is not on the PATH")
+        return 1
+    page = subprocess.run([rt, "doc"], stdout=subprocess.PIPE, check=True, text=True).stdout.strip()
+    crates = read_crates(wanted)
+    for number in (signal.SIGTERM, signal.SIGHUP):
+        signal.signal(number, lambda number, _: sys.exit(128 + number))
+    try:
+        held = lock(crates)
+        is_built = build(crates, os.path.dirname(page))
+        for it in held:
+            os.close(it)
+    except KeyboardInterrupt:
+        return 130
+    if not is_built:
+        return 1
+    if rest[:1] == ["--"]:
+        os.execv(crates[-1].made(), [crates[-1].made(), *rest[1:]])
+    return 0
+
+
+if __name__ == "__main__":
+    sys.exit(main(sys.argv[1:]))

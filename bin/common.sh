@@ -1,0 +1,77 @@
+#!/bin/sh
+# To be sourced, by `. "$(dirname "$(readlink -f "$0")")/common.sh"`: $root, the repository, and what the scripts of this folder
+# share: which crates stand below which, and whether what was built or released is made of the sources as they are.
+# shellcheck disable=SC2034 # for the scripts that source this
+root=$(CDPATH='' cd -- "$(dirname -- "$(readlink -f -- "$0")")/.." && pwd)
+built_program=$root/crates/conode/out/release/conode
+built_archive=$root/crates/bafokun/out/release/libbafokun.a
+release=$root/release
+
+# Prints the lines of crates.txt of these crates and of all crates of the repository that they stand on, lowest first.
+crates_below() {
+    awk -v wanted="$*" '
+        function visit(name,    count, i, below) {
+            if (name in seen || !(name in uses)) return
+            seen[name] = 1
+            count = split(uses[name], below, " ")
+            for (i = 1; i <= count; i++) visit(below[i])
+            print line[name]
+        }
+        { sub(/#.*/, ""); gsub(/[ \t]+/, " "); sub(/ $/, "") }
+        split($0, half, ":") == 2 { split(half[1], words, " "); uses[words[1]] = half[2]; line[words[1]] = $0 }
+        END { count = split(wanted, names, " "); for (i = 1; i <= count; i++) visit(names[i]) }
+    ' "$root/crates.txt"
+}
+
+# The names alone: names_below CRATE..
+names_below() { crates_below "$@" | sed 's/[ :].*//'; }
+
+# Whether a file is there, and no source, definition or proof of a crate or of those below it is newer: is_current FILE CRATE
+is_current() {
+    [ -e "$1" ] || return 1
+    made=$1
+    names=$(names_below "$2")
+    set -- "$root/crates.txt"
+    for name in $names; do
+        set -- "$@" "$root/crates/$name/src" "$root/crates/$name/specs" "$root/crates/$name/proofs"
+    done
+    [ -z "$(find "$@" -newer "$made" -print 2> /dev/null | head -n 1)" ]
+}
+
+# Prints the checksum of what goes into the program and the library: the code of their crates, their lines of crates.txt, and
+# the header.
+sources_sum() (
+    cd "$root" || exit
+    {
+        crates_below conode bafokun
+        names_below conode bafokun | sed 's/.*/crates\/&\/src/' | xargs sh -c 'find "$@" include/bafokun.h -type f' find |
+            LC_ALL=C sort | xargs sha256sum
+    } | sha256sum | cut -d ' ' -f 1
+)
+
+# What release/MADE-OF says after a word: version, kit or sources.
+released() { sed -n "s/^$1 //p" "$release/MADE-OF" 2> /dev/null; }
+
+# Whether the files of a release have the checksums that are released with them.
+is_intact() { (cd "$release" && sha256sum --quiet --strict -c SHA256SUMS) > /dev/null 2>&1; }
+
+# Whether the released files are there, whole, and made of exactly these sources. Where that was found before and nothing is newer,
+# it isn't looked at again.
+is_released() {
+    [ -e "$release/MADE-OF" ] || return 1
+    mark=$root/crates/conode/out/released
+    if [ -e "$mark" ]; then
+        set -- "$root/crates.txt" "$root/include" "$release"
+        for name in $(names_below conode bafokun); do set -- "$@" "$root/crates/$name/src"; done
+        [ -n "$(find "$@" -newer "$mark" -print 2> /dev/null | head -n 1)" ] || return 0
+    fi
+    [ "$(sources_sum)" = "$(released sources)" ] || return 1
+    if ! is_intact; then
+        echo "release/ isn't what was released: its files have other checksums than SHA256SUMS" >&2
+        return 1
+    fi
+    { mkdir -p "$root/crates/conode/out" && : > "$mark"; } 2> /dev/null || true
+}
+
+# Whether the proof kit is there.
+has_kit() { command -v rt > /dev/null 2>&1; }
