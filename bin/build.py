@@ -6,8 +6,8 @@ every x86-64 processor.
     build.py bafokun               the static library for C, crates/bafokun/out/release/libbafokun.a
 
 A crate is proved again where a file of its own or a library below it is newer. What is proved stays so when this is interrupted.
-It says how long it will take, by the seconds that each crate took when the last release was made (release/proving.txt) and by
-how fast this machine is, and notes what each crate took here in crates/conode/out/proving.txt.
+It says how long it will take, by the processor seconds that each crate took when the last release was made
+(release/proving.txt) and by how fast this machine is, and notes what each crate took here in crates/conode/out/proving.txt.
 """
 
 import fcntl
@@ -25,9 +25,10 @@ MEASURED = f"{ROOT}/release/proving.txt"
 MEASURED_HERE = f"{ROOT}/crates/conode/out/proving.txt"
 # The oldest x86-64 processor: rt builds for a later one.
 CPU = "--cpu=x86-64"
-# Of a crate that wasn't measured: the seconds for each line of code, and the memory.
-SECONDS_A_LINE = 0.06
-MEGABYTES = 1500
+# The speed of a machine on which the measured seconds hold.
+SPEED = 16000
+# Of a crate that wasn't measured: the seconds, those for each line of code, and the memory.
+SECONDS, SECONDS_A_LINE, MEGABYTES = 10, 0.08, 1500
 # How much faster a crate is proved by each further job.
 GAIN = 0.5
 
@@ -120,51 +121,43 @@ def read_crates(wanted):
 
 
 def speed():
-    """How many thousand turns of a small loop this machine makes in a second: the best of three short tries."""
+    """How many turns of a small loop this machine makes in a second of a processor: the best of three short tries."""
     best = 0.0
     for _ in range(3):
-        begun, count = time.perf_counter(), 0
-        while time.perf_counter() - begun < 0.1:
+        begun, count = time.process_time(), 0
+        while time.process_time() - begun < 0.1:
             sum(it & 7 for it in range(1000))
             count += 1
-        best = max(best, count / (time.perf_counter() - begun))
+        best = max(best, count / (time.process_time() - begun))
     return best
 
 
-def read_measured(crates):
+def read_measured(file):
+    """What a file says of crates: by name the processor seconds at SPEED, and the megabytes."""
+    try:
+        with open(file, encoding="utf-8") as lines:
+            rows = [line.split() for line in lines]
+    except OSError:
+        return {}
+    return {row[0]: (float(row[1]), int(row[2])) for row in rows if len(row) == 3}
+
+
+def foresee(crates):
     """Gives each crate the seconds that it should take on this machine, and the memory."""
-    said, rate = {}, 0.0
-    for file in (MEASURED, MEASURED_HERE):
-        try:
-            with open(file, encoding="utf-8") as lines:
-                for line in lines:
-                    words = line.split()
-                    if words and words[0] == "speed":
-                        rate = float(words[1])
-                    elif len(words) == 3 and words[0] != "#":
-                        said[words[0]] = float(words[1]) * rate, int(words[2])
-        except OSError:
-            pass
-    now = speed()
+    said = {**read_measured(MEASURED), **read_measured(MEASURED_HERE)}
+    rate = SPEED / speed()
     for it in crates:
         lines = sum(open(path, "rb").read().count(b"\n") for path in it.sources() if path.endswith(".rt"))
-        turns, it.megabytes = said.get(it.name, (SECONDS_A_LINE * lines * 9000, MEGABYTES))
-        it.seconds = turns / now
+        seconds, it.megabytes = said.get(it.name, (SECONDS + SECONDS_A_LINE * lines, MEGABYTES))
+        it.seconds = seconds * rate
 
 
 def write_measured(crate, seconds, megabytes):
     """Notes what a crate took here."""
-    lines = {}
-    try:
-        with open(MEASURED_HERE, encoding="utf-8") as old:
-            lines = {line.split()[0]: line for line in old if line.strip()}
-    except OSError:
-        pass
-    lines["speed"] = f"speed {speed():.0f}\n"
-    lines[crate.name] = f"{crate.name} {seconds:.0f} {megabytes:.0f}\n"
+    said = read_measured(MEASURED_HERE)
+    said[crate.name] = seconds * speed() / SPEED, round(megabytes)
     with open(f"{MEASURED_HERE}.new", "w", encoding="utf-8") as new:
-        new.write(lines.pop("speed"))
-        new.writelines(lines[it] for it in sorted(lines))
+        new.writelines(f"{name} {took:.0f} {held}\n" for name, (took, held) in sorted(said.items()))
     os.replace(f"{MEASURED_HERE}.new", MEASURED_HERE)
 
 
@@ -286,7 +279,7 @@ def build(crates, kit):
     left = [it for it in crates if it.name in stale or any(below.name in stale for below in it.below)]
     if not left:
         return True
-    read_measured(crates)
+    foresee(crates)
     cores, count, ended, running = processors(), len(left), 0, []
     say(
         f"proving {count} of {len(crates)} crates, about {minutes(estimate(left, [], cores))} on {cores} processors;"
