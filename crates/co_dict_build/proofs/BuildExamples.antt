@@ -8,13 +8,13 @@ use Rattle.co_value.specs.declared.data_type.DataType.TheVariants.{Integer8, Uns
 use Rattle.co_profile.specs.declared.access.Access.TheVariants.{Rw}
 use Rattle.co_sheet.specs.Limits.{Default, absent, number, node_id}
 use Rattle.co_sheet.specs.Content.{Row as SheetRow}
-use Rattle.co_dict_list.specs.declared.build_fault.BuildFault.{BuildFault}
-use Rattle.co_dict_list.specs.declared.build_fault.BuildFault.TheVariants.{NodeId, ValueRange, BadCobId, PdoPair, BadMapping, TooMany, Memory}
+use Rattle.co_dict_build.specs.declared.build_fault.BuildFault.{BuildFault}
+use Rattle.co_dict_build.specs.declared.build_fault.BuildFault.TheVariants.{NodeId, ValueRange, BadCobId, PdoPair, BadMapping, TooMany, Memory}
 use Rattle.co_text.specs.Printed.{digits_text}
-use Rattle.co_dict_list.specs.BuildFaultTexts.{fault_text}
+use Rattle.co_dict_build.specs.BuildFaultTexts.{fault_text}
 use Rattle.co_dict.specs.SdoChannels.{is_sdo_id}
 use Rattle.co_dict.specs.Objects.{has_object, subs_present}
-use Rattle.co_dict_list.specs.BuildFaults.{build_fault, is_used_before, is_too_many, is_communication, is_mapping}
+use Rattle.co_dict_build.specs.BuildFaults.{build_fault, is_used_before, is_too_many, is_communication, is_mapping}
 
 abbrev key : ℕ → ℕ → Key
 key index sub = record { index = index; sub = sub }

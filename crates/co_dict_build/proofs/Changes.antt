@@ -13,9 +13,9 @@ use Rattle.co_dict.specs.declared.row.Row.{Row}
 use Rattle.co_dict.specs.declared.area.Area.{Area}
 use Rattle.co_dict.specs.Rows.{written, restored, is_in_area}
 use Rattle.co_dict.specs.Stores.{Description}
-use Rattle.co_dict_list.specs.ListedEntries.{ListedEntry, entry_at, contents_in, initial_in, keys_in, are_increasing, description_in, reset_entry}
-use Rattle.co_dict_list.specs.LawfulLists.{equal_keys}
-use Rattle.co_dict_list.proofs.Places.{place_of}
+use Rattle.co_dict_build.specs.ListedEntries.{ListedEntry, entry_at, contents_in, initial_in, keys_in, are_increasing, description_in, reset_entry}
+use Rattle.co_dict_build.specs.LawfulLists.{equal_keys}
+use Rattle.co_dict_build.proofs.Places.{place_of}
 
 -- ---- what the bytes leave as it is
 

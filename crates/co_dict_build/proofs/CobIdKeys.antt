@@ -7,7 +7,7 @@ use Rattle.co_value.specs.declared.key.Key.{Key}
 use Rattle.co_value.specs.declared.data_type.DataType.TheVariants.{Unsigned32}
 use Rattle.co_profile.specs.FixedTypes.{fixed_type_of}
 use Rattle.co_profile.specs.Indices.{is_within, rpdo_communication, tpdo_communication, emergency_cob_id}
-use Rattle.co_dict_list.specs.BuildFaults.{is_communication, is_word_key}
+use Rattle.co_dict_build.specs.BuildFaults.{is_communication, is_word_key}
 
 emergency_type : (key : Key) → ((key.index == emergency_cob_id) && (key.sub == 0)) ≡ true → fixed_type_of key ≡ Some Unsigned32
 emergency_type key h = grind (arith, nat_tests)

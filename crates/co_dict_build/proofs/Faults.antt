@@ -1,8 +1,8 @@
 -- The first of some faults, one after another.
 use Rattle.std.proofs.Common.{◌≡◌, Option, Some, None, [], ◌∷◌, refl}
 use Rattle.std.specs.Option.{option_or}
-use Rattle.co_dict_list.specs.declared.build_fault.BuildFault.{BuildFault}
-use Rattle.co_dict_list.specs.BuildFaults.{first_there}
+use Rattle.co_dict_build.specs.declared.build_fault.BuildFault.{BuildFault}
+use Rattle.co_dict_build.specs.BuildFaults.{first_there}
 
 first_of_three : (a b c : Option BuildFault) → option_or (option_or a b) c ≡ first_there (a ∷ b ∷ c ∷ [])
 first_of_three (Some x) b c = refl

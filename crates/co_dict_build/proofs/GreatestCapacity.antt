@@ -12,10 +12,10 @@ use Rattle.co_value.specs.Keys.{same_key, is_key_before}
 use Rattle.co_dict.specs.declared.row.Row.{Row}
 use Rattle.co_dict.specs.Rows.{Rows, capacity_at}
 use Rattle.co_dict.specs.Stores.{IsGreatestCapacity}
-use Rattle.co_dict_list.specs.ListedEntries.{ListedEntry, entry_at, rows_in, keys_in, are_increasing}
-use Rattle.co_dict_list.specs.LawfulLists.{equal_keys}
+use Rattle.co_dict_build.specs.ListedEntries.{ListedEntry, entry_at, rows_in, keys_in, are_increasing}
+use Rattle.co_dict_build.specs.LawfulLists.{equal_keys}
 use Rattle.co_dict.proofs.StoreLemmas.{room_of}
-use Rattle.co_dict_list.proofs.Search.{after_compares, other_compares, same_itself}
+use Rattle.co_dict_build.proofs.Search.{after_compares, other_compares, same_itself}
 
 -- the greatest capacity of entries and of those before them
 abbrev pub most_of : ℕ → List ListedEntry → ℕ

@@ -5,8 +5,8 @@ use Rattle.co_value.specs.declared.data_type.DataType.TheVariants.{VisibleString
 use Rattle.co_value.specs.Types.{width_of}
 use Rattle.co_value.specs.Numbers.{bytes_of}
 use Rattle.co_sheet.specs.Content.{Row as SheetRow}
-use Rattle.co_dict_list.specs.Capacities.{Limits, capacity_at}
-use Rattle.co_dict_list.specs.InitialBytes.{initial_number, initial_at}
+use Rattle.co_dict_build.specs.Capacities.{Limits, capacity_at}
+use Rattle.co_dict_build.specs.InitialBytes.{initial_number, initial_at}
 
 -- a type with a width begins with the bytes of its number
 pub initial_at-numeric : (node : ℕ) (row : SheetRow) (t : DataType) (width : ℕ) → width_of t ≡ Some width → initial_at node row t ≡ bytes_of t (initial_number node row)

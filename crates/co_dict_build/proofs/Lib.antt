@@ -16,4 +16,3 @@ mod Ranges
 mod Readiness
 mod RowExamples
 pub mod Search
-mod Views

@@ -6,7 +6,7 @@ use Rattle.co_value.specs.declared.data_type.DataType.TheVariants.{Unsigned16, V
 use Rattle.co_profile.specs.declared.access.Access.TheVariants.{Rw}
 use Rattle.co_dict.specs.declared.row.Row.{Row}
 use Rattle.co_dict.specs.declared.area.Area.TheVariants.{Communication}
-use Rattle.co_dict_list.specs.ListedEntries.{ListedEntry, initial_entry, rows_in, contents_in, initial_in, keys_in, are_increasing, reset_entry, description_in}
+use Rattle.co_dict_build.specs.ListedEntries.{ListedEntry, initial_entry, rows_in, contents_in, initial_in, keys_in, are_increasing, reset_entry, description_in}
 
 abbrev at : ℕ → ℕ → Key
 at index sub = record { index = index; sub = sub }

@@ -12,10 +12,10 @@ use Rattle.co_value.specs.Keys.{same_key, is_key_before}
 use Rattle.co_dict.specs.Rows.{fits, takes, written}
 use Rattle.co_dict.specs.Stores.{IsKey}
 use Rattle.co_dict.specs.Places.{place_of, takes_at, written_at}
-use Rattle.co_dict_list.specs.ListedEntries.{ListedEntry, IsEntry, entry_at, rows_in, contents_in, keys_in, are_increasing, description_in}
-use Rattle.co_dict_list.proofs.Places.{part_at-place, place_within, fits_at-place, position-map, place_of as list_place}
-use Rattle.co_dict_list.proofs.Search.{position_is, before_later, other_compares, same_itself, before_compares}
-use Rattle.co_dict_list.proofs.Changes.{with_bytes, contents_in-with_bytes}
+use Rattle.co_dict_build.specs.ListedEntries.{ListedEntry, IsEntry, entry_at, rows_in, contents_in, keys_in, are_increasing, description_in}
+use Rattle.co_dict_build.proofs.Places.{part_at-place, place_within, fits_at-place, position-map, place_of as list_place}
+use Rattle.co_dict_build.proofs.Search.{position_is, before_later, other_compares, same_itself, before_compares}
+use Rattle.co_dict_build.proofs.Changes.{with_bytes, contents_in-with_bytes}
 
 -- the place of a key in the list is that in the list of the keys
 pub places_same : (node : ℕ) (dummies : List Bool) (entries : List ListedEntry) (key : Key) → list_place entries key ≡ place_of (description_in node dummies entries) key

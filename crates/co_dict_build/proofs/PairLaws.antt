@@ -9,11 +9,11 @@ use Rattle.co_value.specs.Keys.{same_key}
 use Rattle.co_profile.specs.Indices.{pdo_cob_id}
 use Rattle.co_dict.specs.Rows.{Rows}
 use Rattle.co_dict.specs.Objects.{has_sub, has_object}
-use Rattle.co_dict_list.specs.declared.build_fault.BuildFault.{BuildFault}
-use Rattle.co_dict_list.specs.declared.build_fault.BuildFault.TheVariants.{NodeId, ValueRange, BadCobId, PdoPair, BadMapping}
-use Rattle.co_dict_list.specs.LawfulLists.{equal_keys, list_has}
-use Rattle.co_dict_list.specs.Built.{Plan, built, built_description, built_contents}
-use Rattle.co_dict_list.specs.BuildFaults.{is_node, fault_if, value_out_of_range, bad_cob_id, bad_mapping, room_fault, dictionary_fault, build_fault, first_there, is_communication, is_lone_communication, is_lone_mapping, is_unpaired, unpaired}
+use Rattle.co_dict_build.specs.declared.build_fault.BuildFault.{BuildFault}
+use Rattle.co_dict_build.specs.declared.build_fault.BuildFault.TheVariants.{NodeId, ValueRange, BadCobId, PdoPair, BadMapping}
+use Rattle.co_dict_build.specs.LawfulLists.{equal_keys, list_has}
+use Rattle.co_dict_build.specs.Built.{Plan, built, built_description, built_contents}
+use Rattle.co_dict_build.specs.BuildFaults.{is_node, fault_if, value_out_of_range, bad_cob_id, bad_mapping, room_fault, dictionary_fault, build_fault, first_there, is_communication, is_lone_communication, is_lone_mapping, is_unpaired, unpaired}
 
 -- ---- no fault, no index without its partner
 

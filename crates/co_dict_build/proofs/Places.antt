@@ -11,7 +11,7 @@ use Rattle.std.proofs.lemmas.List.{length-map}
 use Rattle.co_value.specs.declared.key.Key.{Key}
 use Rattle.co_value.specs.Keys.{same_key}
 use Rattle.co_dict.specs.Rows.{fits, takes}
-use Rattle.co_dict_list.specs.ListedEntries.{ListedEntry, entry_at, rows_in}
+use Rattle.co_dict_build.specs.ListedEntries.{ListedEntry, entry_at, rows_in}
 
 -- ---- the first element that passes
 

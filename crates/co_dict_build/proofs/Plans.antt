@@ -12,12 +12,12 @@ use Rattle.co_sheet.specs.SheetLaws.{IsSheetRow}
 use Rattle.co_sheet.specs.Content.{Row as SheetRow}
 use Rattle.co_dict.specs.Rows.{Contents}
 use Rattle.co_dict.specs.Stores.{Description}
-use Rattle.co_dict_list.specs.ListedEntries.{ListedEntry, entry_at, contents_in, initial_in, keys_in, are_increasing}
-use Rattle.co_dict_list.specs.Capacities.{Limits}
-use Rattle.co_dict_list.specs.Built.{Plan, entry_of, built_description, built_contents}
-use Rattle.co_dict_list.specs.BuildFaults.{is_sum_outside, value_out_of_range}
-use Rattle.co_dict_list.specs.SheetRows.{IsReady}
-use Rattle.co_dict_list.proofs.Readiness.{ready}
+use Rattle.co_dict_build.specs.ListedEntries.{ListedEntry, entry_at, contents_in, initial_in, keys_in, are_increasing}
+use Rattle.co_dict_build.specs.Capacities.{Limits}
+use Rattle.co_dict_build.specs.Built.{Plan, entry_of, built_description, built_contents}
+use Rattle.co_dict_build.specs.BuildFaults.{is_sum_outside, value_out_of_range}
+use Rattle.co_dict_build.specs.SheetRows.{IsReady}
+use Rattle.co_dict_build.proofs.Readiness.{ready}
 
 -- ---- no sum is out of range
 

@@ -8,7 +8,7 @@ use Rattle.co_value.specs.declared.data_type.DataType.{DataType}
 use Rattle.co_value.specs.declared.data_type.DataType.TheVariants.{Boolean, VisibleString, OctetString, Domain}
 use Rattle.co_value.specs.Types.{least_of, greatest_of, InRange}
 use Rattle.co_sheet.specs.Limits.{is_numeric, at_most, is_in_type}
-use Rattle.co_dict_list.specs.InitialBytes.{nearest_to_zero}
+use Rattle.co_dict_build.specs.InitialBytes.{nearest_to_zero}
 
 -- the ends of a type
 pub record HasEnds (t : DataType) (least greatest : ℤ) : Type 0 where

@@ -14,12 +14,12 @@ use Rattle.co_sheet.specs.Content.{Row as SheetRow}
 use Rattle.co_sheet.specs.SheetLaws.{IsSheetRow}
 use Rattle.co_sheet.specs.SheetLaws.{low_of, high_of}
 use Rattle.co_dict.specs.SdoChannels.{request_key, answer_key}
-use Rattle.co_dict_list.specs.InitialBytes.{number_with, initial_number, nearest_to_zero}
-use Rattle.co_dict_list.specs.BuildFaults.{is_sum_outside}
-use Rattle.co_dict_list.specs.SheetRows.{HasShortDefault, IsReady}
-use Rattle.co_dict_list.specs.Capacities.{default_bytes}
-use Rattle.co_dict_list.proofs.Pairs.{length-decoded}
-use Rattle.co_dict_list.proofs.Ranges.{ends_of, limits_within, nearest_within, allowed_in_range}
+use Rattle.co_dict_build.specs.InitialBytes.{number_with, initial_number, nearest_to_zero}
+use Rattle.co_dict_build.specs.BuildFaults.{is_sum_outside}
+use Rattle.co_dict_build.specs.SheetRows.{HasShortDefault, IsReady}
+use Rattle.co_dict_build.specs.Capacities.{default_bytes}
+use Rattle.co_dict_build.proofs.Pairs.{length-decoded}
+use Rattle.co_dict_build.proofs.Ranges.{ends_of, limits_within, nearest_within, allowed_in_range}
 
 -- the number that a default says
 nearest_ready : (row : SheetRow) → IsSheetRow row → is_numeric row.data_type ≡ true → InRange row.data_type (nearest_to_zero (low_of row) (high_of row))

@@ -16,12 +16,12 @@ use Rattle.co_dict.specs.Refusals.{refused_if, first_refusal}
 use Rattle.co_dict.specs.Objects.{has_sub, has_object, subs_present}
 use Rattle.co_dict.specs.MappingWords.{mapped_key, mapped_bits, usable_dummy, may_be_mapped, word_width}
 use Rattle.co_dict.specs.MappingCounts.{is_mapping_index, counted_words, count_refusal}
-use Rattle.co_dict_list.specs.declared.build_fault.BuildFault.{BuildFault}
-use Rattle.co_dict_list.specs.declared.build_fault.BuildFault.TheVariants.{BadCobId, PdoPair, BadMapping}
-use Rattle.co_dict_list.specs.ListedEntries.{ListedEntry, entry_at, rows_in, contents_in, initial_in, keys_in, description_in}
-use Rattle.co_dict_list.specs.Capacities.{Limits}
-use Rattle.co_dict_list.specs.Built.{entry_of, plan_with, built_description, built_contents}
-use Rattle.co_dict_list.specs.BuildFaults.{is_communication, is_mapping, is_unpaired, unpaired, is_bad_count, is_bad_mapping, bad_mapping, bad_cob_id, first_there, parameter_fault}
+use Rattle.co_dict_build.specs.declared.build_fault.BuildFault.{BuildFault}
+use Rattle.co_dict_build.specs.declared.build_fault.BuildFault.TheVariants.{BadCobId, PdoPair, BadMapping}
+use Rattle.co_dict_build.specs.ListedEntries.{ListedEntry, entry_at, rows_in, contents_in, initial_in, keys_in, description_in}
+use Rattle.co_dict_build.specs.Capacities.{Limits}
+use Rattle.co_dict_build.specs.Built.{entry_of, plan_with, built_description, built_contents}
+use Rattle.co_dict_build.specs.BuildFaults.{is_communication, is_mapping, is_unpaired, unpaired, is_bad_count, is_bad_mapping, bad_mapping, bad_cob_id, first_there, parameter_fault}
 
 -- ---- a dictionary without its capacities
 

@@ -8,9 +8,9 @@ use Rattle.co_profile.specs.declared.access.Access.{Access}
 use Rattle.co_profile.specs.declared.access.Access.TheVariants.{Ro, Wo, Rw, Rwr, Rww, Constant}
 use Rattle.co_sheet.specs.Limits.{Default, absent, number, node_id, text, pairs}
 use Rattle.co_sheet.specs.Content.{Row as SheetRow}
-use Rattle.co_dict_list.specs.Capacities.{Limits, capacity_of}
+use Rattle.co_dict_build.specs.Capacities.{Limits, capacity_of}
 use Rattle.co_sheet.specs.SheetLaws.{low_of, high_of}
-use Rattle.co_dict_list.specs.InitialBytes.{initial_of}
+use Rattle.co_dict_build.specs.InitialBytes.{initial_of}
 
 abbrev key : ℕ → ℕ → Key
 key index sub = record { index = index; sub = sub }

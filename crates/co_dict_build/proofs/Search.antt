@@ -15,8 +15,8 @@ use Rattle.std.proofs.lemmas.List.Sums.{position_or_len_is}
 use Rattle.std.proofs.lemmas.List.Sorted.{searchable_from_sorted}
 use Rattle.co_value.specs.declared.key.Key.{Key}
 use Rattle.co_value.specs.Keys.{same_key, is_key_before}
-use Rattle.co_dict_list.specs.ListedEntries.{are_increasing}
-use Rattle.co_dict_list.specs.LawfulLists.{equal_keys}
+use Rattle.co_dict_build.specs.ListedEntries.{are_increasing}
+use Rattle.co_dict_build.specs.LawfulLists.{equal_keys}
 
 -- the order of keys that `Key` derives
 abbrev pub key_cmp : Key → Key → Ordering

@@ -4,23 +4,24 @@ use Rattle.std.specs.Prelude.{◌≡◌, ◌⊎◌, true, ℕ, ◌+◌, ◌-◌,
 use Rattle.std.specs.Option.{option_or}
 use Rattle.std.specs.List.{list_any, range_with_len}
 use Rattle.co_value.specs.declared.key.Key.{Key}
-use Rattle.co_value.specs.Keys.{is_key_before}
-use Rattle.co_profile.specs.Indices.{is_within, sdo_server, rpdo_communication, tpdo_communication, sync_cob_id, emergency_cob_id}
+use Rattle.co_value.specs.Keys.{same_key, is_key_before}
+use Rattle.co_profile.specs.Indices.{is_within, sdo_server, rpdo_communication, tpdo_communication, pdo_cob_id}
+use Rattle.co_profile.specs.Keys.{sync_key, emergency_key}
 use Rattle.co_sheet.specs.Limits.{Default, node_id, at_most, is_in_type}
 use Rattle.co_sheet.specs.Content.{Row as SheetRow}
 use Rattle.co_dict.specs.declared.side.Side.{Side}
 use Rattle.co_dict.specs.declared.side.Side.TheVariants.{Rpdo, Tpdo}
-use Rattle.co_dict_list.specs.declared.build_fault.BuildFault.{BuildFault}
-use Rattle.co_dict_list.specs.declared.build_fault.BuildFault.TheVariants.{NodeId, ValueRange, BadCobId, PdoPair, BadMapping, TooMany, Memory}
+use Rattle.co_dict_build.specs.declared.build_fault.BuildFault.{BuildFault}
+use Rattle.co_dict_build.specs.declared.build_fault.BuildFault.TheVariants.{NodeId, ValueRange, BadCobId, PdoPair, BadMapping, TooMany, Memory}
 use Rattle.co_dict.specs.Rows.{Rows, Contents, number_at}
 use Rattle.co_dict.specs.Stores.{Description}
-use Rattle.co_dict_list.specs.Capacities.{Limits, capacity_of}
+use Rattle.co_dict_build.specs.Capacities.{Limits, capacity_of}
 use Rattle.co_dict.specs.CobIds.{identifier_of, has_11_bits, is_from_to, is_restricted}
 use Rattle.co_dict.specs.SdoChannels.{request_key, answer_key, is_channel, request_id, answer_id}
 use Rattle.co_dict.specs.FreeIds.{is_good_word, is_good_sync_word}
 use Rattle.co_dict.specs.Objects.{has_sub, has_object}
 use Rattle.co_dict.specs.MappingCounts.{is_mapping_index, count_refusal}
-use Rattle.co_dict_list.specs.Built.{Plan, built_description, built_contents}
+use Rattle.co_dict_build.specs.Built.{Plan, built_description, built_contents}
 
 -- ---- 1, NodeId
 
@@ -55,11 +56,11 @@ is_mapping index = is_mapping_index Rpdo index || is_mapping_index Tpdo index
 
 -- the key of the SYNC word
 abbrev pub is_sync_key : Key → Bool
-is_sync_key key = (key.index == sync_cob_id) && (key.sub == 0)
+is_sync_key key = same_key key sync_key
 
 -- the key of the emergency's word, or of a PDO's
 abbrev pub is_word_key : Key → Bool
-is_word_key key = ((key.index == emergency_cob_id) && (key.sub == 0)) || (is_communication key.index && (key.sub == 1))
+is_word_key key = same_key key emergency_key || (is_communication key.index && (key.sub == pdo_cob_id))
 
 -- the key of a word of an SDO channel
 abbrev pub is_channel_key : Key → Bool

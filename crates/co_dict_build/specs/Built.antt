@@ -3,13 +3,13 @@ use Rattle.std.specs.Prelude.{ℕ, Bool, List, [], ◌∷◌, map}
 use Rattle.co_sheet.specs.Content.{Row as SheetRow, SheetContent, is_dummy}
 use Rattle.co_dict.specs.Rows.{Contents}
 use Rattle.co_dict.specs.Stores.{Description}
-use Rattle.co_dict_list.specs.ListedEntries.{ListedEntry, initial_entry, contents_in, description_in}
+use Rattle.co_dict_build.specs.ListedEntries.{ListedEntry, initial_entry, contents_in, description_in}
 use Rattle.co_sheet_rows.specs.declared.entry.EntryRow.{EntryRow}
 use Rattle.co_sheet.specs.SheetViews.{row_view}
-use Rattle.co_dict_list.specs.declared.limits.Limits.{Limits as CodeLimits}
-use Rattle.co_dict_list.specs.Capacities.{Limits, limits_view}
-use Rattle.co_dict_list.specs.EntryLimits.{row_in}
-use Rattle.co_dict_list.specs.InitialBytes.{initial_of}
+use Rattle.co_dict_build.specs.declared.limits.Limits.{Limits as CodeLimits}
+use Rattle.co_dict_build.specs.Capacities.{Limits, limits_view}
+use Rattle.co_dict_build.specs.EntryLimits.{row_in}
+use Rattle.co_dict_build.specs.InitialBytes.{initial_of}
 
 -- what a data sheet, a node-ID and limits say: the rows, and which of the dummy entries 0002h to 0007h may be mapped
 pub record Plan : Type 0 where

@@ -10,7 +10,7 @@ use Rattle.co_profile.specs.declared.access.Access.{Access}
 use Rattle.co_profile.specs.declared.access.Access.TheVariants.{Ro, Constant}
 use Rattle.co_sheet.specs.Limits.{Default, text, pairs}
 use Rattle.co_sheet.specs.Content.{Row as SheetRow}
-use Rattle.co_dict_list.specs.declared.limits.Limits.{Limits as CodeLimits}
+use Rattle.co_dict_build.specs.declared.limits.Limits.{Limits as CodeLimits}
 
 -- the configured room of strings, of domains and of single entries, without where the list lies in memory
 pub record Limits : Type 0 where

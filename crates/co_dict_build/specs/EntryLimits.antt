@@ -2,7 +2,7 @@
 use Rattle.co_sheet.specs.Content.{Row as SheetRow}
 use Rattle.co_sheet.specs.SheetLaws.{low_of, high_of}
 use Rattle.co_dict.specs.declared.row.Row.{Row}
-use Rattle.co_dict_list.specs.Capacities.{Limits, capacity_of}
+use Rattle.co_dict_build.specs.Capacities.{Limits, capacity_of}
 
 -- what the dictionary knows of an entry of the sheet; where the sheet states no limit it is the end of the type
 abbrev pub row_in : Limits → SheetRow → Row

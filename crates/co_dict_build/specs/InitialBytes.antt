@@ -7,7 +7,7 @@ use Rattle.co_value.specs.declared.data_type.DataType.TheVariants.{VisibleString
 use Rattle.co_value.specs.Numbers.{bytes_of}
 use Rattle.co_sheet.specs.Limits.{Default, number, node_id}
 use Rattle.co_sheet.specs.Content.{Row as SheetRow}
-use Rattle.co_dict_list.specs.Capacities.{default_bytes}
+use Rattle.co_dict_build.specs.Capacities.{default_bytes}
 use Rattle.co_sheet.specs.SheetLaws.{low_of, high_of}
 use Rattle.co_dict.specs.SdoChannels.{request_key, answer_key}
 

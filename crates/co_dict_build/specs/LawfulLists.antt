@@ -12,7 +12,7 @@ use Rattle.co_value.specs.Numbers.{AreBytes}
 use Rattle.co_dict.specs.declared.row.Row.{Row}
 use Rattle.co_dict.specs.Rows.{fits}
 use Rattle.co_dict.specs.Stores.{IsFilled, IsDescription, IsDictionary, IsKey, HasLimits}
-use Rattle.co_dict_list.specs.ListedEntries.{ListedEntry, IsEntry, entry_at, rows_in, contents_in, keys_in, description_in, HasWidth, HasFixedType}
+use Rattle.co_dict_build.specs.ListedEntries.{ListedEntry, IsEntry, entry_at, rows_in, contents_in, keys_in, description_in, HasWidth, HasFixedType}
 
 -- keys that are the same are equal
 pub equal_keys : (a b : Key) → same_key a b ≡ true → a ≡ b

@@ -4,8 +4,8 @@ use Rattle.co_value.specs.Types.{InRange}
 use Rattle.co_sheet.specs.Limits.{is_numeric}
 use Rattle.co_sheet.specs.Content.{Row as SheetRow}
 use Rattle.co_sheet.specs.SheetLaws.{IsSheetRow}
-use Rattle.co_dict_list.specs.Capacities.{default_bytes}
-use Rattle.co_dict_list.specs.InitialBytes.{initial_number}
+use Rattle.co_dict_build.specs.Capacities.{default_bytes}
+use Rattle.co_dict_build.specs.InitialBytes.{initial_number}
 
 -- a string's default is at most as long as an entry can be
 abbrev pub HasShortDefault : SheetRow → Type 0

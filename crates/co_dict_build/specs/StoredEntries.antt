@@ -4,9 +4,9 @@ use Rattle.std.specs.Prelude.{take, map}
 use Rattle.std.specs.List.{AllByRecursion}
 use Rattle.std.specs.Box.{boxed_slice_items}
 use Rattle.std.proofs.lemmas.List.{length-take-le}
-use Rattle.co_dict_list.specs.declared.stored_entry.StoredEntry.{StoredEntry}
+use Rattle.co_dict_build.specs.declared.stored_entry.StoredEntry.{StoredEntry}
 use Rattle.co_dict.specs.Rows.{fits}
-use Rattle.co_dict_list.specs.ListedEntries.{ListedEntry, IsEntry}
+use Rattle.co_dict_build.specs.ListedEntries.{ListedEntry, IsEntry}
 
 -- an entry in memory: its bytes are the first of its buffer
 abbrev pub entry_view : StoredEntry → ListedEntry

@@ -1,16 +1,16 @@
-//! From a data sheet, a node-ID and limits to a dictionary, or to the first fault.
+//! From a data sheet, a node-ID and limits to a store of any kind, or to the first fault.
 
 ghost use Rattle.std.specs.Prelude.{◌≡◌, ℕ, option_map, ◌≤◌, map, All, AllPairs, true, Err, IfOk, IfErr, None};
 ghost use Rattle.co_sheet.specs.SheetViews.{row_view};
 ghost use Rattle.co_value.specs.declared.key.Key.{Key};
 ghost use Rattle.co_value.specs.Keys.{is_key_before};
 ghost use Rattle.co_sheet.specs.SheetLaws.{IsSheetRow};
-ghost use Rattle.co_dict_list.specs.SheetRows.{IsReady};
-ghost use Rattle.co_dict_list.specs.Capacities.{limits_view};
-ghost use Rattle.co_dict_list.specs.Built.{Plan, dummies_of, plan_of, plan_in, built_description, built_contents};
-ghost use Rattle.co_dict.specs.Objects.{has_object, has_sub};
 ghost use Rattle.co_profile.specs.Indices.{pdo_cob_id};
-ghost use Rattle.co_dict_list.specs.BuildFaults.{is_communication, bad_cob_id, unpaired, bad_mapping, parameter_fault, build_fault, IsBuildFault};
+ghost use Rattle.co_dict.specs.Objects.{has_object, has_sub};
+ghost use Rattle.co_dict_build.specs.SheetRows.{IsReady};
+ghost use Rattle.co_dict_build.specs.Capacities.{limits_view};
+ghost use Rattle.co_dict_build.specs.Built.{Plan, dummies_of, plan_of, plan_in, built_description, built_contents};
+ghost use Rattle.co_dict_build.specs.BuildFaults.{is_communication, bad_cob_id, unpaired, bad_mapping, parameter_fault, build_fault, IsBuildFault};
 
 mod cob_ids;
 mod entries;
@@ -21,12 +21,10 @@ mod value_range;
 
 use crate::build_fault::BuildFault;
 use crate::limits::Limits;
-use crate::list_store::ListStore;
 use co_dict::ObjectStore;
 use co_sheet::{EntryRow, Sheet};
 use cob_ids::bad_cob_id;
-use entries::entries;
-pub use entries::entry_of_row;
+pub use entries::{entries_of_rows, entry_of_row};
 use mappings::bad_mapping;
 use pdo_pairs::unpaired;
 use room::is_too_many;
@@ -36,7 +34,8 @@ use value_range::value_out_of_range;
 fn word_fault<S: ObjectStore>(store: &S, rows: &[EntryRow<'_>]) -> Option<BuildFault>
     requires { (S.description store.now).keys ≡ map (λ row. row.key) rows.now }
     ensures { result
-        ≡ option_map BuildFault.BadCobId (bad_cob_id (S.description store.now) (S.contents store.now)) }
+        ≡ option_map BuildFault.BadCobId
+        (bad_cob_id (S.description store.now) (S.contents store.now)) }
 {
     bad_cob_id(store, rows).map(BuildFault::BadCobId)
 }
@@ -51,7 +50,8 @@ fn pair_fault<S: ObjectStore>(store: &S, rows: &[EntryRow<'_>]) -> Option<BuildF
 fn mapping_fault<S: ObjectStore>(store: &S, rows: &[EntryRow<'_>]) -> Option<BuildFault>
     requires { (S.description store.now).keys ≡ map (λ row. row.key) rows.now }
     ensures { result
-        ≡ option_map BuildFault.BadMapping (bad_mapping (S.description store.now) (S.contents store.now)) }
+        ≡ option_map BuildFault.BadMapping
+        (bad_mapping (S.description store.now) (S.contents store.now)) }
 {
     bad_mapping(store, rows).map(BuildFault::BadMapping)
 }
@@ -64,27 +64,6 @@ fn parameter_fault<S: ObjectStore>(store: &S, rows: &[EntryRow<'_>]) -> Option<B
     word_fault(store, rows)
         .or(pair_fault(store, rows))
         .or(mapping_fault(store, rows))
-}
-
-// the dictionary of rows of a sheet
-fn store_of(
-    alloc: Global,
-    node_id: u8,
-    limits: &Limits<'_>,
-    rows: &[EntryRow<'_>],
-    dummies: [bool; 6],
-) -> Result<ListStore, AllocError>
-    requires first_node { 1 ≤ node_id }
-    requires last_node { node_id ≤ 127 }
-    requires ready { All (λ row. IsReady node_id (row_view row)) rows.now }
-    requires increase { AllPairs (λ e f. is_key_before e.key f.key ≡ true) rows.now }
-    ensures description { IfOk result (λ store. ⟦<ListStore as ObjectStore>⟧.description store
-        ≡ built_description (plan_in node_id limits.now rows.now dummies)) }
-    ensures contents { IfOk result (λ store. ⟦<ListStore as ObjectStore>⟧.contents store
-        ≡ built_contents (plan_in node_id limits.now rows.now dummies)) }
-{
-    let entries = entries(alloc, node_id, limits, rows)?;
-    Ok(ListStore::new(node_id, dummies, entries))
 }
 
 /// A store that can be made of the rows of a data sheet: `build_store` makes any of them.
@@ -109,21 +88,9 @@ pub trait FromRows: ObjectStore {
             ≡ built_contents (plan_in node_id limits.now rows.now dummies)) };
 }
 
-impl FromRows for ListStore {
-    fn from_rows(
-        alloc: Global,
-        node_id: u8,
-        limits: &Limits<'_>,
-        rows: &[EntryRow<'_>],
-        dummies: [bool; 6],
-    ) -> Result<ListStore, AllocError> {
-        store_of(alloc, node_id, limits, rows, dummies)
-    }
-}
-
 // The first fault of the parameters, whatever the limits are: found in a dictionary whose strings and domains have no
 // room besides that of their defaults, since none of these faults looks at the room.
-fn parameter_fault_of(
+fn parameter_fault_of<S: FromRows + Drop>(
     alloc: Global,
     node_id: u8,
     rows: &[EntryRow<'_>],
@@ -142,7 +109,7 @@ fn parameter_fault_of(
         domains: 0,
         own: &[],
     };
-    let store = store_of(alloc, node_id, &no_room, rows, dummies)?;
+    let store = S::from_rows(alloc, node_id, &no_room, rows, dummies)?;
     Ok(parameter_fault(&store, rows))
 }
 
@@ -157,7 +124,8 @@ fn build_rows<S: FromRows + Drop>(
 ) -> Result<S, BuildFault>
     requires sheet { All (λ row. IsSheetRow (row_view row)) rows.now }
     requires increase { AllPairs (λ e f. is_key_before e.key f.key ≡ true) rows.now }
-    ensures ok { IfOk result (λ _. build_fault (plan_in node_id limits.now rows.now dummies) ≡ None) }
+    ensures ok { IfOk result (λ _.
+        build_fault (plan_in node_id limits.now rows.now dummies) ≡ None) }
     ensures description { IfOk result (λ store. S.description store
         ≡ built_description (plan_in node_id limits.now rows.now dummies)) }
     ensures contents { IfOk result (λ store. S.contents store
@@ -173,7 +141,7 @@ fn build_rows<S: FromRows + Drop>(
         return Err(BuildFault::ValueRange(key));
     }
     if is_too_many(limits, rows) {
-        return match parameter_fault_of(alloc, node_id, rows, dummies) {
+        return match parameter_fault_of::<S>(alloc, node_id, rows, dummies) {
             Ok(fault) => Err(fault.unwrap_or(BuildFault::TooMany)),
             Err(_) => Err(BuildFault::Memory),
         };
@@ -213,7 +181,8 @@ pub fn build_store<S: FromRows + Drop>(
     node_id: u8,
     limits: &Limits<'_>,
 ) -> Result<S, BuildFault>
-    ensures ok { IfOk result (λ _. build_fault (plan_of node_id (limits_view limits.now) sheet.now) ≡ None) }
+    ensures ok { IfOk result (λ _.
+        build_fault (plan_of node_id (limits_view limits.now) sheet.now) ≡ None) }
     ensures description { IfOk result (λ store. S.description store
         ≡ built_description (plan_of node_id (limits_view limits.now) sheet.now)) }
     ensures contents { IfOk result (λ store. S.contents store
@@ -231,36 +200,11 @@ pub fn build_store<S: FromRows + Drop>(
     )
 }
 
-impl ListStore {
-    /// The dictionary that a data sheet makes for a node-ID and limits, with its initial bytes (CiA 301, 7.4; CiA 306):
-    /// each row of the sheet becomes an entry, `$NODEID` the node-ID.
-    ///
-    /// Of the faults that apply the one with the smallest number is answered, and of those with one number the one
-    /// with the smallest key. `Memory` may come in place of those from `BadCobId` on: nothing asks for memory before
-    /// the node-ID and the sums with `$NODEID` were looked at.
-    pub fn build(
-        alloc: Global,
-        sheet: &Sheet<'_>,
-        node_id: u8,
-        limits: &Limits<'_>,
-    ) -> Result<ListStore, BuildFault>
-        ensures ok { IfOk result (λ _. build_fault (plan_of node_id (limits_view limits.now) sheet.now) ≡ None) }
-        ensures description { IfOk result (λ store. ⟦<ListStore as ObjectStore>⟧.description store
-            ≡ built_description (plan_of node_id (limits_view limits.now) sheet.now)) }
-        ensures contents { IfOk result (λ store. ⟦<ListStore as ObjectStore>⟧.contents store
-            ≡ built_contents (plan_of node_id (limits_view limits.now) sheet.now)) }
-        ensures initial { IfOk result (λ store. (key : Key) → ⟦<ListStore as ObjectStore>⟧.contents store key
-            ≡ (⟦<ListStore as ObjectStore>⟧.description store).initial key) }
-        ensures err { IfErr result (IsBuildFault (plan_of node_id (limits_view limits.now) sheet.now)) }
-    {
-        build_store(alloc, sheet, node_id, limits)
-    }
-
-    /// In a dictionary that was built each PDO communication parameter has its COB-ID, sub-index 1. This is a law: a call
-    /// of it changes nothing.
-    pub fn communication_law()
-        ensures { (plan : Plan) → build_fault plan ≡ None → (index : ℕ) → is_communication index ≡ true
-            → has_object (built_description plan).rows index ≡ true
-            → has_sub (built_description plan).rows index pdo_cob_id ≡ true }
-    {}
-}
+/// In a dictionary that was built each PDO communication parameter has its COB-ID, sub-index 1. This is a law: a call of
+/// it changes nothing.
+pub fn communication_law()
+    ensures { (plan : Plan) → build_fault plan ≡ None →
+        (index : ℕ) → is_communication index ≡ true
+        → has_object (built_description plan).rows index ≡ true
+        → has_sub (built_description plan).rows index pdo_cob_id ≡ true }
+{}

@@ -1,7 +1,7 @@
 //! Why a data sheet makes no dictionary.
 
 ghost use Rattle.std.specs.Prelude.{◌≡◌, ◌≤◌, Some, length};
-ghost use Rattle.co_dict_list.specs.BuildFaultTexts.{fault_number, fault_name, fault_text};
+ghost use Rattle.co_dict_build.specs.BuildFaultTexts.{fault_number, fault_name, fault_text};
 
 use arrayvec::ArrayString;
 use co_text::word_digits;

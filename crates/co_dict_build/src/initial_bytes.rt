@@ -7,11 +7,11 @@ ghost use Rattle.co_sheet.specs.Names.{is_hexadecimal_digit};
 ghost use Rattle.co_sheet.specs.Views.{default_view};
 ghost use Rattle.co_sheet.specs.Limits.{pairs};
 ghost use Rattle.co_sheet.specs.SheetViews.{row_view};
-ghost use Rattle.co_dict_list.specs.Capacities.{decoded, default_bytes};
+ghost use Rattle.co_dict_build.specs.Capacities.{decoded, default_bytes};
 ghost use Rattle.co_value.specs.Types.{width_of};
 ghost use Rattle.co_sheet.specs.SheetLaws.{limit_or};
-ghost use Rattle.co_dict_list.specs.InitialBytes.{nearest_to_zero, initial_number, initial_of};
-ghost use Rattle.co_dict_list.specs.SheetRows.{IsReady};
+ghost use Rattle.co_dict_build.specs.InitialBytes.{nearest_to_zero, initial_number, initial_of};
+ghost use Rattle.co_dict_build.specs.SheetRows.{IsReady};
 
 use crate::capacity::limit_or;
 use co_profile::IndexRange;

@@ -6,7 +6,7 @@ ghost use Rattle.std.proofs.Props.{props};
 ghost use Rattle.co_value.specs.Numbers.{AreBytes};
 ghost use Rattle.co_dict.specs.Rows.{fits};
 ghost use Rattle.co_dict.specs.Stores.{IsKey, HasLimits};
-ghost use Rattle.co_dict_list.specs.ListedEntries.{HasWidth, HasFixedType, initial_entry, reset_entry};
+ghost use Rattle.co_dict_build.specs.ListedEntries.{HasWidth, HasFixedType, initial_entry, reset_entry};
 
 use co_dict::{Area, Row};
 use co_value::Key;
@@ -17,8 +17,8 @@ use std::boxed::BoxedSlice;
 /// grows.
 #[derive(Drop)]
 pub struct StoredEntry {
-    pub(crate) key: Key,
-    pub(crate) row: Row,
+    pub key: Key,
+    pub row: Row,
     /// As many bytes as the entry has room for; the first `size` are its bytes.
     buffer: BoxedSlice<u8>,
     size: u16,
@@ -46,7 +46,7 @@ fn copy_to_front(buffer: &mut [u8], bytes: &[u8])
 }
 
 impl StoredEntry {
-    ghost use Rattle.co_dict_list.specs.StoredEntries.{entry_view};
+    ghost use Rattle.co_dict_build.specs.StoredEntries.{entry_view};
 
     /// An entry that has its initial bytes, with room for `row.capacity` bytes.
     pub(crate) fn new(alloc: Global, key: Key, row: Row, initial: &[u8]) -> Result<Self, AllocError>
@@ -90,7 +90,8 @@ impl StoredEntry {
     /// All its room, as many bytes as its capacity, of which the first are its bytes.
     pub fn room(&self) -> &[u8]
         ensures len { length result.now ≡ (entry_view self.now).row.capacity }
-        ensures front { take (length (entry_view self.now).bytes) result.now ≡ (entry_view self.now).bytes }
+        ensures front { take (length (entry_view self.now).bytes) result.now
+            ≡ (entry_view self.now).bytes }
     {
         &self.buffer
     }
@@ -103,7 +104,7 @@ impl StoredEntry {
     }
 
     /// Takes these bytes in place of those that it has: one copy, into memory that it has.
-    pub(crate) fn fill(&mut self, bytes: &[u8])
+    pub fn fill(&mut self, bytes: &[u8])
         requires { fits self.old.row (length bytes.now) ≡ true }
         ensures { entry_view self.new ≡ record (entry_view self.old) { bytes = bytes.now } }
     {
@@ -112,7 +113,7 @@ impl StoredEntry {
     }
 
     /// Takes its initial bytes again, if a reset of the area restores it: one copy, into memory that it has.
-    pub(crate) fn reset(&mut self, area: Area)
+    pub fn reset(&mut self, area: Area)
         ensures { entry_view self.new ≡ reset_entry area (entry_view self.old) }
     {
         if area.contains(self.key) {

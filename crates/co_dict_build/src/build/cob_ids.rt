@@ -1,26 +1,26 @@
 //! The COB-ID words that a dictionary begins with (CiA 301, 7.5.2).
 
 ghost use Rattle.std.specs.Prelude.{◌≡◌, ◌≤◌, false, map};
-ghost use Rattle.co_dict_list.specs.BuildFaults.{is_sync_key, is_word_key, is_channel_key, is_used_by_channel, is_used_before, is_bad_channel_word, is_bad_sync_word, is_bad_word, is_bad_cob_id, smallest_key};
+ghost use Rattle.co_dict_build.specs.BuildFaults.{is_sync_key, is_word_key, is_channel_key, is_used_by_channel, is_used_before, is_bad_channel_word, is_bad_sync_word, is_bad_word, is_bad_cob_id, smallest_key};
 
 use super::pdo_pairs::is_communication;
 use co_dict::{
     CobId, ObjectStore, is_good_sync_word, is_good_word, is_restricted, number_u32, sdo_channel,
 };
-use co_profile::{EMERGENCY_COB_ID, IndexRange, SYNC_COB_ID};
+use co_profile::{IndexRange, PDO_COB_ID, keys};
 use co_sheet::EntryRow;
 use co_value::Key;
 
 fn is_sync_key(key: Key) -> bool
     ensures { result ≡ is_sync_key key }
 {
-    key.index == SYNC_COB_ID && key.sub == 0
+    key == keys::SYNC_COB_ID
 }
 
 fn is_word_key(key: Key) -> bool
     ensures { result ≡ is_word_key key }
 {
-    (key.index == EMERGENCY_COB_ID && key.sub == 0) || (is_communication(key.index) && key.sub == 1)
+    key == keys::EMERGENCY_COB_ID || (is_communication(key.index) && key.sub == PDO_COB_ID)
 }
 
 fn is_channel_key(key: Key) -> bool

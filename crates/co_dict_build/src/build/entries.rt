@@ -2,10 +2,10 @@
 
 ghost use Rattle.std.specs.Prelude.{◌≡◌, map, All, IfOk};
 ghost use Rattle.co_sheet.specs.SheetViews.{row_view};
-ghost use Rattle.co_dict_list.specs.Capacities.{limits_view};
-ghost use Rattle.co_dict_list.specs.StoredEntries.{entry_view, entry_views};
-ghost use Rattle.co_dict_list.specs.Built.{entry_of};
-ghost use Rattle.co_dict_list.specs.SheetRows.{IsReady};
+ghost use Rattle.co_dict_build.specs.Capacities.{limits_view};
+ghost use Rattle.co_dict_build.specs.StoredEntries.{entry_view, entry_views};
+ghost use Rattle.co_dict_build.specs.Built.{entry_of};
+ghost use Rattle.co_dict_build.specs.SheetRows.{IsReady};
 
 use crate::initial_bytes::initial_bytes;
 use crate::limits::Limits;
@@ -28,8 +28,8 @@ pub fn entry_of_row(
     StoredEntry::new(alloc, row.key, limits.row(row), &initial)
 }
 
-/// The entries of all rows, in their order.
-pub(crate) fn entries(
+/// The entries of rows that are ready, in their order. `AllocError` where there is no memory.
+pub fn entries_of_rows(
     alloc: Global,
     node_id: u8,
     limits: &Limits<'_>,

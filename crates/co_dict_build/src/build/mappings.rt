@@ -2,7 +2,7 @@
 
 ghost use Rattle.std.specs.Prelude.{◌≡◌, map};
 ghost use Rattle.co_dict.specs.MappingCounts.{is_mapping_index};
-ghost use Rattle.co_dict_list.specs.BuildFaults.{is_bad_count, is_bad_mapping, smallest_key};
+ghost use Rattle.co_dict_build.specs.BuildFaults.{is_bad_count, is_bad_mapping, smallest_key};
 
 use co_dict::{ObjectStore, Side, check_count, number_u8};
 use co_profile::IndexRange;

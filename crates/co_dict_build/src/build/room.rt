@@ -2,8 +2,8 @@
 
 ghost use Rattle.std.specs.Prelude.{◌≡◌, ◌≤◌, map, length, sum_by, All};
 ghost use Rattle.co_sheet.specs.SheetViews.{row_view};
-ghost use Rattle.co_dict_list.specs.Capacities.{limits_view, capacity_of};
-ghost use Rattle.co_dict_list.specs.BuildFaults.{is_too_many};
+ghost use Rattle.co_dict_build.specs.Capacities.{limits_view, capacity_of};
+ghost use Rattle.co_dict_build.specs.BuildFaults.{is_too_many};
 ghost use Rattle.co_sheet.specs.SheetLaws.{IsSheetRow};
 
 use crate::limits::Limits;

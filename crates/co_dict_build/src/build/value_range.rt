@@ -3,7 +3,7 @@
 ghost use Rattle.std.specs.Prelude.{◌≡◌, map};
 ghost use Rattle.co_sheet.specs.Limits.{at_most};
 ghost use Rattle.co_sheet.specs.SheetViews.{row_view};
-ghost use Rattle.co_dict_list.specs.BuildFaults.{is_allowed, is_sum_outside, value_out_of_range};
+ghost use Rattle.co_dict_build.specs.BuildFaults.{is_allowed, is_sum_outside, value_out_of_range};
 
 use co_sheet::{EntryRow, Preset};
 use co_value::Key;

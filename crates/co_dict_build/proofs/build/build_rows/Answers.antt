@@ -2,11 +2,11 @@
 use Rattle.std.proofs.Common.{rules, ◌≡◌, None, map, ap, ◌∙◌}
 use Rattle.co_sheet.specs.SheetViews.{row_view}
 use Rattle.co_dict.specs.Stores.{Description}
-use Rattle.co_dict_list.specs.Capacities.{limits_view}
-use Rattle.co_dict_list.specs.Built.{plan_in}
-use Rattle.co_dict_list.specs.BuildFaults.{value_out_of_range}
-use Rattle.co_dict_list.proofs.Plans.{all_ready, keys_built, begins_initially}
-use Rattle.co_dict_list.proofs.build.build_rows.Goals as goal
+use Rattle.co_dict_build.specs.Capacities.{limits_view}
+use Rattle.co_dict_build.specs.Built.{plan_in}
+use Rattle.co_dict_build.specs.BuildFaults.{value_out_of_range}
+use Rattle.co_dict_build.proofs.Plans.{all_ready, keys_built, begins_initially}
+use Rattle.co_dict_build.proofs.build.build_rows.Goals as goal
 
 pub from_rows-requires-clause-ready : goal.from_rows-requires-clause-ready
 from_rows-requires-clause-ready g c =

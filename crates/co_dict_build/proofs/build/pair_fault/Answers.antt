@@ -3,9 +3,9 @@ use Rattle.std.proofs.Common.{rules, ◌≡◌, ℕ, sym, ap, ◌∙◌, map}
 use Rattle.std.proofs.lemmas.Simd.{map-map}
 use Rattle.std.specs.Prelude.{find, option_map}
 use Rattle.co_value.specs.declared.key.Key.{Key}
-use Rattle.co_dict_list.specs.declared.build_fault.BuildFault.TheVariants.{PdoPair}
-use Rattle.co_dict_list.specs.BuildFaults.{is_unpaired, unpaired}
-use Rattle.co_dict_list.proofs.build.pair_fault.Goals as goal
+use Rattle.co_dict_build.specs.declared.build_fault.BuildFault.TheVariants.{PdoPair}
+use Rattle.co_dict_build.specs.BuildFaults.{is_unpaired, unpaired}
+use Rattle.co_dict_build.proofs.build.pair_fault.Goals as goal
 
 pub returns : goal.returns
 returns g c =

@@ -1,9 +1,9 @@
 -- The first of the three faults.
 use Rattle.std.proofs.Common.{◌≡◌, Option, ap, ◌∙◌}
 use Rattle.std.specs.Option.{option_or}
-use Rattle.co_dict_list.specs.declared.build_fault.BuildFault.{BuildFault}
-use Rattle.co_dict_list.proofs.Faults.{first_of}
-use Rattle.co_dict_list.proofs.build.parameter_fault.Goals as goal
+use Rattle.co_dict_build.specs.declared.build_fault.BuildFault.{BuildFault}
+use Rattle.co_dict_build.proofs.Faults.{first_of}
+use Rattle.co_dict_build.proofs.build.parameter_fault.Goals as goal
 
 pub returns : goal.returns
 returns g c =

@@ -2,8 +2,8 @@
 use Rattle.std.proofs.Common.{◌≡◌, ◌++◌, length, true}
 use Rattle.std.specs.List.{list_all}
 use Rattle.co_sheet.specs.Names.{is_hexadecimal_digit}
-use Rattle.co_dict_list.specs.Capacities.{decoded}
-use Rattle.co_dict_list.proofs.initial_bytes.decoded.Given as goal
+use Rattle.co_dict_build.specs.Capacities.{decoded}
+use Rattle.co_dict_build.proofs.initial_bytes.decoded.Given as goal
 
 abbrev pub invariant-loop-rest : goal.invariant-loop-rest
 invariant-loop-rest l = (l.bytes.items ++ decoded l.rest ≡ decoded l.digits) × (list_all is_hexadecimal_digit l.rest ≡ true)

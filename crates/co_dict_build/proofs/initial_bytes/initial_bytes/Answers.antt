@@ -4,9 +4,9 @@ use Rattle.std.proofs.Common.{rules, ◌≡◌, List, ℕ, IfOk, sym, ap, ◌∙
 use Rattle.std.proofs.lemmas.Int.{to_z-of_z}
 use Rattle.co_value.specs.Numbers.{bytes_of}
 use Rattle.co_sheet.specs.SheetViews.{row_view}
-use Rattle.co_dict_list.specs.InitialBytes.{initial_of}
-use Rattle.co_dict_list.proofs.InitialLemmas.{initial_at-numeric}
-use Rattle.co_dict_list.proofs.initial_bytes.initial_bytes.Goals as goal
+use Rattle.co_dict_build.specs.InitialBytes.{initial_of}
+use Rattle.co_dict_build.proofs.InitialLemmas.{initial_at-numeric}
+use Rattle.co_dict_build.proofs.initial_bytes.initial_bytes.Goals as goal
 
 pub returns-in-Ok-clause-value : goal.returns-in-Ok-clause-value
 returns-in-Ok-clause-value c =

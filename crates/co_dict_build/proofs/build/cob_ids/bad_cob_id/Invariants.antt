@@ -1,8 +1,8 @@
 -- What the rest finds is what all rows find.
 use Rattle.std.proofs.Common.{◌≡◌, drop}
 use Rattle.std.specs.Prelude.{map}
-use Rattle.co_dict_list.specs.BuildFaults.{is_bad_cob_id, smallest_key}
-use Rattle.co_dict_list.proofs.build.cob_ids.bad_cob_id.Given as goal
+use Rattle.co_dict_build.specs.BuildFaults.{is_bad_cob_id, smallest_key}
+use Rattle.co_dict_build.proofs.build.cob_ids.bad_cob_id.Given as goal
 
 abbrev pub invariant-loop-row : goal.invariant-loop-row
 invariant-loop-row g l =

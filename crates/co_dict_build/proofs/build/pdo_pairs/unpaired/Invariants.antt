@@ -1,8 +1,8 @@
 -- What the rest finds is what all rows find.
 use Rattle.std.proofs.Common.{◌≡◌, drop}
 use Rattle.std.specs.Prelude.{find, map}
-use Rattle.co_dict_list.specs.BuildFaults.{is_unpaired}
-use Rattle.co_dict_list.proofs.build.pdo_pairs.unpaired.Given as goal
+use Rattle.co_dict_build.specs.BuildFaults.{is_unpaired}
+use Rattle.co_dict_build.proofs.build.pdo_pairs.unpaired.Given as goal
 
 abbrev pub invariant-loop-row : goal.invariant-loop-row
 invariant-loop-row g l =

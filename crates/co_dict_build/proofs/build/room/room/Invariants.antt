@@ -2,8 +2,8 @@
 use Rattle.std.proofs.Common.{◌≡◌, ◌*◌, ◌≤◌, take}
 use Rattle.std.specs.Prelude.{map, sum_by}
 use Rattle.co_sheet.specs.SheetViews.{row_view}
-use Rattle.co_dict_list.specs.Capacities.{limits_view, capacity_of}
-use Rattle.co_dict_list.proofs.build.room.room.Given as goal
+use Rattle.co_dict_build.specs.Capacities.{limits_view, capacity_of}
+use Rattle.co_dict_build.proofs.build.room.room.Given as goal
 
 abbrev pub invariant-loop-row : goal.invariant-loop-row
 invariant-loop-row l = record {

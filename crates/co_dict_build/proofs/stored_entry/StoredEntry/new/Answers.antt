@@ -1,7 +1,7 @@
 use Rattle.std.proofs.Common.{sym, ap, ◌∙◌, subst, arith, take, length}
 use Rattle.co_value.specs.Numbers.{AreBytes}
-use Rattle.co_dict_list.proofs.EntryBytes.{are_bytes, front_written}
-use Rattle.co_dict_list.proofs.stored_entry.StoredEntry.new.Goals as goal
+use Rattle.co_dict_build.proofs.EntryBytes.{are_bytes, front_written}
+use Rattle.co_dict_build.proofs.stored_entry.StoredEntry.new.Goals as goal
 
 pub invariant_of-result-clause-bytes : goal.invariant_of-result-clause-bytes
 invariant_of-result-clause-bytes c =
