@@ -1,0 +1,2 @@
+pub use Rattle.co_dict.specs.Rows
+pub use Rattle.co_dict.specs.Stores
