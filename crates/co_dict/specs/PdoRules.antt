@@ -1,11 +1,12 @@
 -- What may be written into the parameters of PDOs besides their COB-ID: 1400h to 15FFh and 1800h to 19FFh, 1600h to
 -- 17FFh and 1A00h to 1BFFh (CiA 301, 7.5.2.35 to 7.5.2.38).
 use Rattle.std.specs.Prelude.{ℕ, ◌-◌, ◌==◌, Bool, ◌||◌, not, nat_lt, if◌then◌else◌, Option, None}
+use Rattle.co_profile.specs.TransmissionTypes.{is_supported_type}
 use Rattle.co_dict.specs.declared.side.Side.{Side}
 use Rattle.co_dict.specs.Rows.{Contents, number_at}
 use Rattle.co_dict.specs.Stores.{Description}
 use Rattle.co_dict.specs.Refusals.{refused_if, first_of}
-use Rattle.co_dict.specs.CobIds.{is_valid, is_from_to}
+use Rattle.co_dict.specs.CobIds.{is_valid}
 use Rattle.co_dict.specs.MappingWords.{word_refusal}
 use Rattle.co_dict.specs.MappingCounts.{count_refusal}
 use Rattle.co_frame.specs.AbortCodes.{invalid_value, not_in_this_state}
@@ -18,9 +19,9 @@ is_pdo_valid contents index = is_valid (number_at contents (record { index = ind
 abbrev pub communication_index : ℕ → ℕ
 communication_index mapping = mapping - 0x200
 
--- sub-index 2, the transmission type: 241 to 253 are reserved or need remote frames
+-- sub-index 2: a transmission type that is supported, so not 241 to 253
 abbrev pub transmission_type_refusal : ℕ → Option ℕ
-transmission_type_refusal type = refused_if (is_from_to 241 253 type) invalid_value
+transmission_type_refusal kind = refused_if (not (is_supported_type kind)) invalid_value
 
 -- sub-index 3 of a TPDO, the inhibit time: it doesn't change while the TPDO is valid
 abbrev pub inhibit_time_refusal : Contents → ℕ → Option ℕ

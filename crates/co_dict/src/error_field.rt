@@ -11,7 +11,7 @@ use crate::numbers::{number_u8, word_bytes};
 use crate::objects::{has_sub, subs_present};
 use crate::store::{ObjectStore, store_laws};
 use co_profile::ERROR_FIELD;
-use co_value::Key;
+use co_value::{Key, bytes_of_u32};
 
 // where an error is, or with 0 the number of errors
 fn error_key(sub: u8) -> Key
@@ -107,6 +107,6 @@ pub fn push_error<S: ObjectStore>(store: &mut S, code: u16)
         return;
     }
     let count = error_count(store);
-    move_down(store, u32::from(code).to_le_bytes(), room);
+    move_down(store, bytes_of_u32(u32::from(code)), room);
     set_count(store, if count < room { count + 1 } else { room });
 }

@@ -7,31 +7,7 @@ ghost use Rattle.co_profile.specs.FixedTypes.{fixed_type_of};
 ghost use Rattle.co_dict.specs.Rows.{number_at, takes, with_number};
 
 use crate::store::{ObjectStore, store_laws};
-use co_value::Key;
-
-// the number of a byte
-pub(crate) fn number_of_1(bytes: &[u8]) -> u8
-    requires { length bytes.now ≡ 1 }
-    ensures { result ≡ unsigned_of bytes.now }
-{
-    bytes[0]
-}
-
-// the number of two bytes
-pub(crate) fn number_of_2(bytes: &[u8]) -> u16
-    requires { length bytes.now ≡ 2 }
-    ensures { result ≡ unsigned_of bytes.now }
-{
-    u16::from_le_bytes([bytes[0], bytes[1]])
-}
-
-// the number of four bytes
-pub(crate) fn number_of_4(bytes: &[u8]) -> u32
-    requires { length bytes.now ≡ 4 }
-    ensures { result ≡ unsigned_of bytes.now }
-{
-    u32::from_le_bytes([bytes[0], bytes[1], bytes[2], bytes[3]])
-}
+use co_value::{Key, read_u8, read_u16, read_u32};
 
 /// The number of an entry whose type is UNSIGNED8 wherever it is, 0 where there is no such entry (CiA 301, 7.5.2).
 pub fn number_u8<S: ObjectStore>(store: &S, key: Key) -> u8
@@ -40,7 +16,7 @@ pub fn number_u8<S: ObjectStore>(store: &S, key: Key) -> u8
 {
     store_laws(store);
     match store.bytes(key) {
-        Some(bytes) => number_of_1(bytes),
+        Some(bytes) => read_u8(bytes),
         None => 0,
     }
 }
@@ -66,7 +42,7 @@ pub fn number_u16<S: ObjectStore>(store: &S, key: Key) -> u16
 {
     store_laws(store);
     match store.bytes(key) {
-        Some(bytes) => number_of_2(bytes),
+        Some(bytes) => read_u16(bytes),
         None => 0,
     }
 }
@@ -78,7 +54,7 @@ pub fn number_u32<S: ObjectStore>(store: &S, key: Key) -> u32
 {
     store_laws(store);
     match store.bytes(key) {
-        Some(bytes) => number_of_4(bytes),
+        Some(bytes) => read_u32(bytes),
         None => 0,
     }
 }
@@ -90,7 +66,7 @@ pub(crate) fn byte_for<S: ObjectStore>(store: &S, key: Key, bytes: &[u8]) -> u8
     ensures { result ≡ unsigned_of bytes.now }
 {
     store_laws(store);
-    number_of_1(bytes)
+    read_u8(bytes)
 }
 
 // the number of the four bytes that an entry of UNSIGNED32 is to take
@@ -100,7 +76,7 @@ pub(crate) fn word_for<S: ObjectStore>(store: &S, key: Key, bytes: &[u8]) -> u32
     ensures { result ≡ unsigned_of bytes.now }
 {
     store_laws(store);
-    number_of_4(bytes)
+    read_u32(bytes)
 }
 
 fn four_bytes(bytes: &[u8]) -> [u8; 4]

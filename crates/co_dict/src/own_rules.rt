@@ -18,6 +18,7 @@ use crate::pdo_rules::{
 };
 use crate::store::ObjectStore;
 use co_frame::AbortCode;
+use co_profile::TransmissionType;
 use co_value::Key;
 
 // 1003:00, the number of errors: 0 alone
@@ -78,7 +79,9 @@ pub(crate) fn check_own_rule<S: ObjectStore>(
         ),
         OwnRule::SyncCounterOverflow => check_counter_overflow(byte_for(store, key, bytes)),
         OwnRule::ErrorBehaviour => check_error_behaviour(byte_for(store, key, bytes)),
-        OwnRule::TransmissionType => check_transmission_type(byte_for(store, key, bytes)),
+        OwnRule::TransmissionType => {
+            check_transmission_type(TransmissionType(byte_for(store, key, bytes)))
+        }
         OwnRule::InhibitTime => check_inhibit_time(store, key.index),
         OwnRule::SyncStartValue => {
             check_sync_start(store, key.index, byte_for(store, key, bytes))

@@ -15,6 +15,7 @@ use crate::objects::subs_present;
 use crate::side::Side;
 use crate::store::ObjectStore;
 use co_frame::AbortCode;
+use co_profile::TransmissionType;
 use co_value::Key;
 
 /// Whether the PDO with this communication parameter, 1400h to 15FFh or 1800h to 19FFh, is valid (CiA 301, 7.5.2.35).
@@ -25,14 +26,14 @@ pub fn is_pdo_valid<S: ObjectStore>(store: &S, index: u16) -> bool
     CobId(number_u32(store, Key { index, sub: 1 })).is_valid()
 }
 
-// sub-index 2: 241 to 253 are no transmission types here
-pub(crate) fn check_transmission_type(value: u8) -> Result<(), AbortCode>
-    ensures { refusal_in result ≡ transmission_type_refusal value }
+// sub-index 2: a transmission type that is supported
+pub(crate) fn check_transmission_type(kind: TransmissionType) -> Result<(), AbortCode>
+    ensures { refusal_in result ≡ transmission_type_refusal kind.0 }
 {
-    if 241 <= value && value <= 253 {
-        Err(AbortCode::INVALID_VALUE)
-    } else {
+    if kind.is_supported() {
         Ok(())
+    } else {
+        Err(AbortCode::INVALID_VALUE)
     }
 }
 

@@ -67,7 +67,8 @@ pub trait ObjectStore {
 
     /// Restores the entries of an area to their initial bytes.
     fn reset(&mut self, area: Area)
-        ensures contents { contents self.new ≡ restored area (description self.old).initial (contents self.old) }
+        ensures contents { contents self.new
+            ≡ restored area (description self.old).initial (contents self.old) }
         ensures description { description self.new ≡ description self.old };
 
     /// Each store is a dictionary.
@@ -100,7 +101,8 @@ pub fn place_laws<S: ObjectStore>(store: &S)
     ensures row { (key : Key) (place : ℕ) → place_of (S.description store.now) key ≡ Some place
         → row_at (S.description store.now) place ≡ (S.description store.now).rows key }
     ensures bytes { (key : Key) (place : ℕ) → place_of (S.description store.now) key ≡ Some place
-        → bytes_at (S.description store.now) (S.contents store.now) place ≡ S.contents store.now key }
+        → bytes_at (S.description store.now) (S.contents store.now) place
+        ≡ S.contents store.now key }
     ensures takes { (key : Key) (place size : ℕ)
         → place_of (S.description store.now) key ≡ Some place
         → takes_at (S.description store.now) place size

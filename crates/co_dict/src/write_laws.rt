@@ -22,7 +22,8 @@ pub fn own_rule_law()
 /// A TPDO whose inhibit time or number of mapped objects may be written is not valid. This is a law: a call of it changes
 /// nothing.
 pub fn invalid_pdo_law()
-    ensures inhibit_time { (d : Description) (contents : Contents) (k : ℕ) (bytes : List ℕ) → k < 512
+    ensures inhibit_time { (d : Description) (contents : Contents) (k : ℕ) (bytes : List ℕ)
+        → k < 512
         → own_refusal d contents (record { index = nth tpdo_communication k; sub = 3 }) bytes ≡ None
         → is_pdo_valid contents (nth tpdo_communication k) ≡ false }
     ensures mapping { (d : Description) (contents : Contents) (k : ℕ) (bytes : List ℕ) → k < 512

@@ -35,7 +35,8 @@ fn is_sdo_parameter(index: u16) -> bool
 
 // an entry is written by SDO: its access allows it, and it is no SDO server parameter
 fn check_writable(row: &Row, index: u16) -> Result<(), AbortCode>
-    ensures { refusal_in result ≡ refused_if (is_read_only row.now.access || is_sdo_parameter index) read_only }
+    ensures { refusal_in result
+        ≡ refused_if (is_read_only row.now.access || is_sdo_parameter index) read_only }
 {
     if is_read_only(row.access) || is_sdo_parameter(index) {
         return Err(AbortCode::READ_ONLY);

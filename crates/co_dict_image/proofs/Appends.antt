@@ -15,11 +15,11 @@ use Rattle.co_value.specs.Numbers.{AreBytes}
 use Rattle.co_dict.specs.declared.row.Row.{Row}
 use Rattle.co_sheet_rows.specs.declared.entry.EntryRow.{EntryRow}
 use Rattle.co_sheet.specs.SheetViews.{row_view}
-use Rattle.co_dict_list.specs.Capacities.{Limits}
-use Rattle.co_dict_list.specs.Built.{entry_of}
-use Rattle.co_dict_list.specs.ListedEntries.{ListedEntry, keys_in, are_increasing}
-use Rattle.co_dict_list.proofs.Plans.{keys_built, keys_increase}
-use Rattle.co_dict_list.proofs.Search.{before_later, other_compares, before_compares}
+use Rattle.co_dict_build.specs.Capacities.{Limits}
+use Rattle.co_dict_build.specs.Built.{entry_of}
+use Rattle.co_dict_build.specs.ListedEntries.{ListedEntry, keys_in, are_increasing}
+use Rattle.co_dict_build.proofs.Plans.{keys_built, keys_increase}
+use Rattle.co_dict_build.proofs.Search.{before_later, other_compares, before_compares}
 use Rattle.co_dict_image.specs.declared.slot.Slot.{Slot}
 use Rattle.co_dict_image.specs.Slots.{entry_in, entries_in, are_lined, keys_of}
 use Rattle.co_dict_image.specs.LawfulImages.{starts, follow, ends}

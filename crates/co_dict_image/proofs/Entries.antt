@@ -9,10 +9,10 @@ use Rattle.co_value.specs.Keys.{same_key}
 use Rattle.co_profile.specs.declared.access.Access.TheVariants.{Rw}
 use Rattle.co_dict.specs.declared.area.Area.{Area}
 use Rattle.co_dict.specs.Rows.{is_in_area}
-use Rattle.co_dict_list.specs.ListedEntries.{ListedEntry, keys_in, are_increasing}
-use Rattle.co_dict_list.proofs.Places.{place_of}
-use Rattle.co_dict_list.proofs.Numbering.{places_same}
-use Rattle.co_dict_list.proofs.Changes.{AreResetUpTo, reset_one}
+use Rattle.co_dict_build.specs.ListedEntries.{ListedEntry, keys_in, are_increasing}
+use Rattle.co_dict_build.proofs.Places.{place_of}
+use Rattle.co_dict_build.proofs.Numbering.{places_same}
+use Rattle.co_dict_build.proofs.Changes.{AreResetUpTo, reset_one}
 use Rattle.co_dict_image.specs.declared.slot.Slot.{Slot}
 use Rattle.co_dict_image.specs.Slots.{entry_in, entries_in, keys_of}
 use Rattle.co_dict_image.specs.Images.{filled_at}

@@ -6,10 +6,10 @@ use Rattle.std.proofs.Math.ListN.{get_or-map}
 use Rattle.std.proofs.lemmas.List.{with_items_is}
 use Rattle.co_value.specs.Numbers.{AreBytes}
 use Rattle.co_dict.specs.declared.row.Row.{Row}
-use Rattle.co_dict_list.specs.ListedEntries.{ListedEntry, are_increasing}
+use Rattle.co_dict_build.specs.ListedEntries.{ListedEntry, are_increasing}
 use Rattle.co_dict_image.specs.declared.slot.Slot.{Slot}
 use Rattle.co_dict_image.specs.Ranges.{with_range}
-use Rattle.co_dict_image.specs.Slots.{entry_in, entries_in, are_lined, keys_of}
+use Rattle.co_dict_image.specs.Slots.{entry_in, entries_in, are_lined, keys_of, IsFilled}
 use Rattle.co_dict_image.specs.Images.{filled_at}
 use Rattle.co_dict_image.proofs.Rooms.{room_in, same_line, same_keys, entries_filled, bytes_with_range, IsInPlace}
 
@@ -28,23 +28,21 @@ pub record IsPut {Z : Type 0} (values : Vec ℕ Z) (slots : List Slot) (at : ℕ
   pub lined : are_lined 0 slots (length values.items) ≡ true
   pub within : at < length slots
   pub was : s ≡ get_or slots at s
-  pub new_is : new ≡ with_range held s.start bytes
-  pub new_len : length new ≡ length held
-  pub key : s'.key ≡ s.key
-  pub row : s'.row ≡ s.row
-  pub start : s'.start ≡ s.start
-  pub initial_size : s'.initial_size ≡ s.initial_size
-  pub size : s'.size ≡ length bytes
+  pub filled : IsFilled s held bytes s' new
 
-module _ {Z : Type 0} (values : Vec ℕ Z) (slots : List Slot) (at : ℕ) (s s' : Slot) (bytes held new : List ℕ) (p : IsPut values slots at s s' bytes held new) where
+pub is_put : {Z : Type 0} (values : Vec ℕ Z) (slots : List Slot) (at : ℕ) {s s' : Slot} {bytes held new : List ℕ} → held ≡ values.items → length held ≡ values.len
+    → are_lined 0 slots (length values.items) ≡ true → at < length slots → s ≡ get_or slots at s → IsFilled s held bytes s' new → IsPut values slots at s s' bytes held new
+is_put values slots at h n l w g f = record { held_is = h; held_len = n; lined = l; within = w; was = g; filled = f }
+
+module _ {Z : Type 0} {values : Vec ℕ Z} {slots : List Slot} {at : ℕ} {s s' : Slot} {bytes held new : List ℕ} (p : IsPut values slots at s s' bytes held new) where
   in_place : IsInPlace (get_or slots at s) s'
-  in_place = subst (λ (t : Slot). IsInPlace t s') p.was (record { key = p.key; row = p.row; start = p.start; initial_size = p.initial_size })
+  in_place = subst (λ (t : Slot). IsInPlace t s') p.was (record { key = p.filled.key; row = p.filled.row; start = p.filled.start; initial_size = p.filled.initial_size })
 
   pub items_put : (with_items values new).items ≡ with_range values.items s.start bytes
-  items_put = with_items_is values new (p.new_len ∙ p.held_len) ∙ p.new_is ∙ ap (λ (l : List ℕ). with_range l s.start bytes) p.held_is
+  items_put = with_items_is values new (p.filled.len ∙ p.held_len) ∙ p.filled.values ∙ ap (λ (l : List ℕ). with_range l s.start bytes) p.held_is
 
   len_put : length (with_items values new).items ≡ length values.items
-  len_put = ap length (with_items_is values new (p.new_len ∙ p.held_len)) ∙ p.new_len ∙ ap length p.held_is
+  len_put = ap length (with_items_is values new (p.filled.len ∙ p.held_len)) ∙ p.filled.len ∙ ap length p.held_is
 
   pub lined_put : are_lined 0 (set slots at s') (length (with_items values new).items) ≡ true
   lined_put = same_line slots at s s' in_place 0 (length (with_items values new).items) ∙ ap (are_lined 0 slots) len_put ∙ p.lined
@@ -62,7 +60,7 @@ module _ {Z : Type 0} (values : Vec ℕ Z) (slots : List Slot) (at : ℕ) (s s' 
   bytes_put h k = subst AreBytes (sym items_put) (bytes_with_range values.items s.start bytes h k)
 
   small : length bytes ≤ s.row.capacity
-  small = subst (λ (row : Row). length bytes ≤ row.capacity) p.row (subst (λ n. n ≤ s'.row.capacity) p.size s'.within)
+  small = subst (λ (row : Row). length bytes ≤ row.capacity) p.filled.row (subst (λ n. n ≤ s'.row.capacity) p.filled.size s'.within)
 
   pub entries_put : (initial : List ℕ) (d : ListedEntry) → entries_in (with_items values new).items initial (set slots at s') ≡ filled_at (entries_in values.items initial slots) at d bytes
   entries_put initial d =
@@ -70,4 +68,4 @@ module _ {Z : Type 0} (values : Vec ℕ Z) (slots : List Slot) (at : ℕ) (s s' 
       let fit = small in
       ap (λ (l : List ℕ). entries_in l initial (set slots at s')) items_put
       ∙ entries_filled values.items initial s.start bytes (omega (arith, room, fit)) 0 slots at s s' d p.lined p.within in_place
-      (ap (λ (t : Slot). t.start) (sym p.was)) p.size (subst (λ (t : Slot). length bytes ≤ t.row.capacity) p.was small)
+      (ap (λ (t : Slot). t.start) (sym p.was)) p.filled.size (subst (λ (t : Slot). length bytes ≤ t.row.capacity) p.was small)

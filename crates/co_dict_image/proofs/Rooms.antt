@@ -8,7 +8,7 @@ use Rattle.std.proofs.lemmas.List.{append_assoc}
 use Rattle.co_value.specs.declared.key.Key.{Key}
 use Rattle.co_value.specs.Numbers.{AreBytes}
 use Rattle.co_dict.specs.declared.row.Row.{Row}
-use Rattle.co_dict_list.specs.ListedEntries.{ListedEntry}
+use Rattle.co_dict_build.specs.ListedEntries.{ListedEntry}
 use Rattle.co_dict_image.specs.declared.slot.Slot.{Slot}
 use Rattle.co_dict_image.specs.Ranges.{with_range}
 use Rattle.co_dict_image.specs.Slots.{entry_in, entries_in, are_lined, keys_of}

@@ -1,7 +1,7 @@
 -- The entries of an image, and what setting one makes of them.
 use Rattle.std.specs.Prelude.{ℕ, List}
 use Rattle.std.specs.List.{slice_index_or, slice_set}
-use Rattle.co_dict_list.specs.ListedEntries.{ListedEntry}
+use Rattle.co_dict_build.specs.ListedEntries.{ListedEntry}
 use Rattle.co_dict_image.specs.declared.image_store.ImageStore.{ImageStore}
 use Rattle.co_dict_image.specs.Slots.{entries_in}
 

@@ -6,7 +6,7 @@ use Rattle.std.proofs.lemmas.Bool.{and_parts, eqb-true}
 use Rattle.std.proofs.lemmas.List.{length-take-le, length-drop}
 use Rattle.co_value.specs.Numbers.{AreBytes}
 use Rattle.co_dict.specs.Rows.{fits}
-use Rattle.co_dict_list.specs.ListedEntries.{IsEntry}
+use Rattle.co_dict_build.specs.ListedEntries.{IsEntry}
 use Rattle.co_dict_image.specs.declared.slot.Slot.{Slot}
 use Rattle.co_dict_image.specs.Slots.{entry_in, entries_in, are_lined}
 

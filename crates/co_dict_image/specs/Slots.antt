@@ -1,7 +1,8 @@
 -- Entries in an image: where the room of each is, and which of the bytes there are its own.
-use Rattle.std.specs.Prelude.{ℕ, ◌+◌, ◌==◌, ◌&&◌, Bool, List, [], ◌∷◌, map, take, drop}
+use Rattle.std.specs.Prelude.{◌≡◌, ℕ, ◌+◌, ◌==◌, ◌&&◌, Bool, List, [], ◌∷◌, map, take, drop, length}
 use Rattle.co_value.specs.declared.key.Key.{Key}
-use Rattle.co_dict_list.specs.ListedEntries.{ListedEntry}
+use Rattle.co_dict_build.specs.ListedEntries.{ListedEntry}
+use Rattle.co_dict_image.specs.Ranges.{with_range}
 use Rattle.co_dict_image.specs.declared.slot.Slot.{Slot}
 
 -- the entry of a slot: its bytes are the first in its room
@@ -25,3 +26,13 @@ are_lined at (slot ∷ slots) end = (slot.start == at) && are_lined (at + slot.r
 -- the keys of the slots
 abbrev pub keys_of : List Slot → List Key
 keys_of slots = map (λ (slot : Slot). slot.key) slots
+
+-- bytes were put into the room of a slot: the values beside them are as before, and the slot has so many bytes
+pub record IsFilled (old : Slot) (before bytes : List ℕ) (new : Slot) (after : List ℕ) : Type 0 where
+  pub values : after ≡ with_range before old.start bytes
+  pub len : length after ≡ length before
+  pub key : new.key ≡ old.key
+  pub row : new.row ≡ old.row
+  pub start : new.start ≡ old.start
+  pub size : new.size ≡ length bytes
+  pub initial_size : new.initial_size ≡ old.initial_size

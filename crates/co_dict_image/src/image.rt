@@ -3,14 +3,14 @@
 ghost use Rattle.std.specs.Prelude.{◌≡◌, ◌++◌, ◌∷◌, [], map, All, true, length, IfOk};
 ghost use Rattle.co_value.specs.Numbers.{AreBytes};
 ghost use Rattle.co_sheet.specs.SheetViews.{row_view};
-ghost use Rattle.co_dict_list.specs.Capacities.{limits_view};
-ghost use Rattle.co_dict_list.specs.SheetRows.{IsReady};
-ghost use Rattle.co_dict_list.specs.Built.{entry_of};
-ghost use Rattle.co_dict_list.specs.ListedEntries.{are_increasing};
+ghost use Rattle.co_dict_build.specs.Capacities.{limits_view};
+ghost use Rattle.co_dict_build.specs.SheetRows.{IsReady};
+ghost use Rattle.co_dict_build.specs.Built.{entry_of};
+ghost use Rattle.co_dict_build.specs.ListedEntries.{are_increasing};
 ghost use Rattle.co_dict_image.specs.Slots.{entries_in, are_lined, keys_of};
 
 use crate::slot::Slot;
-use co_dict_list::{Limits, entry_of_row};
+use co_dict_build::{Limits, entry_of_row};
 use co_sheet::EntryRow;
 use co_value::Key;
 use indexmap::IndexSet;
@@ -55,9 +55,11 @@ pub(crate) fn image_of_rows(
     rows: &[EntryRow<'_>],
 ) -> Result<Image, AllocError>
     requires { All (λ row. IsReady node_id (row_view row)) rows.now }
-    ensures entries { IfOk result (λ image. entries_in image.initial.items image.initial.items image.slots.items
+    ensures entries { IfOk result (λ image.
+        entries_in image.initial.items image.initial.items image.slots.items
         ≡ map (entry_of node_id (limits_view limits.now)) (map row_view rows.now)) }
-    ensures lined { IfOk result (λ image. are_lined 0 image.slots.items (length image.initial.items) ≡ true) }
+    ensures lined { IfOk result (λ image.
+        are_lined 0 image.slots.items (length image.initial.items) ≡ true) }
     ensures bytes { IfOk result (λ image. AreBytes image.initial.items) }
 {
     let mut slots = Vec::with_capacity(alloc, rows.len())?;

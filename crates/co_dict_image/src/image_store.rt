@@ -5,16 +5,16 @@ ghost use Rattle.std.proofs.Props.{props};
 ghost use Rattle.co_value.specs.Keys.{same_key};
 ghost use Rattle.co_value.specs.Numbers.{AreBytes};
 ghost use Rattle.co_value.specs.declared.key.Key.{Key};
-ghost use Rattle.co_dict_list.specs.ListedEntries.{are_increasing};
-ghost use Rattle.co_dict_list.specs.Capacities.{limits_view};
-ghost use Rattle.co_dict_list.specs.Built.{plan_of, built_description, built_contents};
-ghost use Rattle.co_dict_list.specs.BuildFaults.{build_fault, IsBuildFault};
+ghost use Rattle.co_dict_build.specs.ListedEntries.{are_increasing};
+ghost use Rattle.co_dict_build.specs.Capacities.{limits_view};
+ghost use Rattle.co_dict_build.specs.Built.{plan_of, built_description, built_contents};
+ghost use Rattle.co_dict_build.specs.BuildFaults.{build_fault, IsBuildFault};
 ghost use Rattle.co_dict_image.specs.Slots.{are_lined, keys_of};
 
 use crate::image::{image_of_rows, numbered};
 use crate::slot::Slot;
 use co_dict::{Area, ObjectStore, Row};
-use co_dict_list::{BuildFault, FromRows, Limits, build_store};
+use co_dict_build::{BuildFault, FromRows, Limits, build_store};
 use co_sheet::{EntryRow, Sheet};
 use co_value::Key;
 use indexmap::IndexSet;
@@ -59,8 +59,10 @@ impl ImageStore {
 
     /// The greatest capacity of all entries, in bytes; 0 where there is no entry.
     pub fn greatest_capacity(&self) -> u16
-        ensures greatest { IsGreatestCapacity (⟦<ImageStore as ObjectStore>⟧.description self.now).rows result }
-        ensures enough { (key : Key) → capacity_at (⟦<ImageStore as ObjectStore>⟧.description self.now).rows key ≤ result }
+        ensures greatest { IsGreatestCapacity
+            (⟦<ImageStore as ObjectStore>⟧.description self.now).rows result }
+        ensures enough { (key : Key) →
+            capacity_at (⟦<ImageStore as ObjectStore>⟧.description self.now).rows key ≤ result }
     {
         greatest_capacity(&self.slots)
     }
@@ -69,7 +71,7 @@ impl ImageStore {
 impl ImageStore {
     ghost use Rattle.std.specs.List.{slice_index_or};
     ghost use Rattle.co_dict.specs.Rows.{fits};
-    ghost use Rattle.co_dict_list.specs.ListedEntries.{ListedEntry};
+    ghost use Rattle.co_dict_build.specs.ListedEntries.{ListedEntry};
     ghost use Rattle.co_dict_image.specs.Images.{entries_of, filled_at};
 
     // Where the slot of a key is.
@@ -83,8 +85,10 @@ impl ImageStore {
     #[inline(always)]
     fn put(&mut self, at: usize, bytes: &[u8])
         requires within { at < length self.old.slots.items }
-        requires fitting { (d : ListedEntry) → fits (slice_index_or (entries_of self.old) at d).row (length bytes.now) ≡ true }
-        ensures entries { (d : ListedEntry) → entries_of self.new ≡ filled_at (entries_of self.old) at d bytes.now }
+        requires fitting { (d : ListedEntry) →
+            fits (slice_index_or (entries_of self.old) at d).row (length bytes.now) ≡ true }
+        ensures entries { (d : ListedEntry) →
+            entries_of self.new ≡ filled_at (entries_of self.old) at d bytes.now }
         ensures node { self.new.node_id ≡ self.old.node_id }
         ensures dummies { self.new.dummies ≡ self.old.dummies }
         ensures keys { keys_of self.new.slots.items ≡ keys_of self.old.slots.items }
@@ -96,7 +100,8 @@ impl ImageStore {
     fn restore(&mut self, at: usize)
         requires within { at < length self.old.slots.items }
         ensures entries { (d : ListedEntry) → entries_of self.new
-            ≡ filled_at (entries_of self.old) at d (slice_index_or (entries_of self.old) at d).initial }
+            ≡ filled_at (entries_of self.old) at d
+            (slice_index_or (entries_of self.old) at d).initial }
         ensures node { self.new.node_id ≡ self.old.node_id }
         ensures dummies { self.new.dummies ≡ self.old.dummies }
         ensures keys { keys_of self.new.slots.items ≡ keys_of self.old.slots.items }
@@ -106,12 +111,14 @@ impl ImageStore {
 }
 
 impl ObjectStore for ImageStore {
-    ghost use Rattle.co_dict_list.specs.ListedEntries.{description_in, contents_in};
+    ghost use Rattle.co_dict_build.specs.ListedEntries.{description_in, contents_in};
     ghost use Rattle.co_dict_image.specs.Slots.{entries_in};
 
-    ghost description = { λ store. description_in store.node_id store.dummies (entries_in store.values.items store.initial.items store.slots.items) };
+    ghost description = { λ store. description_in store.node_id store.dummies
+        (entries_in store.values.items store.initial.items store.slots.items) };
 
-    ghost contents = { λ store. contents_in (entries_in store.values.items store.initial.items store.slots.items) };
+    ghost contents = { λ store.
+        contents_in (entries_in store.values.items store.initial.items store.slots.items) };
 
     fn node_id(&self) -> u8 {
         self.node_id
@@ -172,11 +179,14 @@ impl ObjectStore for ImageStore {
         }
     }
 
-    ghost use Rattle.co_dict_list.specs.LawfulLists.{lawful_list};
+    ghost use Rattle.co_dict_build.specs.LawfulLists.{lawful_list};
     ghost use Rattle.co_dict_image.specs.LawfulImages.{are_entries};
 
-    ghost lawful = { λ store. lawful_list store.node_id store.dummies (entries_in store.values.items store.initial.items store.slots.items)
-        (are_entries store.values.items store.initial.items store.slots.items store.lined store.same store.bytes store.initial_bytes) store.first_node store.last_node store.six };
+    ghost lawful = { λ store. lawful_list store.node_id store.dummies
+        (entries_in store.values.items store.initial.items store.slots.items)
+        (are_entries store.values.items store.initial.items store.slots.items
+        store.lined store.same store.bytes store.initial_bytes)
+        store.first_node store.last_node store.six };
 }
 
 impl FromRows for ImageStore {
@@ -214,14 +224,17 @@ impl ImageStore {
         node_id: u8,
         limits: &Limits<'_>,
     ) -> Result<ImageStore, BuildFault>
-        ensures ok { IfOk result (λ _. build_fault (plan_of node_id (limits_view limits.now) sheet.now) ≡ None) }
+        ensures ok { IfOk result (λ _.
+            build_fault (plan_of node_id (limits_view limits.now) sheet.now) ≡ None) }
         ensures description { IfOk result (λ store. ⟦<ImageStore as ObjectStore>⟧.description store
             ≡ built_description (plan_of node_id (limits_view limits.now) sheet.now)) }
         ensures contents { IfOk result (λ store. ⟦<ImageStore as ObjectStore>⟧.contents store
             ≡ built_contents (plan_of node_id (limits_view limits.now) sheet.now)) }
-        ensures initial { IfOk result (λ store. (key : Key) → ⟦<ImageStore as ObjectStore>⟧.contents store key
+        ensures initial { IfOk result (λ store. (key : Key) →
+            ⟦<ImageStore as ObjectStore>⟧.contents store key
             ≡ (⟦<ImageStore as ObjectStore>⟧.description store).initial key) }
-        ensures err { IfErr result (IsBuildFault (plan_of node_id (limits_view limits.now) sheet.now)) }
+        ensures err { IfErr result
+            (IsBuildFault (plan_of node_id (limits_view limits.now) sheet.now)) }
     {
         build_store(alloc, sheet, node_id, limits)
     }

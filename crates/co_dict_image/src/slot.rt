@@ -4,12 +4,11 @@ ghost use Rattle.std.specs.Prelude.{◌≡◌, ◌≤◌, ◌+◌, true, length,
 ghost use Rattle.std.proofs.Props.{props};
 ghost use Rattle.co_dict.specs.Rows.{fits};
 ghost use Rattle.co_dict.specs.Stores.{IsKey, HasLimits};
-ghost use Rattle.co_dict_list.specs.ListedEntries.{HasWidth, HasFixedType};
-ghost use Rattle.co_dict_list.specs.StoredEntries.{entry_view};
-ghost use Rattle.co_dict_image.specs.Ranges.{with_range};
+ghost use Rattle.co_dict_build.specs.ListedEntries.{HasWidth, HasFixedType};
+ghost use Rattle.co_dict_build.specs.StoredEntries.{entry_view};
 
 use co_dict::Row;
-use co_dict_list::StoredEntry;
+use co_dict_build::StoredEntry;
 use co_value::Key;
 
 /// An entry without its bytes: where its room is in the image, and how many of the bytes there are its own.
@@ -61,6 +60,8 @@ fn copy_more(to: &mut [u8], from: &[u8])
 }
 
 impl Slot {
+    ghost use Rattle.co_dict_image.specs.Slots.{IsFilled};
+
     /// The slot of an entry, of which its bytes are the initial ones, with its room from `start` on.
     pub(crate) fn new(entry: &StoredEntry, start: usize) -> Slot
         ensures key { result.key ≡ (entry_view entry.now).key }
@@ -94,13 +95,7 @@ impl Slot {
     pub(crate) fn fill(&mut self, values: &mut [u8], bytes: &[u8])
         requires fitting { fits self.old.row (length bytes.now) ≡ true }
         requires room { self.old.start + self.old.row.capacity ≤ length values.old }
-        ensures values { values.new ≡ with_range values.old self.old.start bytes.now }
-        ensures len { length values.new ≡ length values.old }
-        ensures key { self.new.key ≡ self.old.key }
-        ensures row { self.new.row ≡ self.old.row }
-        ensures start { self.new.start ≡ self.old.start }
-        ensures size { self.new.size ≡ length bytes.now }
-        ensures initial_size { self.new.initial_size ≡ self.old.initial_size }
+        ensures { IsFilled self.old values.old bytes.now self.new values.new }
     {
         let end = self.start + bytes.len();
         copy(&mut values[self.start..end], bytes);
@@ -111,14 +106,8 @@ impl Slot {
     pub(crate) fn restore(&mut self, values: &mut [u8], initial: &[u8])
         requires room { self.old.start + self.old.row.capacity ≤ length values.old }
         requires same { length initial.now ≡ length values.old }
-        ensures values { values.new
-            ≡ with_range values.old self.old.start (take self.old.initial_size (drop self.old.start initial.now)) }
-        ensures len { length values.new ≡ length values.old }
-        ensures key { self.new.key ≡ self.old.key }
-        ensures row { self.new.row ≡ self.old.row }
-        ensures start { self.new.start ≡ self.old.start }
-        ensures size { self.new.size ≡ length (take self.old.initial_size (drop self.old.start initial.now)) }
-        ensures initial_size { self.new.initial_size ≡ self.old.initial_size }
+        ensures { IsFilled self.old values.old
+            (take self.old.initial_size (drop self.old.start initial.now)) self.new values.new }
     {
         let end = self.start + usize::from(self.initial_size);
         self.fill(values, &initial[self.start..end]);

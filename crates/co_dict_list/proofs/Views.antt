@@ -5,10 +5,10 @@ use Rattle.std.specs.declared.vec.Vec.{Vec}
 use Rattle.std.proofs.Math.ListN.{get_or-map}
 use Rattle.std.proofs.lemmas.List.{length-map, map-set, with_items_is}
 use Rattle.co_dict.specs.declared.area.Area.{Area}
-use Rattle.co_dict_list.specs.declared.stored_entry.StoredEntry.{StoredEntry}
-use Rattle.co_dict_list.specs.ListedEntries.{ListedEntry, reset_entry}
-use Rattle.co_dict_list.specs.StoredEntries.{entry_view, entry_views}
-use Rattle.co_dict_list.proofs.Changes.{with_bytes, AreResetUpTo, reset_one, reset_all}
+use Rattle.co_dict_build.specs.declared.stored_entry.StoredEntry.{StoredEntry}
+use Rattle.co_dict_build.specs.ListedEntries.{ListedEntry, reset_entry}
+use Rattle.co_dict_build.specs.StoredEntries.{entry_view, entry_views}
+use Rattle.co_dict_build.proofs.Changes.{with_bytes, AreResetUpTo, reset_one, reset_all}
 
 -- the view of the entry that was read at a place
 pub view_at : (entries : List StoredEntry) (at : ℕ) (e : StoredEntry) → e ≡ get_or entries at e → entry_view e ≡ get_or (entry_views entries) at (entry_view e)

@@ -1,12 +1,2 @@
-pub mod ListedEntries
-pub mod LawfulLists
-pub mod StoredEntries
-pub mod Capacities
-pub mod EntryLimits
-pub mod InitialBytes
-pub mod SheetRows
-pub mod Built
-pub mod BuildFaults
-pub mod BuildFaultTexts
 pub use Rattle.co_dict.specs.Rows
 pub use Rattle.co_dict.specs.Stores

@@ -1,15 +1,20 @@
 //! A store that keeps its entries in a list.
 
-ghost use Rattle.std.specs.Prelude.{◌≡◌, ◌≤◌, true, length, position, fold, max};
+ghost use Rattle.std.specs.Prelude.{◌≡◌, ◌≤◌, true, length, position, fold, max, IfOk, IfErr, None};
 ghost use Rattle.co_value.specs.Keys.{same_key};
 ghost use Rattle.co_value.specs.declared.key.Key.{Key};
 ghost use Rattle.co_dict.specs.Rows.{capacity_at};
-ghost use Rattle.co_dict_list.specs.ListedEntries.{keys_in, are_increasing};
-ghost use Rattle.co_dict_list.specs.StoredEntries.{entry_views};
+ghost use Rattle.co_dict_build.specs.ListedEntries.{keys_in, are_increasing};
+ghost use Rattle.co_dict_build.specs.StoredEntries.{entry_views};
+ghost use Rattle.co_dict_build.specs.Capacities.{limits_view};
+ghost use Rattle.co_dict_build.specs.Built.{plan_of, built_description, built_contents};
+ghost use Rattle.co_dict_build.specs.BuildFaults.{build_fault, IsBuildFault};
 
-use crate::stored_entry::StoredEntry;
 use co_dict::{Area, ObjectStore, Row};
+use co_dict_build::{BuildFault, FromRows, Limits, StoredEntry, build_store, entries_of_rows};
+use co_sheet::{EntryRow, Sheet};
 use co_value::Key;
+use std::alloc::{AllocError, Global};
 
 /// An object dictionary as a list of its entries in increasing key. An entry is found by binary search.
 #[derive(Drop)]
@@ -35,36 +40,21 @@ fn greatest_capacity(entries: &[StoredEntry]) -> u16
 
 impl ListStore {
     ghost use Rattle.co_dict.specs.Stores.{IsGreatestCapacity};
-    ghost use Rattle.co_dict_list.specs.ListedEntries.{description_in, contents_in};
-
-    /// The dictionary of a node-ID, with which of the dummy entries 0002h to 0007h may be mapped, and its entries in
-    /// increasing key.
-    pub(crate) fn new(node_id: u8, dummies: [bool; 6], entries: Vec<StoredEntry>) -> Self
-        requires first_node { 1 ≤ node_id }
-        requires last_node { node_id ≤ 127 }
-        requires increasing { are_increasing (keys_in (entry_views entries.items)) ≡ true }
-        ensures description { ⟦<ListStore as ObjectStore>⟧.description result
-            ≡ description_in node_id dummies (entry_views entries.items) }
-        ensures contents { ⟦<ListStore as ObjectStore>⟧.contents result ≡ contents_in (entry_views entries.items) }
-    {
-        ListStore {
-            node_id,
-            dummies,
-            entries,
-        }
-    }
 
     /// The greatest capacity of all entries, in bytes; 0 where there is no entry.
     pub fn greatest_capacity(&self) -> u16
-        ensures greatest { IsGreatestCapacity (⟦<ListStore as ObjectStore>⟧.description self.now).rows result }
-        ensures enough { (key : Key) → capacity_at (⟦<ListStore as ObjectStore>⟧.description self.now).rows key ≤ result }
+        ensures greatest { IsGreatestCapacity
+            (⟦<ListStore as ObjectStore>⟧.description self.now).rows result }
+        ensures enough { (key : Key) →
+            capacity_at (⟦<ListStore as ObjectStore>⟧.description self.now).rows key ≤ result }
     {
         greatest_capacity(&self.entries)
     }
 
     // Where the entry of a key is in the list.
     fn position(&self, key: Key) -> Option<usize>
-        ensures { result ≡ position (λ entry. same_key key entry.key) (entry_views self.now.entries.items) }
+        ensures { result
+            ≡ position (λ entry. same_key key entry.key) (entry_views self.now.entries.items) }
     {
         self.entries
             .binary_search_by_key(&key, |entry| entry.key)
@@ -73,9 +63,10 @@ impl ListStore {
 }
 
 impl ObjectStore for ListStore {
-    ghost use Rattle.co_dict_list.specs.ListedEntries.{description_in, contents_in};
+    ghost use Rattle.co_dict_build.specs.ListedEntries.{description_in, contents_in};
 
-    ghost description = { λ store. description_in store.node_id store.dummies (entry_views store.entries.items) };
+    ghost description = { λ store.
+        description_in store.node_id store.dummies (entry_views store.entries.items) };
 
     ghost contents = { λ store. contents_in (entry_views store.entries.items) };
 
@@ -135,8 +126,56 @@ impl ObjectStore for ListStore {
         }
     }
 
-    ghost use Rattle.co_dict_list.specs.LawfulLists.{lawful_list};
-    ghost use Rattle.co_dict_list.specs.StoredEntries.{are_entries};
+    ghost use Rattle.co_dict_build.specs.LawfulLists.{lawful_list};
+    ghost use Rattle.co_dict_build.specs.StoredEntries.{are_entries};
 
-    ghost lawful = { λ store. lawful_list store.node_id store.dummies (entry_views store.entries.items) (are_entries store.entries.items) store.first_node store.last_node store.six };
+    ghost lawful = { λ store. lawful_list store.node_id store.dummies
+        (entry_views store.entries.items) (are_entries store.entries.items)
+        store.first_node store.last_node store.six };
+}
+
+impl FromRows for ListStore {
+    fn from_rows(
+        alloc: Global,
+        node_id: u8,
+        limits: &Limits<'_>,
+        rows: &[EntryRow<'_>],
+        dummies: [bool; 6],
+    ) -> Result<ListStore, AllocError> {
+        let entries = entries_of_rows(alloc, node_id, limits, rows)?;
+        Ok(ListStore {
+            node_id,
+            dummies,
+            entries,
+        })
+    }
+}
+
+impl ListStore {
+    /// The dictionary that a data sheet makes for a node-ID and limits, with its initial bytes (CiA 301, 7.4; CiA 306):
+    /// each row of the sheet becomes an entry, `$NODEID` the node-ID.
+    ///
+    /// Of the faults that apply the one with the smallest number is answered, and of those with one number the one
+    /// with the smallest key. `Memory` may come in place of those from `BadCobId` on: nothing asks for memory before
+    /// the node-ID and the sums with `$NODEID` were looked at.
+    pub fn build(
+        alloc: Global,
+        sheet: &Sheet<'_>,
+        node_id: u8,
+        limits: &Limits<'_>,
+    ) -> Result<ListStore, BuildFault>
+        ensures ok { IfOk result (λ _.
+            build_fault (plan_of node_id (limits_view limits.now) sheet.now) ≡ None) }
+        ensures description { IfOk result (λ store. ⟦<ListStore as ObjectStore>⟧.description store
+            ≡ built_description (plan_of node_id (limits_view limits.now) sheet.now)) }
+        ensures contents { IfOk result (λ store. ⟦<ListStore as ObjectStore>⟧.contents store
+            ≡ built_contents (plan_of node_id (limits_view limits.now) sheet.now)) }
+        ensures initial { IfOk result (λ store. (key : Key) →
+            ⟦<ListStore as ObjectStore>⟧.contents store key
+            ≡ (⟦<ListStore as ObjectStore>⟧.description store).initial key) }
+        ensures err { IfErr result
+            (IsBuildFault (plan_of node_id (limits_view limits.now) sheet.now)) }
+    {
+        build_store(alloc, sheet, node_id, limits)
+    }
 }

@@ -53,18 +53,21 @@ impl AbortCode {
 
     /// Each constant is the number that the standard gives it. This is a law: a call of it changes nothing.
     pub fn numbers()
-        ensures toggle_not_alternated { AbortCode.TOGGLE_NOT_ALTERNATED.0 ≡ codes.toggle_not_alternated }
+        ensures toggle_not_alternated { AbortCode.TOGGLE_NOT_ALTERNATED.0
+            ≡ codes.toggle_not_alternated }
         ensures timed_out { AbortCode.TIMED_OUT.0 ≡ codes.timed_out }
         ensures unknown_command { AbortCode.UNKNOWN_COMMAND.0 ≡ codes.unknown_command }
         ensures invalid_block_size { AbortCode.INVALID_BLOCK_SIZE.0 ≡ codes.invalid_block_size }
-        ensures invalid_sequence_number { AbortCode.INVALID_SEQUENCE_NUMBER.0 ≡ codes.invalid_sequence_number }
+        ensures invalid_sequence_number { AbortCode.INVALID_SEQUENCE_NUMBER.0
+            ≡ codes.invalid_sequence_number }
         ensures out_of_memory { AbortCode.OUT_OF_MEMORY.0 ≡ codes.out_of_memory }
         ensures write_only { AbortCode.WRITE_ONLY.0 ≡ codes.write_only }
         ensures read_only { AbortCode.READ_ONLY.0 ≡ codes.read_only }
         ensures object_missing { AbortCode.OBJECT_MISSING.0 ≡ codes.object_missing }
         ensures not_mappable { AbortCode.NOT_MAPPABLE.0 ≡ codes.not_mappable }
         ensures mapping_too_long { AbortCode.MAPPING_TOO_LONG.0 ≡ codes.mapping_too_long }
-        ensures parameter_incompatible { AbortCode.PARAMETER_INCOMPATIBLE.0 ≡ codes.parameter_incompatible }
+        ensures parameter_incompatible { AbortCode.PARAMETER_INCOMPATIBLE.0
+            ≡ codes.parameter_incompatible }
         ensures too_long { AbortCode.TOO_LONG.0 ≡ codes.too_long }
         ensures too_short { AbortCode.TOO_SHORT.0 ≡ codes.too_short }
         ensures sub_index_missing { AbortCode.SUB_INDEX_MISSING.0 ≡ codes.sub_index_missing }

@@ -1,2 +1,3 @@
 mod FixedTypeExamples
 mod FixedTypeLemmas
+mod TransmissionTypeExamples

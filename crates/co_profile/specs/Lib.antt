@@ -1,2 +1,4 @@
 pub mod Indices
+pub mod Keys
 pub mod FixedTypes
+pub mod TransmissionTypes

@@ -76,7 +76,8 @@ impl IndexRange {
 
     /// Each range is the one that the standard gives its objects. This is a law: a call of it changes nothing.
     pub fn ranges()
-        ensures communication_profile { IndexRange.COMMUNICATION_PROFILE ≡ indices.communication_profile }
+        ensures communication_profile { IndexRange.COMMUNICATION_PROFILE
+            ≡ indices.communication_profile }
         ensures sdo_server { IndexRange.SDO_SERVER ≡ indices.sdo_server }
         ensures rpdo_communication { IndexRange.RPDO_COMMUNICATION ≡ indices.rpdo_communication }
         ensures rpdo_mapping { IndexRange.RPDO_MAPPING ≡ indices.rpdo_mapping }

@@ -1,9 +1,11 @@
-//! The communication profile of CANopen: the access of entries, and the objects from 1000h to 1FFFh.
+//! The communication profile of CANopen: the access of entries, the objects from 1000h to 1FFFh, and transmission types.
 #![tactic(auto)]
 
 mod access;
 mod fixed_types;
 mod indices;
+pub mod keys;
+mod transmission_type;
 
 pub use access::Access;
 pub use fixed_types::fixed_type;
@@ -13,3 +15,4 @@ pub use indices::{
     PRODUCER_HEARTBEAT, RESTORE_PARAMETERS, STORE_PARAMETERS, SYNC_COB_ID, SYNC_COUNTER_OVERFLOW,
     SYNC_START_VALUE, TRANSMISSION_TYPE, index_numbers,
 };
+pub use transmission_type::TransmissionType;

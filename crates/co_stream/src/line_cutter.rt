@@ -61,7 +61,8 @@ impl LineCutter {
         ensures end { result ≡ Ok false → (self.new.piece ≡ []) × (self.new.ended ≡ true) }
         ensures err { IfErr result (λ _. Keeps (R.remaining reader.old) (R.remaining reader.new)
             × (self.old.ended ≡ false)) }
-        ensures ended { self.old.ended ≡ true → (reader.new ≡ reader.old) × (self.new.ended ≡ true) }
+        ensures ended { self.old.ended ≡ true →
+            (reader.new ≡ reader.old) × (self.new.ended ≡ true) }
         ensures asked { self.new.asks ≤ self.old.asks }
         ensures counted { result ≡ Ok true → self.new.asks < self.old.asks }
         ensures few { OnOk result (most_bytes self.new.asks self.new.piece
@@ -91,11 +92,13 @@ impl LineCutter {
             (known_bytes self.old.ended self.old.piece (R.remaining reader.old))
             (R.remaining reader.new)) }
         ensures held { has_line_feed self.old.piece ≡ true → reader.new ≡ reader.old }
-        ensures ended { self.old.ended ≡ true → (reader.new ≡ reader.old) × (self.new.ended ≡ true) }
+        ensures ended { self.old.ended ≡ true →
+            (reader.new ≡ reader.old) × (self.new.ended ≡ true) }
         ensures asked { self.new.asks ≤ self.old.asks }
         ensures fewer { result ≡ Ok true → most_bytes self.new.asks self.new.piece
             < most_bytes self.old.asks self.old.piece }
-        ensures never_ends { IfErr result (λ fault. fault ≡ LineFault.NeverEnds → self.new.asks ≡ 0) }
+        ensures never_ends { IfErr result (λ fault. fault ≡ LineFault.NeverEnds →
+            self.new.asks ≡ 0) }
     {
         self.line.clear();
         while !self.piece.move_line(&mut self.line)? {

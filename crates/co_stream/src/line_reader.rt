@@ -69,11 +69,12 @@ impl LineReader {
         ensures* after_borrow { sem 𝓛 (Rests the_row self.entry (λ new. IsNext self.old new
             (R.remaining reader.old) (R.remaining reader.new) result)) }
         ensures length { IfOk result (λ next. IfSome next (λ line. length line.now ≤ 512)) }
-        ensures too_long { IfErr result (λ fault. fault ≡ LineFault.TooLong → IsNone self.old.fault →
-            IfSome (to_come self.old (R.remaining reader.old)) IsTooLong) }
+        ensures too_long { IfErr result (λ fault. fault ≡ LineFault.TooLong →
+            IsNone self.old.fault → IfSome (to_come self.old (R.remaining reader.old)) IsTooLong) }
         ensures within { IfErr result (λ fault. fault ≢ LineFault.TooLong → IsNone self.old.fault →
             LosesPartOfLine (to_come self.old (R.remaining reader.old)) (R.remaining reader.new)) }
-        ensures again { IfSome self.old.fault (λ fault. (result ≡ Err fault) × (reader.new ≡ reader.old)) }
+        ensures again { IfSome self.old.fault (λ fault.
+            (result ≡ Err fault) × (reader.new ≡ reader.old)) }
         ensures held { has_line_feed self.old.rest ≡ true → reader.new ≡ reader.old }
         ensures ended { self.old.ended ≡ true → reader.new ≡ reader.old }
     {

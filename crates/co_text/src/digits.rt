@@ -82,7 +82,8 @@ pub fn push_u32(text: &mut String, number: u32) -> Result<(), AllocError>
 
 /// Appends bytes, each in two hexadecimal digits. On an `Err` memory ran out, and the text may have a part of them.
 pub fn push_bytes(text: &mut String, bytes: &[u8]) -> Result<(), AllocError>
-    ensures { OnOk result (string_bytes text.new ≡ string_bytes text.old ++ flat_map byte_text bytes.now) }
+    ensures { OnOk result
+        (string_bytes text.new ≡ string_bytes text.old ++ flat_map byte_text bytes.now) }
 {
     for byte in bytes {
         push_byte(text, *byte)?;

@@ -324,7 +324,8 @@ impl<'s, 'a> EntrySection<'s, 'a> {
     // the limits of a numeric entry
     fn limits(&self, data_type: DataType) -> Result<(Option<Limit>, Option<Limit>), SheetFault>
         ensures fault { let section = (entry_view self.now).section in
-            result_err result ≡ least_fault (at_key (unread_limit data_type) (codes "LowLimit") section
+            result_err result
+            ≡ least_fault (at_key (unread_limit data_type) (codes "LowLimit") section
             ++ at_key (unread_limit data_type) (codes "HighLimit") section) }
         ensures low { IfOk result (λ v. IsLimitAt data_type
             (property_at (codes "LowLimit") (entry_view self.now).section) v.0) }

@@ -1,6 +1,6 @@
 use Rattle.std.proofs.Common.{◌++◌, ◌∷◌, [], sym, ap, ◌∙◌}
-use Rattle.co_dict_list.specs.ListedEntries.{ListedEntry}
-use Rattle.co_dict_list.specs.StoredEntries.{entry_view}
+use Rattle.co_dict_build.specs.ListedEntries.{ListedEntry}
+use Rattle.co_dict_build.specs.StoredEntries.{entry_view}
 use Rattle.co_dict_image.specs.Slots.{entries_in}
 use Rattle.co_dict_image.proofs.Appends.{IsNext, entries_appended, lined_appended, all_bytes}
 use Rattle.co_dict_image.proofs.image.append_row.Goals as goal

@@ -3,8 +3,8 @@ use Rattle.std.proofs.Common.{◌≡◌, true, take, length}
 use Rattle.std.specs.Prelude.{map}
 use Rattle.co_sheet.specs.SheetViews.{row_view}
 use Rattle.co_value.specs.Numbers.{AreBytes}
-use Rattle.co_dict_list.specs.Capacities.{limits_view}
-use Rattle.co_dict_list.specs.Built.{entry_of}
+use Rattle.co_dict_build.specs.Capacities.{limits_view}
+use Rattle.co_dict_build.specs.Built.{entry_of}
 use Rattle.co_dict_image.specs.Slots.{entries_in, are_lined}
 use Rattle.co_dict_image.proofs.image.image_of_rows.Given as goal
 

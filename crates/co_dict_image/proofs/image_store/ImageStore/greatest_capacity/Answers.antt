@@ -1,8 +1,8 @@
 use Rattle.std.proofs.Common.{◌≡◌, ℕ, true, List, fold, max, sym, ap, ◌∙◌, subst}
 use Rattle.std.proofs.lemmas.List.Folds.{fold-map}
 use Rattle.co_dict.specs.Stores.{IsGreatestCapacity}
-use Rattle.co_dict_list.specs.ListedEntries.{ListedEntry, rows_in, are_increasing}
-use Rattle.co_dict_list.proofs.GreatestCapacity.{most_is_greatest, room_within}
+use Rattle.co_dict_build.specs.ListedEntries.{ListedEntry, rows_in, are_increasing}
+use Rattle.co_dict_build.proofs.GreatestCapacity.{most_is_greatest, room_within}
 use Rattle.co_dict_image.specs.declared.slot.Slot.{Slot}
 use Rattle.co_dict_image.specs.Slots.{entry_in, entries_in, keys_of}
 use Rattle.co_dict_image.proofs.Entries.{entries_increase}

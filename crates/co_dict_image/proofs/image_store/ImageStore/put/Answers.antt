@@ -1,11 +1,11 @@
 use Rattle.std.proofs.Common.{◌≤◌, ◌+◌, length, List, ℕ, sym, ap, ◌∙◌, subst}
 use Rattle.std.proofs.lemmas.List.{get_or-map}
 use Rattle.co_dict.specs.Rows.{fits}
-use Rattle.co_dict_list.specs.ListedEntries.{ListedEntry}
-use Rattle.co_dict_list.proofs.EntryBytes.{are_bytes}
+use Rattle.co_dict_build.specs.ListedEntries.{ListedEntry}
+use Rattle.co_dict_build.proofs.EntryBytes.{are_bytes}
 use Rattle.co_dict_image.specs.declared.slot.Slot.{Slot}
 use Rattle.co_dict_image.specs.Slots.{entry_in}
-use Rattle.co_dict_image.proofs.Puts.{room_at, IsPut, lined_put, keys_put, increasing_put, same_put, bytes_put, entries_put}
+use Rattle.co_dict_image.proofs.Puts.{room_at, is_put, lined_put, keys_put, increasing_put, same_put, bytes_put, entries_put}
 use Rattle.co_dict_image.proofs.image_store.ImageStore.put.Goals as goal
 
 pub fill-requires-clause-fitting : goal.fill-requires-clause-fitting
@@ -25,132 +25,41 @@ fill-requires-clause-room c =
 pub invariant_of-self-clause-lined : goal.invariant_of-self-clause-lined
 invariant_of-self-clause-lined c =
     let store = c.args.self.now in
-    let p : IsPut store.values store.slots.items c.args.at c.index_mut.result.now c.fill.new.self c.args.bytes.now c.deref_mut.result.now c.fill.new.values = record {
-      held_is = c.deref_mut.ensures.value;
-      held_len = c.deref_mut.ensures.len;
-      lined = store.lined;
-      within = c.requires.within;
-      was = c.index_mut.ensures.value;
-      new_is = c.fill.ensures.values;
-      new_len = c.fill.ensures.len;
-      key = c.fill.ensures.key;
-      row = c.fill.ensures.row;
-      start = c.fill.ensures.start;
-      initial_size = c.fill.ensures.initial_size;
-      size = c.fill.ensures.size;
-    } in
-    lined_put store.values store.slots.items c.args.at c.index_mut.result.now c.fill.new.self c.args.bytes.now c.deref_mut.result.now c.fill.new.values p
+    let p = is_put store.values store.slots.items c.args.at c.deref_mut.ensures.value c.deref_mut.ensures.len store.lined c.requires.within c.index_mut.ensures.value c.fill.ensures in
+    lined_put p
 
 pub invariant_of-self-clause-bytes : goal.invariant_of-self-clause-bytes
 invariant_of-self-clause-bytes c =
     let store = c.args.self.now in
-    let p : IsPut store.values store.slots.items c.args.at c.index_mut.result.now c.fill.new.self c.args.bytes.now c.deref_mut.result.now c.fill.new.values = record {
-      held_is = c.deref_mut.ensures.value;
-      held_len = c.deref_mut.ensures.len;
-      lined = store.lined;
-      within = c.requires.within;
-      was = c.index_mut.ensures.value;
-      new_is = c.fill.ensures.values;
-      new_len = c.fill.ensures.len;
-      key = c.fill.ensures.key;
-      row = c.fill.ensures.row;
-      start = c.fill.ensures.start;
-      initial_size = c.fill.ensures.initial_size;
-      size = c.fill.ensures.size;
-    } in
-    bytes_put store.values store.slots.items c.args.at c.index_mut.result.now c.fill.new.self c.args.bytes.now c.deref_mut.result.now c.fill.new.values p store.bytes (are_bytes _ c.type_inv.bytes)
+    let p = is_put store.values store.slots.items c.args.at c.deref_mut.ensures.value c.deref_mut.ensures.len store.lined c.requires.within c.index_mut.ensures.value c.fill.ensures in
+    bytes_put p store.bytes (are_bytes _ c.type_inv.bytes)
 
 pub invariant_of-self-clause-same : goal.invariant_of-self-clause-same
 invariant_of-self-clause-same c =
     let store = c.args.self.now in
-    let p : IsPut store.values store.slots.items c.args.at c.index_mut.result.now c.fill.new.self c.args.bytes.now c.deref_mut.result.now c.fill.new.values = record {
-      held_is = c.deref_mut.ensures.value;
-      held_len = c.deref_mut.ensures.len;
-      lined = store.lined;
-      within = c.requires.within;
-      was = c.index_mut.ensures.value;
-      new_is = c.fill.ensures.values;
-      new_len = c.fill.ensures.len;
-      key = c.fill.ensures.key;
-      row = c.fill.ensures.row;
-      start = c.fill.ensures.start;
-      initial_size = c.fill.ensures.initial_size;
-      size = c.fill.ensures.size;
-    } in
-    same_put store.values store.slots.items c.args.at c.index_mut.result.now c.fill.new.self c.args.bytes.now c.deref_mut.result.now c.fill.new.values p store.initial.items store.same
+    let p = is_put store.values store.slots.items c.args.at c.deref_mut.ensures.value c.deref_mut.ensures.len store.lined c.requires.within c.index_mut.ensures.value c.fill.ensures in
+    same_put p store.initial.items store.same
 
 pub invariant_of-self-clause-increasing : goal.invariant_of-self-clause-increasing
 invariant_of-self-clause-increasing c =
     let store = c.args.self.now in
-    let p : IsPut store.values store.slots.items c.args.at c.index_mut.result.now c.fill.new.self c.args.bytes.now c.deref_mut.result.now c.fill.new.values = record {
-      held_is = c.deref_mut.ensures.value;
-      held_len = c.deref_mut.ensures.len;
-      lined = store.lined;
-      within = c.requires.within;
-      was = c.index_mut.ensures.value;
-      new_is = c.fill.ensures.values;
-      new_len = c.fill.ensures.len;
-      key = c.fill.ensures.key;
-      row = c.fill.ensures.row;
-      start = c.fill.ensures.start;
-      initial_size = c.fill.ensures.initial_size;
-      size = c.fill.ensures.size;
-    } in
-    increasing_put store.values store.slots.items c.args.at c.index_mut.result.now c.fill.new.self c.args.bytes.now c.deref_mut.result.now c.fill.new.values p store.increasing
+    let p = is_put store.values store.slots.items c.args.at c.deref_mut.ensures.value c.deref_mut.ensures.len store.lined c.requires.within c.index_mut.ensures.value c.fill.ensures in
+    increasing_put p store.increasing
 
 pub invariant_of-self-clause-numbered : goal.invariant_of-self-clause-numbered
 invariant_of-self-clause-numbered c =
     let store = c.args.self.now in
-    let p : IsPut store.values store.slots.items c.args.at c.index_mut.result.now c.fill.new.self c.args.bytes.now c.deref_mut.result.now c.fill.new.values = record {
-      held_is = c.deref_mut.ensures.value;
-      held_len = c.deref_mut.ensures.len;
-      lined = store.lined;
-      within = c.requires.within;
-      was = c.index_mut.ensures.value;
-      new_is = c.fill.ensures.values;
-      new_len = c.fill.ensures.len;
-      key = c.fill.ensures.key;
-      row = c.fill.ensures.row;
-      start = c.fill.ensures.start;
-      initial_size = c.fill.ensures.initial_size;
-      size = c.fill.ensures.size;
-    } in
-    store.numbered ∙ sym (keys_put store.values store.slots.items c.args.at c.index_mut.result.now c.fill.new.self c.args.bytes.now c.deref_mut.result.now c.fill.new.values p)
+    let p = is_put store.values store.slots.items c.args.at c.deref_mut.ensures.value c.deref_mut.ensures.len store.lined c.requires.within c.index_mut.ensures.value c.fill.ensures in
+    store.numbered ∙ sym (keys_put p)
 
 pub returns-clause-entries : goal.returns-clause-entries
 returns-clause-entries c =
     let store = c.args.self.now in
-    let p : IsPut store.values store.slots.items c.args.at c.index_mut.result.now c.fill.new.self c.args.bytes.now c.deref_mut.result.now c.fill.new.values = record {
-      held_is = c.deref_mut.ensures.value;
-      held_len = c.deref_mut.ensures.len;
-      lined = store.lined;
-      within = c.requires.within;
-      was = c.index_mut.ensures.value;
-      new_is = c.fill.ensures.values;
-      new_len = c.fill.ensures.len;
-      key = c.fill.ensures.key;
-      row = c.fill.ensures.row;
-      start = c.fill.ensures.start;
-      initial_size = c.fill.ensures.initial_size;
-      size = c.fill.ensures.size;
-    } in
-    λ d. entries_put store.values store.slots.items c.args.at c.index_mut.result.now c.fill.new.self c.args.bytes.now c.deref_mut.result.now c.fill.new.values p store.initial.items d
+    let p = is_put store.values store.slots.items c.args.at c.deref_mut.ensures.value c.deref_mut.ensures.len store.lined c.requires.within c.index_mut.ensures.value c.fill.ensures in
+    λ d. entries_put p store.initial.items d
 
 pub returns-clause-keys : goal.returns-clause-keys
 returns-clause-keys c =
     let store = c.args.self.now in
-    let p : IsPut store.values store.slots.items c.args.at c.index_mut.result.now c.fill.new.self c.args.bytes.now c.deref_mut.result.now c.fill.new.values = record {
-      held_is = c.deref_mut.ensures.value;
-      held_len = c.deref_mut.ensures.len;
-      lined = store.lined;
-      within = c.requires.within;
-      was = c.index_mut.ensures.value;
-      new_is = c.fill.ensures.values;
-      new_len = c.fill.ensures.len;
-      key = c.fill.ensures.key;
-      row = c.fill.ensures.row;
-      start = c.fill.ensures.start;
-      initial_size = c.fill.ensures.initial_size;
-      size = c.fill.ensures.size;
-    } in
-    keys_put store.values store.slots.items c.args.at c.index_mut.result.now c.fill.new.self c.args.bytes.now c.deref_mut.result.now c.fill.new.values p
+    let p = is_put store.values store.slots.items c.args.at c.deref_mut.ensures.value c.deref_mut.ensures.len store.lined c.requires.within c.index_mut.ensures.value c.fill.ensures in
+    keys_put p

@@ -2,12 +2,12 @@ use Rattle.std.proofs.Common.{◌≤◌, ◌+◌, length, List, ℕ, take, sym, 
 use Rattle.std.specs.Prelude.{drop}
 use Rattle.std.proofs.lemmas.List.{get_or-map}
 use Rattle.co_value.specs.Numbers.{AreBytes}
-use Rattle.co_dict_list.specs.ListedEntries.{ListedEntry}
+use Rattle.co_dict_build.specs.ListedEntries.{ListedEntry}
 use Rattle.co_dict_image.specs.declared.slot.Slot.{Slot}
 use Rattle.co_dict_image.specs.Slots.{entry_in, entries_in}
 use Rattle.co_dict_image.specs.Images.{filled_at}
 use Rattle.co_dict_image.proofs.Rooms.{bytes_part}
-use Rattle.co_dict_image.proofs.Puts.{room_at, IsPut, lined_put, keys_put, increasing_put, same_put, bytes_put, entries_put}
+use Rattle.co_dict_image.proofs.Puts.{room_at, is_put, lined_put, keys_put, increasing_put, same_put, bytes_put, entries_put}
 use Rattle.co_dict_image.proofs.image_store.ImageStore.restore.Goals as goal
 
 pub restore-requires-clause-same : goal.restore-requires-clause-same
@@ -22,132 +22,41 @@ restore-requires-clause-room c =
 pub invariant_of-self-clause-lined : goal.invariant_of-self-clause-lined
 invariant_of-self-clause-lined c =
     let store = c.args.self.now in
-    let p : IsPut store.values store.slots.items c.args.at c.index_mut.result.now c.restore.new.self (take c.index_mut.result.now.initial_size (drop c.index_mut.result.now.start c.deref.result.now)) c.deref_mut.result.now c.restore.new.values = record {
-      held_is = c.deref_mut.ensures.value;
-      held_len = c.deref_mut.ensures.len;
-      lined = store.lined;
-      within = c.requires.within;
-      was = c.index_mut.ensures.value;
-      new_is = c.restore.ensures.values;
-      new_len = c.restore.ensures.len;
-      key = c.restore.ensures.key;
-      row = c.restore.ensures.row;
-      start = c.restore.ensures.start;
-      initial_size = c.restore.ensures.initial_size;
-      size = c.restore.ensures.size;
-    } in
-    lined_put store.values store.slots.items c.args.at c.index_mut.result.now c.restore.new.self (take c.index_mut.result.now.initial_size (drop c.index_mut.result.now.start c.deref.result.now)) c.deref_mut.result.now c.restore.new.values p
+    let p = is_put store.values store.slots.items c.args.at c.deref_mut.ensures.value c.deref_mut.ensures.len store.lined c.requires.within c.index_mut.ensures.value c.restore.ensures in
+    lined_put p
 
 pub invariant_of-self-clause-bytes : goal.invariant_of-self-clause-bytes
 invariant_of-self-clause-bytes c =
     let store = c.args.self.now in
-    let p : IsPut store.values store.slots.items c.args.at c.index_mut.result.now c.restore.new.self (take c.index_mut.result.now.initial_size (drop c.index_mut.result.now.start c.deref.result.now)) c.deref_mut.result.now c.restore.new.values = record {
-      held_is = c.deref_mut.ensures.value;
-      held_len = c.deref_mut.ensures.len;
-      lined = store.lined;
-      within = c.requires.within;
-      was = c.index_mut.ensures.value;
-      new_is = c.restore.ensures.values;
-      new_len = c.restore.ensures.len;
-      key = c.restore.ensures.key;
-      row = c.restore.ensures.row;
-      start = c.restore.ensures.start;
-      initial_size = c.restore.ensures.initial_size;
-      size = c.restore.ensures.size;
-    } in
-    bytes_put store.values store.slots.items c.args.at c.index_mut.result.now c.restore.new.self (take c.index_mut.result.now.initial_size (drop c.index_mut.result.now.start c.deref.result.now)) c.deref_mut.result.now c.restore.new.values p store.bytes (subst (λ (l : List ℕ). AreBytes (take c.index_mut.result.now.initial_size (drop c.index_mut.result.now.start l))) (sym c.deref.ensures.value) (bytes_part c.index_mut.result.now.initial_size c.index_mut.result.now.start store.initial.items store.initial_bytes))
+    let p = is_put store.values store.slots.items c.args.at c.deref_mut.ensures.value c.deref_mut.ensures.len store.lined c.requires.within c.index_mut.ensures.value c.restore.ensures in
+    bytes_put p store.bytes (subst (λ (l : List ℕ). AreBytes (take c.index_mut.result.now.initial_size (drop c.index_mut.result.now.start l))) (sym c.deref.ensures.value) (bytes_part c.index_mut.result.now.initial_size c.index_mut.result.now.start store.initial.items store.initial_bytes))
 
 pub invariant_of-self-clause-same : goal.invariant_of-self-clause-same
 invariant_of-self-clause-same c =
     let store = c.args.self.now in
-    let p : IsPut store.values store.slots.items c.args.at c.index_mut.result.now c.restore.new.self (take c.index_mut.result.now.initial_size (drop c.index_mut.result.now.start c.deref.result.now)) c.deref_mut.result.now c.restore.new.values = record {
-      held_is = c.deref_mut.ensures.value;
-      held_len = c.deref_mut.ensures.len;
-      lined = store.lined;
-      within = c.requires.within;
-      was = c.index_mut.ensures.value;
-      new_is = c.restore.ensures.values;
-      new_len = c.restore.ensures.len;
-      key = c.restore.ensures.key;
-      row = c.restore.ensures.row;
-      start = c.restore.ensures.start;
-      initial_size = c.restore.ensures.initial_size;
-      size = c.restore.ensures.size;
-    } in
-    same_put store.values store.slots.items c.args.at c.index_mut.result.now c.restore.new.self (take c.index_mut.result.now.initial_size (drop c.index_mut.result.now.start c.deref.result.now)) c.deref_mut.result.now c.restore.new.values p store.initial.items store.same
+    let p = is_put store.values store.slots.items c.args.at c.deref_mut.ensures.value c.deref_mut.ensures.len store.lined c.requires.within c.index_mut.ensures.value c.restore.ensures in
+    same_put p store.initial.items store.same
 
 pub invariant_of-self-clause-increasing : goal.invariant_of-self-clause-increasing
 invariant_of-self-clause-increasing c =
     let store = c.args.self.now in
-    let p : IsPut store.values store.slots.items c.args.at c.index_mut.result.now c.restore.new.self (take c.index_mut.result.now.initial_size (drop c.index_mut.result.now.start c.deref.result.now)) c.deref_mut.result.now c.restore.new.values = record {
-      held_is = c.deref_mut.ensures.value;
-      held_len = c.deref_mut.ensures.len;
-      lined = store.lined;
-      within = c.requires.within;
-      was = c.index_mut.ensures.value;
-      new_is = c.restore.ensures.values;
-      new_len = c.restore.ensures.len;
-      key = c.restore.ensures.key;
-      row = c.restore.ensures.row;
-      start = c.restore.ensures.start;
-      initial_size = c.restore.ensures.initial_size;
-      size = c.restore.ensures.size;
-    } in
-    increasing_put store.values store.slots.items c.args.at c.index_mut.result.now c.restore.new.self (take c.index_mut.result.now.initial_size (drop c.index_mut.result.now.start c.deref.result.now)) c.deref_mut.result.now c.restore.new.values p store.increasing
+    let p = is_put store.values store.slots.items c.args.at c.deref_mut.ensures.value c.deref_mut.ensures.len store.lined c.requires.within c.index_mut.ensures.value c.restore.ensures in
+    increasing_put p store.increasing
 
 pub invariant_of-self-clause-numbered : goal.invariant_of-self-clause-numbered
 invariant_of-self-clause-numbered c =
     let store = c.args.self.now in
-    let p : IsPut store.values store.slots.items c.args.at c.index_mut.result.now c.restore.new.self (take c.index_mut.result.now.initial_size (drop c.index_mut.result.now.start c.deref.result.now)) c.deref_mut.result.now c.restore.new.values = record {
-      held_is = c.deref_mut.ensures.value;
-      held_len = c.deref_mut.ensures.len;
-      lined = store.lined;
-      within = c.requires.within;
-      was = c.index_mut.ensures.value;
-      new_is = c.restore.ensures.values;
-      new_len = c.restore.ensures.len;
-      key = c.restore.ensures.key;
-      row = c.restore.ensures.row;
-      start = c.restore.ensures.start;
-      initial_size = c.restore.ensures.initial_size;
-      size = c.restore.ensures.size;
-    } in
-    store.numbered ∙ sym (keys_put store.values store.slots.items c.args.at c.index_mut.result.now c.restore.new.self (take c.index_mut.result.now.initial_size (drop c.index_mut.result.now.start c.deref.result.now)) c.deref_mut.result.now c.restore.new.values p)
+    let p = is_put store.values store.slots.items c.args.at c.deref_mut.ensures.value c.deref_mut.ensures.len store.lined c.requires.within c.index_mut.ensures.value c.restore.ensures in
+    store.numbered ∙ sym (keys_put p)
 
 pub returns-clause-entries : goal.returns-clause-entries
 returns-clause-entries c =
     let store = c.args.self.now in
-    let p : IsPut store.values store.slots.items c.args.at c.index_mut.result.now c.restore.new.self (take c.index_mut.result.now.initial_size (drop c.index_mut.result.now.start c.deref.result.now)) c.deref_mut.result.now c.restore.new.values = record {
-      held_is = c.deref_mut.ensures.value;
-      held_len = c.deref_mut.ensures.len;
-      lined = store.lined;
-      within = c.requires.within;
-      was = c.index_mut.ensures.value;
-      new_is = c.restore.ensures.values;
-      new_len = c.restore.ensures.len;
-      key = c.restore.ensures.key;
-      row = c.restore.ensures.row;
-      start = c.restore.ensures.start;
-      initial_size = c.restore.ensures.initial_size;
-      size = c.restore.ensures.size;
-    } in
-    λ d. entries_put store.values store.slots.items c.args.at c.index_mut.result.now c.restore.new.self (take c.index_mut.result.now.initial_size (drop c.index_mut.result.now.start c.deref.result.now)) c.deref_mut.result.now c.restore.new.values p store.initial.items d ∙ ap (filled_at (entries_in store.values.items store.initial.items store.slots.items) c.args.at d) (ap (λ (l : List ℕ). take c.index_mut.result.now.initial_size (drop c.index_mut.result.now.start l)) c.deref.ensures.value ∙ ap (λ (s : Slot). (entry_in store.values.items store.initial.items s).initial) c.index_mut.ensures.value ∙ ap (λ (e : ListedEntry). e.initial) (sym (get_or-map (entry_in store.values.items store.initial.items) store.slots.items c.args.at c.index_mut.result.now d c.requires.within)))
+    let p = is_put store.values store.slots.items c.args.at c.deref_mut.ensures.value c.deref_mut.ensures.len store.lined c.requires.within c.index_mut.ensures.value c.restore.ensures in
+    λ d. entries_put p store.initial.items d ∙ ap (filled_at (entries_in store.values.items store.initial.items store.slots.items) c.args.at d) (ap (λ (l : List ℕ). take c.index_mut.result.now.initial_size (drop c.index_mut.result.now.start l)) c.deref.ensures.value ∙ ap (λ (s : Slot). (entry_in store.values.items store.initial.items s).initial) c.index_mut.ensures.value ∙ ap (λ (e : ListedEntry). e.initial) (sym (get_or-map (entry_in store.values.items store.initial.items) store.slots.items c.args.at c.index_mut.result.now d c.requires.within)))
 
 pub returns-clause-keys : goal.returns-clause-keys
 returns-clause-keys c =
     let store = c.args.self.now in
-    let p : IsPut store.values store.slots.items c.args.at c.index_mut.result.now c.restore.new.self (take c.index_mut.result.now.initial_size (drop c.index_mut.result.now.start c.deref.result.now)) c.deref_mut.result.now c.restore.new.values = record {
-      held_is = c.deref_mut.ensures.value;
-      held_len = c.deref_mut.ensures.len;
-      lined = store.lined;
-      within = c.requires.within;
-      was = c.index_mut.ensures.value;
-      new_is = c.restore.ensures.values;
-      new_len = c.restore.ensures.len;
-      key = c.restore.ensures.key;
-      row = c.restore.ensures.row;
-      start = c.restore.ensures.start;
-      initial_size = c.restore.ensures.initial_size;
-      size = c.restore.ensures.size;
-    } in
-    keys_put store.values store.slots.items c.args.at c.index_mut.result.now c.restore.new.self (take c.index_mut.result.now.initial_size (drop c.index_mut.result.now.start c.deref.result.now)) c.deref_mut.result.now c.restore.new.values p
+    let p = is_put store.values store.slots.items c.args.at c.deref_mut.ensures.value c.deref_mut.ensures.len store.lined c.requires.within c.index_mut.ensures.value c.restore.ensures in
+    keys_put p

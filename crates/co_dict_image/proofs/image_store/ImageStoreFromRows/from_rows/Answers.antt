@@ -1,7 +1,7 @@
 use Rattle.std.proofs.Common.{◌≡◌, true, List, ℕ, length, sym, ap, ◌∙◌, subst}
 use Rattle.co_value.specs.Numbers.{AreBytes}
-use Rattle.co_dict_list.specs.Capacities.{limits_view}
-use Rattle.co_dict_list.specs.ListedEntries.{are_increasing}
+use Rattle.co_dict_build.specs.Capacities.{limits_view}
+use Rattle.co_dict_build.specs.ListedEntries.{are_increasing}
 use Rattle.co_dict_image.specs.declared.slot.Slot.{Slot}
 use Rattle.co_dict_image.specs.Slots.{are_lined, keys_of}
 use Rattle.co_dict_image.proofs.Appends.{rows_increase}

@@ -1,7 +1,7 @@
 use Rattle.std.proofs.Common.{◌≤◌, ◌+◌, ℕ, List, length, take, Some, sym, ap, ◌∙◌, subst}
 use Rattle.std.specs.Prelude.{drop}
 use Rattle.std.specs.Option.{option_map}
-use Rattle.co_dict_list.proofs.Places.{part_at-place, part_at-no_place}
+use Rattle.co_dict_build.proofs.Places.{part_at-place, part_at-no_place}
 use Rattle.co_dict_image.specs.Slots.{entry_in}
 use Rattle.co_dict_image.specs.Images.{entries_of}
 use Rattle.co_dict_image.proofs.Entries.{number_is_place, slot_within}

@@ -1,7 +1,7 @@
 use Rattle.std.proofs.Common.{◌≡◌, ◌<◌, ◌≤◌, ◌+◌, ℕ, List, length, take, get_or, Some, sym, ap, ◌∙◌, subst, arith}
 use Rattle.std.specs.Prelude.{drop}
 use Rattle.std.proofs.lemmas.Bool.Decides.{nat_tests}
-use Rattle.co_dict_list.proofs.Numbering.{part_by_place}
+use Rattle.co_dict_build.proofs.Numbering.{part_by_place}
 use Rattle.co_dict_image.specs.declared.slot.Slot.{Slot}
 use Rattle.co_dict_image.specs.Slots.{entry_in}
 use Rattle.co_dict_image.specs.Images.{entries_of}

@@ -1,5 +1,5 @@
 use Rattle.std.proofs.Common.{◌∙◌, arith}
-use Rattle.co_dict_list.proofs.Numbering.{places_same, placed_small}
+use Rattle.co_dict_build.proofs.Numbering.{places_same, placed_small}
 use Rattle.co_dict_image.specs.Images.{entries_of}
 use Rattle.co_dict_image.specs.LawfulImages.{are_entries}
 use Rattle.co_dict_image.proofs.Entries.{number_is_place, entries_increase}

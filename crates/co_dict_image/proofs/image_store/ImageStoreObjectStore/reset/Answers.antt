@@ -1,7 +1,7 @@
 use Rattle.std.proofs.Common.{◌≡◌, ◌<◌, ◌≤◌, ◌+◌, Bool, List, length, get_or, sym, ap, ◌∙◌, subst, arith}
 use Rattle.co_dict.specs.Rows.{is_in_area}
-use Rattle.co_dict_list.specs.ListedEntries.{ListedEntry, contents_in, description_in}
-use Rattle.co_dict_list.proofs.Changes.{AreResetUpTo, reset_all, fixed_parts, fixed_parts-reset, contents_in-reset, same_description}
+use Rattle.co_dict_build.specs.ListedEntries.{ListedEntry, contents_in, description_in}
+use Rattle.co_dict_build.proofs.Changes.{AreResetUpTo, reset_all, fixed_parts, fixed_parts-reset, contents_in-reset, same_description}
 use Rattle.co_dict_image.specs.declared.image_store.ImageStore.{ImageStore}
 use Rattle.co_dict_image.specs.Slots.{entry_in}
 use Rattle.co_dict_image.specs.Images.{entries_of}

@@ -1,6 +1,6 @@
 -- The entries up to one have been reset; how many there are, the node-ID and the dummies are as they were.
 use Rattle.std.proofs.Common.{◌≡◌, length}
-use Rattle.co_dict_list.proofs.Changes.{AreResetUpTo}
+use Rattle.co_dict_build.proofs.Changes.{AreResetUpTo}
 use Rattle.co_dict_image.specs.Images.{entries_of}
 use Rattle.co_dict_image.proofs.image_store.ImageStoreObjectStore.reset.Given as goal
 

@@ -1,5 +1,5 @@
 use Rattle.std.proofs.Common.{Some, ap, ◌∙◌}
-use Rattle.co_dict_list.proofs.Places.{part_at-place, part_at-no_place}
+use Rattle.co_dict_build.proofs.Places.{part_at-place, part_at-no_place}
 use Rattle.co_dict_image.specs.Slots.{entry_in}
 use Rattle.co_dict_image.specs.Images.{entries_of}
 use Rattle.co_dict_image.proofs.Entries.{number_is_place}

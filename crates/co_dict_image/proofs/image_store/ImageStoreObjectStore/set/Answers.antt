@@ -1,7 +1,7 @@
 use Rattle.std.proofs.Common.{Bool, List, length, ap, ◌∙◌}
-use Rattle.co_dict_list.specs.ListedEntries.{contents_in, description_in}
-use Rattle.co_dict_list.proofs.Places.{fits_at-place, takes-no_place}
-use Rattle.co_dict_list.proofs.Changes.{fixed_parts, fixed_parts-with_bytes, contents_in-with_bytes, same_description}
+use Rattle.co_dict_build.specs.ListedEntries.{contents_in, description_in}
+use Rattle.co_dict_build.proofs.Places.{fits_at-place, takes-no_place}
+use Rattle.co_dict_build.proofs.Changes.{fixed_parts, fixed_parts-with_bytes, contents_in-with_bytes, same_description}
 use Rattle.co_dict_image.specs.Images.{entries_of}
 use Rattle.co_dict_image.proofs.Entries.{blank, number_is_place, slot_within}
 use Rattle.co_dict_image.proofs.image_store.ImageStoreObjectStore.set.Goals as goal

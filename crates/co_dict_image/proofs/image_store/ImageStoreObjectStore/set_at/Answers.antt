@@ -1,7 +1,7 @@
 use Rattle.std.proofs.Common.{◌<◌, Bool, List, length, ap, ◌∙◌, subst}
-use Rattle.co_dict_list.specs.ListedEntries.{ListedEntry, contents_in, description_in}
-use Rattle.co_dict_list.proofs.Changes.{fixed_parts, fixed_parts-with_bytes, same_description}
-use Rattle.co_dict_list.proofs.Numbering.{within_by_place, fits_by_place, written_by_place}
+use Rattle.co_dict_build.specs.ListedEntries.{ListedEntry, contents_in, description_in}
+use Rattle.co_dict_build.proofs.Changes.{fixed_parts, fixed_parts-with_bytes, same_description}
+use Rattle.co_dict_build.proofs.Numbering.{within_by_place, fits_by_place, written_by_place}
 use Rattle.co_dict_image.specs.Images.{entries_of}
 use Rattle.co_dict_image.proofs.Entries.{blank, entries_increase, entries_len}
 use Rattle.co_dict_image.proofs.image_store.ImageStoreObjectStore.set_at.Goals as goal

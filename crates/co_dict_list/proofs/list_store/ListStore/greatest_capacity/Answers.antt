@@ -1,10 +1,10 @@
 use Rattle.std.proofs.Common.{◌≡◌, ℕ, true, List, fold, max, sym, ap, ◌∙◌, subst}
 use Rattle.std.proofs.lemmas.List.Folds.{fold-map}
-use Rattle.co_dict_list.specs.declared.stored_entry.StoredEntry.{StoredEntry}
+use Rattle.co_dict_build.specs.declared.stored_entry.StoredEntry.{StoredEntry}
 use Rattle.co_dict.specs.Stores.{IsGreatestCapacity}
-use Rattle.co_dict_list.specs.ListedEntries.{ListedEntry, rows_in, keys_in, are_increasing}
-use Rattle.co_dict_list.specs.StoredEntries.{entry_view, entry_views}
-use Rattle.co_dict_list.proofs.GreatestCapacity.{most_is_greatest, room_within}
+use Rattle.co_dict_build.specs.ListedEntries.{ListedEntry, rows_in, keys_in, are_increasing}
+use Rattle.co_dict_build.specs.StoredEntries.{entry_view, entry_views}
+use Rattle.co_dict_build.proofs.GreatestCapacity.{most_is_greatest, room_within}
 use Rattle.co_dict_list.proofs.list_store.ListStore.greatest_capacity.Goals as goal
 
 -- the greatest capacity in a list of entries in memory

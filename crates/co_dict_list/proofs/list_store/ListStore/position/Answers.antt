@@ -3,11 +3,11 @@ use Rattle.std.specs.List.Sorted.{IsSearchInRange, IsBinarySearchResult}
 use Rattle.std.proofs.lemmas.List.Sorted.{answers_always}
 use Rattle.co_value.specs.declared.key.Key.{Key}
 use Rattle.co_value.specs.Keys.{same_key}
-use Rattle.co_dict_list.specs.declared.stored_entry.StoredEntry.{StoredEntry}
-use Rattle.co_dict_list.specs.ListedEntries.{keys_in, are_increasing}
-use Rattle.co_dict_list.specs.StoredEntries.{entry_view, entry_views}
-use Rattle.co_dict_list.proofs.Places.{position-map}
-use Rattle.co_dict_list.proofs.Search.{key_cmp, searched}
+use Rattle.co_dict_build.specs.declared.stored_entry.StoredEntry.{StoredEntry}
+use Rattle.co_dict_build.specs.ListedEntries.{keys_in, are_increasing}
+use Rattle.co_dict_build.specs.StoredEntries.{entry_view, entry_views}
+use Rattle.co_dict_build.proofs.Places.{position-map}
+use Rattle.co_dict_build.proofs.Search.{key_cmp, searched}
 use Rattle.co_dict_list.proofs.list_store.ListStore.position.Goals as goal
 
 same_keys : (entries : List StoredEntry) → map (λ (e : StoredEntry). e.key) entries ≡ keys_in (entry_views entries)

@@ -1,8 +1,8 @@
 use Rattle.std.proofs.Common.{◌<◌, length, slice_index_or, Some, sym, ap, ◌∙◌, subst, arith}
 use Rattle.std.proofs.lemmas.Bool.Decides.{nat_tests}
 use Rattle.std.proofs.lemmas.List.{length-map}
-use Rattle.co_dict_list.specs.StoredEntries.{entry_view, entry_views}
-use Rattle.co_dict_list.proofs.Numbering.{part_by_place}
+use Rattle.co_dict_build.specs.StoredEntries.{entry_view, entry_views}
+use Rattle.co_dict_build.proofs.Numbering.{part_by_place}
 use Rattle.co_dict_list.proofs.Views.{view_at}
 use Rattle.co_dict_list.proofs.list_store.ListStoreObjectStore.bytes_at.Goals as goal
 

@@ -1,6 +1,6 @@
 use Rattle.std.proofs.Common.{◌∙◌, arith}
-use Rattle.co_dict_list.specs.StoredEntries.{entry_views, are_entries}
-use Rattle.co_dict_list.proofs.Numbering.{places_same, placed_small}
+use Rattle.co_dict_build.specs.StoredEntries.{entry_views, are_entries}
+use Rattle.co_dict_build.proofs.Numbering.{places_same, placed_small}
 use Rattle.co_dict_list.proofs.list_store.ListStoreObjectStore.place.Goals as goal
 
 pub returns-in_err-at : goal.returns-in_err-at

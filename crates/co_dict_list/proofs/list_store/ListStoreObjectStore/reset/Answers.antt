@@ -1,7 +1,7 @@
 use Rattle.std.proofs.Common.{ap, ◌∙◌, arith}
-use Rattle.co_dict_list.specs.ListedEntries.{contents_in}
-use Rattle.co_dict_list.specs.StoredEntries.{entry_views}
-use Rattle.co_dict_list.proofs.Changes.{reset_none, fixed_parts, fixed_parts-reset, contents_in-reset, same_description, still_increasing}
+use Rattle.co_dict_build.specs.ListedEntries.{contents_in}
+use Rattle.co_dict_build.specs.StoredEntries.{entry_views}
+use Rattle.co_dict_build.proofs.Changes.{reset_none, fixed_parts, fixed_parts-reset, contents_in-reset, same_description, still_increasing}
 use Rattle.co_dict_list.proofs.Views.{views-reset_one, views-reset_all}
 use Rattle.co_dict_list.proofs.list_store.ListStoreObjectStore.reset.Goals as goal
 

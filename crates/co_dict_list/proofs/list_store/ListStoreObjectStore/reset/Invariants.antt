@@ -1,5 +1,5 @@
-use Rattle.co_dict_list.specs.StoredEntries.{entry_views}
-use Rattle.co_dict_list.proofs.Changes.{AreResetUpTo}
+use Rattle.co_dict_build.specs.StoredEntries.{entry_views}
+use Rattle.co_dict_build.proofs.Changes.{AreResetUpTo}
 use Rattle.co_dict_list.proofs.list_store.ListStoreObjectStore.reset.Given as goal
 
 abbrev pub invariant-loop-entry : goal.invariant-loop-entry

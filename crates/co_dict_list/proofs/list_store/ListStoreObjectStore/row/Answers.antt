@@ -1,6 +1,6 @@
 use Rattle.std.proofs.Common.{Some, ap, ◌∙◌}
-use Rattle.co_dict_list.specs.StoredEntries.{entry_view, entry_views}
-use Rattle.co_dict_list.proofs.Places.{part_at-place, part_at-no_place}
+use Rattle.co_dict_build.specs.StoredEntries.{entry_view, entry_views}
+use Rattle.co_dict_build.proofs.Places.{part_at-place, part_at-no_place}
 use Rattle.co_dict_list.proofs.Views.{view_at}
 use Rattle.co_dict_list.proofs.list_store.ListStoreObjectStore.row.Goals as goal
 

@@ -1,9 +1,9 @@
 use Rattle.std.proofs.Common.{length, ap, ◌∙◌}
 use Rattle.co_dict.specs.Rows.{fits}
-use Rattle.co_dict_list.specs.ListedEntries.{ListedEntry, contents_in}
-use Rattle.co_dict_list.specs.StoredEntries.{entry_view, entry_views}
-use Rattle.co_dict_list.proofs.Places.{fits_at-place, takes-no_place}
-use Rattle.co_dict_list.proofs.Changes.{fixed_parts, fixed_parts-with_bytes, contents_in-with_bytes, same_description, still_increasing}
+use Rattle.co_dict_build.specs.ListedEntries.{ListedEntry, contents_in}
+use Rattle.co_dict_build.specs.StoredEntries.{entry_view, entry_views}
+use Rattle.co_dict_build.proofs.Places.{fits_at-place, takes-no_place}
+use Rattle.co_dict_build.proofs.Changes.{fixed_parts, fixed_parts-with_bytes, contents_in-with_bytes, same_description, still_increasing}
 use Rattle.co_dict_list.proofs.Views.{view_at, views-filled}
 use Rattle.co_dict_list.proofs.list_store.ListStoreObjectStore.set.Goals as goal
 

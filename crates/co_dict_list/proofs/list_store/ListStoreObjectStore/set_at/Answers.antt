@@ -1,9 +1,9 @@
 use Rattle.std.proofs.Common.{◌<◌, length, ap, ◌∙◌}
 use Rattle.co_dict.specs.Rows.{fits}
-use Rattle.co_dict_list.specs.ListedEntries.{ListedEntry, contents_in}
-use Rattle.co_dict_list.specs.StoredEntries.{entry_view, entry_views}
-use Rattle.co_dict_list.proofs.Numbering.{within_by_place, fits_by_place, written_by_place}
-use Rattle.co_dict_list.proofs.Changes.{fixed_parts, fixed_parts-with_bytes, same_description, still_increasing}
+use Rattle.co_dict_build.specs.ListedEntries.{ListedEntry, contents_in}
+use Rattle.co_dict_build.specs.StoredEntries.{entry_view, entry_views}
+use Rattle.co_dict_build.proofs.Numbering.{within_by_place, fits_by_place, written_by_place}
+use Rattle.co_dict_build.proofs.Changes.{fixed_parts, fixed_parts-with_bytes, same_description, still_increasing}
 use Rattle.co_dict_list.proofs.Views.{view_at, views-filled}
 use Rattle.co_dict_list.proofs.list_store.ListStoreObjectStore.set_at.Goals as goal
 
