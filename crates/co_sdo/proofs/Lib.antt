@@ -3,7 +3,6 @@ mod UploadExamples
 mod BlockDownloadExamples
 pub mod ExampleChannel
 pub mod StoreLemmas
-pub mod UploadLemmas
 pub mod Logs
 pub mod RefusalLemmas
 pub mod Initiations

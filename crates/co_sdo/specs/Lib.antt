@@ -10,4 +10,3 @@ pub mod Completed
 pub mod Steps
 pub mod Standing
 pub mod Fields
-pub mod BufferContent

@@ -4,9 +4,7 @@ use Rattle.std.specs.Option.{option_map_or}
 use Rattle.co_value.specs.declared.key.Key.{Key}
 use Rattle.co_frame.specs.SegmentSizes.{segments_per_sub_block}
 use Rattle.co_frame.specs.AbortCodes.{unknown_command, toggle_not_alternated, too_long, invalid_block_size, invalid_sequence_number, timed_out}
-use Rattle.co_frame.specs.BlockSegments.{block_segment_in}
 use Rattle.co_frame.specs.SdoRequests.{request_in}
-use Rattle.co_frame.specs.declared.block_segment.BlockSegment.{BlockSegment}
 use Rattle.co_frame.specs.declared.sdo_request.SdoRequest.{SdoRequest}
 use Rattle.co_frame.specs.declared.sdo_request.SdoRequest.TheVariants.{DownloadExpedited, DownloadInitiate, DownloadSegment, Upload, UploadSegment, BlockUploadInitiate, BlockUploadEnd, BlockUploadAcknowledge, BlockUploadStart, BlockDownloadInitiate, BlockDownloadEnd}
 use Rattle.co_frame.specs.declared.sdo_response.SdoResponse.TheVariants.{DownloadDone, DownloadSegmentDone, Abort as Aborted, BlockDownloadInitiated, BlockDownloadDone, BlockDownloadAcknowledge, BlockUploadInitiated}
@@ -17,7 +15,8 @@ use Rattle.co_sdo.specs.declared.stage.Stage.{Stage}
 use Rattle.co_sdo.specs.declared.stage.Stage.TheVariants.{Download, Upload as Uploading, SubBlock, LastTaken, BlockUploadInitiated as Begun, BlockUpload, BlockUploadEnded}
 use Rattle.co_sdo.specs.Refused.{capacity_at, reading_refusal, initiate_refusal, completion_refusal}
 use Rattle.co_sdo.specs.Log.{Answer, Response, Log}
-use Rattle.co_sdo.specs.SubBlocks.{ends_sub_block, segment_taken, bytes_taken, is_last_taken}
+use Rattle.co_sdo.specs.SubBlocks.{ends_sub_block, is_last_taken}
+pub use Rattle.co_sdo_segments.specs.Taken.{segment_next, taken_with, held_with}
 use Rattle.co_sdo.specs.Downloads.{is_odd, same_bool, expedited_part, without}
 use Rattle.co_sdo.specs.Uploads.{value_at, upload_initiated, upload_segment, segment_count, sub_block_sent, block_upload_end}
 use Rattle.co_sdo.specs.OpenTransfers.{is_initiate}
@@ -66,18 +65,6 @@ abbrev pub segment_answers : Description → Contents → OpenTransfer → Stage
 segment_answers d contents o (Download indicated expected) toggle part last =
     unless_refused (segment_refusal d contents o indicated expected toggle part last) o.key (Response (DownloadSegmentDone toggle) ∷ [])
 segment_answers d contents o _ toggle part last = unexpected (Some o)
-
--- inside a sub-block: the segment that a frame is, where it is taken
-abbrev pub segment_next : ℕ → List ℕ → Option BlockSegment
-segment_next taken frame = segment_taken taken (block_segment_in frame)
-
--- how many segments of a sub-block are taken with a frame
-abbrev pub taken_with : ℕ → List ℕ → ℕ
-taken_with taken frame = option_map_or (λ segment. taken + 1) (segment_next taken frame) taken
-
--- the bytes held with a frame
-abbrev pub held_with : List ℕ → ℕ → List ℕ → List ℕ
-held_with bytes taken frame = bytes ++ bytes_taken (segment_next taken frame)
 
 -- the end of a sub-block is refused where no segment with c was taken and there isn't room for the bytes held
 abbrev pub sub_block_refusal : Rows → OpenTransfer → ℕ → List ℕ → Option ℕ

@@ -1,7 +1,6 @@
 -- What one frame makes of the open transfer, without the log.
-use Rattle.std.specs.Prelude.{ℕ, ◌+◌, ◌*◌, ◌==◌, ◌&&◌, Bool, false, not, nat_lt, nat_le, List, [], ◌++◌, length, Option, Some, None, if◌then◌else◌}
+use Rattle.std.specs.Prelude.{ℕ, ◌+◌, ◌==◌, ◌&&◌, Bool, false, not, nat_lt, nat_le, List, [], ◌++◌, length, Option, Some, None, if◌then◌else◌}
 use Rattle.co_value.specs.declared.key.Key.{Key}
-use Rattle.co_frame.specs.SegmentSizes.{bytes_per_segment}
 use Rattle.co_frame.specs.AbortCodes.{invalid_sequence_number}
 use Rattle.co_frame.specs.SdoFields.{command}
 use Rattle.co_frame.specs.SdoRequests.{request_in}
@@ -15,7 +14,7 @@ use Rattle.co_sdo.specs.declared.stage.Stage.TheVariants.{Download, Upload as Up
 use Rattle.co_sdo.specs.Refused.{capacity_at, reading_refusal, initiate_refusal, completion_refusal}
 use Rattle.co_sdo.specs.SubBlocks.{ends_sub_block, is_last_taken}
 use Rattle.co_sdo.specs.Downloads.{Download as Whole, is_odd, expedited_part, without}
-use Rattle.co_sdo.specs.Uploads.{value_at, segment_count, sub_block_length}
+use Rattle.co_sdo.specs.Uploads.{value_at, is_last_after, segment_count, sub_block_length}
 use Rattle.co_sdo.specs.OpenTransfers.{is_initiate}
 use Rattle.co_sdo.specs.Opened.{OpenTransfer}
 use Rattle.co_sdo.specs.Completed.{unless}
@@ -43,7 +42,7 @@ after_frame rows o indicated taken frame =
 
 abbrev pub after_upload_segment : OpenTransfer → Stage → Bool → Option OpenTransfer
 after_upload_segment o (Uploading sent) toggle =
-    unless (toggle_refusal toggle (is_odd sent)) (if nat_le (length o.bytes) (bytes_per_segment * sent + bytes_per_segment) then None else opened_at o.key (Uploading (sent + 1)) o.bytes)
+    unless (toggle_refusal toggle (is_odd sent)) (if is_last_after sent o.bytes then None else opened_at o.key (Uploading (sent + 1)) o.bytes)
 after_upload_segment o _ toggle = None
 
 abbrev pub after_start : OpenTransfer → Stage → Option OpenTransfer

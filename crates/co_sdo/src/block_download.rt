@@ -1,7 +1,6 @@
 //! Block downloads.
 
 ghost use Rattle.std.specs.Prelude.{◌≡◌, ◌+◌, ◌*◌, ◌<◌, ◌≤◌, ◌++◌, Some, None, length};
-ghost use Rattle.std.specs.Option.{option_map_or};
 ghost use Rattle.arrayvec.specs.ArrayVec.{array_vec_len};
 ghost use Rattle.co_value.specs.declared.key.Key.{Key};
 ghost use Rattle.co_frame.specs.SegmentSizes.{segments_per_sub_block, bytes_per_segment};
@@ -9,12 +8,10 @@ ghost use Rattle.co_frame.specs.Outboxes.{HasRoomFor};
 ghost use Rattle.co_frame.specs.declared.sdo_request.SdoRequest.TheVariants.{BlockDownloadInitiate};
 ghost use Rattle.co_sdo.specs.Log.{frames_on};
 ghost use Rattle.co_sdo.specs.Refused.{capacity_at};
-ghost use Rattle.co_sdo.specs.SubBlocks.{segment_taken, bytes_taken};
 ghost use Rattle.co_sdo.specs.Replies.{on_open, frame_answers, block_end_answers, initiate_answers};
 ghost use Rattle.co_sdo.specs.Completed.{contents_with, key_set};
 ghost use Rattle.co_sdo.specs.Steps.{next_on, after_frame_at, after_initiate, set_on_open, set_by_end};
 
-use crate::buffer::Buffer;
 use crate::channel::Channel;
 use crate::download::capacity;
 use crate::refusals::initiate_refusal;
@@ -23,26 +20,6 @@ use crate::stage::{Ongoing, Stage};
 use co_dict::ObjectStore;
 use co_frame::{AbortCode, BlockSegment, Frame, Outbox, SEGMENTS_PER_SUB_BLOCK, SdoResponse};
 use co_value::Key;
-
-// Appends the data of a segment, if it is the next of its sub-block, and gives how many are then taken in it.
-fn append_next(buffer: &mut Buffer, taken: u8, segment: &BlockSegment, bytes: &[u8]) -> u8
-    requires bytes { bytes.now ≡ segment.now.bytes }
-    requires seven { length bytes.now ≡ bytes_per_segment }
-    requires room { length buffer.old.bytes + bytes_per_segment ≤ buffer.old.room }
-    requires few { taken < segments_per_sub_block }
-    ensures bytes { buffer.new ≡ record buffer.old {
-      bytes = buffer.old.bytes ++ bytes_taken (segment_taken taken (Some segment.now));
-    } }
-    ensures taken { result ≡ option_map_or (λ next. taken + 1) (segment_taken taken (Some
-        segment.now)) taken }
-    ensures len { length buffer.new.bytes + bytes_per_segment * taken ≡ length buffer.old.bytes + bytes_per_segment * result }
-{
-    if segment.sequence != taken + 1 {
-        return taken;
-    }
-    buffer.append(bytes);
-    taken + 1
-}
 
 impl Channel {
     // Initiate SDO block download, ccs = 6, cs = 0.
@@ -122,7 +99,8 @@ impl Channel {
         let Some(segment) = BlockSegment::read(frame) else {
             return;
         };
-        let count = append_next(&mut self.buffer, taken, &segment, segment_data(frame));
+        let bytes = segment_data(frame);
+        let count = self.buffer.append_next(taken, &segment, bytes);
         if !segment.last && segment.sequence != SEGMENTS_PER_SUB_BLOCK {
             // the rest of what is open stays, and isn't copied
             if let Some(ongoing) = &mut self.current {

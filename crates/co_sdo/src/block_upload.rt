@@ -14,75 +14,11 @@ ghost use Rattle.co_sdo.specs.Steps.{next_on, after_start, after_acknowledge, af
 
 use crate::channel::Channel;
 use crate::refusals::readable_value;
-use crate::sender::Sender;
 use crate::stage::{Ongoing, Stage};
-use crate::upload::part_after;
 use co_dict::ObjectStore;
-use co_frame::{
-    AbortCode, BYTES_PER_SEGMENT, BlockSegment, Outbox, SEGMENTS_PER_SUB_BLOCK, SdoResponse,
-};
+use co_frame::{AbortCode, Outbox, SEGMENTS_PER_SUB_BLOCK, SdoResponse};
+use co_sdo_segments::{segment_count, unused_after};
 use co_value::Key;
-
-// How many segments a value has.
-fn segment_count(value: &[u8]) -> usize
-    requires { length value.now < 2 ^ 40 }
-    ensures count { result ≡ segment_count value.now }
-    ensures bytes { length value.now ≤ bytes_per_segment * result }
-    ensures segments { bytes_per_segment * result ≤ length value.now + bytes_per_segment }
-    ensures some { 1 ≤ result }
-{
-    ((value.len() + 6) / BYTES_PER_SEGMENT).max(1)
-}
-
-// A segment of a sub-block that begins after so many segments.
-fn block_segment(value: &[u8], position: usize, number: u8) -> BlockSegment
-    requires len { length value.now < 2 ^ 40 }
-    requires first { 1 ≤ number }
-    requires last { number ≤ segments_per_sub_block }
-    requires start { bytes_per_segment * (position + number) ≤ length value.now + bytes_per_segment }
-    ensures segment { result ≡ block_segment value.now position number }
-    ensures number { result.sequence ≡ number }
-{
-    let count = position + number as usize;
-    let part = part_after(value, count - 1);
-    let mut bytes = [0; 7];
-    bytes[..part.len()].copy_from_slice(part);
-    BlockSegment {
-        last: count == segment_count(value),
-        sequence: number,
-        bytes,
-    }
-}
-
-impl Sender {
-    // Sends a sub-block that begins after so many segments, and gives the number of its segments.
-    fn send_sub_block(
-        self,
-        value: &[u8],
-        position: usize,
-        block_size: u8,
-        outbox: &mut Outbox,
-    ) -> u8
-        requires id { self.answer < 2048 }
-        requires room { HasRoomFor segments_per_sub_block outbox.old }
-        requires len { length value.now < 2 ^ 40 }
-        requires few { block_size ≤ segments_per_sub_block }
-        requires position { position ≤ segment_count value.now }
-        ensures few { array_vec_len outbox.new ≤ array_vec_len outbox.old + segments_per_sub_block }
-        ensures answers { outbox.new.items ≡ outbox.old.items ++ frames_on self.answer
-            (sub_block_sent value.now position block_size) }
-        ensures count { result ≡ sub_block_length value.now position block_size }
-        ensures most { result ≤ segments_per_sub_block }
-        ensures within { position + result ≤ segment_count value.now }
-    {
-        let left = segment_count(value) - position;
-        let number = (block_size as usize).min(left) as u8;
-        for k in 0..number {
-            outbox.push(block_segment(value, position, k + 1).write(self.answer));
-        }
-        number
-    }
-}
 
 impl Channel {
     // Initiate SDO block upload, ccs = 5, cs = 0.
@@ -199,9 +135,8 @@ impl Channel {
             return;
         }
         let position = acknowledged as usize + sequence as usize;
-        let count = segment_count(self.buffer.as_slice());
-        if position == count {
-            let unused = (BYTES_PER_SEGMENT * count - self.buffer.len()) as u8;
+        if position == segment_count(self.buffer.as_slice()) {
+            let unused = unused_after(self.buffer.as_slice());
             self.current = Some(Ongoing {
                 key,
                 stage: Stage::BlockUploadEnded,

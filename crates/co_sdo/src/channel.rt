@@ -16,11 +16,11 @@ ghost use Rattle.co_sdo.specs.Replies.{aborted, open_key};
 ghost use Rattle.co_sdo.specs.Completed.{contents_with, key_set};
 ghost use Rattle.co_sdo.specs.Standing.{Stands, reply_on, set_on, log_on};
 
-use crate::buffer::Buffer;
 use crate::sender::Sender;
 use crate::stage::Ongoing;
 use co_dict::{ObjectStore, store_laws};
 use co_frame::{AbortCode, BYTES_PER_SUB_BLOCK, Frame, Ids, Outbox};
+use co_sdo_segments::Buffer;
 use co_value::Key;
 use std::alloc::{AllocError, Global};
 use std::marker::Model;
@@ -80,7 +80,7 @@ impl Channel {
           current = None;
         }) }
     {
-        let buffer = Buffer::new(alloc, greatest as usize + BYTES_PER_SUB_BLOCK)?;
+        let buffer = Buffer::with_room(alloc, greatest as usize + BYTES_PER_SUB_BLOCK)?;
         Ok(Channel {
             request: ids.request,
             sender: Sender { answer: ids.answer },

@@ -3,7 +3,6 @@
 
 mod block_download;
 mod block_upload;
-mod buffer;
 mod channel;
 mod download;
 mod refusals;
@@ -15,4 +14,3 @@ mod upload;
 
 pub use channel::Channel;
 pub use co_frame::Ids;
-pub use co_sdo_client::{Client, ClientState, Mode};

@@ -15,46 +15,10 @@ ghost use Rattle.co_sdo.specs.Steps.{next_on, after_upload_segment, after_initia
 use crate::channel::Channel;
 use crate::refusals::readable_value;
 use crate::stage::{Ongoing, Stage};
-use arrayvec::ArrayVec;
 use co_dict::ObjectStore;
-use co_frame::{AbortCode, BYTES_PER_SEGMENT, ExpeditedData, Outbox, SdoResponse};
+use co_frame::{AbortCode, ExpeditedData, Outbox, SdoResponse};
+use co_sdo_segments::{expedited_data, is_last_after, part_after, segment_data};
 use co_value::Key;
-
-// The seven bytes of a value after so many segments, fewer at its end.
-pub(crate) fn part_after(value: &[u8], count: usize) -> &[u8]
-    requires { bytes_per_segment * count ≤ length value.now }
-    ensures part { result.now ≡ part_after count value.now }
-    ensures few { length result.now ≤ bytes_per_segment }
-{
-    let rest = &value[BYTES_PER_SEGMENT * count..];
-    &rest[..rest.len().min(BYTES_PER_SEGMENT)]
-}
-
-// The bytes of an expedited upload.
-fn expedited(value: &[u8]) -> ArrayVec<u8, 4>
-    requires { length value.now ≤ 4 }
-    ensures { result.items ≡ value.now }
-{
-    let mut data = ArrayVec::new();
-    match data.try_extend_from_slice(value) {
-        Ok(()) => {}
-        Err(_) => unreachable!(),
-    }
-    data
-}
-
-// The bytes of a segment.
-fn segment(part: &[u8]) -> ArrayVec<u8, 7>
-    requires { length part.now ≤ bytes_per_segment }
-    ensures { result.items ≡ part.now }
-{
-    let mut data = ArrayVec::new();
-    match data.try_extend_from_slice(part) {
-        Ok(()) => {}
-        Err(_) => unreachable!(),
-    }
-    data
-}
 
 impl Channel {
     // Initiate SDO upload, ccs = 2.
@@ -85,7 +49,7 @@ impl Channel {
             }
         };
         if 1 <= value.len() && value.len() <= 4 {
-            let data = ExpeditedData::Indicated(expedited(value));
+            let data = ExpeditedData::Indicated(expedited_data(value));
             self.sender
                 .send(SdoResponse::UploadExpedited { key, data }, outbox);
             return;
@@ -125,8 +89,9 @@ impl Channel {
             self.give_up(AbortCode::TOGGLE_NOT_ALTERNATED, outbox);
             return;
         }
-        let data = segment(part_after(self.buffer.as_slice(), sent as usize));
-        let last = self.buffer.len() <= BYTES_PER_SEGMENT * sent as usize + BYTES_PER_SEGMENT;
+        let value = self.buffer.as_slice();
+        let data = segment_data(part_after(value, sent as usize));
+        let last = is_last_after(value, sent as usize);
         if last {
             self.current = None;
         } else {

@@ -1,7 +1,6 @@
 pub mod Reports
 mod DownloadExamples
 mod UploadExamples
-pub mod SubBlockLemmas
 pub mod EventLemmas
 pub mod StageLemmas
 pub mod TakeLemmas

@@ -1,5 +1,5 @@
 -- The segments that a client sends of its bytes (CiA 301, 7.2.4.3.4 and 7.2.4.3.10).
-use Rattle.std.specs.Prelude.{ℕ, ◌+◌, ◌-◌, ◌*◌, ◌/◌, ◌&&◌, Bool, max, nat_le, List, [], ◌∷◌, length, map, Option, Some, None, if◌then◌else◌}
+use Rattle.std.specs.Prelude.{ℕ, ◌+◌, ◌/◌, ◌&&◌, Bool, max, nat_le, List, [], ◌∷◌, length, map, Option, Some, None, if◌then◌else◌}
 use Rattle.std.specs.List.{range_with_len}
 use Rattle.co_frame.specs.SegmentSizes.{bytes_per_segment, segments_per_sub_block}
 use Rattle.co_frame.specs.declared.sdo_request.ExpeditedData.TheVariants.{Indicated}
@@ -9,7 +9,7 @@ use Rattle.co_sdo_client.specs.declared.mode.Mode.TheVariants.{Plain, Segmented,
 use Rattle.co_sdo_client.specs.declared.transfer.Transfer.{Transfer}
 use Rattle.co_sdo_client.specs.declared.transfer.Transfer.TheVariants.{ExpeditedDownload, SegmentedDownload, BlockDownload, SegmentedUpload, BlockUpload}
 use Rattle.co_sdo_client.specs.Calls.{Job, Download, Upload, Call, Message, Request, Segment}
-pub use Rattle.co_frame.specs.Segments.{is_odd, part_after, segments_for, segment_count, block_segment, sub_block_length}
+pub use Rattle.co_sdo_segments.specs.Sent.{is_odd, part_after, is_last_after, segments_for, segment_count, unused_after, block_segment, sub_block_length}
 
 -- the bytes of a download
 abbrev pub bytes_of : Job → List ℕ
@@ -58,10 +58,6 @@ initiate_messages call = initiate_request call (transfer_of call) ∷ []
 abbrev pub requests_needed : ℕ → ℕ
 requests_needed size = 1 + max 1 ((size + 6) / bytes_per_segment)
 
--- the segment after so many is the last: no bytes remain after it
-abbrev pub is_last_after : ℕ → List ℕ → Bool
-is_last_after count bytes = nat_le (length bytes) (bytes_per_segment * count + bytes_per_segment)
-
 -- the segment after so many, with their parity as its toggle
 abbrev pub segment_after : ℕ → List ℕ → Message
 segment_after count bytes = Request (DownloadSegment (is_odd count) (record { items = part_after count bytes }) (is_last_after count bytes))
@@ -74,4 +70,4 @@ sub_block_sent bytes position size = map (λ number. Segment (block_segment byte
 
 -- the end of a block download, with the number of bytes that its last segment leaves unused
 abbrev pub block_download_end : List ℕ → List Message
-block_download_end bytes = Request (BlockDownloadEnd (bytes_per_segment * segment_count bytes - length bytes)) ∷ []
+block_download_end bytes = Request (BlockDownloadEnd (unused_after bytes)) ∷ []

@@ -5,10 +5,9 @@ use Rattle.co_value.specs.declared.key.Key.{Key}
 use Rattle.co_value.specs.Keys.{same_key}
 use Rattle.co_frame.specs.SegmentSizes.{segments_per_sub_block}
 use Rattle.co_frame.specs.AbortCodes.{toggle_not_alternated, timed_out, unknown_command, invalid_block_size, invalid_sequence_number, out_of_memory, too_long, too_short}
-use Rattle.co_frame.specs.BlockSegments.{block_segment_in, is_abort_in_sub_block}
+use Rattle.co_frame.specs.BlockSegments.{is_abort_in_sub_block}
 use Rattle.co_frame.specs.SdoParts.{code_in}
 use Rattle.co_frame.specs.SdoResponses.{response_in}
-use Rattle.co_frame.specs.declared.block_segment.BlockSegment.{BlockSegment}
 use Rattle.co_frame.specs.declared.sdo_request.ExpeditedData.{ExpeditedData}
 use Rattle.co_frame.specs.declared.sdo_request.ExpeditedData.TheVariants.{Indicated, NotIndicated}
 use Rattle.co_frame.specs.declared.sdo_request.SdoRequest.TheVariants.{UploadSegment as NextSegment, BlockUploadEnd as UploadEnd, BlockUploadAcknowledge, BlockUploadStart}
@@ -20,7 +19,8 @@ use Rattle.co_sdo_client.specs.declared.transfer.Transfer.{Transfer}
 use Rattle.co_sdo_client.specs.declared.transfer.Transfer.TheVariants.{ExpeditedDownload, SegmentedDownload, BlockDownload as InBlocks, SegmentedUpload, BlockUpload}
 use Rattle.co_sdo_client.specs.Calls.{Call, Message, Request, Event, Answered, Ticked, is_time_over}
 use Rattle.co_sdo_client.specs.Segments.{is_odd, bytes_of, cap_of, transfer_of, segment_after, is_last_after, segment_count, sub_block_sent, block_download_end}
-use Rattle.co_sdo_client.specs.SubBlocks.{ends_sub_block, segment_taken, bytes_taken, is_last_taken}
+use Rattle.co_sdo_client.specs.SubBlocks.{ends_sub_block, is_last_taken}
+pub use Rattle.co_sdo_segments.specs.Taken.{segment_next, taken_with, held_with}
 use Rattle.co_sdo_client.specs.Stages.{stage_after, held_after}
 pub use Rattle.co_frame.specs.Segments.{same_bool, without}
 
@@ -138,18 +138,6 @@ abbrev pub block_upload_confirmed : Call → Transfer → Key → Option ℕ →
 block_upload_confirmed call BlockUpload key size =
     unless_fault (other_key call key ∷ no_room_indicated call size ∷ []) (GoesOn (Request BlockUploadStart ∷ []))
 block_upload_confirmed call _ key size = unexpected
-
--- the segment that a frame is, where it is the next of its sub-block
-abbrev pub segment_next : ℕ → List ℕ → Option BlockSegment
-segment_next taken frame = segment_taken taken (block_segment_in frame)
-
--- how many segments of a sub-block are taken with a frame
-abbrev pub taken_with : ℕ → List ℕ → ℕ
-taken_with taken frame = option_map_or (λ segment. taken + 1) (segment_next taken frame) taken
-
--- the bytes held with a frame
-abbrev pub held_with : List ℕ → ℕ → List ℕ → List ℕ
-held_with held taken frame = held ++ bytes_taken (segment_next taken frame)
 
 -- the end of a sub-block: it is acknowledged, unless more follows and the bytes held are more than there is room for
 abbrev pub sub_block_end : Call → ℕ → List ℕ → List ℕ → Verdict

@@ -11,45 +11,12 @@ ghost use Rattle.co_sdo_client.specs.Segments.{bytes_of, segment_count, block_se
 ghost use Rattle.co_sdo_client.specs.Steps.{messages_to, after_response, after_sub_block};
 
 use crate::client::Client;
-use crate::sending::part_after;
 use crate::stage::Stage;
 use crate::state::ClientState;
 use crate::transfer::Transfer;
-use co_frame::{
-    AbortCode, BYTES_PER_SEGMENT, BlockSegment, Outbox, SEGMENTS_PER_SUB_BLOCK, SdoRequest,
-};
+use co_frame::{AbortCode, Outbox, SEGMENTS_PER_SUB_BLOCK, SdoRequest};
+use co_sdo_segments::{segment_count, send_sub_block, unused_after};
 use co_value::Key;
-
-// How many segments so many bytes have.
-fn segment_count(bytes: &[u8]) -> usize
-    requires { length bytes.now ≤ 65535 }
-    ensures count { result ≡ segment_count bytes.now }
-    ensures bytes { length bytes.now ≤ bytes_per_segment * result }
-    ensures segments { bytes_per_segment * result ≤ length bytes.now + bytes_per_segment }
-    ensures some { 1 ≤ result }
-{
-    ((bytes.len() + 6) / BYTES_PER_SEGMENT).max(1)
-}
-
-// A segment of a sub-block that begins after so many segments.
-fn block_segment(bytes: &[u8], position: usize, number: u8) -> BlockSegment
-    requires len { length bytes.now ≤ 65535 }
-    requires first { 1 ≤ number }
-    requires last { number ≤ segments_per_sub_block }
-    requires start { bytes_per_segment * (position + number) ≤ length bytes.now + bytes_per_segment }
-    ensures segment { result ≡ block_segment bytes.now position number }
-    ensures number { result.sequence ≡ number }
-{
-    let count = position + number as usize;
-    let part = part_after(bytes, count - 1);
-    let mut cells = [0; 7];
-    cells[..part.len()].copy_from_slice(part);
-    BlockSegment {
-        last: count == segment_count(bytes),
-        sequence: number,
-        bytes: cells,
-    }
-}
 
 // Sends a sub-block on an identifier, and gives the number of its segments.
 fn send_segments(id: u16, bytes: &[u8], position: usize, block_size: u8, outbox: &mut Outbox) -> u8
@@ -66,12 +33,7 @@ fn send_segments(id: u16, bytes: &[u8], position: usize, block_size: u8, outbox:
     ensures most { result ≤ segments_per_sub_block }
     ensures within { position + result ≤ segment_count bytes.now }
 {
-    let left = segment_count(bytes) - position;
-    let number = (block_size as usize).min(left) as u8;
-    for k in 0..number {
-        outbox.push(block_segment(bytes, position, k + 1).write(id));
-    }
-    number
+    send_sub_block(id, bytes, position, block_size, outbox)
 }
 
 impl<'a> Client<'a> {
@@ -140,9 +102,8 @@ impl<'a> Client<'a> {
             return;
         }
         let position = usize::from(acknowledged) + usize::from(sequence);
-        let count = segment_count(self.bytes);
-        if position == count {
-            let unused = (BYTES_PER_SEGMENT * count - self.bytes.len()) as u8;
+        if position == segment_count(self.bytes) {
+            let unused = unused_after(self.bytes);
             self.stage = Stage::BlockDownloadEnded;
             self.send(SdoRequest::BlockDownloadEnd { unused }, outbox);
             return;

@@ -1,19 +1,16 @@
 //! Block uploads.
 
 ghost use Rattle.std.specs.Prelude.{◌≡◌, ◌+◌, ◌*◌, ◌<◌, ◌≤◌, ◌++◌, Some, length};
-ghost use Rattle.std.specs.Option.{option_map_or};
 ghost use Rattle.arrayvec.specs.ArrayVec.{array_vec_len};
-ghost use Rattle.co_frame.specs.SegmentSizes.{segments_per_sub_block, bytes_per_segment};
+ghost use Rattle.co_frame.specs.SegmentSizes.{segments_per_sub_block};
 ghost use Rattle.co_frame.specs.Outboxes.{HasRoomFor};
 ghost use Rattle.co_frame.specs.declared.sdo_response.SdoResponse.TheVariants.{BlockUploadInitiated, BlockUploadEnd};
 ghost use Rattle.co_sdo_client.specs.declared.stage.Stage.TheVariants.{SubBlock};
 ghost use Rattle.co_sdo_client.specs.Calls.{frames_on};
-ghost use Rattle.co_sdo_client.specs.SubBlocks.{segment_taken, bytes_taken};
 ghost use Rattle.co_sdo_client.specs.Verdicts.{sub_block_verdict, held_with};
 ghost use Rattle.co_sdo_client.specs.Outcomes.{messages_by};
 ghost use Rattle.co_sdo_client.specs.Steps.{messages_to, after_response, after, sub_block_stage};
 
-use crate::buffer::Buffer;
 use crate::client::Client;
 use crate::stage::Stage;
 use crate::state::ClientState;
@@ -24,24 +21,6 @@ use co_frame::{
     SdoResponse, abort_byte,
 };
 use co_value::Key;
-
-// Appends a segment, if it is the next of its sub-block, and gives how many are then taken in it.
-fn append_next(buffer: &mut Buffer, taken: u8, segment: BlockSegment) -> u8
-    requires room { length buffer.old.items + bytes_per_segment ≤ buffer.old.room }
-    requires few { taken < segments_per_sub_block }
-    ensures buffer { buffer.new ≡ record buffer.old {
-      items = buffer.old.items ++ bytes_taken (segment_taken taken (Some segment));
-    } }
-    ensures taken { result ≡ option_map_or (λ next. taken + 1) (segment_taken taken (Some
-        segment)) taken }
-    ensures len { length buffer.new.items + bytes_per_segment * taken ≡ length buffer.old.items + bytes_per_segment * result }
-{
-    if segment.sequence != taken + 1 {
-        return taken;
-    }
-    buffer.append(&segment.bytes);
-    taken + 1
-}
 
 impl<'a> Client<'a> {
     // The confirmation of initiate SDO block upload, scs = 6, ss = 0.
@@ -116,7 +95,7 @@ impl<'a> Client<'a> {
             self.give_up(AbortCode::OUT_OF_MEMORY, outbox);
             return;
         }
-        let count = append_next(&mut self.buffer, taken, segment);
+        let count = self.buffer.append_next(taken, &segment, &segment.bytes);
         if !ends {
             self.stage = Stage::SubBlock {
                 indicated,

@@ -15,8 +15,8 @@ use crate::client::Client;
 use crate::direction::Direction;
 use crate::state::ClientState;
 use crate::transfer::Transfer;
-use arrayvec::ArrayVec;
 use co_frame::{AbortCode, ExpeditedData, Frame, Outbox, SEGMENTS_PER_SUB_BLOCK, SdoRequest};
+use co_sdo_segments::expedited_data;
 
 impl<'a> Client<'a> {
     // The size that initiate indicates.
@@ -38,7 +38,7 @@ impl<'a> Client<'a> {
         match self.transfer() {
             Transfer::ExpeditedDownload => SdoRequest::DownloadExpedited {
                 key,
-                data: ExpeditedData::Indicated(expedited(self.bytes)),
+                data: ExpeditedData::Indicated(expedited_data(self.bytes)),
             },
             Transfer::SegmentedDownload => SdoRequest::DownloadInitiate {
                 key,
@@ -144,17 +144,4 @@ impl<'a> Client<'a> {
         }
         self.count_tick(outbox);
     }
-}
-
-// The bytes of an expedited download.
-fn expedited(bytes: &[u8]) -> ArrayVec<u8, 4>
-    requires { length bytes.now ≤ 4 }
-    ensures { result.items ≡ bytes.now }
-{
-    let mut data = ArrayVec::new();
-    match data.try_extend_from_slice(bytes) {
-        Ok(()) => {}
-        Err(_) => unreachable!(),
-    }
-    data
 }

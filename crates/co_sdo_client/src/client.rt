@@ -7,13 +7,13 @@ ghost use Rattle.co_sdo_client.specs.Outcomes.{outcome, sent, result as value_of
 ghost use Rattle.co_sdo_client.specs.Standing.{ClientStands, IsReady, counted, shown_by};
 ghost use Rattle.co_sdo_client.specs.declared.state.ClientState.TheVariants.{Waiting};
 
-use crate::buffer::Buffer;
 use crate::direction::Direction;
 use crate::mode::Mode;
 use crate::stage::Stage;
 use crate::state::ClientState;
 use crate::transfer::Transfer;
 use co_frame::{BYTES_PER_SUB_BLOCK, Frame, Ids, Outbox};
+use co_sdo_segments::Buffer;
 use co_value::Key;
 use std::alloc::{AllocError, Global};
 use std::marker::Model;
@@ -50,13 +50,13 @@ impl<'a> Model for Client<'a> {
       begun = c.begun;
       state = c.state;
       stage = c.stage;
-      held = c.buffer.items;
+      held = c.buffer.bytes;
       left = c.left;
       sent = c.sent;
     } };
 
     ghost invariant = { λ c. (c.ids.request < 2048) × IsFit (call_of c.key c.mode c.time
-        c.direction c.bytes.now) c.bytes.now c.stage c.buffer.items c.buffer.room };
+        c.direction c.bytes.now) c.bytes.now c.stage c.buffer.bytes c.buffer.room };
 }
 
 impl<'a> Client<'a> {
@@ -187,7 +187,7 @@ impl<'a> Client<'a> {
             result.now ≡ value_of call events }
     {
         match self.state {
-            ClientState::Done => self.buffer.bytes(),
+            ClientState::Done => self.buffer.as_slice(),
             _ => &[],
         }
     }

@@ -11,11 +11,11 @@ ghost use Rattle.co_sdo_client.specs.Standing.{counted};
 ghost use Rattle.co_sdo_client.specs.Steps.{messages_to, after_response};
 
 use crate::client::Client;
-use crate::sending::{part_after, segment_of};
 use crate::stage::Stage;
 use crate::state::ClientState;
 use crate::transfer::Transfer;
-use co_frame::{AbortCode, BYTES_PER_SEGMENT, Outbox, SdoRequest};
+use co_frame::{AbortCode, Outbox, SdoRequest};
+use co_sdo_segments::{is_last_after, part_after, segment_data};
 use co_value::Key;
 
 impl<'a> Client<'a> {
@@ -31,8 +31,8 @@ impl<'a> Client<'a> {
         let position = usize::from(count);
         let segment = SdoRequest::DownloadSegment {
             toggle: count % 2 == 1,
-            data: segment_of(part_after(self.bytes, position)),
-            last: self.bytes.len() <= BYTES_PER_SEGMENT * position + BYTES_PER_SEGMENT,
+            data: segment_data(part_after(self.bytes, position)),
+            last: is_last_after(self.bytes, position),
         };
         self.send(segment, outbox);
     }
@@ -80,7 +80,7 @@ impl<'a> Client<'a> {
             self.give_up(AbortCode::TOGGLE_NOT_ALTERNATED, outbox);
             return;
         }
-        if self.bytes.len() <= BYTES_PER_SEGMENT * usize::from(confirmed) + BYTES_PER_SEGMENT {
+        if is_last_after(self.bytes, usize::from(confirmed)) {
             self.state = ClientState::Done;
             return;
         }

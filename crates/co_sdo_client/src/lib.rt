@@ -4,7 +4,6 @@
 mod answers;
 mod block_download;
 mod block_upload;
-mod buffer;
 mod calls;
 mod client;
 mod direction;

@@ -1,13 +1,12 @@
 //! What a client sends.
 
-ghost use Rattle.std.specs.Prelude.{◌≡◌, ◌+◌, ◌*◌, ◌<◌, ◌≤◌, ◌++◌, [], ◌∷◌, length};
+ghost use Rattle.std.specs.Prelude.{◌≡◌, ◌+◌, ◌<◌, ◌≤◌, ◌++◌, [], ◌∷◌};
 ghost use Rattle.arrayvec.specs.ArrayVec.{array_vec_len};
 ghost use Rattle.co_value.specs.Keys.{same_key};
-ghost use Rattle.co_frame.specs.SegmentSizes.{segments_per_sub_block, bytes_per_segment};
+ghost use Rattle.co_frame.specs.SegmentSizes.{segments_per_sub_block};
 ghost use Rattle.co_frame.specs.Outboxes.{HasRoomFor};
 ghost use Rattle.co_frame.specs.SdoRequests.{IsSdoRequest};
 ghost use Rattle.co_sdo_client.specs.Calls.{Request, frames_on};
-ghost use Rattle.co_sdo_client.specs.Segments.{part_after};
 ghost use Rattle.co_sdo_client.specs.Verdicts.{GivesUp};
 ghost use Rattle.co_sdo_client.specs.Outcomes.{messages_by};
 ghost use Rattle.co_sdo_client.specs.Standing.{counted};
@@ -15,32 +14,8 @@ ghost use Rattle.co_sdo_client.specs.declared.state.ClientState.TheVariants.{Fai
 
 use crate::client::Client;
 use crate::state::ClientState;
-use arrayvec::ArrayVec;
-use co_frame::{AbortCode, BYTES_PER_SEGMENT, Outbox, SdoRequest};
+use co_frame::{AbortCode, Outbox, SdoRequest};
 use co_value::Key;
-
-// The seven bytes of a value after so many segments, fewer at its end.
-pub(crate) fn part_after(value: &[u8], count: usize) -> &[u8]
-    requires { bytes_per_segment * count ≤ length value.now }
-    ensures part { result.now ≡ part_after count value.now }
-    ensures few { length result.now ≤ bytes_per_segment }
-{
-    let rest = &value[BYTES_PER_SEGMENT * count..];
-    &rest[..rest.len().min(BYTES_PER_SEGMENT)]
-}
-
-// The bytes of a segment.
-pub(crate) fn segment_of(part: &[u8]) -> ArrayVec<u8, 7>
-    requires { length part.now ≤ bytes_per_segment }
-    ensures { result.items ≡ part.now }
-{
-    let mut data = ArrayVec::new();
-    match data.try_extend_from_slice(part) {
-        Ok(()) => {}
-        Err(_) => unreachable!(),
-    }
-    data
-}
 
 impl<'a> Client<'a> {
     // Sends a request.

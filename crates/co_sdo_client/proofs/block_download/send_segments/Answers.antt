@@ -1,15 +1,16 @@
--- One more segment is sent; how many they are.
-use Rattle.std.proofs.Common.{arith}
+-- The frames of a sub-block are those of its messages, and as many as its segments.
+use Rattle.std.proofs.Common.{sym, ◌∙◌, ap, ◌++◌}
 use Rattle.std.proofs.lemmas.List.FromFn.{length-map-range_with_len}
+use Rattle.std.proofs.lemmas.Simd.{map-map}
+use Rattle.co_sdo_client.specs.Calls.{Segment, message_bytes}
 use Rattle.co_sdo_client.specs.Segments.{block_segment}
-use Rattle.co_sdo_client.proofs.SubBlockLemmas.{sub_block_more}
 use Rattle.co_sdo_client.proofs.block_download.send_segments.Goals as goal
 
-pub returns-clause-frames : goal.returns-clause-frames
-returns-clause-frames c = rw (c.min-number.ensures, c.segment_count.ensures.count) (length-map-range_with_len _ 1 _)
+pub returns-clause-messages : goal.returns-clause-messages
+returns-clause-messages c =
+    c.send_sub_block.ensures.frames
+    ∙ ap (λ frames. c.args.outbox.now.items ++ frames)
+    (sym (map-map (λ message. record { id = c.args.id; bytes = message_bytes message }) (λ n. Segment (block_segment c.args.bytes.now c.args.position n)) _))
 
-pub loop-k-preserved : goal.loop-k-preserved
-loop-k-preserved c = record {
-  items = sub_block_more c.args.id (λ n. block_segment c.args.bytes.now c.args.position n) c.loop-k.k _ _ _ _ _ c.push.ensures.items c.loop-k.invariant.items c.write.ensures.frame c.block_segment.ensures.segment;
-  len = omega arith;
-}
+pub returns-clause-frames : goal.returns-clause-frames
+returns-clause-frames c = rw c.send_sub_block.ensures.count (length-map-range_with_len _ 1 _)

@@ -1,11 +1,12 @@
--- One more segment is sent.
-use Rattle.std.proofs.Common.{arith}
+-- The frames of a sub-block are those of its answers.
+use Rattle.std.proofs.Common.{sym, ◌∙◌, ap, ◌++◌}
+use Rattle.std.proofs.lemmas.Simd.{map-map}
+use Rattle.co_sdo.specs.Log.{Segment, answer_bytes}
 use Rattle.co_sdo.specs.Uploads.{block_segment}
-use Rattle.co_sdo.proofs.UploadLemmas.{sub_block_more}
 use Rattle.co_sdo.proofs.sender.Sender.send_sub_block.Goals as goal
 
-pub loop-k-preserved : goal.loop-k-preserved
-loop-k-preserved c = record {
-  items = sub_block_more c.args.self.answer (λ n. block_segment c.args.value.now c.args.position n) c.loop-k.k _ _ _ _ _ c.push.ensures.items c.loop-k.invariant.items c.write.ensures.frame c.block_segment.ensures.segment;
-  len = omega arith;
-}
+pub returns-clause-answers : goal.returns-clause-answers
+returns-clause-answers c =
+    c.send_sub_block.ensures.frames
+    ∙ ap (λ frames. c.args.outbox.now.items ++ frames)
+    (sym (map-map (λ answer. record { id = c.args.self.answer; bytes = answer_bytes answer }) (λ n. Segment (block_segment c.args.value.now c.args.position n)) _))

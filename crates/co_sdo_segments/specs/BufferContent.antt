@@ -1,4 +1,4 @@
--- What contracts see of a channel's buffer.
+-- What contracts see of a buffer.
 use Rattle.std.specs.Prelude.{ℕ, List}
 
 -- the bytes in a buffer, and how many it has room for

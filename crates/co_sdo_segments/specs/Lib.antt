@@ -1,0 +1,3 @@
+pub mod BufferContent
+pub mod Sent
+pub mod Taken
