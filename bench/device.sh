@@ -12,7 +12,7 @@ use anyhow::{Context, Result};
 use co_dict_list::Limits;
 use co_frame::{Frame, Outbox};
 use co_node::{Config, Node};
-use co_node_inputs::{AppEvent, Input};
+use co_node::{AppEvent, Input};
 use co_sheet::read;
 use std::alloc::Global;
 

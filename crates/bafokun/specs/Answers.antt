@@ -1,10 +1,9 @@
 -- What C is answered: numbers for states and answers, and the bytes of an entry.
-use Rattle.std.specs.Prelude.{◌≡◌, ℕ, ◌<◌, ◌≤◌, List, length, Option, Some, None, Bool, true, false}
-use Rattle.std.specs.Prelude.{slice_index_or}
+use Rattle.std.specs.Prelude.{◌≡◌, ℕ, ◌<◌, ◌≤◌, List, length, Option, Some, None, Bool, true, false, slice_index_or}
 use Rattle.co_node_parts.specs.declared.nmt_state.NodeState.{NodeState}
 use Rattle.co_node_parts.specs.declared.nmt_state.NodeState.TheVariants.{PreOperational, Operational, Stopped}
-use Rattle.co_node_inputs.specs.declared.app_answer.AppAnswer.{AppAnswer}
-use Rattle.co_node_inputs.specs.declared.app_answer.AppAnswer.TheVariants as app
+use Rattle.co_node_model.specs.declared.app_answer.AppAnswer.{AppAnswer}
+use Rattle.co_node_model.specs.declared.app_answer.AppAnswer.TheVariants as app
 
 -- a state as the byte of a heartbeat (CiA 301, 7.2.8.3.2)
 abbrev pub state_code : NodeState → ℕ

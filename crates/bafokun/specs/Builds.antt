@@ -7,8 +7,7 @@ use Rattle.co_sheet.specs.Accepted.{IsAnswered, first_fault}
 use Rattle.co_sheet.specs.Content.{SheetContent, IsSheet, IsWhole}
 use Rattle.co_dict.specs.Stores.{IsGreatestCapacity}
 use Rattle.co_dict_list.specs.declared.build_fault.BuildFault.{BuildFault}
-use Rattle.co_dict_list.specs.declared.build_fault.BuildFault.TheVariants.{NodeId, ValueRange, BadCobId}
-use Rattle.co_dict_list.specs.declared.build_fault.BuildFault.TheVariants.{PdoPair, BadMapping, TooMany, Memory}
+use Rattle.co_dict_list.specs.declared.build_fault.BuildFault.TheVariants.{NodeId, ValueRange, BadCobId, PdoPair, BadMapping, TooMany, Memory}
 use Rattle.co_dict_list.specs.BuildFaultTexts.{fault_number}
 use Rattle.co_dict_list.specs.BuildFaults.{IsBuildFault, build_fault}
 use Rattle.co_dict_list.specs.Built.{Plan, plan_of, built_description}

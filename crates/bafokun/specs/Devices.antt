@@ -1,11 +1,11 @@
 -- The device that a place has, and what an input gives.
 use Rattle.std.specs.Prelude.{◌≡◌, ℕ, ◌≤◌, List, [], ◌∷◌, length, Option, Some, None}
 use Rattle.co_frame.specs.FrameContent.{FrameContent}
-use Rattle.co_node_inputs.specs.declared.input.AppEvent.{AppEvent}
-use Rattle.co_node_inputs.specs.Inputs.{InputView, Inputs, Framed, Ticked, Applied, app_view}
-use Rattle.co_node_history.specs.Moments.{Constants}
-use Rattle.co_node_history.specs.Histories.{prescribed, frame_bound}
-use Rattle.co_node_history.specs.Laws.{boot_up}
+use Rattle.co_node_model.specs.declared.input.AppEvent.{AppEvent}
+use Rattle.co_node_model.specs.Inputs.{InputView, Inputs, Framed, Ticked, Applied, app_view}
+use Rattle.co_node_model.specs.Moments.{Constants}
+use Rattle.co_node_model.specs.Device.{prescribed, frame_bound}
+use Rattle.co_node_model.specs.Heartbeats.{boot_up}
 use Rattle.co_node.specs.Nodes.{Stands}
 use Rattle.bafokun.specs.declared.frames.CanFrame.{CanFrame}
 use Rattle.bafokun.specs.declared.held.Held.{Held}

@@ -8,7 +8,7 @@ use crate::held::Held;
 use crate::parts::Parts;
 use crate::seal::Seal;
 use co_frame::Frame;
-use co_node_inputs::AppEvent;
+use co_node::AppEvent;
 use std::alloc::Global;
 use std::mem::replace;
 
@@ -23,8 +23,8 @@ pub struct Handle {
 }
 
 impl Handle {
-    ghost use Rattle.co_node_inputs.specs.Inputs.{Inputs};
-    ghost use Rattle.co_node_history.specs.Moments.{Constants};
+    ghost use Rattle.co_node_model.specs.Inputs.{Inputs};
+    ghost use Rattle.co_node_model.specs.Moments.{Constants};
     ghost use Rattle.bafokun.specs.Devices.{Gives, IsDevice, IsEmpty, IsQuiet, given};
 
     fn empty(alloc: Global) -> Handle

@@ -1,15 +1,14 @@
 //! What C holds a device by.
 
 ghost use Rattle.std.specs.Prelude.{◌≡◌, [], ◌∷◌};
-ghost use Rattle.co_node_inputs.specs.Inputs.{Inputs};
-ghost use Rattle.co_node_history.specs.Moments.{Constants};
-ghost use Rattle.co_node_history.specs.Laws.{boot_up};
+ghost use Rattle.co_node_model.specs.Inputs.{Inputs};
+ghost use Rattle.co_node_model.specs.Moments.{Constants};
+ghost use Rattle.co_node_model.specs.Heartbeats.{boot_up};
 ghost use Rattle.co_node.specs.Nodes.{Stands};
 ghost use Rattle.bafokun.specs.Devices.{Gave, given};
 
 use co_frame::{Frame, Outbox};
-use co_node::Node;
-use co_node_inputs::{AppEvent, Input};
+use co_node::{AppEvent, Input, Node};
 
 /// A device, and the frames that its last input gave.
 #[derive(Drop)]

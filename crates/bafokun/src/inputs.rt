@@ -1,14 +1,14 @@
 //! What comes to a device.
 
 ghost use Rattle.std.specs.Prelude.{◌≡◌};
-ghost use Rattle.co_node_inputs.specs.Inputs.{Inputs, Framed, Ticked, Applied, Written, EventOn, ChangedAt, Raised, Cleared};
-ghost use Rattle.co_node_history.specs.Moments.{Constants};
+ghost use Rattle.co_node_model.specs.Inputs.{Inputs, Framed, Ticked, Applied, Written, EventOn, ChangedAt, Raised, Cleared};
+ghost use Rattle.co_node_model.specs.Moments.{Constants};
 ghost use Rattle.bafokun.specs.Devices.{Gives, GivesBootUp, IsDevice, IsEmpty, IsQuiet};
 ghost use Rattle.bafokun.specs.Frames.{IsCan, content_of};
 
 use crate::frames::{CanFrame, put};
 use crate::handle::Handle;
-use co_node_inputs::AppEvent;
+use co_node::AppEvent;
 use co_value::Key;
 use std::alloc::Global;
 

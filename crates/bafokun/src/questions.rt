@@ -1,17 +1,16 @@
 //! What C asks of a device.
 
 ghost use Rattle.std.specs.Prelude.{◌≡◌, ◌≤◌, None, drop, length};
-ghost use Rattle.co_node_inputs.specs.Inputs.{Inputs};
-ghost use Rattle.co_node_history.specs.Moments.{Constants};
-ghost use Rattle.co_node_history.specs.Histories.{app_after, contents_of, held_of, room_of, state_of};
+ghost use Rattle.co_node_model.specs.Inputs.{Inputs};
+ghost use Rattle.co_node_model.specs.Moments.{Constants};
+ghost use Rattle.co_node_model.specs.Device.{app_after, contents_of, held_of, room_of, state_of};
 ghost use Rattle.bafokun.specs.Answers.{IsCopied, IsRead, answer_code, refusal_code, state_code};
 ghost use Rattle.bafokun.specs.Devices.{IsDevice, IsEmpty, sent_of};
 ghost use Rattle.bafokun.specs.Frames.{ArePut};
 
 use crate::frames::{CanFrame, put};
 use crate::handle::Handle;
-use co_node_inputs::AppAnswer;
-use co_node_parts::NodeState;
+use co_node::{AppAnswer, NodeState};
 use co_value::Key;
 use std::alloc::Global;
 

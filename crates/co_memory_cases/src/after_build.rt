@@ -1,8 +1,7 @@
 //! Devices after their build, when no more memory is given: worked sequences, and a run over a record.
 
 use co_frame::Outbox;
-use co_node::{Node, Record};
-use co_node_inputs::{AppEvent, Input};
+use co_node::{AppEvent, Input, Node, Record};
 use co_node_scripts::{APPLICATION, BLOCKS, EMERGENCIES, RPDOS, SEGMENTED, TPDOS, first_wrong};
 use co_sdo_scripts::{BadScript, frame_of};
 use std::alloc::{AllocError, Global};

@@ -6,10 +6,10 @@ use Rattle.co_dict.specs.declared.row.Row.{Row}
 use Rattle.co_dict.specs.Rows.{Rows, Contents}
 use Rattle.co_dict.specs.Stores.{Description, IsGreatestCapacity}
 use Rattle.co_dict_list.specs.Built.{Plan, built_description, built_contents}
-use Rattle.co_node_history.specs.Moments.{Constants}
-use Rattle.co_node_step.specs.declared.parts.Parts.{Parts}
-use Rattle.co_node_step.specs.Built.{constants_of}
-use Rattle.co_node_step.specs.NodeStanding.{NodeStands}
+use Rattle.co_node_model.specs.Moments.{Constants}
+use Rattle.co_node_device.specs.declared.parts.Parts.{Parts}
+use Rattle.co_node_device.specs.Built.{constants_of}
+use Rattle.co_node_device.specs.NodeStanding.{NodeStands}
 use Rattle.co_node.specs.Nodes.{node_constants}
 
 -- a row's capacity is within what bounds it

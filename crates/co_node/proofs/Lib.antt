@@ -1,2 +1,4 @@
 pub mod Runs
 pub mod Builds
+mod Begins
+mod BuiltExamples

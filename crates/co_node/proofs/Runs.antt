@@ -2,10 +2,10 @@
 use Rattle.std.proofs.Common.{◌≡◌, ◌≤◌, ◌<◌, ◌+◌, ℕ, Bool, true, false, ltb, List, [], ◌∷◌, ◌++◌, length, map, get_or, take, refl, sym, ap, ◌∙◌, subst, append_assoc, append-nil, length-append, arith}
 use Rattle.std.proofs.lemmas.List.{take_more, get_or-map, length-map}
 use Rattle.co_frame.specs.FrameContent.{FrameContent}
-use Rattle.co_node_inputs.specs.declared.input.Input.{Input}
-use Rattle.co_node_inputs.specs.Inputs.{Inputs, InputView, input_view}
-use Rattle.co_node_history.specs.Moments.{Constants}
-use Rattle.co_node_history.specs.Histories.{after_all, all_frames, prescribed}
+use Rattle.co_node_model.specs.declared.input.Input.{Input}
+use Rattle.co_node_model.specs.Inputs.{Inputs, InputView, input_view}
+use Rattle.co_node_model.specs.Moments.{Constants}
+use Rattle.co_node_model.specs.Device.{after_all, all_frames, prescribed}
 use Rattle.co_node.specs.declared.node.Node.{Node}
 use Rattle.co_node.specs.Nodes.{Stands}
 use Rattle.co_node.specs.Records.{Recorded, HasRoom, with_input}

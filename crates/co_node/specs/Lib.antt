@@ -1,3 +1,4 @@
 pub mod Records
 pub mod Runs
 pub mod Nodes
+pub mod Built

@@ -8,10 +8,10 @@ use Rattle.co_dict_image.specs.Slots.{entries_in}
 use Rattle.co_dict_list.specs.Built.{Plan, plan_of, built_description, built_contents}
 use Rattle.co_dict_list.specs.Capacities.{limits_view}
 use Rattle.co_dict_list.specs.ListedEntries.{description_in, contents_in}
-use Rattle.co_node_inputs.specs.Inputs.{Inputs}
-use Rattle.co_node_history.specs.Moments.{Constants}
-use Rattle.co_node_step.specs.Built.{constants_of}
-use Rattle.co_node_step.specs.NodeStanding.{NodeStands}
+use Rattle.co_node_model.specs.Inputs.{Inputs}
+use Rattle.co_node_model.specs.Moments.{Constants}
+use Rattle.co_node_device.specs.Built.{constants_of}
+use Rattle.co_node_device.specs.NodeStanding.{NodeStands}
 use Rattle.co_node.specs.declared.config.Config.{Config}
 use Rattle.co_node.specs.declared.node.Node.{Node}
 

@@ -1,8 +1,9 @@
 -- Inputs one after another, and what is recorded of them.
 use Rattle.std.specs.Prelude.{ℕ, ◌+◌, List, [], ◌∷◌, ◌++◌, length, max}
-use Rattle.co_node_inputs.specs.Inputs.{InputView, Inputs}
-use Rattle.co_node_history.specs.Moments.{Constants}
-use Rattle.co_node_history.specs.Histories.{all_frames, prescribed, tpdo_count}
+use Rattle.co_node_model.specs.Inputs.{InputView, Inputs}
+use Rattle.co_node_model.specs.Moments.{Constants}
+use Rattle.co_node_model.specs.Device.{all_frames, prescribed}
+use Rattle.co_node_model.specs.Tpdos.{tpdo_count}
 use Rattle.co_node.specs.Records.{Recorded}
 
 -- after how many frames those of each input end, where there were so many before

@@ -1,10 +1,14 @@
 //! A CANopen device made from a data sheet: what comes in, and the frames that it then sends.
 #![tactic(auto)]
 
+mod built_laws;
 mod config;
 mod node;
 mod record;
 
+pub use built_laws::{begins_apart, built_download_ends};
+pub use co_node_model::{AppAnswer, AppEvent, Input};
+pub use co_node_parts::NodeState;
 pub use config::Config;
 pub use node::Node;
 pub use record::Record;

@@ -7,10 +7,10 @@ ghost use Rattle.co_dict_list.specs.Built.{built_contents, built_description};
 ghost use Rattle.co_dict_list.specs.BuildFaults.{IsBuildFault, build_fault};
 ghost use Rattle.co_pdo.specs.Mappings.{has_pdo, mapping_of};
 ghost use Rattle.co_pdo_compiled.specs.CompiledMappings.{IsCompiledForm};
-ghost use Rattle.co_node_inputs.specs.Inputs.{Inputs, input_view};
-ghost use Rattle.co_node_history.specs.Moments.{Constants};
-ghost use Rattle.co_node_history.specs.Laws.{boot_up};
-ghost use Rattle.co_node_history.specs.Histories.{after_all, all_frames, app_after, contents_of, frame_bound, held_of, prescribed, room_of, state_of};
+ghost use Rattle.co_node_model.specs.Inputs.{Applied, Framed, Inputs, Ticked, app_view, input_view};
+ghost use Rattle.co_node_model.specs.Moments.{Constants};
+ghost use Rattle.co_node_model.specs.Heartbeats.{boot_up};
+ghost use Rattle.co_node_model.specs.Device.{after_all, all_frames, app_after, contents_of, frame_bound, held_of, prescribed, room_of, state_of};
 ghost use Rattle.co_node.specs.Nodes.{Stands, node_constants, planned};
 ghost use Rattle.co_node.specs.Records.{HasRoom};
 ghost use Rattle.co_node.specs.Runs.{all_ends, most_frames, recorded_after};
@@ -20,9 +20,9 @@ use crate::record::Record;
 use co_dict_image::ImageStore;
 use co_dict_list::BuildFault;
 use co_frame::{Frame, Outbox};
-use co_node_inputs::{AppAnswer, AppEvent, Input};
+use co_node_device::Device;
+use co_node_model::{AppAnswer, AppEvent, Input};
 use co_node_parts::NodeState;
-use co_node_step::Device;
 use co_pdo::Side;
 use co_pdo_compiled::Compiled;
 use co_sheet::Sheet;
@@ -71,6 +71,45 @@ impl Node {
         self.device.boot(outbox);
     }
 
+    /// A frame is received: the outbox then holds the frames that this prescribes, and nothing else.
+    #[inline(always)]
+    pub fn take_frame(&mut self, frame: &Frame, outbox: &mut Outbox)
+        ensures frames { (k : Constants) (before : Inputs) → Stands k self.old before →
+            outbox.new.items ≡ prescribed k before (Framed frame.now) }
+        ensures stands { (k : Constants) (before : Inputs) → Stands k self.old before →
+            Stands k self.new (Framed frame.now ∷ before) }
+        ensures few { (k : Constants) (before : Inputs) → Stands k self.old before →
+            length outbox.new.items ≤ frame_bound k before (Framed frame.now) }
+    {
+        self.device.take_frame(frame, outbox);
+    }
+
+    /// 1 ms elapsed: the outbox then holds the frames that this prescribes, and nothing else.
+    #[inline(always)]
+    pub fn tick(&mut self, outbox: &mut Outbox)
+        ensures frames { (k : Constants) (before : Inputs) → Stands k self.old before →
+            outbox.new.items ≡ prescribed k before Ticked }
+        ensures stands { (k : Constants) (before : Inputs) → Stands k self.old before →
+            Stands k self.new (Ticked ∷ before) }
+        ensures few { (k : Constants) (before : Inputs) → Stands k self.old before →
+            length outbox.new.items ≤ frame_bound k before Ticked }
+    {
+        self.device.tick(outbox);
+    }
+
+    /// The application did something: the outbox then holds the frames that this prescribes, and nothing else.
+    #[inline(always)]
+    pub fn take_event(&mut self, event: AppEvent<'_>, outbox: &mut Outbox)
+        ensures frames { (k : Constants) (before : Inputs) → Stands k self.old before →
+            outbox.new.items ≡ prescribed k before (Applied (app_view event.entry)) }
+        ensures stands { (k : Constants) (before : Inputs) → Stands k self.old before →
+            Stands k self.new (Applied (app_view event.entry) ∷ before) }
+        ensures few { (k : Constants) (before : Inputs) → Stands k self.old before →
+            length outbox.new.items ≤ frame_bound k before (Applied (app_view event.entry)) }
+    {
+        self.device.take_event(event, outbox);
+    }
+
     /// One input: the outbox then holds the frames that it prescribes, and nothing else.
     #[inline(always)]
     pub fn step(&mut self, input: Input<'_>, outbox: &mut Outbox)
@@ -86,25 +125,22 @@ impl Node {
             _ => Frame::default(),
         };
         match input {
-            Input::Frame(_) => self.device.take_frame(&frame, outbox),
-            Input::Tick => self.device.tick(outbox),
+            Input::Frame(_) => self.take_frame(&frame, outbox),
+            Input::Tick => self.tick(outbox),
             // taken apart and put together again: an event of a caller can't be handed on as a whole
             Input::App(AppEvent::Write(key, bytes)) => {
-                self.device.take_event(AppEvent::Write(key, bytes), outbox)
+                self.take_event(AppEvent::Write(key, bytes), outbox)
             }
             Input::App(AppEvent::Event(number)) => {
-                self.device.take_event(AppEvent::Event(number), outbox)
+                self.take_event(AppEvent::Event(number), outbox)
             }
             Input::App(AppEvent::Changed(key)) => {
-                self.device.take_event(AppEvent::Changed(key), outbox)
+                self.take_event(AppEvent::Changed(key), outbox)
             }
             Input::App(AppEvent::Raise(code, bits, manufacturer)) => {
-                self.device
-                    .take_event(AppEvent::Raise(code, bits, manufacturer), outbox)
+                self.take_event(AppEvent::Raise(code, bits, manufacturer), outbox)
             }
-            Input::App(AppEvent::Clear(bits)) => {
-                self.device.take_event(AppEvent::Clear(bits), outbox)
-            }
+            Input::App(AppEvent::Clear(bits)) => { self.take_event(AppEvent::Clear(bits), outbox) }
         }
     }
 

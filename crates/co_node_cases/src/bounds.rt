@@ -2,8 +2,7 @@
 
 use crate::scripts::shows;
 use co_frame::Outbox;
-use co_node::{Node, Record};
-use co_node_inputs::{AppEvent, Input};
+use co_node::{AppEvent, Input, Node, Record};
 use co_node_scripts::{devices_of, node_of, sheet_of, write};
 use co_sdo_scripts::{BadScript, are_frames, frame_of};
 use co_value::Key;

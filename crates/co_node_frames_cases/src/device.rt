@@ -3,8 +3,7 @@
 use arrayvec::ArrayVec;
 use co_dict_list::Limits;
 use co_frame::{Frame, Outbox};
-use co_node::{Config, Node};
-use co_node_inputs::{AppEvent, Input};
+use co_node::{AppEvent, Config, Input, Node};
 use co_sdo_states::SHEET;
 use co_sheet::read;
 use co_value::Key;

@@ -27,23 +27,22 @@ use Rattle.co_pdo.specs.Schedules.{History as Schedule, log_of, is_among, sync_w
 use Rattle.co_node_parts.specs.declared.nmt_state.NodeState.TheVariants.{Operational, Stopped}
 use Rattle.co_node_parts.specs.NmtStates.{is_state}
 use Rattle.co_node_parts.specs.EmergencyQueues.{EmergencyLog, emergency_due}
-use Rattle.co_node_inputs.specs.declared.address.Address.{Address}
-use Rattle.co_node_inputs.specs.declared.address.Address.TheVariants.{Nmt, Sync, Channel, Rpdo, ErrorControl, Nobody}
-use Rattle.co_node_inputs.specs.declared.marks.Marks.{Marks}
-use Rattle.co_node_inputs.specs.declared.turn.Turn.{Turn}
-use Rattle.co_node_inputs.specs.declared.turn.Turn.TheVariants as turn
-use Rattle.co_node_inputs.specs.Asked.{numbers_asked}
-use Rattle.co_node_inputs.specs.Inputs.{InputView, Inputs, AppView, Framed, Ticked, Applied, Written, EventOn, ChangedAt, Raised, Cleared}
-use Rattle.co_node_inputs.specs.AppAnswers.{event_refusal}
-use Rattle.co_node_inputs.specs.Keys.{emergency_key, producer_key, is_set}
-use Rattle.co_node_inputs.specs.Words.{is_reset}
-use Rattle.co_node_inputs.specs.Turns.{part_started, start_turn, turn_with}
-use Rattle.co_node_history.specs.Moments.{Constants, Moment, History, channels}
-use Rattle.co_node_history.specs.Logs.{state_at, contents_at, channel_logs, unsent_log, emergency_log, producer_log, schedule_log}
-use Rattle.co_node_history.specs.TpdoTurns.{due_at}
-use Rattle.co_node_history.specs.Received.{nothing_of, with_frame, with_app_event, address_at, is_heartbeat}
-use Rattle.co_node_history.specs.Phases.{moment}
-use Rattle.co_node_history.specs.Histories.{frames, emergency_frames, life_frames, tpdo_frame, moments, prescribed, frame_bound, bound_at, tpdo_count}
+use Rattle.co_node_model.specs.declared.address.Address.{Address}
+use Rattle.co_node_model.specs.declared.address.Address.TheVariants.{Nmt, Sync, Channel, Rpdo, ErrorControl, Nobody}
+use Rattle.co_node_model.specs.declared.marks.Marks.{Marks}
+use Rattle.co_node_model.specs.declared.turn.Turn.{Turn}
+use Rattle.co_node_model.specs.declared.turn.Turn.TheVariants as turn
+use Rattle.co_node_model.specs.Tpdos.{numbers_asked, part_started, start_turn, turn_with, schedule_log, due_at, tpdo_frame, tpdo_count}
+use Rattle.co_node_model.specs.Inputs.{InputView, Inputs, AppView, Framed, Ticked, Applied, Written, EventOn, ChangedAt, Raised, Cleared}
+use Rattle.co_node_model.specs.AppEvents.{event_refusal, with_app_event}
+use Rattle.co_node_model.specs.Keys.{emergency_key, producer_key, is_set}
+use Rattle.co_node_model.specs.Nmt.{is_reset, state_at}
+use Rattle.co_node_model.specs.Moments.{Constants, Moment, History, channels, contents_at, nothing_of}
+use Rattle.co_node_model.specs.Sdo.{channel_logs}
+use Rattle.co_node_model.specs.Emergencies.{unsent_log, emergency_log, emergency_frames}
+use Rattle.co_node_model.specs.Heartbeats.{producer_log, is_heartbeat, life_frames}
+use Rattle.co_node_model.specs.Device.{with_frame, moment, frames, moments, prescribed, frame_bound, bound_at}
+use Rattle.co_node_model.specs.Addresses.{address_at}
 use Rattle.co_node_laws.specs.Kinds.{is_unanswered}
 use Rattle.co_node_laws.specs.Lengths.{HasParts}
 use Rattle.co_node_laws.proofs.FewExchanged.{few_exchanged}

@@ -9,11 +9,9 @@ use Rattle.co_pdo.specs.Log.{Log, Happened}
 use Rattle.co_pdo.specs.Tpdos.{settings_of}
 use Rattle.co_pdo.specs.Countdowns.{IsCurrent}
 use Rattle.co_pdo.specs.Schedules.{History, log_of, is_among, with_all_started, with_sync, with_events, with_tick, AllCurrent}
-use Rattle.co_node_inputs.specs.declared.marks.Asked.{Asked}
-use Rattle.co_node_inputs.specs.declared.marks.Marks.{Marks}
-use Rattle.co_node_inputs.specs.Asked.{numbers_asked}
-use Rattle.co_node_inputs.specs.Turns.{turn_by_asked, turn_with}
-use Rattle.co_node_history.specs.TpdoTurns.{with_turn}
+use Rattle.co_node_model.specs.declared.marks.Asked.{Asked}
+use Rattle.co_node_model.specs.declared.marks.Marks.{Marks}
+use Rattle.co_node_model.specs.Tpdos.{numbers_asked, turn_by_asked, turn_with, with_turn}
 
 happened : (s t : Settings) (log : Log) (o : Occasion) (sent : Bool) → IsCurrent s log → IsCurrent s (Happened o t sent ∷ log)
 happened s t log o sent h = record { started = h.started; timer = h.timer }

@@ -16,20 +16,19 @@ use Rattle.co_node_parts.specs.declared.rpdo_slots.KeptFrame.{KeptFrame}
 use Rattle.co_node_parts.specs.declared.rpdo_slots.SlotEvent.TheVariants.{Keep, Quiet}
 use Rattle.co_node_parts.specs.NmtStates.{is_state}
 use Rattle.co_node_parts.specs.RpdoSlots.{SlotLog, taken_at, all_kept}
-use Rattle.co_node_inputs.specs.declared.address.Address.{Address}
-use Rattle.co_node_inputs.specs.declared.address.Address.TheVariants.{Nmt, Sync, Channel, Rpdo, ErrorControl, Nobody}
-use Rattle.co_node_inputs.specs.Addresses.{is_sync_id, rpdo_type, rpdo_with, is_error_control, address_unless_rpdo, address_unless_channel}
-use Rattle.co_node_inputs.specs.AppAnswers.{event_refusal}
-use Rattle.co_node_inputs.specs.Inputs.{InputView, Inputs, AppView, Framed, Ticked, Applied}
-use Rattle.co_node_inputs.specs.Slots.{is_synchronous, is_short, slot_event}
-use Rattle.co_node_inputs.specs.Words.{is_reset, consumers_call}
-use Rattle.co_node_effects.specs.Errors.{all_raised}
-use Rattle.co_node_effects.specs.RpdoData.{sync_errors, rpdo_errors, immediate, after_all_data}
-use Rattle.co_node_history.specs.Moments.{Constants, Moment, History, channels}
-use Rattle.co_node_history.specs.Logs.{contents_at, channel_logs, consumers_log, slot_log, state_at, transition_of}
-use Rattle.co_node_history.specs.Received.{nothing_of, with_sync, with_request, with_rpdo, with_frame, address_at, is_heartbeat}
-use Rattle.co_node_history.specs.Phases.{lost_by, with_lost, with_losses, with_pdos, moment}
-use Rattle.co_node_history.specs.Histories.{moments, contents_of}
+use Rattle.co_node_model.specs.declared.address.Address.{Address}
+use Rattle.co_node_model.specs.declared.address.Address.TheVariants.{Nmt, Sync, Channel, Rpdo, ErrorControl, Nobody}
+use Rattle.co_node_model.specs.Sync.{is_sync_id, sync_errors, with_sync}
+use Rattle.co_node_model.specs.Rpdos.{rpdo_type, rpdo_with, is_synchronous, is_short, slot_event, rpdo_errors, immediate, after_all_data, slot_log, with_rpdo, with_pdos}
+use Rattle.co_node_model.specs.Addresses.{is_error_control, address_unless_rpdo, address_unless_channel, address_at}
+use Rattle.co_node_model.specs.AppEvents.{event_refusal}
+use Rattle.co_node_model.specs.Inputs.{InputView, Inputs, AppView, Framed, Ticked, Applied}
+use Rattle.co_node_model.specs.Nmt.{is_reset, state_at, transition_of}
+use Rattle.co_node_model.specs.Heartbeats.{consumers_call, consumers_log, is_heartbeat, lost_by, with_lost, with_losses}
+use Rattle.co_node_model.specs.Emergencies.{all_raised}
+use Rattle.co_node_model.specs.Moments.{Constants, Moment, History, channels, contents_at, nothing_of}
+use Rattle.co_node_model.specs.Sdo.{channel_logs, with_request}
+use Rattle.co_node_model.specs.Device.{with_frame, moment, moments, contents_of}
 use Rattle.co_node_laws.specs.Changes.{changed_by_sync, changed_by_rpdo, download_set, changed_by_request, changed_by_frame, changed_by_tick, changed_by_event, changed_by}
 use Rattle.co_node_laws.proofs.Kept.{IsSilent, kept, none_taken, by_reset, silent_either, event_done, event_refused}
 

@@ -8,14 +8,14 @@ use Rattle.co_sdo.specs.OpenTransfers.{open_transfer}
 use Rattle.co_sdo.specs.Refused.{completion_refusal}
 use Rattle.co_node_parts.specs.NmtStates.{is_state}
 use Rattle.co_node_parts.specs.declared.nmt_state.NodeState.TheVariants.{Stopped}
-use Rattle.co_node_inputs.specs.AppAnswers.{event_refusal}
-use Rattle.co_node_inputs.specs.Inputs.{EventOn, Cleared}
-use Rattle.co_node_inputs.specs.Words.{is_reset_by}
-use Rattle.co_node_inputs.specs.declared.address.Address.TheVariants.{Channel}
-use Rattle.co_node_history.specs.Logs.{channel_logs}
-use Rattle.co_node_history.specs.Received.{address_at, service_for}
-use Rattle.co_node_history.specs.Histories.{contents_of, moments, state_of}
-use Rattle.co_node_history.proofs.ExampleNode.{device, frame, hex, stop, searches}
+use Rattle.co_node_model.specs.AppEvents.{event_refusal}
+use Rattle.co_node_model.specs.Inputs.{EventOn, Cleared}
+use Rattle.co_node_model.specs.Nmt.{is_reset_by, service_for}
+use Rattle.co_node_model.specs.declared.address.Address.TheVariants.{Channel}
+use Rattle.co_node_model.specs.Sdo.{channel_logs}
+use Rattle.co_node_model.specs.Addresses.{address_at}
+use Rattle.co_node_model.specs.Device.{contents_of, moments, state_of}
+use Rattle.co_node_model.proofs.ExampleNode.{device, frame, hex, stop, searches}
 use Rattle.co_node_laws.specs.Changes.{is_for}
 
 -- ---- application events

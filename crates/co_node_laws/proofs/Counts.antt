@@ -13,20 +13,19 @@ use Rattle.co_node_parts.specs.declared.nmt_state.NodeState.TheVariants.{Operati
 use Rattle.co_node_parts.specs.NmtStates.{is_state}
 use Rattle.co_node_parts.specs.Producers.{ProducerLog, is_heartbeat_due}
 use Rattle.co_node_parts.specs.EmergencyQueues.{EmergencyLog, Noted, emergency_due}
-use Rattle.co_node_inputs.specs.declared.address.Address.{Address}
-use Rattle.co_node_inputs.specs.declared.address.Address.TheVariants.{Nmt, Sync, Channel, Rpdo, ErrorControl, Nobody}
-use Rattle.co_node_inputs.specs.declared.marks.Marks.{Marks}
-use Rattle.co_node_inputs.specs.declared.turn.Turn.TheVariants.{Quiet, StartAll}
-use Rattle.co_node_inputs.specs.Inputs.{InputView, Inputs, Framed}
-use Rattle.co_node_inputs.specs.Keys.{producer_key, is_set}
-use Rattle.co_node_inputs.specs.Words.{is_reset, emergency_event, producer_event, life_of}
-use Rattle.co_node_inputs.specs.Turns.{turn_with}
-use Rattle.co_node_history.specs.Moments.{Constants, Moment, History}
-use Rattle.co_node_history.specs.Logs.{state_at, contents_at, producer_log, schedule_log}
-use Rattle.co_node_history.specs.TpdoTurns.{due_at}
-use Rattle.co_node_history.specs.Received.{nothing_of, with_frame, address_at, is_heartbeat}
-use Rattle.co_node_history.specs.Phases.{moment}
-use Rattle.co_node_history.specs.Histories.{frames, emergency_frames, life_frames, moments, prescribed, frame_bound, bound_at}
+use Rattle.co_node_model.specs.declared.address.Address.{Address}
+use Rattle.co_node_model.specs.declared.address.Address.TheVariants.{Nmt, Sync, Channel, Rpdo, ErrorControl, Nobody}
+use Rattle.co_node_model.specs.declared.marks.Marks.{Marks}
+use Rattle.co_node_model.specs.declared.turn.Turn.TheVariants.{Quiet, StartAll}
+use Rattle.co_node_model.specs.Inputs.{InputView, Inputs, Framed}
+use Rattle.co_node_model.specs.Keys.{producer_key, is_set}
+use Rattle.co_node_model.specs.Nmt.{is_reset, state_at}
+use Rattle.co_node_model.specs.Emergencies.{emergency_event, emergency_frames}
+use Rattle.co_node_model.specs.Heartbeats.{producer_event, life_of, producer_log, is_heartbeat, life_frames}
+use Rattle.co_node_model.specs.Tpdos.{turn_with, schedule_log, due_at}
+use Rattle.co_node_model.specs.Moments.{Constants, Moment, History, contents_at, nothing_of}
+use Rattle.co_node_model.specs.Device.{with_frame, moment, frames, moments, prescribed, frame_bound, bound_at}
+use Rattle.co_node_model.specs.Addresses.{address_at}
 use Rattle.co_node_laws.specs.Kinds.{is_unanswered}
 
 -- of an input: no entry set, no tick, no SYNC, no event, nothing on SDO

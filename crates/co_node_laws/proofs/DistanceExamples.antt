@@ -3,15 +3,14 @@ use Rattle.std.proofs.Common.{◌≡◌, true, false, [], ◌∷◌, Some, None,
 use Rattle.co_frame.specs.declared.heartbeat.Heartbeat.TheVariants.{PreOperational}
 use Rattle.co_profile.specs.declared.access.Access.TheVariants.{Rw}
 use Rattle.co_pdo.specs.Due.{event_waits}
-use Rattle.co_node_inputs.specs.Addresses.{rpdo_type}
-use Rattle.co_node_inputs.specs.Inputs.{Ticked}
-use Rattle.co_node_inputs.specs.Slots.{is_synchronous, is_short}
-use Rattle.co_node_inputs.specs.declared.address.Address.TheVariants.{Sync, Rpdo}
-use Rattle.co_node_inputs.specs.declared.turn.Turn.TheVariants as turn
-use Rattle.co_node_history.specs.Moments.{Constants}
-use Rattle.co_node_history.specs.Received.{address_at}
-use Rattle.co_node_history.specs.Histories.{contents_of, moments}
-use Rattle.co_node_history.proofs.ExampleNode.{device_with, u8, u16, u32, came, frame, raise, start, searches}
+use Rattle.co_node_model.specs.Rpdos.{rpdo_type, is_synchronous, is_short}
+use Rattle.co_node_model.specs.Inputs.{Ticked}
+use Rattle.co_node_model.specs.declared.address.Address.TheVariants.{Sync, Rpdo}
+use Rattle.co_node_model.specs.declared.turn.Turn.TheVariants as turn
+use Rattle.co_node_model.specs.Moments.{Constants}
+use Rattle.co_node_model.specs.Addresses.{address_at}
+use Rattle.co_node_model.specs.Device.{contents_of, moments}
+use Rattle.co_node_model.proofs.ExampleNode.{device_with, u8, u16, u32, came, frame, raise, start, searches}
 use Rattle.co_node_laws.specs.Distances.{heartbeat_at_tick, is_time_passed, emergency_by}
 use Rattle.co_node_laws.specs.RpdoWaits.{waiting_frame, all_keep_waiting}
 use Rattle.co_node_laws.specs.TpdoDistances.{is_sent, ticks_of_timer, tpdo_log, turn_of_input}

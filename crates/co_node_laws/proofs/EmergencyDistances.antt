@@ -6,12 +6,12 @@ use Rattle.co_frame.specs.declared.emergency.Emergency.{Emergency}
 use Rattle.co_dict.specs.Rows.{number_at}
 use Rattle.co_node_parts.specs.declared.emergencies.EmergencyEvent.TheVariants.{Empty, Tick, Quiet}
 use Rattle.co_node_parts.specs.EmergencyQueues.{EmergencyLog, Noted, Sending, older, is_past, queue_of, sendings, with_queued, with_sending}
-use Rattle.co_node_inputs.specs.Inputs.{InputView, Inputs}
-use Rattle.co_node_inputs.specs.Keys.{emergency_inhibit_key}
-use Rattle.co_node_inputs.specs.Words.{is_reset, may_send}
-use Rattle.co_node_history.specs.Moments.{Constants, Moment}
-use Rattle.co_node_history.specs.Logs.{unsent_log, emergency_log}
-use Rattle.co_node_history.specs.Histories.{moments, state_of, contents_of}
+use Rattle.co_node_model.specs.Inputs.{InputView, Inputs}
+use Rattle.co_node_model.specs.Keys.{emergency_inhibit_key}
+use Rattle.co_node_model.specs.Nmt.{is_reset}
+use Rattle.co_node_model.specs.Emergencies.{may_send, unsent_log, emergency_log}
+use Rattle.co_node_model.specs.Moments.{Constants, Moment}
+use Rattle.co_node_model.specs.Device.{moments, state_of, contents_of}
 use Rattle.co_node_laws.specs.Distances.{moment_at, aged, and_sent, emergencies_sent, queued, queue_with, rest_after, waiting, emergency_by}
 
 -- ---- sendings

@@ -1,11 +1,10 @@
 -- That the laws are about something: a device that is operational, and inputs at which its schedule is asked.
 use Rattle.std.proofs.Common.{◌≡◌, Bool, true, false, [], ◌∷◌, refl}
 use Rattle.co_node_parts.specs.declared.nmt_state.NodeState.TheVariants.{Operational}
-use Rattle.co_node_inputs.specs.Inputs.{InputView, Inputs, Ticked}
-use Rattle.co_node_history.specs.Logs.{turn_at}
-use Rattle.co_node_history.specs.Phases.{moment}
-use Rattle.co_node_history.specs.Histories.{moments, state_of}
-use Rattle.co_node_history.proofs.ExampleNode.{device, request, start, stop, sync, event, searches}
+use Rattle.co_node_model.specs.Inputs.{InputView, Inputs, Ticked}
+use Rattle.co_node_model.specs.Tpdos.{turn_at}
+use Rattle.co_node_model.specs.Device.{moment, moments, state_of}
+use Rattle.co_node_model.proofs.ExampleNode.{device, request, start, stop, sync, event, searches}
 use Rattle.co_node_laws.specs.Calls.{is_asked}
 
 -- the schedule is asked at an input

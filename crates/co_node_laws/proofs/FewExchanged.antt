@@ -14,15 +14,16 @@ use Rattle.co_sdo_bank.specs.Channels.{ChannelSettings}
 use Rattle.co_sdo_bank.specs.Events.{ChannelEvent, frames_at, logs_after, with_each, receiver, exchange_on, exchange_at, time_out_on, expired_in}
 use Rattle.co_node_parts.specs.declared.nmt_state.NodeState.TheVariants.{Operational, Stopped}
 use Rattle.co_node_parts.specs.NmtStates.{is_state}
-use Rattle.co_node_inputs.specs.declared.address.Address.{Address}
-use Rattle.co_node_inputs.specs.declared.address.Address.TheVariants.{Nmt, Sync, Channel, Rpdo, ErrorControl, Nobody}
-use Rattle.co_node_inputs.specs.AppAnswers.{event_refusal}
-use Rattle.co_node_inputs.specs.Inputs.{InputView, Inputs, AppView, Framed, Ticked, Applied}
-use Rattle.co_node_history.specs.Moments.{Constants, Moment, History, channels}
-use Rattle.co_node_history.specs.Logs.{contents_at, state_at, with_tick, with_drop, drops, channel_logs}
-use Rattle.co_node_history.specs.Received.{nothing_of, with_frame, with_app_event, with_input, address_at, is_heartbeat}
-use Rattle.co_node_history.specs.Phases.{moment}
-use Rattle.co_node_history.specs.Histories.{moments}
+use Rattle.co_node_model.specs.declared.address.Address.{Address}
+use Rattle.co_node_model.specs.declared.address.Address.TheVariants.{Nmt, Sync, Channel, Rpdo, ErrorControl, Nobody}
+use Rattle.co_node_model.specs.AppEvents.{event_refusal, with_app_event}
+use Rattle.co_node_model.specs.Inputs.{InputView, Inputs, AppView, Framed, Ticked, Applied}
+use Rattle.co_node_model.specs.Moments.{Constants, Moment, History, channels, contents_at, nothing_of}
+use Rattle.co_node_model.specs.Nmt.{state_at}
+use Rattle.co_node_model.specs.Sdo.{with_channel_ticks, with_drop, drops, channel_logs}
+use Rattle.co_node_model.specs.Device.{with_frame, with_input, moment, moments}
+use Rattle.co_node_model.specs.Addresses.{address_at}
+use Rattle.co_node_model.specs.Heartbeats.{is_heartbeat}
 use Rattle.co_node_laws.proofs.FewAnswers.{HasSmallBegin, is_exchange, few_reply, small_quiet, small_exchange}
 
 -- no log has an open block upload with more than 127 segments in a sub-block
@@ -56,7 +57,7 @@ small_in : (e : Option ChannelEvent) (logs : ℕ → Log) → IsQuiet e → AllS
 small_in None logs quiet all = tt
 small_in (Some e) logs quiet all = small_quiet e.event (since_initiate (logs e.channel.number)) quiet (all e.channel.number)
 
-small_ticked : (b : Bool) (logs : ℕ → Log) → AllSmall logs → AllSmall (with_tick b logs)
+small_ticked : (b : Bool) (logs : ℕ → Log) → AllSmall logs → AllSmall (with_channel_ticks b logs)
 small_ticked true logs all = λ j. small_quiet TickOf (since_initiate (logs j)) refl (all j)
 small_ticked false logs all = all
 
@@ -134,7 +135,7 @@ small_moment : (m : Moment) (history : History) → IsSmallIn m.exchange (channe
 small_moment m history exchange quiet all =
     let exchanged = small_logs m.exchange (channel_logs history) exchange all in
     let ticked = small_ticked m.marks.ticked (logs_after m.exchange (channel_logs history)) exchanged in
-    let logs = with_tick m.marks.ticked (logs_after m.exchange (channel_logs history)) in
+    let logs = with_channel_ticks m.marks.ticked (logs_after m.exchange (channel_logs history)) in
     small_dropped (drops m history) (logs_after m.timed_out logs) (small_logs m.timed_out logs (small_in m.timed_out logs quiet ticked) ticked)
 
 all_small : (k : Constants) (inputs : Inputs) → AllSmall (channel_logs (moments k inputs))

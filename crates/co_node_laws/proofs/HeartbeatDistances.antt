@@ -3,15 +3,15 @@ use Rattle.std.proofs.Common.{◌≡◌, ℕ, ◌+◌, ◌%◌, Bool, true, fals
 use Rattle.std.specs.Prelude.{◌==◌, ◌&&◌, nat_lt}
 use Rattle.co_frame.specs.declared.heartbeat.Heartbeat.TheVariants.{BootUp}
 use Rattle.co_dict.specs.Rows.{number_at}
-use Rattle.co_node_inputs.specs.Keys.{producer_key}
+use Rattle.co_node_model.specs.Keys.{producer_key}
 use Rattle.co_node_parts.specs.declared.heartbeat_producer.ProducerEvent.TheVariants as producer
 use Rattle.co_node_parts.specs.NmtStates.{heartbeat_of}
 use Rattle.co_node_parts.specs.Producers.{ProducerLog, period_of, ticks, is_heartbeat_due}
-use Rattle.co_node_inputs.specs.Inputs.{InputView, Inputs, Ticked}
-use Rattle.co_node_inputs.specs.Words.{is_reset, life_of, producer_event}
-use Rattle.co_node_history.specs.Moments.{Constants}
-use Rattle.co_node_history.specs.Logs.{producer_log}
-use Rattle.co_node_history.specs.Histories.{moments, state_of}
+use Rattle.co_node_model.specs.Inputs.{InputView, Inputs, Ticked}
+use Rattle.co_node_model.specs.Nmt.{is_reset}
+use Rattle.co_node_model.specs.Heartbeats.{life_of, producer_event, producer_log}
+use Rattle.co_node_model.specs.Moments.{Constants}
+use Rattle.co_node_model.specs.Device.{moments, state_of}
 use Rattle.co_node_laws.specs.Kinds.{is_tick}
 use Rattle.co_node_laws.proofs.Ticks.{ticked_is}
 use Rattle.co_node_laws.specs.Distances.{moment_at, begins_heartbeat, heartbeat_period, heartbeat_ticks, heartbeat_at_tick}

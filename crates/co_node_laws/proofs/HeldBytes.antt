@@ -21,15 +21,16 @@ use Rattle.co_sdo_bank.specs.Channels.{ChannelSettings}
 use Rattle.co_sdo_bank.specs.Events.{ChannelEvent, logs_after, with_each, receiver, exchange_on, exchange_at, time_out_on, expired_in}
 use Rattle.co_node_parts.specs.declared.nmt_state.NodeState.TheVariants.{Operational, Stopped}
 use Rattle.co_node_parts.specs.NmtStates.{is_state}
-use Rattle.co_node_inputs.specs.declared.address.Address.{Address}
-use Rattle.co_node_inputs.specs.declared.address.Address.TheVariants.{Nmt, Sync, Channel, Rpdo, ErrorControl, Nobody}
-use Rattle.co_node_inputs.specs.AppAnswers.{event_refusal}
-use Rattle.co_node_inputs.specs.Inputs.{InputView, Inputs, AppView, Framed, Ticked, Applied}
-use Rattle.co_node_history.specs.Moments.{Constants, Moment, History, channels}
-use Rattle.co_node_history.specs.Logs.{contents_at, state_at, with_tick, with_drop, drops, channel_logs}
-use Rattle.co_node_history.specs.Received.{nothing_of, with_frame, with_app_event, with_input, address_at, is_heartbeat}
-use Rattle.co_node_history.specs.Phases.{moment}
-use Rattle.co_node_history.specs.Histories.{moments, contents_of, held_of, room_of}
+use Rattle.co_node_model.specs.declared.address.Address.{Address}
+use Rattle.co_node_model.specs.declared.address.Address.TheVariants.{Nmt, Sync, Channel, Rpdo, ErrorControl, Nobody}
+use Rattle.co_node_model.specs.AppEvents.{event_refusal, with_app_event}
+use Rattle.co_node_model.specs.Inputs.{InputView, Inputs, AppView, Framed, Ticked, Applied}
+use Rattle.co_node_model.specs.Moments.{Constants, Moment, History, channels, contents_at, nothing_of}
+use Rattle.co_node_model.specs.Nmt.{state_at}
+use Rattle.co_node_model.specs.Sdo.{with_channel_ticks, with_drop, drops, channel_logs}
+use Rattle.co_node_model.specs.Device.{with_frame, with_input, moment, moments, contents_of, held_of, room_of}
+use Rattle.co_node_model.specs.Addresses.{address_at}
+use Rattle.co_node_model.specs.Heartbeats.{is_heartbeat}
 use Rattle.co_node_laws.specs.Lengths.{AllDictionaries}
 use Rattle.co_node_laws.proofs.FewAnswers.{is_exchange}
 
@@ -76,7 +77,7 @@ under_in : (rows : Rows) (e : Option ChannelEvent) (logs : ℕ → Log) → IsQu
 under_in rows None logs quiet all = tt
 under_in rows (Some e) logs quiet all = under_way_quiet rows e.event (since_initiate (logs e.channel.number)) quiet (all e.channel.number)
 
-under_ticked : (rows : Rows) (b : Bool) (logs : ℕ → Log) → AllUnderWay rows logs → AllUnderWay rows (with_tick b logs)
+under_ticked : (rows : Rows) (b : Bool) (logs : ℕ → Log) → AllUnderWay rows logs → AllUnderWay rows (with_channel_ticks b logs)
 under_ticked rows true logs all = λ j. under_way_quiet rows TickOf (since_initiate (logs j)) refl (all j)
 under_ticked rows false logs all = all
 
@@ -140,7 +141,7 @@ under_moment : (rows : Rows) (m : Moment) (history : History) → IsUnderWayIn r
 under_moment rows m history exchange quiet all =
     let exchanged = under_logs rows m.exchange (channel_logs history) exchange all in
     let ticked = under_ticked rows m.marks.ticked (logs_after m.exchange (channel_logs history)) exchanged in
-    let logs = with_tick m.marks.ticked (logs_after m.exchange (channel_logs history)) in
+    let logs = with_channel_ticks m.marks.ticked (logs_after m.exchange (channel_logs history)) in
     under_dropped rows (drops m history) (logs_after m.timed_out logs) (under_logs rows m.timed_out logs (under_in rows m.timed_out logs quiet ticked) ticked)
 
 lawful_now : (k : Constants) (inputs : Inputs) → AllDictionaries k inputs → IsDictionary k.description (contents_of k inputs)

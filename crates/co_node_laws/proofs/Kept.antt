@@ -17,20 +17,19 @@ use Rattle.co_node_parts.specs.Consumers.{ConsumerLog, is_lost}
 use Rattle.co_frame.specs.FrameContent.{FrameContent}
 use Rattle.co_sdo.specs.Completed.{contents_with}
 use Rattle.co_sdo_bank.specs.Events.{set_of}
-use Rattle.co_node_inputs.specs.declared.address.Address.{Address}
-use Rattle.co_node_inputs.specs.declared.address.Address.TheVariants.{Channel}
-use Rattle.co_node_inputs.specs.declared.marks.Marks.{Marks}
-use Rattle.co_node_inputs.specs.Inputs.{InputView, Inputs, AppView, Applied, Written, EventOn, ChangedAt, Raised, Cleared, Framed}
-use Rattle.co_node_inputs.specs.AppAnswers.{event_refusal}
-use Rattle.co_node_inputs.specs.Slots.{slot_event, emptied_by, empties_slot}
-use Rattle.co_node_inputs.specs.Words.{is_reset, is_consumer_key, begin_event, heard_event, consumers_call}
-use Rattle.co_node_effects.specs.Errors.{all_raised}
-use Rattle.co_node_effects.specs.RpdoData.{after_all_data}
-use Rattle.co_node_history.specs.Moments.{Constants, Moment, History, channels}
-use Rattle.co_node_history.specs.Logs.{consumers_log, slot_log, transition_of, state_at, channel_logs}
-use Rattle.co_node_history.specs.Received.{nothing_of, with_app_event, with_frame, address_at, app_contents}
-use Rattle.co_node_history.specs.Phases.{lost_by, loss_errors, moment, arrival_errors, effective}
-use Rattle.co_node_history.specs.Histories.{moments, contents_of, state_of}
+use Rattle.co_node_model.specs.declared.address.Address.{Address}
+use Rattle.co_node_model.specs.declared.address.Address.TheVariants.{Channel}
+use Rattle.co_node_model.specs.declared.marks.Marks.{Marks}
+use Rattle.co_node_model.specs.Inputs.{InputView, Inputs, AppView, Applied, Written, EventOn, ChangedAt, Raised, Cleared, Framed}
+use Rattle.co_node_model.specs.AppEvents.{event_refusal, with_app_event, app_contents}
+use Rattle.co_node_model.specs.Rpdos.{slot_event, emptied_by, empties_slot, after_all_data, slot_log, arrival_errors, effective}
+use Rattle.co_node_model.specs.Nmt.{is_reset, transition_of, state_at}
+use Rattle.co_node_model.specs.Heartbeats.{is_consumer_key, begin_event, heard_event, consumers_call, consumers_log, lost_by, loss_errors}
+use Rattle.co_node_model.specs.Emergencies.{all_raised}
+use Rattle.co_node_model.specs.Moments.{Constants, Moment, History, channels, nothing_of}
+use Rattle.co_node_model.specs.Sdo.{channel_logs}
+use Rattle.co_node_model.specs.Device.{with_frame, moment, moments, contents_of, state_of}
+use Rattle.co_node_model.specs.Addresses.{address_at}
 
 -- ---- no heartbeat is lost
 

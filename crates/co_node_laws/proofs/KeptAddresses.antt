@@ -6,17 +6,15 @@ use Rattle.co_value.specs.declared.key.Key.{Key}
 use Rattle.co_value.specs.Keys.{same_key}
 use Rattle.co_dict.specs.Rows.{Contents}
 use Rattle.co_dict.specs.Stores.{Description}
-use Rattle.co_node_inputs.specs.Inputs.{InputView, Inputs}
-use Rattle.co_node_inputs.specs.AddressChanges.{is_address_set, is_rpdo_key, may_change_addresses}
-use Rattle.co_node_inputs.specs.Keys.{sync_key}
-use Rattle.co_node_inputs.specs.Words.{is_reset}
-use Rattle.co_node_history.specs.Moments.{Constants}
-use Rattle.co_node_history.specs.Logs.{contents_at}
-use Rattle.co_node_history.specs.Phases.{moment}
-use Rattle.co_node_history.specs.Histories.{moments, contents_of}
+use Rattle.co_node_model.specs.Inputs.{InputView, Inputs}
+use Rattle.co_node_model.specs.Addresses.{is_address_set, is_rpdo_key, may_change_addresses}
+use Rattle.co_node_model.specs.Keys.{sync_key}
+use Rattle.co_node_model.specs.Nmt.{is_reset}
+use Rattle.co_node_model.specs.Moments.{Constants, contents_at}
+use Rattle.co_node_model.specs.Device.{moment, moments, contents_of}
 use Rattle.co_node_laws.proofs.Below.{Below}
 use Rattle.co_node_laws.proofs.Received.{MayBecome, changed}
-use Rattle.co_node_effects.proofs.SameSettings.{written_other}
+use Rattle.co_node_laws.proofs.SameSettings.{written_other}
 
 both_off : (a b : Bool) → a || b ≡ false → (a ≡ false) × (b ≡ false)
 both_off true b off = absurd (cc)

@@ -6,17 +6,14 @@ use Rattle.co_value.specs.declared.key.Key.{Key}
 use Rattle.co_value.specs.Keys.{same_key}
 use Rattle.co_dict.specs.Rows.{Contents}
 use Rattle.co_dict.specs.Stores.{Description}
-use Rattle.co_node_inputs.specs.Inputs.{InputView, Inputs}
-use Rattle.co_node_inputs.specs.Words.{is_reset}
-use Rattle.co_node_history.specs.Moments.{Constants}
-use Rattle.co_node_history.specs.Logs.{contents_at}
-use Rattle.co_node_history.specs.Phases.{moment}
-use Rattle.co_node_history.specs.Histories.{moments, contents_of}
+use Rattle.co_node_model.specs.Inputs.{InputView, Inputs}
+use Rattle.co_node_model.specs.Nmt.{is_reset}
+use Rattle.co_node_model.specs.Moments.{Constants, contents_at}
+use Rattle.co_node_model.specs.Device.{moment, moments, contents_of}
 use Rattle.co_node_laws.proofs.Below.{Below}
 use Rattle.co_node_laws.proofs.Received.{MayBecome, after_watched, changed_watched}
-use Rattle.co_node_effects.proofs.SameSettings.{from_1600, same_mappings, to_1BFF, written_other}
-use Rattle.co_node_mappings.specs.MappingChanges.{is_mapping_key, is_mapping_set, may_change_mappings}
-use Rattle.co_node_mappings.specs.MappingTables.{AgreeOnMappings}
+use Rattle.co_node_laws.proofs.SameSettings.{from_1600, same_mappings, to_1BFF, written_other}
+use Rattle.co_node_model.specs.Mappings.{is_mapping_key, is_mapping_set, may_change_mappings, AgreeOnMappings}
 
 both_off : (a b : Bool) → a || b ≡ false → (a ≡ false) × (b ≡ false)
 both_off true b off = absurd (cc)

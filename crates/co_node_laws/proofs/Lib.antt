@@ -1,3 +1,7 @@
+pub mod SameSettings
+pub mod EventAnswers
+pub mod ResetsOfAll
+pub mod BootUps
 pub mod Below
 pub mod Writes
 pub mod Calls
@@ -25,3 +29,9 @@ pub mod Resets
 pub mod SetExactly
 mod KeptMappings
 mod KeptAddresses
+pub mod Channel
+pub mod Requests
+pub mod InTurns
+pub mod Apart
+mod ApartExamples
+pub mod Segmented

@@ -20,17 +20,17 @@ use Rattle.co_node_parts.specs.declared.nmt_state.NodeState.TheVariants.{Operati
 use Rattle.co_node_parts.specs.NmtStates.{is_state}
 use Rattle.co_node_parts.specs.Consumers.{ConsumerLog, monitored_by, monitored_after, later, silence, is_over_after, is_lost}
 use Rattle.co_node_parts.specs.ConsumerTables.{ConsumersCall, Noted, AllBegun, event_of, entry_log, entry_subs}
-use Rattle.co_node_inputs.specs.declared.address.Address.{Address}
-use Rattle.co_node_inputs.specs.declared.address.Address.TheVariants.{Nmt, Sync, Channel, Rpdo, ErrorControl, Nobody}
-use Rattle.co_node_inputs.specs.declared.marks.Marks.{Marks}
-use Rattle.co_node_inputs.specs.AppAnswers.{event_refusal}
-use Rattle.co_node_inputs.specs.Inputs.{InputView, Inputs, AppView, Framed, Ticked, Applied, Written, EventOn, ChangedAt, Raised, Cleared}
-use Rattle.co_node_inputs.specs.Keys.{is_set}
-use Rattle.co_node_inputs.specs.Words.{is_reset, is_consumer_key, consumer_words, begin_event, heard_event, consumers_call}
-use Rattle.co_node_history.specs.Moments.{Constants, Moment, History}
-use Rattle.co_node_history.specs.Logs.{contents_at, state_at, consumers_log}
-use Rattle.co_node_history.specs.Received.{nothing_of, with_frame, with_app_event, with_input, address_at, is_heartbeat}
-use Rattle.co_node_history.specs.Histories.{moments}
+use Rattle.co_node_model.specs.declared.address.Address.{Address}
+use Rattle.co_node_model.specs.declared.address.Address.TheVariants.{Nmt, Sync, Channel, Rpdo, ErrorControl, Nobody}
+use Rattle.co_node_model.specs.declared.marks.Marks.{Marks}
+use Rattle.co_node_model.specs.AppEvents.{event_refusal, with_app_event}
+use Rattle.co_node_model.specs.Inputs.{InputView, Inputs, AppView, Framed, Ticked, Applied, Written, EventOn, ChangedAt, Raised, Cleared}
+use Rattle.co_node_model.specs.Keys.{is_set}
+use Rattle.co_node_model.specs.Nmt.{is_reset, state_at}
+use Rattle.co_node_model.specs.Heartbeats.{is_consumer_key, consumer_words, begin_event, heard_event, consumers_call, consumers_log, is_heartbeat}
+use Rattle.co_node_model.specs.Moments.{Constants, Moment, History, contents_at, nothing_of}
+use Rattle.co_node_model.specs.Device.{with_frame, with_input, moments}
+use Rattle.co_node_model.specs.Addresses.{address_at}
 use Rattle.co_node_laws.specs.Kinds.{is_tick}
 use Rattle.co_node_laws.proofs.Ticks.{ticked_is}
 use Rattle.co_node_laws.specs.Distances.{moment_at, begins_entry, heard_after, silence_after, monitored, ticks_silent, is_time_passed}

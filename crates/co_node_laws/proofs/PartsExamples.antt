@@ -1,9 +1,9 @@
 -- That the premise on a device's parts can be met: a device without entries, computed from the definitions.
 use Rattle.std.proofs.Common.{false, [], None, refl, arith}
 use Rattle.co_dict.specs.Stores.{IsFilled, IsDescription}
-use Rattle.co_node_inputs.specs.Inputs.{Ticked}
-use Rattle.co_node_history.specs.Moments.{Constants}
-use Rattle.co_node_history.proofs.ExampleNode.{start, searches}
+use Rattle.co_node_model.specs.Inputs.{Ticked}
+use Rattle.co_node_model.specs.Moments.{Constants}
+use Rattle.co_node_model.proofs.ExampleNode.{start, searches}
 use Rattle.co_node_laws.specs.Lengths.{HasParts}
 
 abbrev empty : Constants

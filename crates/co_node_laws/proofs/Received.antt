@@ -18,21 +18,22 @@ use Rattle.co_sdo_bank.specs.Events.{set_of}
 use Rattle.co_node_parts.specs.declared.rpdo_slots.KeptFrame.{KeptFrame}
 use Rattle.co_node_parts.specs.declared.nmt_state.NodeState.TheVariants.{Operational, Stopped}
 use Rattle.co_node_parts.specs.NmtStates.{is_state}
-use Rattle.co_node_inputs.specs.Inputs.{InputView, AppView, Framed, Applied, Written, EventOn, ChangedAt, Raised, Cleared}
-use Rattle.co_node_inputs.specs.Inputs as inputs
-use Rattle.co_node_inputs.specs.AppAnswers.{event_refusal}
-use Rattle.co_node_inputs.specs.Words.{is_reset}
-use Rattle.co_node_inputs.specs.declared.address.Address.{Address}
-use Rattle.co_node_inputs.specs.declared.address.Address.TheVariants.{Nmt, Sync, Channel, Rpdo, ErrorControl, Nobody}
-use Rattle.co_node_effects.specs.RpdoData.{after_data, after_all_data, data_errors, with_data}
-use Rattle.co_node_effects.specs.Errors.{all_raised}
-use Rattle.co_node_history.specs.Moments.{Constants, Moment, History, channels}
-use Rattle.co_node_history.specs.Logs.{contents_at, state_at, channel_logs}
-use Rattle.co_node_history.specs.Received.{service_for, with_service, with_request, with_frame, with_app_event, with_input, nothing_of, address_at, is_heartbeat, app_error}
-use Rattle.co_node_history.specs.Phases.{moment, loss_errors, arrival_errors}
+use Rattle.co_node_model.specs.Inputs.{InputView, AppView, Framed, Applied, Written, EventOn, ChangedAt, Raised, Cleared}
+use Rattle.co_node_model.specs.Inputs as inputs
+use Rattle.co_node_model.specs.AppEvents.{event_refusal, with_app_event, app_error}
+use Rattle.co_node_model.specs.Nmt.{is_reset, state_at, service_for, with_service}
+use Rattle.co_node_model.specs.declared.address.Address.{Address}
+use Rattle.co_node_model.specs.declared.address.Address.TheVariants.{Nmt, Sync, Channel, Rpdo, ErrorControl, Nobody}
+use Rattle.co_node_model.specs.Rpdos.{after_data, after_all_data, data_errors, with_data, arrival_errors}
+use Rattle.co_node_model.specs.Emergencies.{all_raised}
+use Rattle.co_node_model.specs.Moments.{Constants, Moment, History, channels, contents_at, nothing_of}
+use Rattle.co_node_model.specs.Sdo.{channel_logs, with_request}
+use Rattle.co_node_model.specs.Device.{with_frame, with_input, moment}
+use Rattle.co_node_model.specs.Addresses.{address_at}
+use Rattle.co_node_model.specs.Heartbeats.{is_heartbeat, loss_errors}
 use Rattle.co_node_laws.proofs.Below.{Below}
-use Rattle.co_node_effects.specs.Settings.{HasSameSettings}
-use Rattle.co_node_effects.proofs.SameSettings.{same_none, same_both, same_register, same_raised, same_all_raised}
+use Rattle.co_node_laws.specs.Settings.{HasSameSettings}
+use Rattle.co_node_laws.proofs.SameSettings.{same_none, same_both, same_register, same_raised, same_all_raised}
 use Rattle.co_node_laws.proofs.Writes.{IsWrite}
 
 -- the entries may change so, where this key was set or none was

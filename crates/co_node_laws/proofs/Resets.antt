@@ -13,15 +13,16 @@ use Rattle.co_dict.specs.Rows.{Contents, restored}
 use Rattle.co_node_parts.specs.declared.nmt_state.NodeState.TheVariants.{PreOperational}
 use Rattle.co_node_parts.specs.declared.emergencies.EmergencyEvent.TheVariants.{Empty}
 use Rattle.co_node_parts.specs.EmergencyQueues.{EmergencyLog, Noted, emergency_due}
-use Rattle.co_node_inputs.specs.Inputs.{InputView, Inputs, Framed}
-use Rattle.co_node_inputs.specs.Words.{is_reset_by}
-use Rattle.co_node_inputs.specs.declared.address.Address.TheVariants.{Nmt}
-use Rattle.co_node_history.specs.Moments.{Constants, Moment, History}
-use Rattle.co_node_history.specs.Laws.{boot_up}
-use Rattle.co_node_history.specs.Logs.{emergency_log, state_at}
-use Rattle.co_node_history.specs.Received.{address_at, nothing_of, service_for, after_service, with_service}
-use Rattle.co_node_history.specs.Phases.{with_losses, with_pdos, with_emergency, with_life, with_tpdos}
-use Rattle.co_node_history.specs.Histories.{frames, moments, contents_of, state_of, prescribed}
+use Rattle.co_node_model.specs.Inputs.{InputView, Inputs, Framed}
+use Rattle.co_node_model.specs.Nmt.{is_reset_by, state_at, service_for, after_service, with_service}
+use Rattle.co_node_model.specs.declared.address.Address.TheVariants.{Nmt}
+use Rattle.co_node_model.specs.Moments.{Constants, Moment, History, nothing_of}
+use Rattle.co_node_model.specs.Heartbeats.{boot_up, with_losses, with_life}
+use Rattle.co_node_model.specs.Emergencies.{emergency_log, with_emergency}
+use Rattle.co_node_model.specs.Addresses.{address_at}
+use Rattle.co_node_model.specs.Rpdos.{with_pdos}
+use Rattle.co_node_model.specs.Tpdos.{with_tpdos}
+use Rattle.co_node_model.specs.Device.{frames, moments, contents_of, state_of, prescribed}
 use Rattle.co_node_laws.specs.Changes.{is_for, reset_service, reset_to}
 use Rattle.co_node_laws.proofs.Changed.{by_address}
 

@@ -15,17 +15,15 @@ use Rattle.co_node_parts.specs.declared.rpdo_slots.SlotEvent.{SlotEvent}
 use Rattle.co_node_parts.specs.declared.rpdo_slots.SlotEvent.TheVariants as slot
 use Rattle.co_node_parts.specs.NmtStates.{leaves, is_state}
 use Rattle.co_node_parts.specs.RpdoSlots.{SlotLog, kept_of, taken_at, all_kept}
-use Rattle.co_node_inputs.specs.Addresses.{rpdo_type}
-use Rattle.co_node_inputs.specs.Inputs.{InputView, Inputs, Framed}
-use Rattle.co_node_inputs.specs.Slots.{is_synchronous, is_short, empties_slot, emptied_by, kept_by, slot_event}
-use Rattle.co_node_inputs.specs.Words.{is_reset, consumers_call}
-use Rattle.co_node_inputs.specs.declared.address.Address.TheVariants.{Sync, Rpdo}
-use Rattle.co_node_effects.specs.RpdoData.{immediate}
-use Rattle.co_node_history.specs.Moments.{Constants, Moment, History}
-use Rattle.co_node_history.specs.Logs.{consumers_log, slot_log, state_at, transition_of}
-use Rattle.co_node_history.specs.Received.{nothing_of, with_sync, with_rpdo, with_frame, address_at}
-use Rattle.co_node_history.specs.Phases.{lost_by, with_lost, with_losses, with_pdos}
-use Rattle.co_node_history.specs.Histories.{moments, contents_of, state_of}
+use Rattle.co_node_model.specs.Rpdos.{rpdo_type, is_synchronous, is_short, empties_slot, emptied_by, kept_by, slot_event, immediate, slot_log, with_rpdo, with_pdos}
+use Rattle.co_node_model.specs.Inputs.{InputView, Inputs, Framed}
+use Rattle.co_node_model.specs.Nmt.{is_reset, state_at, transition_of}
+use Rattle.co_node_model.specs.Heartbeats.{consumers_call, consumers_log, lost_by, with_lost, with_losses}
+use Rattle.co_node_model.specs.declared.address.Address.TheVariants.{Sync, Rpdo}
+use Rattle.co_node_model.specs.Moments.{Constants, Moment, History, nothing_of}
+use Rattle.co_node_model.specs.Sync.{with_sync}
+use Rattle.co_node_model.specs.Device.{with_frame, moments, contents_of, state_of}
+use Rattle.co_node_model.specs.Addresses.{address_at}
 use Rattle.co_node_laws.specs.Distances.{moment_at}
 use Rattle.co_node_laws.specs.RpdoWaits.{waiting_frame, renews, is_frame_of, keeps_waiting, all_keep_waiting}
 use Rattle.co_node_laws.proofs.Kept.{by_reset}

@@ -1,11 +1,11 @@
 -- The condition of the schedule, after all inputs and as it is called at one more.
 use Rattle.std.proofs.Common.{◌≡◌, ℕ, ◌-◌, Bool, true, false, cond, List, [], ◌∷◌, Option, Some, None, refl}
 use Rattle.co_profile.specs.Indices.{is_within, tpdo_communication}
-use Rattle.co_node_inputs.specs.declared.turn.Turn.TheVariants.{Quiet}
+use Rattle.co_node_model.specs.declared.turn.Turn.TheVariants.{Quiet}
 use Rattle.co_value.specs.declared.key.Key.{Key}
 use Rattle.co_frame.specs.declared.nmt.NmtService.{NmtService}
 use Rattle.co_frame.specs.declared.nmt.NmtService.TheVariants.{Start, Stop, EnterPreOperational, ResetNode, ResetCommunication}
-use Rattle.co_dict.specs.Rows.{Contents}
+use Rattle.co_dict.specs.Rows.{Contents, number_at}
 use Rattle.co_dict.specs.Stores.{Description}
 use Rattle.co_pdo.specs.declared.tpdo.Part.{Part}
 use Rattle.co_pdo.specs.Schedules.{History as Schedule, AllCurrent}
@@ -14,17 +14,14 @@ use Rattle.co_node_parts.specs.declared.nmt_state.NodeState.TheVariants.{PreOper
 use Rattle.co_node_parts.specs.declared.nmt_state.LossReaction.{LossReaction}
 use Rattle.co_node_parts.specs.declared.nmt_state.LossReaction.TheVariants.{LeaveOperational, NoChange, EnterStopped}
 use Rattle.co_node_parts.specs.NmtStates.{StateLog, state_after, reaction_with, after_loss}
-use Rattle.co_dict.specs.Rows.{number_at}
-use Rattle.co_node_inputs.specs.declared.marks.Marks.{Marks}
-use Rattle.co_node_inputs.specs.Inputs.{InputView, Inputs}
-use Rattle.co_node_inputs.specs.Keys.{error_behaviour_key}
-use Rattle.co_node_inputs.specs.Words.{is_reset_by, commanded_event}
-use Rattle.co_node_inputs.specs.Turns.{part_started, start_turn, turn_by_write, turn_of, turn_with}
-use Rattle.co_node_history.specs.Moments.{Constants}
-use Rattle.co_node_history.specs.Logs.{state_at, contents_at, state_log, schedule_log, turn_at}
-use Rattle.co_node_history.specs.TpdoTurns.{with_turn}
-use Rattle.co_node_history.specs.Phases.{moment, loss_event}
-use Rattle.co_node_history.specs.Histories.{moments, state_of, contents_of}
+use Rattle.co_node_model.specs.declared.marks.Marks.{Marks}
+use Rattle.co_node_model.specs.Inputs.{InputView, Inputs}
+use Rattle.co_node_model.specs.Keys.{error_behaviour_key}
+use Rattle.co_node_model.specs.Nmt.{is_reset_by, commanded_event, state_at, state_log}
+use Rattle.co_node_model.specs.Tpdos.{part_started, start_turn, turn_by_write, turn_of, turn_with, schedule_log, turn_at, with_turn}
+use Rattle.co_node_model.specs.Moments.{Constants, contents_at}
+use Rattle.co_node_model.specs.Device.{moment, moments, state_of, contents_of}
+use Rattle.co_node_model.specs.Heartbeats.{loss_event}
 use Rattle.co_node_laws.specs.Calls.{is_asked}
 use Rattle.co_node_laws.proofs.Below.{Below}
 use Rattle.co_node_laws.proofs.Calls.{current_started, current_happened}

@@ -13,12 +13,12 @@ use Rattle.co_sdo.specs.Refused.{completion_refusal}
 use Rattle.co_node_parts.specs.declared.nmt_state.NodeState.{NodeState}
 use Rattle.co_node_parts.specs.declared.nmt_state.NodeState.TheVariants.{PreOperational, Operational, Stopped}
 use Rattle.co_node_parts.specs.NmtStates.{is_state}
-use Rattle.co_node_inputs.specs.Inputs.{Inputs, Framed}
-use Rattle.co_node_inputs.specs.declared.address.Address.TheVariants.{Channel}
-use Rattle.co_node_history.specs.Moments.{Constants}
-use Rattle.co_node_history.specs.Logs.{channel_logs}
-use Rattle.co_node_history.specs.Received.{address_at}
-use Rattle.co_node_history.specs.Histories.{moments, contents_of, state_of}
+use Rattle.co_node_model.specs.Inputs.{Inputs, Framed}
+use Rattle.co_node_model.specs.declared.address.Address.TheVariants.{Channel}
+use Rattle.co_node_model.specs.Moments.{Constants}
+use Rattle.co_node_model.specs.Sdo.{channel_logs}
+use Rattle.co_node_model.specs.Addresses.{address_at}
+use Rattle.co_node_model.specs.Device.{moments, contents_of, state_of}
 use Rattle.co_node_laws.specs.Changes.{download_set, changed_by_request}
 use Rattle.co_node_laws.proofs.Changed.{by_address}
 

@@ -13,15 +13,13 @@ use Rattle.co_pdo.specs.Due.{is_event_driven, is_inhibit_over, event_waits, time
 use Rattle.co_pdo.specs.Log.{Log, Started, Happened}
 use Rattle.co_pdo.specs.Schedules.{History as Schedule, log_of, is_among, sync_with, is_tpdo_due}
 use Rattle.co_pdo.specs.Tpdos.{is_active, settings_of, tpdo_numbers}
-use Rattle.co_node_inputs.specs.Asked.{numbers_asked}
-use Rattle.co_node_inputs.specs.Inputs.{InputView, Inputs, Ticked}
-use Rattle.co_node_inputs.specs.declared.marks.Asked.{Asked as AskedFor}
-use Rattle.co_node_inputs.specs.declared.turn.Turn.{Turn}
-use Rattle.co_node_inputs.specs.declared.turn.Turn.TheVariants.{Quiet, StartAll, Start, Sync, Asked, Tick}
-use Rattle.co_node_history.specs.Logs.{schedule_log}
-use Rattle.co_node_history.specs.Moments.{Constants}
-use Rattle.co_node_history.specs.TpdoTurns.{due_at, with_turn}
-use Rattle.co_node_history.specs.Histories.{moments, contents_of}
+use Rattle.co_node_model.specs.Tpdos.{numbers_asked, schedule_log, due_at, with_turn}
+use Rattle.co_node_model.specs.Inputs.{InputView, Inputs, Ticked}
+use Rattle.co_node_model.specs.declared.marks.Asked.{Asked as AskedFor}
+use Rattle.co_node_model.specs.declared.turn.Turn.{Turn}
+use Rattle.co_node_model.specs.declared.turn.Turn.TheVariants.{Quiet, StartAll, Start, Sync, Asked, Tick}
+use Rattle.co_node_model.specs.Moments.{Constants}
+use Rattle.co_node_model.specs.Device.{moments, contents_of}
 use Rattle.co_node_laws.specs.Calls.{is_asked}
 use Rattle.co_node_laws.specs.Distances.{moment_at}
 use Rattle.co_node_laws.specs.TpdoDistances.{turn_of_input, is_sent, turn_log, tpdo_log, timer_after, ticks_of_timer}

@@ -6,11 +6,11 @@ use Rattle.co_dict.specs.ConsumerHeartbeats.{consumer_key}
 use Rattle.co_dict.specs.Rows.{Contents, number_at}
 use Rattle.co_dict.specs.Stores.{Description}
 use Rattle.co_node_parts.specs.Consumers.{monitored_by}
-use Rattle.co_node_inputs.specs.Inputs.{InputView, Inputs}
-use Rattle.co_node_inputs.specs.Keys.{producer_key, is_set}
-use Rattle.co_node_inputs.specs.Words.{is_reset}
-use Rattle.co_node_history.specs.Moments.{Constants}
-use Rattle.co_node_history.specs.Histories.{moments, contents_of}
+use Rattle.co_node_model.specs.Inputs.{InputView, Inputs}
+use Rattle.co_node_model.specs.Keys.{producer_key, is_set}
+use Rattle.co_node_model.specs.Nmt.{is_reset}
+use Rattle.co_node_model.specs.Moments.{Constants}
+use Rattle.co_node_model.specs.Device.{moments, contents_of}
 use Rattle.co_node_laws.specs.Distances.{moment_at, begins_heartbeat, heartbeat_period, begins_entry, monitored}
 use Rattle.co_node_laws.proofs.Below.{Below}
 use Rattle.co_node_laws.proofs.Received.{MayBecome, after_received, changed}

@@ -20,12 +20,11 @@ use Rattle.co_pdo.specs.Countdowns.{IsAsAt, IsAsStarted, IsCurrent}
 use Rattle.co_pdo.specs.Pdos.{is_supported_type}
 use Rattle.co_pdo.specs.Tpdos.{tpdo_key, tpdo_count_key, is_active, settings_of}
 use Rattle.co_pdo.specs.Schedules.{History, log_of, AllCurrent}
-use Rattle.co_node_inputs.specs.declared.turn.Turn.TheVariants.{Quiet}
-use Rattle.co_node_inputs.specs.Turns.{part_started, start_turn, turn_by_write}
-use Rattle.co_node_history.specs.TpdoTurns.{with_turn}
+use Rattle.co_node_model.specs.declared.turn.Turn.TheVariants.{Quiet}
+use Rattle.co_node_model.specs.Tpdos.{part_started, start_turn, turn_by_write, with_turn}
 use Rattle.co_node_laws.proofs.Below.{Below}
-use Rattle.co_node_effects.specs.Settings.{HasSameSettings}
-use Rattle.co_node_effects.proofs.SameSettings.{written_other}
+use Rattle.co_node_laws.specs.Settings.{HasSameSettings}
+use Rattle.co_node_laws.proofs.SameSettings.{written_other}
 
 -- from c to e an entry was set to bytes that its own rule permits, and else no entry from 1004h to 1FFFh changed
 pub record IsWrite (d : Description) (c e : Contents) (key : Key) (bytes : List ℕ) : Type 0 where

@@ -1,7 +1,7 @@
 -- At which turns the schedule of TPDOs is asked which of them are due.
 use Rattle.std.specs.Prelude.{Bool, true, false}
-use Rattle.co_node_inputs.specs.declared.turn.Turn.{Turn}
-use Rattle.co_node_inputs.specs.declared.turn.Turn.TheVariants.{Quiet, StartAll, Start, Sync, Asked, Tick}
+use Rattle.co_node_model.specs.declared.turn.Turn.{Turn}
+use Rattle.co_node_model.specs.declared.turn.Turn.TheVariants.{Quiet, StartAll, Start, Sync, Asked, Tick}
 
 -- a SYNC, events of the application, or a tick
 abbrev pub is_asked : Turn → Bool

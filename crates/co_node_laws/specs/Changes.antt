@@ -17,18 +17,20 @@ use Rattle.co_node_parts.specs.declared.heartbeat_consumers.ConsumersEvent.TheVa
 use Rattle.co_node_parts.specs.declared.rpdo_slots.KeptFrame.{KeptFrame}
 use Rattle.co_node_parts.specs.ConsumerTables.{ConsumersLog, lost_at}
 use Rattle.co_node_parts.specs.RpdoSlots.{SlotLog, all_kept}
-use Rattle.co_node_inputs.specs.declared.address.Address.{Address}
-use Rattle.co_node_inputs.specs.declared.address.Address.TheVariants.{Nmt, Sync, Channel, Rpdo, ErrorControl, Nobody}
-use Rattle.co_node_inputs.specs.Inputs.{InputView, Inputs, AppView, Framed, Ticked, Applied}
-use Rattle.co_node_inputs.specs.AppAnswers.{event_refusal}
-use Rattle.co_node_effects.specs.declared.device_error.DeviceError.{DeviceError}
-use Rattle.co_node_effects.specs.Errors.{all_raised}
-use Rattle.co_node_effects.specs.RpdoData.{sync_errors, rpdo_errors, immediate, after_all_data}
-use Rattle.co_node_history.specs.Moments.{Constants}
-use Rattle.co_node_history.specs.Logs.{channel_logs, consumers_log, slot_log}
-use Rattle.co_node_history.specs.Received.{service_for, after_service, address_at, app_contents}
-use Rattle.co_node_history.specs.Phases.{loss_errors}
-use Rattle.co_node_history.specs.Histories.{moments, state_of, contents_of}
+use Rattle.co_node_model.specs.declared.address.Address.{Address}
+use Rattle.co_node_model.specs.declared.address.Address.TheVariants.{Nmt, Sync, Channel, Rpdo, ErrorControl, Nobody}
+use Rattle.co_node_model.specs.Inputs.{InputView, Inputs, AppView, Framed, Ticked, Applied}
+use Rattle.co_node_model.specs.AppEvents.{event_refusal, app_contents}
+use Rattle.co_node_model.specs.declared.device_error.DeviceError.{DeviceError}
+use Rattle.co_node_model.specs.Emergencies.{all_raised}
+use Rattle.co_node_model.specs.Sync.{sync_errors}
+use Rattle.co_node_model.specs.Rpdos.{rpdo_errors, immediate, after_all_data, slot_log}
+use Rattle.co_node_model.specs.Moments.{Constants}
+use Rattle.co_node_model.specs.Sdo.{channel_logs}
+use Rattle.co_node_model.specs.Heartbeats.{consumers_log, loss_errors}
+use Rattle.co_node_model.specs.Nmt.{service_for, after_service}
+use Rattle.co_node_model.specs.Addresses.{address_at}
+use Rattle.co_node_model.specs.Device.{moments, state_of, contents_of}
 
 -- the service that resets an area
 abbrev pub reset_service : Area → NmtService

@@ -10,13 +10,13 @@ use Rattle.co_node_parts.specs.declared.heartbeat_consumer.Monitored.{Monitored}
 use Rattle.co_node_parts.specs.NmtStates.{heartbeat_of}
 use Rattle.co_node_parts.specs.Consumers.{monitored_by, is_monitored, later, is_over_after}
 use Rattle.co_node_parts.specs.EmergencyQueues.{Sending, older, is_past}
-use Rattle.co_node_inputs.specs.Inputs.{InputView, Inputs, Ticked}
-use Rattle.co_node_inputs.specs.Keys.{producer_key, emergency_inhibit_key, is_set}
-use Rattle.co_node_inputs.specs.Words.{is_reset, may_send}
-use Rattle.co_node_inputs.specs.declared.marks.Marks.{Marks}
-use Rattle.co_node_history.specs.Moments.{Constants, Moment}
-use Rattle.co_node_history.specs.Phases.{moment}
-use Rattle.co_node_history.specs.Histories.{moments, state_of, contents_of}
+use Rattle.co_node_model.specs.Inputs.{InputView, Inputs, Ticked}
+use Rattle.co_node_model.specs.Keys.{producer_key, emergency_inhibit_key, is_set}
+use Rattle.co_node_model.specs.Nmt.{is_reset}
+use Rattle.co_node_model.specs.Emergencies.{may_send}
+use Rattle.co_node_model.specs.declared.marks.Marks.{Marks}
+use Rattle.co_node_model.specs.Moments.{Constants, Moment}
+use Rattle.co_node_model.specs.Device.{moment, moments, state_of, contents_of}
 
 -- what one more input is, does and gives
 abbrev pub moment_at : Constants → Inputs → InputView → Moment

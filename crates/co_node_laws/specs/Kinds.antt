@@ -1,8 +1,8 @@
 -- Kinds of inputs.
 use Rattle.std.specs.Prelude.{Bool, true, false}
-use Rattle.co_node_inputs.specs.Inputs.{InputView, Framed, Ticked, Applied}
-use Rattle.co_node_inputs.specs.declared.address.Address.{Address}
-use Rattle.co_node_inputs.specs.declared.address.Address.TheVariants.{Nmt, Sync, Channel, Rpdo, ErrorControl, Nobody}
+use Rattle.co_node_model.specs.Inputs.{InputView, Framed, Ticked, Applied}
+use Rattle.co_node_model.specs.declared.address.Address.{Address}
+use Rattle.co_node_model.specs.declared.address.Address.TheVariants.{Nmt, Sync, Channel, Rpdo, ErrorControl, Nobody}
 
 -- a frame that neither an SDO channel nor SYNC takes: an NMT command, an RPDO, error control, or one that nobody takes
 abbrev pub is_unanswered : Address → Bool

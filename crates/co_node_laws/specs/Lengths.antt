@@ -1,9 +1,9 @@
 -- What has to be known of a device's parts, so that no input gives more frames than its bound.
 use Rattle.std.specs.Prelude.{[], ◌∷◌}
 use Rattle.co_dict.specs.Stores.{IsDictionary}
-use Rattle.co_node_inputs.specs.Inputs.{InputView, Inputs}
-use Rattle.co_node_history.specs.Moments.{Constants}
-use Rattle.co_node_history.specs.Histories.{contents_of}
+use Rattle.co_node_model.specs.Inputs.{InputView, Inputs}
+use Rattle.co_node_model.specs.Moments.{Constants}
+use Rattle.co_node_model.specs.Device.{contents_of}
 
 -- at one more input: the entries at its end are those of a dictionary
 pub record HasParts (k : Constants) (inputs : Inputs) (input : InputView) : Type 0 where

@@ -8,13 +8,12 @@ use Rattle.co_node_parts.specs.declared.nmt_state.Transition.{Transition}
 use Rattle.co_node_parts.specs.declared.rpdo_slots.KeptFrame.{KeptFrame}
 use Rattle.co_node_parts.specs.NmtStates.{leaves}
 use Rattle.co_node_parts.specs.RpdoSlots.{kept_of}
-use Rattle.co_node_inputs.specs.Inputs.{InputView, Inputs}
-use Rattle.co_node_inputs.specs.Slots.{empties_slot}
-use Rattle.co_node_inputs.specs.Words.{is_reset}
-use Rattle.co_node_inputs.specs.declared.marks.Marks.{Marks}
-use Rattle.co_node_history.specs.Logs.{slot_log, transition_of}
-use Rattle.co_node_history.specs.Moments.{Constants}
-use Rattle.co_node_history.specs.Histories.{moments}
+use Rattle.co_node_model.specs.Inputs.{InputView, Inputs}
+use Rattle.co_node_model.specs.Rpdos.{empties_slot, slot_log}
+use Rattle.co_node_model.specs.Nmt.{is_reset, transition_of}
+use Rattle.co_node_model.specs.declared.marks.Marks.{Marks}
+use Rattle.co_node_model.specs.Moments.{Constants}
+use Rattle.co_node_model.specs.Device.{moments}
 use Rattle.co_node_laws.specs.Distances.{moment_at}
 
 -- the frame of RPDO n that waits for a SYNC after all inputs, if one does

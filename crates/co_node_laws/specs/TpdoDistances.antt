@@ -7,13 +7,12 @@ use Rattle.co_pdo.specs.declared.tpdo.Part.TheVariants.{Whole}
 use Rattle.co_pdo.specs.Log.{Log, Started, Happened}
 use Rattle.co_pdo.specs.Schedules.{is_among, sync_with}
 use Rattle.co_pdo.specs.Tpdos.{settings_of}
-use Rattle.co_node_inputs.specs.Asked.{numbers_asked}
-use Rattle.co_node_inputs.specs.Inputs.{InputView, Inputs}
-use Rattle.co_node_inputs.specs.declared.turn.Turn.{Turn}
-use Rattle.co_node_inputs.specs.declared.turn.Turn.TheVariants.{Quiet, StartAll, Start, Sync, Asked, Tick}
-use Rattle.co_node_history.specs.Logs.{turn_at}
-use Rattle.co_node_history.specs.Moments.{Constants}
-use Rattle.co_node_history.specs.Histories.{moments, contents_of}
+use Rattle.co_node_model.specs.Tpdos.{numbers_asked, turn_at}
+use Rattle.co_node_model.specs.Inputs.{InputView, Inputs}
+use Rattle.co_node_model.specs.declared.turn.Turn.{Turn}
+use Rattle.co_node_model.specs.declared.turn.Turn.TheVariants.{Quiet, StartAll, Start, Sync, Asked, Tick}
+use Rattle.co_node_model.specs.Moments.{Constants}
+use Rattle.co_node_model.specs.Device.{moments, contents_of}
 use Rattle.co_node_laws.specs.Distances.{moment_at}
 
 -- what one more input is to the TPDOs

@@ -6,13 +6,13 @@ ghost use Rattle.co_sdo.specs.Completed.{contents_with};
 ghost use Rattle.co_sdo_bank.specs.Events.{set_of};
 ghost use Rattle.co_node_parts.specs.NmtStates.{is_state};
 ghost use Rattle.co_node_parts.specs.declared.nmt_state.NodeState.TheVariants.{Stopped};
-ghost use Rattle.co_node_inputs.specs.declared.address.Address.TheVariants.{Channel};
-ghost use Rattle.co_node_inputs.specs.AppAnswers.{event_refusal};
-ghost use Rattle.co_node_inputs.specs.Inputs.{Inputs, AppView, Framed, Applied};
-ghost use Rattle.co_node_history.specs.Moments.{Constants, channels};
-ghost use Rattle.co_node_history.specs.Received.{address_at, app_contents};
-ghost use Rattle.co_node_history.specs.Logs.{channel_logs};
-ghost use Rattle.co_node_history.specs.Histories.{moments, state_of, contents_of};
+ghost use Rattle.co_node_model.specs.declared.address.Address.TheVariants.{Channel};
+ghost use Rattle.co_node_model.specs.AppEvents.{event_refusal, app_contents};
+ghost use Rattle.co_node_model.specs.Inputs.{Inputs, AppView, Framed, Applied};
+ghost use Rattle.co_node_model.specs.Moments.{Constants, channels};
+ghost use Rattle.co_node_model.specs.Addresses.{address_at};
+ghost use Rattle.co_node_model.specs.Sdo.{channel_logs};
+ghost use Rattle.co_node_model.specs.Device.{moments, state_of, contents_of};
 
 /// An application event that is refused changes no entry; any other changes what it says and nothing else: a write its
 /// entry, an error the error register and the pre-defined error field, a clear the error register, an event or a change

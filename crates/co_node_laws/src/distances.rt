@@ -7,11 +7,11 @@ ghost use Rattle.co_dict.specs.ConsumerHeartbeats.{consumer_key};
 ghost use Rattle.co_dict.specs.Rows.{number_at};
 ghost use Rattle.co_pdo.specs.Schedules.{is_among};
 ghost use Rattle.co_node_parts.specs.Consumers.{monitored_by};
-ghost use Rattle.co_node_inputs.specs.Keys.{producer_key};
-ghost use Rattle.co_node_inputs.specs.Inputs.{InputView, Inputs, Ticked};
-ghost use Rattle.co_node_inputs.specs.Words.{is_reset};
-ghost use Rattle.co_node_history.specs.Histories.{contents_of};
-ghost use Rattle.co_node_history.specs.Moments.{Constants};
+ghost use Rattle.co_node_model.specs.Keys.{producer_key};
+ghost use Rattle.co_node_model.specs.Inputs.{InputView, Inputs, Ticked};
+ghost use Rattle.co_node_model.specs.Nmt.{is_reset};
+ghost use Rattle.co_node_model.specs.Device.{contents_of};
+ghost use Rattle.co_node_model.specs.Moments.{Constants};
 ghost use Rattle.co_node_laws.specs.Kinds.{is_tick};
 ghost use Rattle.co_node_laws.specs.Distances.{moment_at, heartbeat_at_tick, heartbeat_period, is_time_passed, monitored, emergency_by};
 

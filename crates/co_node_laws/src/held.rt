@@ -1,9 +1,9 @@
 //! How much a device holds for its SDO transfers. A law: a call of it changes nothing.
 
 ghost use Rattle.std.specs.Prelude.{◌≤◌, ℕ};
-ghost use Rattle.co_node_inputs.specs.Inputs.{Inputs};
-ghost use Rattle.co_node_history.specs.Moments.{Constants};
-ghost use Rattle.co_node_history.specs.Histories.{held_of, room_of};
+ghost use Rattle.co_node_model.specs.Inputs.{Inputs};
+ghost use Rattle.co_node_model.specs.Moments.{Constants};
+ghost use Rattle.co_node_model.specs.Device.{held_of, room_of};
 ghost use Rattle.co_node_laws.specs.Lengths.{AllDictionaries};
 
 /// What is held for the transfer of an SDO channel is at most the capacity of the entry that is transferred and 889, a

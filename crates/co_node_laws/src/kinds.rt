@@ -12,14 +12,14 @@ ghost use Rattle.co_sdo.specs.OpenTransfers.{open_transfer};
 ghost use Rattle.co_sdo.specs.Refused.{completion_refusal};
 ghost use Rattle.co_node_parts.specs.NmtStates.{is_state};
 ghost use Rattle.co_node_parts.specs.declared.nmt_state.NodeState.TheVariants.{PreOperational, Stopped};
-ghost use Rattle.co_node_inputs.specs.declared.address.Address.TheVariants.{Channel};
-ghost use Rattle.co_node_inputs.specs.Inputs.{InputView, Inputs, Framed};
-ghost use Rattle.co_node_inputs.specs.Words.{is_reset_by};
-ghost use Rattle.co_node_history.specs.Laws.{boot_up};
-ghost use Rattle.co_node_history.specs.Logs.{channel_logs};
-ghost use Rattle.co_node_history.specs.Moments.{Constants};
-ghost use Rattle.co_node_history.specs.Received.{address_at, service_for};
-ghost use Rattle.co_node_history.specs.Histories.{contents_of, moments, prescribed, state_of};
+ghost use Rattle.co_node_model.specs.declared.address.Address.TheVariants.{Channel};
+ghost use Rattle.co_node_model.specs.Inputs.{InputView, Inputs, Framed};
+ghost use Rattle.co_node_model.specs.Nmt.{is_reset_by, service_for};
+ghost use Rattle.co_node_model.specs.Heartbeats.{boot_up};
+ghost use Rattle.co_node_model.specs.Sdo.{channel_logs};
+ghost use Rattle.co_node_model.specs.Moments.{Constants};
+ghost use Rattle.co_node_model.specs.Addresses.{address_at};
+ghost use Rattle.co_node_model.specs.Device.{contents_of, moments, prescribed, state_of};
 ghost use Rattle.co_node_laws.specs.Changes.{changed_by, reset_to, is_for};
 
 /// The entries after one more input, whatever it is: `changed_by` says it by the kind of input, and of a frame by who takes

@@ -2,12 +2,12 @@
 
 ghost use Rattle.std.specs.Prelude.{◌≡◌, ◌≤◌, ◌+◌, length, max, true};
 ghost use Rattle.co_frame.specs.FrameContent.{FrameContent};
-ghost use Rattle.co_node_inputs.specs.Inputs.{InputView, Inputs, Framed};
+ghost use Rattle.co_node_model.specs.Inputs.{InputView, Inputs, Framed};
 ghost use Rattle.co_sdo_bank.specs.Events.{frames_at};
-ghost use Rattle.co_node_history.specs.Moments.{Constants};
-ghost use Rattle.co_node_history.specs.Phases.{moment};
-ghost use Rattle.co_node_history.specs.Received.{address_at};
-ghost use Rattle.co_node_history.specs.Histories.{moments, prescribed, frame_bound, tpdo_count};
+ghost use Rattle.co_node_model.specs.Moments.{Constants};
+ghost use Rattle.co_node_model.specs.Device.{moment, moments, prescribed, frame_bound};
+ghost use Rattle.co_node_model.specs.Addresses.{address_at};
+ghost use Rattle.co_node_model.specs.Tpdos.{tpdo_count};
 ghost use Rattle.co_node_laws.specs.Kinds.{is_unanswered};
 ghost use Rattle.co_node_laws.specs.Lengths.{HasParts};
 

@@ -3,14 +3,12 @@
 
 ghost use Rattle.std.specs.Prelude.{◌≡◌, ◌≤◌, ◌<◌, ◌∷◌, false};
 ghost use Rattle.co_value.specs.declared.key.Key.{Key};
-ghost use Rattle.co_node_inputs.specs.Inputs.{InputView, Inputs};
-ghost use Rattle.co_node_inputs.specs.AddressChanges.{may_change_addresses};
-ghost use Rattle.co_node_inputs.specs.Keys.{sync_key};
-ghost use Rattle.co_node_history.specs.Moments.{Constants};
-ghost use Rattle.co_node_history.specs.Phases.{moment};
-ghost use Rattle.co_node_history.specs.Histories.{moments, contents_of};
-ghost use Rattle.co_node_mappings.specs.MappingChanges.{may_change_mappings};
-ghost use Rattle.co_node_mappings.specs.MappingTables.{AgreeOnMappings};
+ghost use Rattle.co_node_model.specs.Inputs.{InputView, Inputs};
+ghost use Rattle.co_node_model.specs.Addresses.{may_change_addresses};
+ghost use Rattle.co_node_model.specs.Keys.{sync_key};
+ghost use Rattle.co_node_model.specs.Moments.{Constants};
+ghost use Rattle.co_node_model.specs.Device.{moment, moments, contents_of};
+ghost use Rattle.co_node_model.specs.Mappings.{may_change_mappings, AgreeOnMappings};
 
 use co_dict::{invalid_pdo_law, own_rule_law};
 use co_pdo::written_from_2000;

@@ -1,13 +1,12 @@
 //! The condition of the schedule of TPDOs, over all inputs. Each is a law: a call of it changes nothing.
 
 ghost use Rattle.std.specs.Prelude.{◌≡◌, ◌∷◌, true};
-ghost use Rattle.co_node_inputs.specs.Inputs.{InputView, Inputs};
+ghost use Rattle.co_node_model.specs.Inputs.{InputView, Inputs};
 ghost use Rattle.co_node_parts.specs.declared.nmt_state.NodeState.TheVariants.{Operational};
 ghost use Rattle.co_pdo.specs.Schedules.{AllCurrent};
-ghost use Rattle.co_node_history.specs.Moments.{Constants};
-ghost use Rattle.co_node_history.specs.Logs.{schedule_log, turn_at};
-ghost use Rattle.co_node_history.specs.Phases.{moment};
-ghost use Rattle.co_node_history.specs.Histories.{moments, state_of, contents_of};
+ghost use Rattle.co_node_model.specs.Moments.{Constants};
+ghost use Rattle.co_node_model.specs.Tpdos.{schedule_log, turn_at};
+ghost use Rattle.co_node_model.specs.Device.{moment, moments, state_of, contents_of};
 ghost use Rattle.co_node_laws.specs.Calls.{is_asked};
 
 use co_dict::{invalid_pdo_law, own_rule_law};

@@ -1,9 +1,8 @@
 -- What is left of the inhibit times of some sendings, and several emergencies that are queued at once.
-use Rattle.std.proofs.Common.{◌≡◌, ℕ, ◌+◌, ◌-◌, ◌<◌, ◌≤◌, Bool, true, false, leb, eqb, List, [], ◌∷◌, ◌++◌, length, take, get_or, refl, sym, ap, ◌∙◌, arith}
+use Rattle.std.proofs.Common.{◌≡◌, ℕ, ◌+◌, ◌-◌, ◌<◌, ◌≤◌, Bool, true, false, leb, eqb, List, [], ◌∷◌, ◌++◌, length, refl, sym, ap, ◌∙◌, arith}
 use Rattle.std.specs.Prelude.{◌&&◌, max, map, slice_get, None}
 use Rattle.std.specs.List.{list_all}
 use Rattle.std.proofs.lemmas.Bool.Decides.{nat_tests}
-use Rattle.std.proofs.lemmas.List.{take_more}
 use Rattle.co_frame.specs.InhibitTimes.{in_ms}
 use Rattle.co_frame.specs.declared.emergency.Emergency.{Emergency}
 use Rattle.co_node_parts.specs.declared.emergencies.EmergencyEvent.TheVariants.{Queue}
@@ -48,7 +47,3 @@ module _ (may : Bool) (log : EmergencyLog) (left : ℕ) (h : left ≡ inhibit_le
 pub with_queued-snoc : (es : List Emergency) (e : Emergency) (log : EmergencyLog) → with_queued (es ++ e ∷ []) log ≡ Noted (Queue e) ∷ with_queued es log
 with_queued-snoc [] e log = refl
 with_queued-snoc (f ∷ es) e log = with_queued-snoc es e (Noted (Queue f) ∷ log)
-
--- one more of several
-pub stands_queued_more : (p : Pending) (es : List Emergency) (i : ℕ) (d : Emergency) (log : EmergencyLog) → i < length es → EmergenciesStand p (Noted (Queue (get_or es i d)) ∷ with_queued (take i es) log) → EmergenciesStand p (with_queued (take (i + 1) es) log)
-stands_queued_more p es i d log lt h = rw (ap (λ xs. with_queued xs log) (take_more es i d lt) ∙ with_queued-snoc (take i es) (get_or es i d) log) h

@@ -77,16 +77,6 @@ impl Emergencies {
         }
     }
 
-    /// Queues several emergencies, in order.
-    pub fn queue_all(&mut self, emergencies: &[Emergency])
-        ensures { (log : EmergencyLog) → EmergenciesStand self.old log →
-            EmergenciesStand self.new (with_queued emergencies.now log) }
-    {
-        for emergency in emergencies {
-            self.note(EmergencyEvent::Queue(*emergency));
-        }
-    }
-
     /// Whether an emergency waits and the inhibit time is over. If not, `send` gives none and changes nothing.
     pub fn is_ready(&self) -> bool
         ensures { (may : Bool) (log : EmergencyLog) → EmergenciesStand self.now log →

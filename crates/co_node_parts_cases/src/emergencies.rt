@@ -18,11 +18,10 @@ fn eight_wait_for_the_longest_time(rt: HostRuntime) -> Result<(), Fail> {
     emergencies.note(EmergencyEvent::Queue(coded(0x1001)));
     assert_eq!(rt; emergencies.send(false, 0xFFFF), None);
     assert_eq!(rt; emergencies.send(true, 0xFFFF), Some(coded(0x1001)));
-    for code in 0x1002..=0x1009u16 {
+    // the ninth overwrites the oldest
+    for code in 0x1002..=0x100Au16 {
         emergencies.note(EmergencyEvent::Queue(coded(code)));
     }
-    // the oldest is overwritten
-    emergencies.queue_all(&[coded(0x100A)]);
     for tick in 1..=6554u16 {
         emergencies.note(EmergencyEvent::Tick);
         let expected = if tick == 6554 {

@@ -2,8 +2,7 @@
 
 use crate::device::{apply, elapse, take, write};
 use co_frame::{Frame, Outbox};
-use co_node::Node;
-use co_node_inputs::AppEvent;
+use co_node::{AppEvent, Node};
 use co_sdo_scripts::{BadScript, frame_of};
 use conode_trace::{AppLine, EventLine, TraceLine};
 

@@ -1,9 +1,7 @@
 //! Questions to a device.
 
 use co_frame::AbortCode;
-use co_node::Node;
-use co_node_inputs::AppAnswer;
-use co_node_parts::NodeState;
+use co_node::{AppAnswer, Node, NodeState};
 use co_sdo_scripts::BadScript;
 use co_text::HexPairs;
 use co_value::Key;

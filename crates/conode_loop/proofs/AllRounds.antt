@@ -7,10 +7,10 @@ use Rattle.conode_io.proofs.WriteLemmas.{front_after_lines, front_of_more, lines
 use Rattle.co_sdo_client.specs.Calls.{frames_on}
 use Rattle.co_sdo_client.specs.Segments.{initiate_messages}
 use Rattle.co_sdo_client.specs.Standing.{ClientStands, Standing}
-use Rattle.co_node_inputs.specs.Inputs.{Inputs}
+use Rattle.co_node_model.specs.Inputs.{Inputs}
 use Rattle.co_node.specs.declared.node.Node.{Node}
 use Rattle.co_node.specs.Nodes.{Stands}
-use Rattle.co_node_loop.specs.Rounds.{Loop, BothEnds, after_round, first_ends, frames_of, frames_in, goes_on, request_id, response_id, rounds}
+use Rattle.co_node_model.specs.Loop.{Loop, BothEnds, after_round, first_ends, frames_of, frames_in, goes_on, request_id, response_id, rounds}
 use Rattle.conode_loop.specs.Printed.{WritesFirst, frame_lines}
 use Rattle.conode_loop.specs.Standing.{EndsStand, StandsAfterSome}
 use Rattle.conode_loop.proofs.Lines.{first_after, first_of_more, lines_joined}

@@ -4,11 +4,11 @@ use Rattle.co_frame.specs.FrameContent.{FrameContent}
 use Rattle.co_sdo_client.specs.Calls.{Event, Ticked as ClientTicked, frames_on}
 use Rattle.co_sdo_client.specs.Outcomes.{asked_by}
 use Rattle.co_sdo_client.specs.Standing.{Standing, ClientStands}
-use Rattle.co_node_inputs.specs.Inputs.{Framed, Ticked}
-use Rattle.co_node_history.specs.Histories.{prescribed}
+use Rattle.co_node_model.specs.Inputs.{Framed, Ticked}
+use Rattle.co_node_model.specs.Device.{prescribed}
 use Rattle.co_node.specs.declared.node.Node.{Node}
 use Rattle.co_node.specs.Nodes.{Stands}
-use Rattle.co_node_loop.specs.Rounds.{Loop, BothEnds, after_round, asked_after, events_after, frames_of, request_id, response_id, round_of}
+use Rattle.co_node_model.specs.Loop.{Loop, BothEnds, after_round, asked_after, events_after, frames_of, request_id, response_id, round_of}
 use Rattle.conode_loop.specs.Printed.{frame_lines}
 use Rattle.conode_loop.specs.Standing.{EndsStand}
 

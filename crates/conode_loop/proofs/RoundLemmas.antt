@@ -2,7 +2,7 @@
 use Rattle.std.proofs.Common.{◌≡◌, ℕ, zero, suc, ◌+◌, ◌≤◌, Bool, true, false, List, [], ◌++◌, refl, ap, sym, ◌∙◌, arith, append_assoc, append-nil}
 use Rattle.std.proofs.Math.Numerals.{add-one}
 use Rattle.co_frame.specs.FrameContent.{FrameContent}
-use Rattle.co_node_loop.specs.Rounds.{Loop, BothEnds, after_round, frames_of, frames_in, goes_on, rounds}
+use Rattle.co_node_model.specs.Loop.{Loop, BothEnds, after_round, frames_of, frames_in, goes_on, rounds}
 
 next_by : (n : ℕ) (l : Loop) (e : BothEnds) (b : Bool) → goes_on l e ≡ b → goes_on l (rounds (suc n) l e) ≡ true
     → (goes_on l (rounds n l (after_round l e)) ≡ true → rounds (suc n) l (after_round l e) ≡ after_round l (rounds n l (after_round l e)))

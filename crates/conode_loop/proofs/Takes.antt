@@ -4,7 +4,7 @@ use Rattle.std.proofs.lemmas.List.{take_more}
 use Rattle.co_frame.specs.FrameContent.{FrameContent}
 use Rattle.co_sdo_client.specs.Calls.{Call, Event, frames_on}
 use Rattle.co_sdo_client.specs.Standing.{Standing, ClientStands, events_with, asked_with}
-use Rattle.co_node_loop.specs.Rounds.{asked_after, events_after}
+use Rattle.co_node_model.specs.Loop.{asked_after, events_after}
 
 events-snoc : (id : ℕ) (events : List Event) (frames : List FrameContent) (frame : FrameContent)
     → events_after id events (frames ++ frame ∷ []) ≡ events_with id (events_after id events frames) frame

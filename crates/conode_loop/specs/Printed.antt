@@ -6,10 +6,10 @@ use Rattle.co_sdo_client.specs.declared.state.ClientState.{ClientState}
 use Rattle.co_sdo_client.specs.declared.state.ClientState.TheVariants.{Waiting, Done, Failed}
 use Rattle.co_sdo_client.specs.Outcomes.{sent}
 use Rattle.co_sdo_client.specs.Standing.{counted}
-use Rattle.co_node_inputs.specs.Inputs.{Inputs}
+use Rattle.co_node_model.specs.Inputs.{Inputs}
 use Rattle.conode_io.specs.Written.{WritesLines}
 use Rattle.conode_trace.specs.Printed.{frame_line}
-use Rattle.co_node_loop.specs.Rounds.{Loop, BothEnds, first_ends, frames_in, most_rounds, rounds, state_at}
+use Rattle.co_node_model.specs.Loop.{Loop, BothEnds, first_ends, frames_in, most_rounds, rounds, state_at}
 
 -- frames as the lines of a trace, all at time 0
 abbrev pub frame_lines : List FrameContent → List (List ℕ)

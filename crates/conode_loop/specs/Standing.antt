@@ -4,7 +4,7 @@ use Rattle.co_frame.specs.FrameContent.{FrameContent}
 use Rattle.co_sdo_client.specs.Standing.{Standing, ClientStands}
 use Rattle.co_node.specs.declared.node.Node.{Node}
 use Rattle.co_node.specs.Nodes.{Stands}
-use Rattle.co_node_loop.specs.Rounds.{Loop, BothEnds, request_id, response_id, rounds}
+use Rattle.co_node_model.specs.Loop.{Loop, BothEnds, request_id, response_id, rounds}
 
 -- a client and a node stand so, and these requests wait
 pub record EndsStand (l : Loop) (e : BothEnds) (node : Node) (client : Standing) (waiting : List FrameContent) : Type 0 where

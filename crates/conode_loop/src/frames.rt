@@ -6,7 +6,7 @@ ghost use Rattle.co_sdo_client.specs.Outcomes.{asked_by};
 ghost use Rattle.co_sdo_client.specs.Standing.{ClientStands};
 ghost use Rattle.conode_io.specs.Written.{WritesFront, WritesLines, WritesSome};
 ghost use Rattle.conode_loop.specs.Printed.{frame_lines};
-ghost use Rattle.co_node_loop.specs.Rounds.{asked_after, events_after};
+ghost use Rattle.co_node_model.specs.Loop.{asked_after, events_after};
 
 use co_frame::{Frame, Outbox};
 use co_sdo_client::Client;

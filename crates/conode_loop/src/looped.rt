@@ -1,10 +1,10 @@
 //! A download looped against a node.
 
 ghost use Rattle.std.specs.Prelude.{◌≡◌, ◌⊎◌, ◌≤◌, length, OnOk, IfOk, IfErr, Err, string_bytes};
-ghost use Rattle.co_node_history.specs.Moments.{Constants};
-ghost use Rattle.co_node_inputs.specs.Inputs.{Inputs};
+ghost use Rattle.co_node_model.specs.Moments.{Constants};
+ghost use Rattle.co_node_model.specs.Inputs.{Inputs};
 ghost use Rattle.co_node.specs.Nodes.{Stands};
-ghost use Rattle.co_node_loop.specs.Rounds.{Loop, BothEnds, download_of, first_ends, last_ends, rounds, state_at};
+ghost use Rattle.co_node_model.specs.Loop.{Loop, BothEnds, download_of, first_ends, last_ends, rounds, state_at};
 ghost use Rattle.conode_io.specs.Written.{WritesFront, WritesLines, WritesSome};
 ghost use Rattle.conode_loop.specs.Printed.{last_line, lines_from, loop_lines};
 ghost use Rattle.conode_loop.specs.Standing.{EndsStand, StandsAfterSome};

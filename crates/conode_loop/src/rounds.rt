@@ -3,20 +3,19 @@
 ghost use Rattle.std.specs.Prelude.{◌≡◌, ◌⊎◌, ◌<◌, ◌∷◌, [], length, OnOk, IfErr, Err};
 ghost use Rattle.co_sdo_client.specs.Calls as client;
 ghost use Rattle.co_sdo_client.specs.Standing.{ClientStands};
-ghost use Rattle.co_node_inputs.specs.Inputs.{Inputs, Framed, Ticked};
-ghost use Rattle.co_node_history.specs.Histories.{prescribed};
-ghost use Rattle.co_node_history.specs.Moments.{Constants};
+ghost use Rattle.co_node_model.specs.Inputs.{Inputs, Framed, Ticked};
+ghost use Rattle.co_node_model.specs.Device.{prescribed};
+ghost use Rattle.co_node_model.specs.Moments.{Constants};
 ghost use Rattle.co_node.specs.Nodes.{Stands};
 ghost use Rattle.conode_io.specs.Written.{WritesFront, WritesLines};
-ghost use Rattle.co_node_loop.specs.Rounds.{Loop, BothEnds, after_round, frames_of, frames_in, rounds, goes_on};
+ghost use Rattle.co_node_model.specs.Loop.{Loop, BothEnds, after_round, frames_of, frames_in, rounds, goes_on};
 ghost use Rattle.conode_loop.specs.Printed.{frame_lines, WritesFirst};
 ghost use Rattle.conode_loop.specs.Standing.{EndsStand, StandsAfterSome};
 
 use crate::frames::{take_frames, take_tick, write_frames};
 use co_frame::{Frame, Outbox};
-use co_node::Node;
-use co_node_inputs::{AppEvent, Input};
-use co_node_loop::most_rounds;
+use co_node::{AppEvent, Input, Node};
+use co_node_model::most_rounds;
 use co_sdo_client::{Client, ClientState};
 use conode_io::CmdFault;
 use std::io::Write;

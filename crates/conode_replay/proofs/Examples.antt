@@ -7,8 +7,8 @@ use Rattle.conode_trace.specs.declared.event_line.AppLine.TheVariants as line
 use Rattle.conode_trace.specs.FrameLines.{line_in, stamp_at, identifier_at, body_in, frame_at, frame_line_in}
 use Rattle.conode_trace.specs.Printed.{frame_line, frame_text, seconds_text, stamp_text}
 use Rattle.conode_trace.specs.Traces.{Input, frame as came, tick, app, TimedInput, timed, ticks_after, trace_from, trace_of}
-use Rattle.co_node_history.specs.Histories.{after_all}
-use Rattle.co_node_history.proofs.ExampleNode.{device, device_with, frame, raise, start, stop, u16, searches}
+use Rattle.co_node_model.specs.Device.{after_all}
+use Rattle.co_node_model.proofs.ExampleNode.{device, device_with, frame, raise, start, stop, u16, searches}
 use Rattle.co_profile.specs.declared.access.Access.TheVariants.{Rw}
 use Rattle.conode_replay.specs.Lines.{refused_line, replayed_lines, started_lines, totals_line, totals_of}
 

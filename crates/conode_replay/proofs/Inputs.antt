@@ -17,10 +17,10 @@ use Rattle.conode_trace.specs.Traces.{Input, TimedInput, inputs_of, own_input, t
 use Rattle.conode_trace.specs.Printed.{frame_line}
 use Rattle.conode_io.specs.Written.{WritesFront, WritesLines, WritesSome}
 use Rattle.conode_io.proofs.WriteLemmas.{lines_after}
-use Rattle.co_node_inputs.specs.Inputs.{InputView, Inputs, Ticked}
-use Rattle.co_node_inputs.specs.declared.app_answer.AppAnswer.{AppAnswer}
-use Rattle.co_node_history.specs.Moments.{Constants}
-use Rattle.co_node_history.specs.Histories.{all_frames, app_after, prescribed}
+use Rattle.co_node_model.specs.Inputs.{InputView, Inputs, Ticked}
+use Rattle.co_node_model.specs.declared.app_answer.AppAnswer.{AppAnswer}
+use Rattle.co_node_model.specs.Moments.{Constants}
+use Rattle.co_node_model.specs.Device.{all_frames, app_after, prescribed}
 use Rattle.co_node.specs.declared.node.Node.{Node}
 use Rattle.co_node.specs.Nodes.{Stands}
 use Rattle.conode_replay.specs.declared.totals.Totals.{Totals}

@@ -8,12 +8,12 @@ use Rattle.conode_trace.specs.declared.event_line.AppLine.TheVariants as line
 use Rattle.conode_trace.specs.Printed.{frame_line}
 use Rattle.conode_trace.specs.declared.timed_line.TimedLine.{TimedLine}
 use Rattle.conode_trace.specs.Traces.{Input, frame, tick, app, TimedInput, own_input}
-use Rattle.co_node_inputs.specs.Inputs.{AppView, InputView, Inputs, Framed, Ticked, Applied, Written, EventOn, ChangedAt, Raised, Cleared}
-use Rattle.co_node_inputs.specs.declared.app_answer.AppAnswer.{AppAnswer}
-use Rattle.co_node_inputs.specs.declared.app_answer.AppAnswer.TheVariants as answer
-use Rattle.co_node_history.specs.Moments.{Constants}
-use Rattle.co_node_history.specs.Laws.{boot_up}
-use Rattle.co_node_history.specs.Histories.{after_all, all_frames, app_after, prescribed}
+use Rattle.co_node_model.specs.Inputs.{AppView, InputView, Inputs, Framed, Ticked, Applied, Written, EventOn, ChangedAt, Raised, Cleared}
+use Rattle.co_node_model.specs.declared.app_answer.AppAnswer.{AppAnswer}
+use Rattle.co_node_model.specs.declared.app_answer.AppAnswer.TheVariants as answer
+use Rattle.co_node_model.specs.Moments.{Constants}
+use Rattle.co_node_model.specs.Heartbeats.{boot_up}
+use Rattle.co_node_model.specs.Device.{after_all, all_frames, app_after, prescribed}
 use Rattle.conode_replay.specs.declared.totals.Totals.{Totals}
 
 -- ---- inputs of a trace, as a device takes them

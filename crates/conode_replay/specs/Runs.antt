@@ -9,9 +9,9 @@ use Rattle.conode_io.specs.declared.fault.CmdFault.{CmdFault}
 use Rattle.conode_io.specs.declared.fault.CmdFault.TheVariants.{Read, Write, BadLine, Memory, NeverEnds}
 use Rattle.conode_io.specs.Written.{IsFront, WritesLines}
 use Rattle.conode_lines.specs.TraceTexts.{trace_in, FailsWithinLine}
-use Rattle.co_node_inputs.specs.Inputs.{Inputs}
-use Rattle.co_node_history.specs.Moments.{Constants}
-use Rattle.co_node_history.specs.Histories.{all_frames, prescribed}
+use Rattle.co_node_model.specs.Inputs.{Inputs}
+use Rattle.co_node_model.specs.Moments.{Constants}
+use Rattle.co_node_model.specs.Device.{all_frames, prescribed}
 use Rattle.co_node.specs.declared.node.Node.{Node}
 use Rattle.co_node.specs.Nodes.{Stands}
 use Rattle.conode_replay.specs.declared.totals.Totals.{Totals}

@@ -2,9 +2,9 @@
 
 ghost use Rattle.std.specs.Prelude.{◌≡◌, ◌⊎◌, ◌∷◌, IfErr, OnOk, Err, Some, None};
 ghost use Rattle.std.specs.Option.{option_map};
-ghost use Rattle.co_node_inputs.specs.Inputs.{Inputs, Framed, Ticked, Applied, app_view};
-ghost use Rattle.co_node_history.specs.Moments.{Constants};
-ghost use Rattle.co_node_history.specs.Histories.{prescribed};
+ghost use Rattle.co_node_model.specs.Inputs.{Inputs, Framed, Ticked, Applied, app_view};
+ghost use Rattle.co_node_model.specs.Moments.{Constants};
+ghost use Rattle.co_node_model.specs.Device.{prescribed};
 ghost use Rattle.co_node.specs.Nodes.{Stands};
 ghost use Rattle.conode_trace.specs.declared.event_line.EventLine.TheVariants.{App};
 ghost use Rattle.conode_trace.specs.Events.{HasFewBytes};
@@ -14,8 +14,7 @@ ghost use Rattle.conode_replay.specs.Lines.{app_of, given_of, input_lines};
 
 use crate::lines::print_input;
 use co_frame::{Frame, Outbox};
-use co_node::Node;
-use co_node_inputs::{AppEvent, Input};
+use co_node::{AppEvent, Input, Node};
 use conode_io::CmdFault;
 use conode_trace::AppLine;
 use std::io::Write;

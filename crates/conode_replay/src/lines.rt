@@ -7,7 +7,7 @@ ghost use Rattle.conode_replay.specs.Lines.{refused_line, refused_lines, totals_
 
 use crate::totals::Totals;
 use co_frame::{AbortCode, Frame};
-use co_node_inputs::AppAnswer;
+use co_node::AppAnswer;
 use co_text::{push_decimal, push_u32};
 use conode_io::{CmdFault, hand_over};
 use conode_trace::frame_line;

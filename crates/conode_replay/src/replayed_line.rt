@@ -1,8 +1,8 @@
 //! The inputs of one line of a trace.
 
 ghost use Rattle.std.specs.Prelude.{◌≡◌, ◌⊎◌, ◌+◌, ◌^◌, ◌<◌, ◌≤◌, IfErr, IfOk, Err, None, true, false};
-ghost use Rattle.co_node_inputs.specs.Inputs.{Inputs};
-ghost use Rattle.co_node_history.specs.Moments.{Constants};
+ghost use Rattle.co_node_model.specs.Inputs.{Inputs};
+ghost use Rattle.co_node_model.specs.Moments.{Constants};
 ghost use Rattle.co_node.specs.Nodes.{Stands};
 ghost use Rattle.conode_trace.specs.declared.trace_line.TraceLine.TheVariants.{Event};
 ghost use Rattle.conode_trace.specs.Events.{HasFewBytes};

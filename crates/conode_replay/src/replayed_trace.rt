@@ -4,8 +4,8 @@ ghost use Rattle.std.specs.Prelude.{◌≡◌, ◌⊎◌, ℕ, [], ◌∷◌, On
 ghost use Rattle.conode_trace.specs.Traces.{trace_of};
 ghost use Rattle.conode_io.specs.Written.{WritesFront, WritesLines, WritesSome};
 ghost use Rattle.conode_lines.specs.TraceTexts.{trace_in, FailsWithinLine};
-ghost use Rattle.co_node_inputs.specs.Inputs.{Inputs};
-ghost use Rattle.co_node_history.specs.Moments.{Constants};
+ghost use Rattle.co_node_model.specs.Inputs.{Inputs};
+ghost use Rattle.co_node_model.specs.Moments.{Constants};
 ghost use Rattle.co_node.specs.Nodes.{Stands};
 ghost use Rattle.conode_replay.specs.Lines.{boot_line};
 ghost use Rattle.conode_replay.specs.Runs.{AfterAny, BreaksOff, FailsToWrite, HasCounted, HasEnded, HasRun, Replayed, WritesWhole};

@@ -1,5 +1,5 @@
 use Rattle.std.proofs.Common.{◌∙◌, ◌∷◌}
-use Rattle.co_node_inputs.specs.Inputs.{Framed}
+use Rattle.co_node_model.specs.Inputs.{Framed}
 use Rattle.co_node_laws.proofs.RpdoWaits.{begins, waits, taken_by_sync}
 use Rattle.co_node_laws.proofs.pdos.takes_effect_at_sync.Goals as goal
 

@@ -1,5 +1,5 @@
 use Rattle.std.proofs.Common.{◌≡◌, ◌<◌, [], ◌++◌, length, take, rules, ◌∙◌}
-use Rattle.co_node_loop.specs.Rounds.{events_after}
+use Rattle.co_node_model.specs.Loop.{events_after}
 use Rattle.conode_loop.proofs.Takes.{stands_more, asked_more}
 use Rattle.conode_loop.proofs.frames.take_frames.Goals as goal
 

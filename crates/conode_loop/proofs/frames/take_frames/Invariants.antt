@@ -1,7 +1,7 @@
 use Rattle.std.proofs.Common.{◌≡◌, List, ◌++◌, take}
 use Rattle.co_sdo_client.specs.Calls.{Call, Event}
 use Rattle.co_sdo_client.specs.Standing.{ClientStands}
-use Rattle.co_node_loop.specs.Rounds.{asked_after, events_after}
+use Rattle.co_node_model.specs.Loop.{asked_after, events_after}
 use Rattle.conode_loop.proofs.frames.take_frames.Given as goal
 
 -- after the frames so far

@@ -1,5 +1,5 @@
 use Rattle.std.proofs.Common.{rules, ◌≡◌, ◌+◌, ℕ, ap, ◌∙◌}
-use Rattle.co_node_loop.specs.Rounds.{download_of, first_ends, request_id, response_id}
+use Rattle.co_node_model.specs.Loop.{download_of, first_ends, request_id, response_id}
 use Rattle.conode_loop.specs.Standing.{EndsStand}
 use Rattle.conode_loop.proofs.AllRounds.{has_begun, none_made}
 use Rattle.conode_loop.proofs.looped.loop_back.Goals as goal

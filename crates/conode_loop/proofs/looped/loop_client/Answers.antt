@@ -5,7 +5,7 @@ use Rattle.std.specs.Io.KnownBytes.{Appends}
 use Rattle.conode_io.proofs.WriteLemmas.{front_after_lines, front_alone, front_of_more, line_alone, lines_after}
 use Rattle.co_sdo_client.specs.Outcomes.{sent}
 use Rattle.co_sdo_client.specs.Standing.{counted}
-use Rattle.co_node_loop.specs.Rounds.{frames_in, rounds, state_at}
+use Rattle.co_node_model.specs.Loop.{frames_in, rounds, state_at}
 use Rattle.conode_loop.specs.Printed.{frame_lines, last_line}
 use Rattle.conode_loop.proofs.Lines.{first_all, some_of_first}
 use Rattle.conode_loop.proofs.looped.loop_client.Goals as goal

@@ -1,7 +1,7 @@
 use Rattle.std.proofs.Common.{rules, ◌≡◌, ◌+◌, true, false, Err, sym, subst, ◌∙◌, arith}
 use Rattle.conode_io.specs.declared.fault.CmdFault.TheVariants.{Write, Memory}
 use Rattle.co_node.specs.Nodes.{Stands}
-use Rattle.co_node_loop.specs.Rounds.{BothEnds, goes_on, rounds}
+use Rattle.co_node_model.specs.Loop.{BothEnds, goes_on, rounds}
 use Rattle.conode_loop.proofs.AllRounds.{all_made, ends_all, ends_next, lines_all, memory_fails, no_lines_yet, no_rounds, one_more, write_fails}
 use Rattle.conode_loop.proofs.RoundLemmas.{are_over, rounds_next}
 use Rattle.conode_loop.proofs.rounds.all_rounds.Goals as goal

@@ -1,6 +1,6 @@
 use Rattle.std.proofs.Common.{◌-◌, ◌≡◌, ◌≤◌}
 use Rattle.conode_io.specs.Written.{WritesLines}
-use Rattle.co_node_loop.specs.Rounds.{Loop, BothEnds, frames_in, rounds}
+use Rattle.co_node_model.specs.Loop.{Loop, BothEnds, frames_in, rounds}
 use Rattle.conode_loop.specs.Printed.{frame_lines}
 use Rattle.conode_loop.specs.Standing.{EndsStand}
 use Rattle.conode_loop.proofs.rounds.all_rounds.Given as goal

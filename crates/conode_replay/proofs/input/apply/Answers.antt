@@ -1,7 +1,7 @@
 use Rattle.std.proofs.Common.{◌≡◌, ◌∷◌, sym, ap, subst, ◌∙◌, rules}
 use Rattle.conode_trace.specs.declared.event_line.AppLine.TheVariants as line
-use Rattle.co_node_inputs.specs.Inputs.{AppView, Applied, Written}
-use Rattle.co_node_history.specs.Histories.{prescribed}
+use Rattle.co_node_model.specs.Inputs.{AppView, Applied, Written}
+use Rattle.co_node_model.specs.Device.{prescribed}
 use Rattle.co_node.specs.Nodes.{Stands}
 use Rattle.conode_replay.specs.Lines.{app_of}
 use Rattle.conode_replay.proofs.input.apply.Goals as goal

@@ -1,7 +1,7 @@
 use Rattle.std.proofs.Common.{◌≡◌, ◌∷◌, ◌∙◌, rules}
 use Rattle.conode_io.specs.Written.{WritesFront, WritesLines, WritesSome}
 use Rattle.conode_trace.specs.Traces.{tick}
-use Rattle.co_node_inputs.specs.Inputs.{Ticked}
+use Rattle.co_node_model.specs.Inputs.{Ticked}
 use Rattle.conode_replay.proofs.Inputs.{input_printed, on_ok_also}
 use Rattle.conode_replay.proofs.input.tick.Goals as goal
 

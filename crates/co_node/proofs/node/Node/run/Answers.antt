@@ -2,9 +2,9 @@ use Rattle.std.proofs.Common.{◌≡◌, true, length, map, take, ap, ◌∙◌,
 use Rattle.std.proofs.lemmas.Iterator.{YieldsList-from_slice}
 use Rattle.std.proofs.lemmas.Iterator.Consumers.{YieldsList-from_copied, YieldsList-turn}
 use Rattle.std.proofs.lemmas.List.{length_push}
-use Rattle.co_node_inputs.specs.Inputs.{Inputs, input_view}
-use Rattle.co_node_history.specs.Moments.{Constants}
-use Rattle.co_node_history.specs.Histories.{after_all}
+use Rattle.co_node_model.specs.Inputs.{Inputs, input_view}
+use Rattle.co_node_model.specs.Moments.{Constants}
+use Rattle.co_node_model.specs.Device.{after_all}
 use Rattle.co_node.specs.Nodes.{Stands}
 use Rattle.co_node.specs.Records.{HasRoom}
 use Rattle.co_node.specs.Runs.{most_frames, recorded_after}

@@ -1,7 +1,7 @@
 use Rattle.std.proofs.Common.{◌≡◌, ℕ, ◌≤◌, ◌<◌, ◌++◌, length, map, take}
-use Rattle.co_node_inputs.specs.Inputs.{Inputs, input_view}
-use Rattle.co_node_history.specs.Moments.{Constants}
-use Rattle.co_node_history.specs.Histories.{after_all, all_frames}
+use Rattle.co_node_model.specs.Inputs.{Inputs, input_view}
+use Rattle.co_node_model.specs.Moments.{Constants}
+use Rattle.co_node_model.specs.Device.{after_all, all_frames}
 use Rattle.co_node.specs.Nodes.{Stands}
 use Rattle.co_node.specs.Records.{HasRoom}
 use Rattle.co_node.specs.Runs.{all_ends, most_frames, recorded_after}

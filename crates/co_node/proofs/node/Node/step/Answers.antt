@@ -1,8 +1,7 @@
 use Rattle.std.proofs.Common.{rules, ◌≡◌, ◌≤◌, ◌∷◌, length, subst}
-use Rattle.co_node_inputs.specs.Inputs.{Applied, InputView, Written, input_view}
-use Rattle.co_node_history.specs.Histories.{frame_bound, prescribed}
-use Rattle.co_node_step.specs.NodeStanding.{NodeStands}
-use Rattle.co_node.specs.Nodes.{description_of, entries_of}
+use Rattle.co_node_model.specs.Inputs.{Applied, InputView, Written, input_view}
+use Rattle.co_node_model.specs.Device.{frame_bound, prescribed}
+use Rattle.co_node.specs.Nodes.{Stands}
 use Rattle.co_node.proofs.node.Node.step.Goals as goal
 
 -- the event that is handed on is the one that came
@@ -15,7 +14,7 @@ returns-in-App-Write-clause-frames c = λ k before stands.
 
 pub returns-in-App-Write-clause-stands : goal.returns-in-App-Write-clause-stands
 returns-in-App-Write-clause-stands c = λ k before stands.
-    subst (λ (v : InputView). NodeStands k (description_of c.take_event.new.self.store) (entries_of c.take_event.new.self.store) c.take_event.new.self.parts (v ∷ before))
+    subst (λ (v : InputView). Stands k c.take_event.new.self (v ∷ before))
     (same c) (c.take_event.ensures.stands k before stands)
 
 pub returns-in-App-Write-clause-few : goal.returns-in-App-Write-clause-few

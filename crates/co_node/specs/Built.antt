@@ -1,0 +1,12 @@
+-- A device built from a data sheet.
+use Rattle.std.specs.Prelude.{◌≡◌, None}
+use Rattle.co_dict_list.specs.Built.{Plan, built_contents, built_description}
+use Rattle.co_dict_list.specs.BuildFaults.{build_fault}
+use Rattle.co_node_model.specs.Moments.{Constants}
+
+-- a device built from a data sheet that makes a dictionary without a fault: what never changes of it, and its first
+-- entries
+pub record IsBuilt (plan : Plan) (k : Constants) : Type 0 where
+  pub faultless : build_fault plan ≡ None
+  pub description : k.description ≡ built_description plan
+  pub start : k.start ≡ built_contents plan

@@ -1,2 +1,0 @@
-mod Finds
-mod Parameters

@@ -1,0 +1,11 @@
+mod Finds
+mod Parameters
+mod Tables
+mod Data
+mod Receptions
+mod Raised
+mod Taken
+mod Words
+mod Numbers
+mod Sent
+mod Steps

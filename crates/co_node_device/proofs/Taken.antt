@@ -1,0 +1,131 @@
+-- The data of frames that take effect one by one.
+use Rattle.std.proofs.Common.{◌≡◌, ℕ, ◌+◌, ◌<◌, ◌≤◌, zero, suc, List, [], ◌∷◌, ◌++◌, length, take, get_or, refl, sym, ap, ◌∙◌, subst, arith, append-nil}
+use Rattle.std.specs.Prelude.{Option, Some, None}
+use Rattle.std.specs.List.{All, AllByRecursion, filter_map, cons_option, range_with_len}
+use Rattle.std.proofs.lemmas.List.{take_more}
+use Rattle.std.proofs.lemmas.List.Elements.{All-from_recursion}
+use Rattle.co_frame.specs.FrameContent.{FrameContent}
+use Rattle.co_frame.specs.declared.emergency.Emergency.{Emergency}
+use Rattle.co_dict.specs.Rows.{Contents}
+use Rattle.co_dict.specs.Stores.{Description}
+use Rattle.co_node_parts.specs.declared.rpdo_slots.KeptFrame.{KeptFrame}
+use Rattle.co_node_parts.specs.declared.rpdo_slots.SlotEvent.{SlotEvent}
+use Rattle.co_node_parts.specs.declared.rpdo_slots.SlotEvent.TheVariants.{Keep, Empty, EmptyAll, Sync, Quiet}
+use Rattle.co_node_parts.specs.declared.nmt_state.Transition.{Transition}
+use Rattle.co_node_parts.specs.declared.emergencies.EmergencyEvent.TheVariants as emergencies
+use Rattle.co_node_parts.specs.RpdoSlots.{SlotLog, kept_of, numbered, taken_at}
+use Rattle.co_node_parts.specs.EmergencyQueues.{EmergencyLog, Noted, Pending, EmergenciesStand, with_queued}
+use Rattle.co_node_model.specs.declared.marks.Marks.{Marks}
+use Rattle.co_node_model.specs.Rpdos.{slot_event, immediate, after_data, data_emergencies, after_all_data, all_data_emergencies}
+use Rattle.co_node_model.specs.Emergencies.{emergencies_of}
+use Rattle.co_node_device.specs.Effects.{length_errors_of, taken_now, after_lengths, after_effects, effect_emergencies}
+
+-- ---- numbers of frames that are taken
+
+-- an RPDO has a number below the count
+abbrev pub IsBelow : ℕ → KeptFrame → Type 0
+IsBelow count rpdo = rpdo.number < count
+
+below_cons : (count k : ℕ) (frame : Option FrameContent) (rest : List KeptFrame) → k < count → AllByRecursion (IsBelow count) rest → AllByRecursion (IsBelow count) (cons_option (numbered k frame) rest)
+below_cons count k None rest lt all = all
+below_cons count k (Some frame) rest lt all = (lt, all)
+
+below_all : (count : ℕ) (f : ℕ → Option FrameContent) (a n : ℕ) → a + n ≤ count → AllByRecursion (IsBelow count) (filter_map (λ k. numbered k (f k)) (range_with_len a n))
+below_all count f a zero le = tt
+below_all count f a (suc n) le = below_cons count a (f a) _ (omega arith) (below_all count f (a + 1) n (omega arith))
+
+-- those that an event takes
+pub taken_below : (count : ℕ) (event : SlotEvent) (log : SlotLog) → All (IsBelow count) (taken_at count event log)
+taken_below count (Keep k frame) log = All-from_recursion (IsBelow count) [] tt
+taken_below count (Empty k) log = All-from_recursion (IsBelow count) [] tt
+taken_below count EmptyAll log = All-from_recursion (IsBelow count) [] tt
+taken_below count Sync log = All-from_recursion (IsBelow count) _ (below_all count (λ k. kept_of k log) 0 count (omega arith))
+taken_below count Quiet log = All-from_recursion (IsBelow count) [] tt
+
+-- none has another number
+pub not_above : (count : ℕ) (xs : List KeptFrame) (i : ℕ) (x : KeptFrame) → i < length xs → x ≡ get_or xs i x → All (IsBelow count) xs → count ≤ x.number → ⊥
+not_above count xs i x lt at all le = let below : x.number < count = subst (IsBelow count) (sym at) (all i x lt) in omega arith
+
+-- ---- several after several
+
+queued_all : (es fs : List Emergency) (log : EmergencyLog) → with_queued (es ++ fs) log ≡ with_queued fs (with_queued es log)
+queued_all [] fs log = refl
+queued_all (e ∷ es) fs log = queued_all es fs (Noted (emergencies.Queue e) ∷ log)
+
+data_all : (d : Description) (contents : Contents) (xs ys : List KeptFrame) → after_all_data d contents (xs ++ ys) ≡ after_all_data d (after_all_data d contents xs) ys
+data_all d contents [] ys = refl
+data_all d contents (x ∷ xs) ys = data_all d (after_data d contents x) xs ys
+
+data_queued_all : (d : Description) (contents : Contents) (xs ys : List KeptFrame) (log : EmergencyLog)
+    → with_queued (all_data_emergencies d contents (xs ++ ys)) log ≡ with_queued (all_data_emergencies d (after_all_data d contents xs) ys) (with_queued (all_data_emergencies d contents xs) log)
+data_queued_all d contents [] ys log = refl
+data_queued_all d contents (x ∷ xs) ys log =
+    let first : List Emergency = data_emergencies d contents x in
+    let next : Contents = after_data d contents x in
+    queued_all first (all_data_emergencies d next (xs ++ ys)) log
+    ∙ data_queued_all d next xs ys (with_queued first log)
+    ∙ ap (with_queued (all_data_emergencies d (after_all_data d next xs) ys)) (sym (queued_all first (all_data_emergencies d next xs) log))
+
+-- ---- one more
+
+module _ (d here : Description) (xs : List KeptFrame) (i : ℕ) (x : KeptFrame) (old before : Contents) (lt : i < length xs) (at : x ≡ get_or xs i x) (same : here ≡ d) (h : before ≡ after_all_data d old (take i xs)) where
+  with_last : take (i + 1) xs ≡ take i xs ++ x ∷ []
+  with_last = take_more xs i x lt ∙ ap (λ (y : KeptFrame). take i xs ++ y ∷ []) (sym at)
+
+  pub data_more : (after : Contents) → after ≡ after_data here before x → after ≡ after_all_data d old (take (i + 1) xs)
+  data_more after a =
+      a ∙ ap (λ (e : Description). after_data e before x) same ∙ ap (λ (k : Contents). after_data d k x) h
+      ∙ sym (ap (after_all_data d old) with_last ∙ data_all d old (take i xs) (x ∷ []))
+
+  pub data_queue : (p : Pending) (log : EmergencyLog) → EmergenciesStand p (with_queued (data_emergencies here before x) (with_queued (all_data_emergencies d old (take i xs)) log))
+      → EmergenciesStand p (with_queued (all_data_emergencies d old (take (i + 1) xs)) log)
+  data_queue p log s =
+      let queue : EmergencyLog = with_queued (all_data_emergencies d old (take i xs)) log in
+      let last : with_queued (data_emergencies here before x) queue ≡ with_queued (all_data_emergencies d old (take (i + 1) xs)) log =
+      ap (λ (e : Description). with_queued (data_emergencies e before x) queue) same
+      ∙ ap (λ (k : Contents). with_queued (data_emergencies d k x) queue) h
+      ∙ ap (λ (es : List Emergency). with_queued es queue) (sym (append-nil (data_emergencies d (after_all_data d old (take i xs)) x)))
+      ∙ sym (ap (λ (ys : List KeptFrame). with_queued (all_data_emergencies d old ys) log) with_last ∙ data_queued_all d old (take i xs) (x ∷ []) log) in
+      subst (EmergenciesStand p) last s
+
+-- ---- all of an input
+
+-- what the calls gave
+pub record AreEffects (d d1 d2 : Description) (c0 c1 c2 c3 : Contents) (marks : Marks) (t : Transition) (log : SlotLog) (waiting once : List KeptFrame) : Type 0 where
+  pub lengths : c1 ≡ after_lengths d c0 marks
+  pub same : d1 ≡ d
+  pub taken : waiting ≡ taken_at 512 (slot_event d c0 marks t) log
+  pub data_taken : c2 ≡ after_all_data d1 c1 waiting
+  pub same_then : d2 ≡ d
+  pub at_once : once ≡ immediate d c0 marks.rpdo
+  pub data_at_once : c3 ≡ after_all_data d2 c2 once
+
+module _ (d d1 d2 : Description) (c0 c1 c2 c3 : Contents) (marks : Marks) (t : Transition) (log : SlotLog) (waiting once : List KeptFrame) (e : AreEffects d d1 d2 c0 c1 c2 c3 marks t log waiting once) where
+  waited : c2 ≡ after_all_data d (after_lengths d c0 marks) (taken_at 512 (slot_event d c0 marks t) log)
+  waited =
+      e.data_taken ∙ ap (λ (k : Description). after_all_data k c1 waiting) e.same ∙ ap (λ (k : Contents). after_all_data d k waiting) e.lengths
+      ∙ ap (after_all_data d (after_lengths d c0 marks)) e.taken
+
+  pub effects_are : c3 ≡ after_effects d c0 marks t log
+  effects_are =
+      e.data_at_once ∙ ap (λ (k : Description). after_all_data k c2 once) e.same_then ∙ ap (λ (k : Contents). after_all_data d k once) waited
+      ∙ ap (after_all_data d (after_all_data d (after_lengths d c0 marks) (taken_at 512 (slot_event d c0 marks t) log))) e.at_once
+      ∙ sym (data_all d (after_lengths d c0 marks) (taken_at 512 (slot_event d c0 marks t) log) (immediate d c0 marks.rpdo))
+
+  pub effects_queued : (queued : EmergencyLog) → with_queued (all_data_emergencies d2 c2 once) (with_queued (all_data_emergencies d1 c1 waiting) (with_queued (emergencies_of d.rows (length_errors_of d c0 marks) c0) queued))
+      ≡ with_queued (effect_emergencies d c0 marks t log) queued
+  effects_queued queued =
+      let first : EmergencyLog = with_queued (emergencies_of d.rows (length_errors_of d c0 marks) c0) queued in
+      let due : List KeptFrame = taken_at 512 (slot_event d c0 marks t) log in
+      let middle : with_queued (all_data_emergencies d1 c1 waiting) first ≡ with_queued (all_data_emergencies d (after_lengths d c0 marks) due) first =
+      ap (λ (k : Description). with_queued (all_data_emergencies k c1 waiting) first) e.same
+      ∙ ap (λ (k : Contents). with_queued (all_data_emergencies d k waiting) first) e.lengths
+      ∙ ap (λ (xs : List KeptFrame). with_queued (all_data_emergencies d (after_lengths d c0 marks) xs) first) e.taken in
+      let last : all_data_emergencies d2 c2 once ≡ all_data_emergencies d (after_all_data d (after_lengths d c0 marks) due) (immediate d c0 marks.rpdo) =
+      ap (λ (k : Description). all_data_emergencies k c2 once) e.same_then
+      ∙ ap (λ (k : Contents). all_data_emergencies d k once) waited
+      ∙ ap (all_data_emergencies d (after_all_data d (after_lengths d c0 marks) due)) e.at_once in
+      ap (λ (es : List Emergency). with_queued es (with_queued (all_data_emergencies d1 c1 waiting) first)) last
+      ∙ ap (with_queued (all_data_emergencies d (after_all_data d (after_lengths d c0 marks) due) (immediate d c0 marks.rpdo))) middle
+      ∙ sym (data_queued_all d (after_lengths d c0 marks) due (immediate d c0 marks.rpdo) first)
+      ∙ sym (queued_all (emergencies_of d.rows (length_errors_of d c0 marks) c0) (all_data_emergencies d (after_lengths d c0 marks) (taken_now d c0 marks t log)) queued)

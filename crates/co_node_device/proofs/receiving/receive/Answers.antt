@@ -1,0 +1,33 @@
+use Rattle.co_node_model.specs.Moments.{channels}
+use Rattle.co_node_model.specs.Sdo.{channel_logs}
+use Rattle.co_node_model.specs.Inputs.{Written, ChangedAt}
+use Rattle.co_node_device.proofs.Receptions.{event_frames, event_channels, write_queues}
+use Rattle.co_node_device.proofs.receiving.receive.Goals as goal
+
+pub returns-in-Tick-clause-marks : goal.returns-in-Tick-clause-marks
+returns-in-Tick-clause-marks g c = λ k history before addressed.
+    rw c.in-Tick.is (c.take_tick.ensures.marks _ (channels k) (channel_logs history) before.channels)
+
+pub returns-in-Tick-clause-frames : goal.returns-in-Tick-clause-frames
+returns-in-Tick-clause-frames g c = λ k history before addressed.
+    rw c.in-Tick.is (c.take_tick.ensures.frames _ (channels k) (channel_logs history) before.channels)
+
+pub returns-in-Tick-clause-channels : goal.returns-in-Tick-clause-channels
+returns-in-Tick-clause-channels g c = λ k history before addressed.
+    rw c.in-Tick.is (c.take_tick.ensures.channels _ (channels k) (channel_logs history) before.channels)
+
+pub returns-in-Write-clause-frames : goal.returns-in-Write-clause-frames
+returns-in-Write-clause-frames g c = λ k history before addressed.
+    rw c.in-Write.is (event_frames k history (Written c.in-Write.key c.in-Write.bytes.now) c.args.outbox.now.items)
+
+pub returns-in-Write-clause-channels : goal.returns-in-Write-clause-channels
+returns-in-Write-clause-channels g c = λ k history before addressed.
+    rw c.in-Write.is (event_channels k history _ c.args.bank.now (Written c.in-Write.key c.in-Write.bytes.now) before.channels)
+
+pub returns-in-Write-clause-emergencies : goal.returns-in-Write-clause-emergencies
+returns-in-Write-clause-emergencies g c = λ k history log before addressed stands.
+    rw c.in-Write.is (write_queues k history c.args.emergencies.now log c.in-Write.key c.in-Write.bytes.now stands)
+
+pub returns-in-Changed-clause-channels : goal.returns-in-Changed-clause-channels
+returns-in-Changed-clause-channels g c = λ k history before addressed.
+    rw c.in-Changed.is (event_channels k history _ c.args.bank.now (ChangedAt c.in-Changed.key) before.channels)

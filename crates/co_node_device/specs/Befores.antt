@@ -1,0 +1,39 @@
+-- A device before an input, as far as receiving it goes.
+use Rattle.std.specs.Prelude.{◌≡◌, ℕ, List}
+use Rattle.co_frame.specs.FrameContent.{FrameContent}
+use Rattle.co_dict.specs.Rows.{Contents}
+use Rattle.co_dict.specs.Stores.{Description}
+use Rattle.co_sdo.specs.Log.{Log}
+use Rattle.co_sdo_bank.specs.declared.channels.NumberedChannel.{NumberedChannel}
+use Rattle.co_sdo_bank.specs.Banks.{BankStands}
+use Rattle.co_sdo_bank.specs.Events.{logs_after}
+use Rattle.co_node_parts.specs.declared.nmt_state.NodeState.{NodeState}
+use Rattle.co_node_model.specs.Moments.{Constants, Moment, History, channels, contents_at}
+use Rattle.co_node_model.specs.Nmt.{state_at}
+use Rattle.co_node_model.specs.Sdo.{channel_logs, with_channel_ticks}
+use Rattle.co_node_model.specs.Addresses.{address_at}
+use Rattle.co_node_device.specs.declared.given.Given.{Given}
+use Rattle.co_node_device.specs.declared.given.Given.TheVariants.{Frame, Tick, Write, Event, Changed, Raise, Clear}
+
+-- its description, entries, SDO channels and NMT state are those after a history
+pub record IsBefore (k : Constants) (history : History) (d : Description) (entries : Contents)
+    (bank : List NumberedChannel) (now : NodeState) : Type 0 where
+  pub description : d ≡ k.description
+  pub contents : entries ≡ contents_at k history
+  pub channels : BankStands d (channels k) bank (channel_logs history)
+  pub state : now ≡ state_at history
+
+-- where the input is a frame, it goes to the one that takes it
+abbrev pub IsAddressed : Constants → History → Given → FrameContent → Type 0
+IsAddressed k history (Frame address) frame = address ≡ address_at k history frame.id
+IsAddressed k history Tick frame = Unit {0}
+IsAddressed k history (Write key bytes) frame = Unit {0}
+IsAddressed k history (Event n) frame = Unit {0}
+IsAddressed k history (Changed key) frame = Unit {0}
+IsAddressed k history (Raise code bits manufacturer) frame = Unit {0}
+IsAddressed k history (Clear bits) frame = Unit {0}
+
+-- the log of each SDO channel as an input was received, before transfers are dropped
+abbrev pub logs_received : Moment → History → ℕ → Log
+logs_received m history =
+    logs_after m.timed_out (with_channel_ticks m.marks.ticked (logs_after m.exchange (channel_logs history)))

@@ -1,0 +1,9 @@
+pub mod AddressTables
+pub mod MappingTables
+pub mod Given
+pub mod Befores
+pub mod Receiving
+pub mod Losses
+pub mod Effects
+pub mod Built
+pub mod NodeStanding

@@ -1,0 +1,35 @@
+-- The compiled mappings of the PDOs of a side, at some contents of the dictionary (CiA 301, 7.5.2.36 and 7.5.2.38).
+use Rattle.std.specs.Prelude.{ℕ, ◌<◌, List, length, ◌≡◌, true, ◌≤◌}
+use Rattle.std.specs.List.{slice_index_or}
+use Rattle.co_dict.specs.declared.side.Side.{Side}
+use Rattle.co_dict.specs.Rows.{Contents}
+use Rattle.co_dict.specs.Stores.{Description}
+use Rattle.co_dict.specs.declared.side.Side.TheVariants.{Rpdo, Tpdo}
+use Rattle.co_pdo.specs.Mappings.{mapping_of, has_pdo}
+use Rattle.co_pdo_compiled.specs.declared.part.Part.{Part}
+use Rattle.co_pdo_compiled.specs.CompiledMappings.{IsCompiledForm, HasParts}
+use Rattle.co_node_device.specs.declared.mappings.CompiledMappings.{CompiledMappings}
+
+-- each PDO up to the last one that the dictionary has is compiled: what it maps at these contents
+abbrev pub AreForms : Side → Description → Contents → List (List Part) → Type 0
+AreForms side d contents table = (k : ℕ) (parts : List Part) → k < length table
+    → IsCompiledForm d (mapping_of side d contents k) (slice_index_or table k parts)
+
+-- each PDO that the dictionary has is in the table
+abbrev pub Covers : Side → Description → ℕ → Type 0
+Covers side d count = (k : ℕ) → k < 512 → has_pdo side d.rows k ≡ true → k < count
+
+-- a table of a dictionary at some contents
+pub record IsMappingTable (side : Side) (d : Description) (contents : Contents) (table : List (List Part)) : Type 0 where
+  pub forms : AreForms side d contents table
+  pub covers : Covers side d (length table)
+  pub few : length table ≤ 512
+
+-- a dictionary has what each PDO of a table maps, at the places and with the rows that it was compiled with
+abbrev pub HaveParts : Description → List (List Part) → Type 0
+HaveParts d table = (k : ℕ) (parts : List Part) → k < length table → HasParts d (slice_index_or table k parts)
+
+-- the compiled mappings of a dictionary at some contents, of both sides
+pub record AreMappings (d : Description) (contents : Contents) (mappings : CompiledMappings) : Type 0 where
+  pub rpdos : IsMappingTable Rpdo d contents mappings.rpdos
+  pub tpdos : IsMappingTable Tpdo d contents mappings.tpdos

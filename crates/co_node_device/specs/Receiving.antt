@@ -1,0 +1,45 @@
+-- What receiving a frame, a tick and an application event comes to, as far as each goes.
+use Rattle.std.specs.Prelude.{◌≡◌, is_some, true, List, [], ◌++◌, Option}
+use Rattle.co_frame.specs.FrameContent.{FrameContent}
+use Rattle.co_frame.specs.declared.nmt.NmtService.{NmtService}
+use Rattle.co_dict.specs.Rows.{Contents}
+use Rattle.co_dict.specs.Stores.{Description}
+use Rattle.co_sdo_bank.specs.declared.channels.NumberedChannel.{NumberedChannel}
+use Rattle.co_sdo_bank.specs.Banks.{BankStands}
+use Rattle.co_sdo_bank.specs.Events.{ChannelEvent, frames_at}
+use Rattle.co_node_model.specs.Inputs.{AppView, Framed, Applied}
+use Rattle.co_node_model.specs.AppEvents.{event_refusal, with_app_event}
+use Rattle.co_node_model.specs.Moments.{quiet, Constants, Moment, History, channels, contents_at, nothing_of}
+use Rattle.co_node_model.specs.declared.address.Address.{Address}
+use Rattle.co_node_model.specs.declared.app_answer.AppAnswer.TheVariants as answer
+use Rattle.co_node_model.specs.declared.marks.Marks.{Marks}
+use Rattle.co_node_model.specs.Device.{with_frame}
+use Rattle.co_node_device.specs.Befores.{logs_received}
+
+-- marks, entries, frames in the outbox and SDO channels are those of a moment, at which nothing came of the application
+pub record IsFrameReceived (d : Description) (k : Constants) (history : History) (m : Moment)
+    (marked : Marks) (entries : Contents) (before after : List FrameContent) (bank : List NumberedChannel) : Type 0 where
+  pub marks : marked ≡ m.marks
+  pub contents : entries ≡ m.received
+  pub frames : after ≡ before ++ (frames_at m.exchange ++ frames_at m.timed_out)
+  pub channels : BankStands d (channels k) bank (logs_received m history)
+  pub app : m.app ≡ answer.None
+  pub raised : m.raised_by_app ≡ []
+
+-- a frame, as the one with an address takes it
+abbrev pub frame_moment : Constants → History → Address → FrameContent → Moment
+frame_moment k history address frame =
+    with_frame k history address frame (nothing_of (Framed frame) (contents_at k history))
+
+-- the marks of an NMT service
+abbrev pub command_marks : Option NmtService → Marks
+command_marks service = record quiet { command = service }
+
+-- the marks of a tick, at which this SDO channel was aborted, if one was
+abbrev pub tick_marks : Option ChannelEvent → Marks
+tick_marks timed_out = record quiet { ticked = true; timed_out = is_some timed_out }
+
+-- an application event, with these entries
+abbrev pub app_moment : Description → Contents → AppView → Moment
+app_moment d contents event =
+    with_app_event d event (event_refusal d contents event) (nothing_of (Applied event) contents)

@@ -1,0 +1,225 @@
+//! Who takes a frame (CiA 301, 7.3.5): a table by which no frame is searched for in the dictionary.
+
+ghost use Rattle.std.specs.Prelude.{◌≡◌, ℕ, ◌<◌, Option, None, false, length, IfOk, IfSome};
+ghost use Rattle.co_dict.specs.Rows.{Contents};
+ghost use Rattle.co_node_model.specs.Rpdos.{rpdo_with, is_rpdo_with};
+ghost use Rattle.co_node_model.specs.Addresses.{AgreeOnAddresses, AgreeOnRpdos, may_change_addresses, is_address_set, address_of, address_unless_rpdo, HasNumber, address_at};
+ghost use Rattle.co_node_device.specs.AddressTables.{IsTableOf, TableContent, AreRpdosOf, IsRpdoTable, number_if};
+ghost use Rattle.std.specs.List.{slice_index_or};
+ghost use Rattle.std.specs.Option.{option_or};
+ghost use Rattle.co_node_model.specs.Sync.{is_sync_id};
+ghost use Rattle.co_dict.specs.Stores.{Description};
+ghost use Rattle.co_sdo_bank.specs.Banks.{BankStands};
+ghost use Rattle.co_node_model.specs.Moments.{Constants, History, channels, contents_at};
+ghost use Rattle.co_node_model.specs.Sdo.{channel_logs};
+
+use crate::keys::SYNC_COB_ID;
+use co_dict::{CobId, ObjectStore, Side, number_u32};
+use co_frame::Frame;
+use co_node_model::{Address, Marks};
+use co_pdo::{cob_id, is_active};
+use co_profile::IndexRange;
+use co_sdo_bank::Bank;
+use co_value::Key;
+use std::alloc::{AllocError, Global};
+use std::boxed::BoxedSlice;
+use std::marker::Model;
+
+/// The first active RPDO with an identifier depends on the parameters of RPDOs alone, 1400h to 17FFh, and the identifier of
+/// SYNC on 1005h. So a table is one of the contents of the dictionary as long as none of these entries was written.
+fn addresses_by_entries()
+    ensures rpdos { (contents others : Contents) (id : ℕ) → AgreeOnRpdos contents others →
+        rpdo_with contents id ≡ rpdo_with others id }
+    ensures tables { (contents others : Contents) (table : TableContent) →
+        AgreeOnAddresses contents others → IsTableOf contents table → IsTableOf others table }
+{}
+
+/// Whether the COB-ID of SYNC or a parameter of an RPDO was written.
+#[inline(always)]
+fn is_address_set(set: Option<Key>) -> bool
+    ensures { result ≡ is_address_set set }
+{
+    match set {
+        Some(key) => {
+            key == SYNC_COB_ID
+                || IndexRange::RPDO_COMMUNICATION.contains(key.index)
+                || IndexRange::RPDO_MAPPING.contains(key.index)
+        }
+        None => false,
+    }
+}
+
+/// Whether the input may have changed the identifier of SYNC, or which RPDO has an identifier: it was a reset, or
+/// the COB-ID of SYNC or a parameter of an RPDO was written.
+#[inline(always)]
+fn may_change_addresses(marks: &Marks) -> bool
+    ensures { result ≡ may_change_addresses marks.now }
+{
+    marks.is_reset() || is_address_set(marks.set)
+}
+
+/// How many identifiers there are, 0 to 7FFh.
+const IDENTIFIERS: usize = 2048;
+
+/// Empties all places.
+fn clear(numbers: &mut [Option<u16>])
+    ensures { (id : ℕ) (d : Option ℕ) → id < length numbers.old →
+        slice_index_or numbers.new id d ≡ None }
+{
+    for number in numbers.iter_mut() {
+        *number = None;
+    }
+}
+
+/// Enters an RPDO at its identifier, if it is active and no other one is there.
+fn enter<S: ObjectStore>(numbers: &mut [Option<u16>], store: &S, number: u16)
+    requires number { number < 512 }
+    requires places { length numbers.old ≡ 2048 }
+    ensures { (id : ℕ) (d : Option ℕ) → id < 2048 →
+        slice_index_or numbers.new id d ≡ option_or (slice_index_or numbers.old id d)
+        (number_if (is_rpdo_with (S.contents store.now) id number) number) }
+{
+    if is_active(store, Side::Rpdo, number) {
+        let id = usize::from(cob_id(store, Side::Rpdo, number).identifier());
+        if numbers[id].is_none() {
+            numbers[id] = Some(number);
+        }
+    }
+}
+
+/// Fills the places: at each identifier the first active RPDO with it.
+#[cold]
+#[inline(never)]
+fn fill<S: ObjectStore>(numbers: &mut [Option<u16>], store: &S)
+    requires { length numbers.old ≡ 2048 }
+    ensures table { IsRpdoTable numbers.new }
+    ensures numbers { AreRpdosOf (S.contents store.now) numbers.new }
+{
+    clear(numbers);
+    for number in 0..512u16 {
+        enter(numbers, store, number);
+    }
+}
+
+/// The identifier of SYNC, and for each identifier the first active RPDO with it. It asks for no memory after `new`. Contracts
+/// see the word of 1005h, and the numbers of the RPDOs by identifier.
+#[derive(Drop)]
+pub struct AddressTable {
+    // of 1005h; 0 where there is none
+    sync: u32,
+    numbers: BoxedSlice<Option<u16>>,
+}
+
+impl Model for AddressTable {
+    ghost use Rattle.std.specs.Box.{boxed_slice_items};
+    ghost use Rattle.co_node_device.specs.AddressTables.{IsRpdoTable, TableContent};
+
+    ghost Value = { TableContent };
+
+    ghost view = { λ t. record { sync = t.sync; numbers = boxed_slice_items t.numbers } };
+
+    ghost invariant = { λ t. IsRpdoTable (boxed_slice_items t.numbers) };
+}
+
+impl AddressTable {
+    /// The table of a dictionary. `AllocError` where there is no memory.
+    pub fn new<S: ObjectStore>(alloc: Global, store: &S) -> Result<AddressTable, AllocError>
+        ensures { IfOk result (λ table. IsTableOf (S.contents store.now) table) }
+    {
+        let mut numbers = vec![in alloc; None; IDENTIFIERS]?;
+        fill(&mut numbers, store);
+        Ok(AddressTable {
+            sync: number_u32(store, SYNC_COB_ID),
+            numbers: numbers.into_boxed_slice(),
+        })
+    }
+
+    /// Follows the dictionary over an input: the table is filled anew where that may have changed the identifier of SYNC or
+    /// which RPDO has an identifier, at a reset and where 1005h or a parameter of an RPDO was written.
+    #[inline(always)]
+    pub fn note<S: ObjectStore>(&mut self, marks: &Marks, store: &S)
+        ensures { (before : Contents) → IsTableOf before self.old →
+            (may_change_addresses marks.now ≡ false → AgreeOnAddresses before (S.contents store.now)) →
+            IsTableOf (S.contents store.now) self.new }
+    {
+        if may_change_addresses(marks) {
+            self.sync = number_u32(store, SYNC_COB_ID);
+            fill(&mut self.numbers, store);
+        } else {
+            addresses_by_entries();
+        }
+    }
+
+    /// Whether an identifier is that of SYNC.
+    #[inline(always)]
+    pub fn is_sync(&self, id: u16) -> bool
+        ensures { (contents : Contents) → IsTableOf contents self.now →
+            result ≡ is_sync_id contents id }
+    {
+        self.sync != 0 && CobId(self.sync).identifier() == id
+    }
+
+    /// The number of the first active RPDO with an identifier, 0 to 7FFh.
+    #[inline(always)]
+    pub fn rpdo_for(&self, id: u16) -> Option<u16>
+        requires { id < 2048 }
+        ensures number { (contents : Contents) → IsTableOf contents self.now →
+            result ≡ rpdo_with contents id }
+        ensures below { IfSome result (λ number. number < 512) }
+    {
+        self.numbers[usize::from(id)]
+    }
+}
+
+/// The RPDO, or else who takes a frame with this identifier by error control.
+#[inline(always)]
+fn from_rpdos_on(rpdo: Option<u16>, id: u16) -> Address
+    requires { IfSome rpdo (λ number. number < 512) }
+    ensures address { result ≡ address_unless_rpdo rpdo id }
+    ensures number { HasNumber result }
+{
+    if let Some(number) = rpdo {
+        return Address::Rpdo(number);
+    }
+    if id > 0x700 && id <= 0x77F {
+        Address::ErrorControl((id - 0x700) as u8)
+    } else {
+        Address::Nobody
+    }
+}
+
+/// Who takes a frame with this identifier, where `is_sync` says whether it is that of SYNC, `channel` is the SDO channel
+/// whose requests have it, if one has, and `rpdo` the first active RPDO with it, if one has it.
+#[inline(always)]
+fn address_of(id: u16, is_sync: bool, channel: Option<u8>, rpdo: Option<u16>) -> Address
+    requires channel { IfSome channel (λ number. number < 128) }
+    requires rpdo { IfSome rpdo (λ number. number < 512) }
+    ensures address { (contents : Contents) → is_sync ≡ is_sync_id contents id →
+        rpdo ≡ rpdo_with contents id → result ≡ address_of channel contents id }
+    ensures number { HasNumber result }
+{
+    if id == 0 {
+        return Address::Nmt;
+    }
+    if is_sync {
+        return Address::Sync;
+    }
+    match channel {
+        Some(number) => Address::Channel(number),
+        None => from_rpdos_on(rpdo, id),
+    }
+}
+
+/// Who takes a frame, by the identifiers of the SDO channels and a table of what the entries say.
+#[inline(always)]
+pub(crate) fn find_address(bank: &Bank, addresses: &AddressTable, frame: &Frame) -> Address
+    ensures address { (k : Constants) (history : History) (d : Description) →
+        BankStands d (channels k) bank.now (channel_logs history) →
+        IsTableOf (contents_at k history) addresses.now →
+        result ≡ address_at k history frame.now.id }
+    ensures number { HasNumber result }
+{
+    let id = frame.id();
+    let channel = bank.channel_for(id);
+    address_of(id, addresses.is_sync(id), channel, addresses.rpdo_for(id))
+}

@@ -1,0 +1,161 @@
+//! A device as it is built, and what is read of it.
+
+ghost use Rattle.std.specs.Prelude.{◌≡◌, ◌≤◌, ◌+◌, ◌&&◌, [], ◌∷◌, IfOk, IfSome, is_some, max, nat_lt, option_map};
+ghost use Rattle.co_value.specs.declared.key.Key.{Key};
+ghost use Rattle.co_dict.specs.Rows.{capacity_at};
+ghost use Rattle.co_pdo.specs.Mappings.{has_pdo, mapping_of};
+ghost use Rattle.co_pdo_compiled.specs.CompiledMappings.{IsCompiledForm};
+ghost use Rattle.co_node_model.specs.Inputs.{Inputs, InputView};
+ghost use Rattle.co_node_model.specs.Moments.{Constants};
+ghost use Rattle.co_node_model.specs.Heartbeats.{boot_up};
+ghost use Rattle.co_node_model.specs.Device.{app_after, contents_of, frame_bound, held_of, room_of, state_of};
+ghost use Rattle.co_node_model.specs.Tpdos.{tpdo_count};
+ghost use Rattle.co_node_device.specs.NodeStanding.{NodeStands};
+ghost use Rattle.co_node_device.specs.Built.{constants_of};
+
+use crate::addresses::AddressTable;
+use crate::device::Device;
+use crate::heartbeats::{begun_consumers, begun_producer, send_life};
+use crate::mappings::CompiledMappings;
+use crate::parts::Parts;
+use co_dict::{ObjectStore, Side};
+use co_frame::{Heartbeat, Outbox};
+use co_node_laws::greatest_bound;
+use co_node_model::AppAnswer;
+use co_node_parts::{Emergencies, LostHeartbeats, NmtState, NodeState, RpdoSlots};
+use co_pdo::{Due, Schedule, has_pdo};
+use co_pdo_compiled::Compiled;
+use co_sdo_bank::Bank;
+use co_value::Key;
+use std::alloc::{AllocError, Global};
+
+impl<S: ObjectStore + Drop> Device<S> {
+    /// A device over a dictionary, in NMT state pre-operational and with nothing received. `greatest` is at least the
+    /// capacity of each entry, in bytes; `time` the SDO timeout between two requests, in ms, where 0 disables it.
+    /// `AllocError` where there is no memory; the device asks for none after that.
+    pub fn new(alloc: Global, store: S, greatest: u32, time: u16) -> Result<Device<S>, AllocError>
+        requires greatest { (key : Key) → capacity_at (S.description store).rows key ≤ greatest }
+        ensures stands { IfOk result (λ device. NodeStands (constants_of (S.description store)
+            (S.contents store) greatest time) (S.description device.store)
+            (S.contents device.store) device.parts []) }
+        ensures description { IfOk result (λ device.
+            S.description device.store ≡ S.description store) }
+        ensures contents { IfOk result (λ device. S.contents device.store ≡ S.contents store) }
+    {
+        let bank = Bank::new(alloc, &store, greatest, time)?;
+        let addresses = AddressTable::new(alloc, &store)?;
+        let mappings = CompiledMappings::new(alloc, &store)?;
+        let emergencies = Emergencies::new(alloc)?;
+        let slots = RpdoSlots::new(alloc, 512)?;
+        let schedule = Schedule::new(alloc, &store)?;
+        let parts = Parts {
+            state: NmtState::new(),
+            bank,
+            addresses,
+            mappings,
+            consumers: begun_consumers(&store),
+            lost: LostHeartbeats::new(),
+            emergencies,
+            slots,
+            producer: begun_producer(&store),
+            schedule,
+            due: Due::new(),
+            last_app: AppAnswer::None,
+        };
+        Ok(Device { store, parts })
+    }
+}
+
+impl<S: ObjectStore> Device<S> {
+    /// The boot-up, as the device enters pre-operational after power-on: the outbox then holds it and nothing else (CiA
+    /// 301, 7.2.8.3.3).
+    pub fn boot(&self, outbox: &mut Outbox)
+        ensures { (k : Constants) (inputs : Inputs) →
+            NodeStands k (S.description self.now.store) (S.contents self.now.store) self.now.parts
+            inputs → outbox.new.items ≡ boot_up k ∷ [] }
+    {
+        outbox.clear();
+        send_life(&self.store, Some(Heartbeat::BootUp), outbox);
+    }
+
+    /// The bytes of an entry; `None` where there is no entry.
+    pub fn value(&self, key: Key) -> Option<&[u8]>
+        ensures { (k : Constants) (inputs : Inputs) →
+            NodeStands k (S.description self.now.store) (S.contents self.now.store) self.now.parts
+            inputs → option_map (λ bytes. bytes.now) result ≡ contents_of k inputs key }
+    {
+        self.store.bytes(key)
+    }
+
+    /// The node-ID, 1 to 127.
+    pub fn node_id(&self) -> u8
+        ensures { (k : Constants) (inputs : Inputs) →
+            NodeStands k (S.description self.now.store) (S.contents self.now.store) self.now.parts
+            inputs → result ≡ k.description.node }
+    {
+        self.store.node_id()
+    }
+
+    /// The NMT state (CiA 301, 7.3.2).
+    pub fn state(&self) -> NodeState
+        ensures { (k : Constants) (inputs : Inputs) →
+            NodeStands k (S.description self.now.store) (S.contents self.now.store) self.now.parts
+            inputs → result ≡ state_of k inputs }
+    {
+        self.parts.state.get()
+    }
+
+    /// How many bytes are held for the transfer of an SDO channel; 0 where there is no such channel.
+    pub fn held(&self, channel: u8) -> usize
+        ensures held { (k : Constants) (inputs : Inputs) →
+            NodeStands k (S.description self.now.store) (S.contents self.now.store) self.now.parts
+            inputs → result ≡ held_of k inputs channel }
+        ensures room { (k : Constants) (inputs : Inputs) →
+            NodeStands k (S.description self.now.store) (S.contents self.now.store) self.now.parts
+            inputs → result ≤ room_of k inputs channel }
+    {
+        self.parts.bank.held(channel)
+    }
+
+    /// The answer to the last input, where that was an application event.
+    pub fn last_app(&self) -> AppAnswer
+        ensures { (k : Constants) (inputs : Inputs) →
+            NodeStands k (S.description self.now.store) (S.contents self.now.store) self.now.parts
+            inputs → result ≡ app_after k inputs }
+    {
+        self.parts.last_app
+    }
+
+    /// The compiled mapping of PDO `number` of a side, of what it maps as the dictionary is now; `None` where there is no such
+    /// PDO (CiA 301, 7.5.2.36, 7.5.2.38).
+    pub fn compiled(&self, side: Side, number: u16) -> Option<&Compiled>
+        ensures there { (k : Constants) (inputs : Inputs) →
+            NodeStands k (S.description self.now.store) (S.contents self.now.store) self.now.parts
+            inputs → is_some result ≡ (nat_lt number 512 && has_pdo side k.description.rows number) }
+        ensures form { (k : Constants) (inputs : Inputs) →
+            NodeStands k (S.description self.now.store) (S.contents self.now.store) self.now.parts
+            inputs → IfSome result (λ compiled. IsCompiledForm k.description
+            (mapping_of side k.description (contents_of k inputs) number) compiled.now) }
+    {
+        if number < 512 && has_pdo(&self.store, side, number) {
+            self.parts.mappings.compiled(side, number)
+        } else {
+            None
+        }
+    }
+
+    /// How many frames one input gives at most: 127, or as many as there are TPDOs where those are more, and 2; so at most
+    /// 514.
+    pub fn most_frames(&self) -> usize
+        ensures most { (k : Constants) (inputs : Inputs) →
+            NodeStands k (S.description self.now.store) (S.contents self.now.store) self.now.parts
+            inputs → result ≡ max 127 (tpdo_count k.description.rows) + 2 }
+        ensures enough { (k : Constants) (inputs : Inputs) →
+            NodeStands k (S.description self.now.store) (S.contents self.now.store) self.now.parts
+            inputs → (later : Inputs) (input : InputView) → frame_bound k later input ≤ result }
+        ensures few { result ≤ 514 }
+    {
+        greatest_bound();
+        self.parts.schedule.tpdo_count().max(127) + 2
+    }
+}

@@ -1,0 +1,167 @@
+//! EMCY: errors that are raised and cleared, and the emergencies that are sent (CiA 301, 7.2.7).
+
+ghost use Rattle.std.specs.Prelude.{◌≡◌, ◌∷◌, ◌<◌, [], ◌+◌, ◌≤◌, ◌++◌, length};
+ghost use Rattle.co_node_parts.specs.EmergencyQueues.{EmergencyLog, EmergenciesStand, Noted, with_queued, emergency_due, with_sending};
+ghost use Rattle.co_node_model.specs.Emergencies.{cleared, clearing_of, emergency_of, error_register, raised, with_register, all_raised, emergencies_of, emergency_event, may_send, emergency_frames};
+ghost use Rattle.std.specs.List.{cons_option};
+ghost use Rattle.co_frame.specs.Outboxes.{outbox_room};
+ghost use Rattle.co_dict.specs.Rows.{number_at};
+ghost use Rattle.co_node_model.specs.Keys.{emergency_inhibit_key};
+
+use crate::keys::{EMERGENCY_COB_ID, EMERGENCY_INHIBIT, ERROR_REGISTER};
+use co_dict::{CobId, ObjectStore, number_u8, number_u16, number_u32, push_error, set_u8};
+use co_frame::{Emergency, Outbox};
+use co_node_model::{DeviceError, Marks};
+use co_node_parts::{Emergencies, EmergencyEvent, NodeState};
+
+/// The error register, 0 where there is none.
+fn error_register<S: ObjectStore>(store: &S) -> u8
+    ensures { result ≡ error_register (S.contents store.now) }
+{
+    number_u8(store, ERROR_REGISTER)
+}
+
+/// Sets the error register, where there is one.
+fn set_register<S: ObjectStore>(store: &mut S, register: u8)
+    ensures contents { S.contents store.new
+        ≡ with_register (S.description store.old).rows register (S.contents store.old) }
+    ensures description { S.description store.new ≡ S.description store.old }
+{
+    set_u8(store, ERROR_REGISTER, register);
+}
+
+/// Raises the error: sets its bits in the error register, puts its code in front of the pre-defined
+/// error field, and gives the emergency that is to be queued (CiA 301, 7.2.7, 7.5.2.2 and 7.5.2.4).
+fn raise<S: ObjectStore>(error: DeviceError, store: &mut S) -> Emergency
+    ensures emergency { result ≡ emergency_of error (S.contents store.old) }
+    ensures contents { S.contents store.new
+        ≡ raised (S.description store.old).rows error (S.contents store.old) }
+    ensures description { S.description store.new ≡ S.description store.old }
+{
+    let register = error_register(store) | error.bits;
+    set_register(store, register);
+    push_error(store, error.code);
+    let manufacturer = error.manufacturer;
+    Emergency {
+        code: error.code,
+        register,
+        manufacturer,
+    }
+}
+
+/// Raises the error, and queues its emergency.
+pub(crate) fn raise_and_queue<S: ObjectStore>(
+    error: DeviceError,
+    store: &mut S,
+    emergencies: &mut Emergencies,
+)
+    ensures description { S.description store.new ≡ S.description store.old }
+    ensures contents { S.contents store.new
+        ≡ raised (S.description store.old).rows error (S.contents store.old) }
+    ensures emergencies { (log : EmergencyLog) → EmergenciesStand emergencies.old log →
+        EmergenciesStand emergencies.new
+        (Noted (EmergencyEvent.Queue (emergency_of error (S.contents store.old))) ∷ log) }
+{
+    let emergency = raise(error, store);
+    emergencies.note(EmergencyEvent::Queue(emergency));
+}
+
+/// Raises an error, if there is one, and queues its emergency.
+#[inline(always)]
+pub(crate) fn raise_some<S: ObjectStore>(
+    store: &mut S,
+    emergencies: &mut Emergencies,
+    error: Option<DeviceError>,
+)
+    ensures description { S.description store.new ≡ S.description store.old }
+    ensures contents { S.contents store.new ≡ all_raised
+        (S.description store.old).rows (cons_option error []) (S.contents store.old) }
+    ensures emergencies { (queued : EmergencyLog) → EmergenciesStand emergencies.old queued →
+        EmergenciesStand emergencies.new (with_queued (emergencies_of
+        (S.description store.old).rows (cons_option error []) (S.contents store.old)) queued) }
+{
+    if let Some(error) = error {
+        raise_and_queue(error, store, emergencies);
+    }
+}
+
+/// Clears bits of the error register, and gives the emergency that is to be queued: error code 0000h
+/// with the register that is left. The pre-defined error field stays (CiA 301, 7.2.7.1).
+pub(crate) fn clear<S: ObjectStore>(store: &mut S, bits: u8) -> Emergency
+    ensures emergency { result ≡ clearing_of bits (S.contents store.old) }
+    ensures contents { S.contents store.new
+        ≡ cleared (S.description store.old).rows bits (S.contents store.old) }
+    ensures description { S.description store.new ≡ S.description store.old }
+{
+    let register = error_register(store) & !bits;
+    set_register(store, register);
+    Emergency {
+        code: 0,
+        register,
+        manufacturer: [0; 5],
+    }
+}
+
+/// What the input was to the emergencies, besides those that it raised.
+#[inline(always)]
+pub(crate) fn emergency_event(marks: &Marks) -> EmergencyEvent
+    ensures { result ≡ emergency_event marks.now }
+{
+    if marks.is_reset() {
+        EmergencyEvent::Empty
+    } else if marks.ticked {
+        EmergencyEvent::Tick
+    } else {
+        EmergencyEvent::Quiet
+    }
+}
+
+/// Whether an emergency may be sent at the end of the input, in the state after it.
+#[inline(always)]
+fn may_send<S: ObjectStore>(marks: &Marks, store: &S, after: NodeState) -> bool
+    ensures { result ≡ may_send marks.now after (S.contents store.now) }
+{
+    after != NodeState::Stopped
+        && CobId(number_u32(store, EMERGENCY_COB_ID)).is_valid()
+        && !marks.timed_out
+}
+
+/// Takes the emergency that is sent at the end of an input, if one is, by the NMT state after it. The dictionary is read where
+/// one waits and the inhibit time is over.
+#[inline(always)]
+pub(crate) fn take_emergency<S: ObjectStore>(
+    store: &S,
+    emergencies: &mut Emergencies,
+    marks: &Marks,
+    after: NodeState,
+) -> Option<Emergency>
+    ensures due { (log : EmergencyLog) → EmergenciesStand emergencies.old log →
+        result ≡ emergency_due (may_send marks.now after (S.contents store.now)) log }
+    ensures stands { (log : EmergencyLog) → EmergenciesStand emergencies.old log →
+        EmergenciesStand emergencies.new
+        (with_sending result (number_at (S.contents store.now) emergency_inhibit_key) log) }
+{
+    if !emergencies.is_ready() {
+        return None;
+    }
+    let may = may_send(marks, store, after);
+    let inhibit = number_u16(store, EMERGENCY_INHIBIT);
+    emergencies.send(may, inhibit)
+}
+
+/// Puts an emergency into the outbox, if there is one and room for it.
+#[inline(always)]
+pub(crate) fn send_emergency<S: ObjectStore>(
+    store: &S,
+    emergency: Option<Emergency>,
+    outbox: &mut Outbox,
+)
+    ensures { length outbox.old.items + length (emergency_frames (S.contents store.now) emergency)
+        ≤ outbox_room →
+        outbox.new.items ≡ outbox.old.items ++ emergency_frames (S.contents store.now) emergency }
+{
+    if let Some(emergency) = emergency {
+        let id = CobId(number_u32(store, EMERGENCY_COB_ID)).identifier();
+        let _ = outbox.try_push(emergency.write(id));
+    }
+}

@@ -1,0 +1,214 @@
+//! Heartbeats: those of other nodes that are monitored, and the device's own (CiA 301, 7.2.8.3.2 and 7.2.8.3.3).
+
+ghost use Rattle.std.specs.Prelude.{◌≡◌, ◌+◌, ◌<◌, ◌≤◌, ◌++◌, None, ◌∷◌, ◌&&◌, [], length};
+ghost use Rattle.co_dict.specs.Rows.{Contents, number_at};
+ghost use Rattle.co_node_model.specs.Inputs.{InputView};
+ghost use Rattle.co_node_model.specs.Heartbeats.{with_error_control, consumers_event, producer_event, life_of, consumers_call, consumer_words, loss_errors, loss_event, life_frames};
+ghost use Rattle.co_node_model.specs.Moments.{nothing_of, quiet};
+ghost use Rattle.co_node_model.specs.Keys.{is_set, producer_key};
+ghost use Rattle.co_node_parts.specs.ConsumerTables.{AllBegun, ConsumersLog, ConsumersStand};
+ghost use Rattle.co_node_parts.specs.EmergencyQueues.{EmergencyLog, EmergenciesStand, with_queued};
+ghost use Rattle.co_node_model.specs.Emergencies.{all_raised, emergencies_of};
+ghost use Rattle.co_node_device.specs.Losses.{lost_now};
+ghost use Rattle.co_value.specs.declared.key.Key.{Key};
+ghost use Rattle.co_node_parts.specs.Producers.{ProducerStands};
+ghost use Rattle.co_frame.specs.Outboxes.{outbox_room};
+
+use crate::emergencies::raise_and_queue;
+use crate::keys::{COMMUNICATION_ERROR, PRODUCER_HEARTBEAT_TIME};
+use arrayvec::ArrayVec;
+use co_dict::{ObjectStore, number_u8, number_u16, number_u32};
+use co_frame::{Frame, Heartbeat, Outbox};
+use co_node_model::{DeviceError, Marks};
+use co_node_parts::{
+    ConsumersEvent, Emergencies, HeartbeatConsumers, HeartbeatProducer, LossReaction,
+    LostHeartbeats, NodeState, ProducerEvent, StateEvent,
+};
+use co_profile::CONSUMER_HEARTBEAT;
+use co_value::Key;
+
+/// A heartbeat of another node, which a boot-up isn't, is heard (CiA 301, 7.2.8.3.2).
+#[inline(always)]
+pub(crate) fn take_error_control(node: u8, frame: &Frame) -> Marks
+    ensures marks { (input : InputView) (contents : Contents) → result
+        ≡ (with_error_control node frame.now (nothing_of input contents)).marks }
+    ensures rpdo { result.rpdo ≡ None }
+{
+    match Heartbeat::read(frame) {
+        None | Some(Heartbeat::BootUp) => Marks::quiet(),
+        Some(Heartbeat::Stopped | Heartbeat::Operational | Heartbeat::PreOperational) => Marks {
+            heard: Some(node),
+            ..Marks::quiet()
+        },
+    }
+}
+
+/// What the input was to the consumers of heartbeats, where it was no reset: at a reset all of
+/// them begin.
+#[inline(always)]
+fn consumers_event<S: ObjectStore>(marks: &Marks, store: &S) -> ConsumersEvent
+    ensures { result ≡ consumers_event marks.now (S.contents store.now) }
+{
+    if marks.ticked {
+        return ConsumersEvent::Tick;
+    }
+    if let Some(node) = marks.heard {
+        return ConsumersEvent::Heard(node);
+    }
+    match marks.set {
+        Some(key) if key.index == CONSUMER_HEARTBEAT && 1 <= key.sub && key.sub <= 127 => {
+            ConsumersEvent::Begin(key.sub, number_u32(store, key))
+        }
+        _ => ConsumersEvent::Quiet,
+    }
+}
+
+/// The words of 1016h, sub-indices 1 to 127 (CiA 301, 7.5.2.19).
+fn consumer_words<S: ObjectStore>(store: &S) -> ArrayVec<u32, 127>
+    ensures { result.items ≡ consumer_words (S.contents store.now) }
+{
+    let mut words = ArrayVec::new();
+    for sub in 1..128u8 {
+        words.push(number_u32(
+            store,
+            Key {
+                index: CONSUMER_HEARTBEAT,
+                sub,
+            },
+        ));
+    }
+    words
+}
+
+/// The consumers of heartbeats, each begun with its word.
+pub(crate) fn begun_consumers<S: ObjectStore>(store: &S) -> HeartbeatConsumers
+    ensures { ConsumersStand result (AllBegun (consumer_words (S.contents store.now)) ∷ []) }
+{
+    let mut consumers = HeartbeatConsumers::new();
+    consumers.begin_all(&consumer_words(store));
+    consumers
+}
+
+/// All monitoring begins anew, with the words that the entries have.
+#[cold]
+#[inline(never)]
+fn begin_anew<S: ObjectStore>(store: &S, consumers: &mut HeartbeatConsumers)
+    ensures { (log : ConsumersLog) → ConsumersStand consumers.old log →
+        ConsumersStand consumers.new (AllBegun (consumer_words (S.contents store.now)) ∷ log) }
+{
+    consumers.begin_all(&consumer_words(store));
+}
+
+/// Raises an error for each heartbeat that is lost, and queues its emergency.
+fn raise_losses<S: ObjectStore>(store: &mut S, emergencies: &mut Emergencies, lost: &[u8])
+    ensures description { S.description store.new ≡ S.description store.old }
+    ensures contents { S.contents store.new ≡
+        all_raised (S.description store.old).rows (loss_errors lost.now) (S.contents store.old) }
+    ensures emergencies { (queued : EmergencyLog) → EmergenciesStand emergencies.old queued →
+        EmergenciesStand emergencies.new (with_queued (emergencies_of
+        (S.description store.old).rows (loss_errors lost.now) (S.contents store.old)) queued) }
+{
+    for _ in lost {
+        raise_and_queue(DeviceError::HEARTBEAT_LOST, store, emergencies);
+    }
+}
+
+/// The heartbeats of others at an input: each that is lost at it is an error of the device, 8130h, whose emergency is
+/// queued. At a reset all monitoring begins anew. It gives what the losses are to the NMT state, by the error behaviour
+/// of 1029h, sub-index 1, before them. `lost` is room for the sub-indices of those that are lost.
+#[inline(always)]
+pub(crate) fn watch<S: ObjectStore>(
+    store: &mut S,
+    consumers: &mut HeartbeatConsumers,
+    emergencies: &mut Emergencies,
+    marks: &Marks,
+    lost: &mut LostHeartbeats,
+) -> StateEvent
+    ensures description { S.description store.new ≡ S.description store.old }
+    ensures loss { (log : ConsumersLog) → ConsumersStand consumers.old log → result ≡
+        loss_event (lost_now marks.now (S.contents store.old) log) (S.contents store.old) }
+    ensures contents { (log : ConsumersLog) → ConsumersStand consumers.old log →
+        S.contents store.new ≡ all_raised (S.description store.old).rows
+        (loss_errors (lost_now marks.now (S.contents store.old) log)) (S.contents store.old) }
+    ensures consumers { (log : ConsumersLog) → ConsumersStand consumers.old log →
+        ConsumersStand consumers.new (consumers_call marks.now (S.contents store.old) ∷ log) }
+    ensures emergencies { (log : ConsumersLog) (queued : EmergencyLog) →
+        ConsumersStand consumers.old log → EmergenciesStand emergencies.old queued →
+        EmergenciesStand emergencies.new (with_queued (emergencies_of
+        (S.description store.old).rows (loss_errors (lost_now marks.now (S.contents store.old)
+        log)) (S.contents store.old)) queued) }
+{
+    if marks.is_reset() {
+        begin_anew(store, consumers);
+        return StateEvent::Quiet;
+    }
+    consumers.note(consumers_event(marks, store), lost);
+    if lost.is_empty() {
+        return StateEvent::Quiet;
+    }
+    let reaction = LossReaction::from_code(number_u8(store, COMMUNICATION_ERROR));
+    raise_losses(store, emergencies, lost);
+    StateEvent::HeartbeatLost(reaction)
+}
+
+/// Whether this key was written.
+#[inline(always)]
+fn is_set(marks: &Marks, key: Key) -> bool
+    ensures { result ≡ is_set marks.now.set key }
+{
+    match marks.set {
+        Some(set) => set == key,
+        None => false,
+    }
+}
+
+/// What the input was to the heartbeat producer.
+#[inline(always)]
+pub(crate) fn producer_event<S: ObjectStore>(marks: &Marks, store: &S) -> ProducerEvent
+    ensures { result ≡ producer_event marks.now (S.contents store.now) }
+{
+    if marks.is_reset() || is_set(marks, PRODUCER_HEARTBEAT_TIME) {
+        ProducerEvent::Begin(number_u16(store, PRODUCER_HEARTBEAT_TIME))
+    } else if marks.ticked {
+        ProducerEvent::Tick
+    } else {
+        ProducerEvent::Quiet
+    }
+}
+
+/// The boot-up at a reset; else the heartbeat of the state after the input, where one is due.
+#[inline(always)]
+pub(crate) fn life_of(marks: &Marks, after: NodeState, is_due: bool) -> Option<Heartbeat>
+    ensures { result ≡ life_of marks.now after is_due }
+{
+    if marks.is_reset() {
+        Some(Heartbeat::BootUp)
+    } else if is_due {
+        Some(after.heartbeat())
+    } else {
+        None
+    }
+}
+
+/// The heartbeat producer, begun with its time.
+pub(crate) fn begun_producer<S: ObjectStore>(store: &S) -> HeartbeatProducer
+    ensures { ProducerStands result
+        (ProducerEvent.Begin (number_at (S.contents store.now) producer_key) ∷ []) }
+{
+    let mut producer = HeartbeatProducer::new();
+    let time = number_u16(store, PRODUCER_HEARTBEAT_TIME);
+    producer.note(ProducerEvent::Begin(time));
+    producer
+}
+
+/// Puts a boot-up or heartbeat into the outbox, if there is one and room for it.
+#[inline(always)]
+pub(crate) fn send_life<S: ObjectStore>(store: &S, life: Option<Heartbeat>, outbox: &mut Outbox)
+    ensures { length outbox.old.items + length (life_frames (S.description store.now).node life)
+        ≤ outbox_room → outbox.new.items ≡
+        outbox.old.items ++ life_frames (S.description store.now).node life }
+{
+    if let Some(life) = life {
+        let _ = outbox.try_push(life.write(0x700 + u16::from(store.node_id())));
+    }
+}

@@ -1,0 +1,23 @@
+//! A CANopen device over a dictionary: one input after another. A file a service has its code.
+#![tactic(auto)]
+
+mod addresses;
+mod app_events;
+mod build;
+mod device;
+mod emergencies;
+mod given;
+mod heartbeats;
+mod keys;
+mod mapping_table;
+mod mappings;
+mod nmt;
+mod parts;
+mod receiving;
+mod rpdos;
+mod sdo;
+mod sync;
+mod tpdos;
+
+pub use device::Device;
+pub use parts::Parts;

@@ -1,0 +1,199 @@
+//! The compiled mappings of the PDOs of a side.
+
+ghost use Rattle.std.specs.Prelude.{List, ◌≡◌, ◌<◌, ◌≤◌, false, length, IfOk, IfSome, IsSome};
+ghost use Rattle.co_dict.specs.declared.side.Side.{Side};
+ghost use Rattle.co_dict.specs.Rows.{Contents};
+ghost use Rattle.co_dict.specs.Stores.{Description};
+ghost use Rattle.co_pdo_compiled.specs.declared.part.Part.{Part};
+ghost use Rattle.co_node_model.specs.Mappings.{AgreeOnMappings, is_mapping_set, may_change_mappings};
+ghost use Rattle.co_node_device.specs.MappingTables.{IsMappingTable, AreForms, Covers, HaveParts};
+ghost use Rattle.std.specs.List.{slice_index_or};
+ghost use Rattle.co_pdo.specs.Images.{answered, contents_after, fault_of, image_of};
+ghost use Rattle.co_pdo.specs.Mappings.{mapping_of, total_of};
+
+use co_dict::{ObjectStore, Side};
+use co_node_model::Marks;
+use co_pdo::{PdoFault, has_pdo};
+use co_pdo_compiled::{Compiled, apply_at, image_at, mapping_by_words};
+use co_profile::IndexRange;
+use co_value::{Key, PackedBytes};
+use std::alloc::{AllocError, Global};
+use std::boxed::BoxedSlice;
+use std::marker::Model;
+
+/// A table of compiled mappings is one of the contents of the dictionary as long as no mapping parameter was written, 1600h
+/// to 17FFh and 1A00h to 1BFFh.
+pub(crate) fn mappings_stay()
+    ensures { (side : Side) (d : Description) (before now : Contents) (table : List (List Part)) →
+        AgreeOnMappings before now →
+        IsMappingTable side d before table → IsMappingTable side d now table }
+{
+    mapping_by_words();
+}
+
+/// Whether a mapping parameter was written.
+#[inline(always)]
+fn is_mapping_set(set: Option<Key>) -> bool
+    ensures { result ≡ is_mapping_set set }
+{
+    match set {
+        Some(key) => {
+            IndexRange::RPDO_MAPPING.contains(key.index)
+                || IndexRange::TPDO_MAPPING.contains(key.index)
+        }
+        None => false,
+    }
+}
+
+/// Whether an input may have changed what a PDO maps: it was a reset, or a mapping parameter was written.
+#[inline(always)]
+fn may_change_mappings(marks: &Marks) -> bool
+    ensures { result ≡ may_change_mappings marks.now }
+{
+    marks.is_reset() || is_mapping_set(marks.set)
+}
+
+/// How many PDOs of a side there are up to the last one that the dictionary has.
+fn count_of<S: ObjectStore>(store: &S, side: Side) -> u16
+    ensures covers { Covers side (S.description store.now) result }
+    ensures few { result ≤ 512 }
+{
+    let mut count = 0;
+    for k in 0..512u16 {
+        if has_pdo(store, side, k) {
+            count = k + 1;
+        }
+    }
+    count
+}
+
+/// Compiles each of them anew.
+#[cold]
+#[inline(never)]
+fn compile_all<S: ObjectStore>(pdos: &mut [Compiled], store: &S, side: Side)
+    requires { length pdos.old ≤ 512 }
+    ensures { AreForms side (S.description store.now) (S.contents store.now) pdos.new }
+{
+    for k in 0..pdos.len() {
+        pdos[k] = Compiled::of(store, side, k as u16);
+    }
+}
+
+/// The compiled mappings of the PDOs of a side, up to the last PDO that the dictionary has. It asks for no memory after
+/// `new`. Contracts see the parts of each.
+#[derive(Drop)]
+pub struct MappingTable {
+    pdos: BoxedSlice<Compiled>,
+}
+
+impl Model for MappingTable {
+    ghost use Rattle.std.specs.Prelude.{◌≤◌, List, length};
+    ghost use Rattle.std.specs.Box.{boxed_slice_items};
+    ghost use Rattle.co_pdo_compiled.specs.declared.part.Part.{Part};
+
+    ghost Value = { List (List Part) };
+
+    ghost view = { λ t. boxed_slice_items t.pdos };
+
+    ghost invariant = { λ t. length (boxed_slice_items t.pdos) ≤ 512 };
+}
+
+impl MappingTable {
+    /// The compiled mappings of a side as the dictionary is now. `AllocError` where there is no memory.
+    pub fn new<S: ObjectStore>(
+        alloc: Global,
+        store: &S,
+        side: Side,
+    ) -> Result<MappingTable, AllocError>
+        ensures table { IfOk result (λ table.
+            IsMappingTable side (S.description store.now) (S.contents store.now) table) }
+        ensures parts { IfOk result (HaveParts (S.description store.now)) }
+    {
+        let count = count_of(store, side);
+        let mut pdos = Vec::with_capacity(alloc, usize::from(count))?;
+        for k in 0..count {
+            pdos.push_reserved(Compiled::of(store, side, k));
+        }
+        Ok(MappingTable {
+            pdos: pdos.into_boxed_slice(),
+        })
+    }
+
+    /// Follows the dictionary over an input: the mappings are compiled anew where that may have changed what a PDO maps, at a
+    /// reset and where a mapping parameter was written.
+    #[inline(always)]
+    pub fn note<S: ObjectStore>(&mut self, marks: &Marks, store: &S, side: Side)
+        ensures table { (before : Contents) →
+            IsMappingTable side (S.description store.now) before self.old →
+            (may_change_mappings marks.now ≡ false → AgreeOnMappings before (S.contents store.now)) →
+            IsMappingTable side (S.description store.now) (S.contents store.now) self.new }
+        ensures parts { HaveParts (S.description store.now) self.old →
+            HaveParts (S.description store.now) self.new }
+    {
+        if may_change_mappings(marks) {
+            compile_all(&mut self.pdos, store, side);
+        } else {
+            mapping_by_words();
+        }
+    }
+
+    /// How many bytes PDO k, 0 to 511, maps.
+    #[inline(always)]
+    pub fn width(&self, k: u16) -> usize
+        requires { k < 512 }
+        ensures { (side : Side) (d : Description) (contents : Contents) →
+            IsMappingTable side d contents self.now →
+            result ≡ total_of (mapping_of side d contents k) }
+    {
+        match self.pdos.get(usize::from(k)) {
+            Some(compiled) => compiled.width(),
+            None => 0,
+        }
+    }
+
+    /// The data of PDO k, 0 to 511: what `image` gives of its mapping.
+    pub fn image<S: ObjectStore>(&self, store: &S, k: u16) -> PackedBytes
+        requires number { k < 512 }
+        requires parts { HaveParts (S.description store.now) self.now }
+        ensures { (side : Side) →
+            IsMappingTable side (S.description store.now) (S.contents store.now) self.now →
+            result ≡ image_of (S.contents store.now)
+            (mapping_of side (S.description store.now) (S.contents store.now) k) }
+    {
+        match self.pdos.get(usize::from(k)) {
+            Some(compiled) => image_at(store, compiled),
+            None => PackedBytes::new(),
+        }
+    }
+
+    /// Takes the data of PDO k, 0 to 511, as `apply` does with its mapping.
+    pub fn apply<S: ObjectStore>(&self, store: &mut S, k: u16, bytes: &[u8]) -> Result<(), PdoFault>
+        requires number { k < 512 }
+        requires parts { HaveParts (S.description store.old) self.now }
+        ensures fault { (side : Side) →
+            IsMappingTable side (S.description store.old) (S.contents store.old) self.now →
+            answered result ≡ fault_of (S.description store.old).rows
+            (mapping_of side (S.description store.old) (S.contents store.old) k) bytes.now }
+        ensures contents { (side : Side) →
+            IsMappingTable side (S.description store.old) (S.contents store.old) self.now →
+            S.contents store.new ≡ contents_after (S.description store.old).rows
+            (mapping_of side (S.description store.old) (S.contents store.old) k) bytes.now
+            (S.contents store.old) }
+        ensures description { S.description store.new ≡ S.description store.old }
+    {
+        match self.pdos.get(usize::from(k)) {
+            Some(compiled) => apply_at(store, compiled, bytes),
+            None if bytes.is_empty() => Ok(()),
+            None => Err(PdoFault::Long),
+        }
+    }
+
+    /// The compiled mapping of PDO k; `None` where k is past the last PDO of the side.
+    pub fn compiled(&self, k: u16) -> Option<&Compiled>
+        ensures there { k < length self.now → IsSome result }
+        ensures form { IfSome result (λ compiled. (k < length self.now) ×
+            (compiled.now ≡ slice_index_or self.now k compiled.now)) }
+    {
+        self.pdos.get(usize::from(k))
+    }
+}

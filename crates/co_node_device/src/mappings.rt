@@ -1,0 +1,69 @@
+//! The compiled mappings of all PDOs.
+
+ghost use Rattle.std.specs.Prelude.{◌≡◌, ◌<◌, true, false, IfOk, IfSome, IsSome};
+ghost use Rattle.co_dict.specs.Rows.{Contents};
+ghost use Rattle.co_dict.specs.Stores.{Description};
+ghost use Rattle.co_pdo.specs.Mappings.{has_pdo, mapping_of};
+ghost use Rattle.co_pdo_compiled.specs.CompiledMappings.{IsCompiledForm};
+ghost use Rattle.co_node_model.specs.Mappings.{may_change_mappings, AgreeOnMappings};
+ghost use Rattle.co_node_device.specs.MappingTables.{AreMappings, HaveParts};
+
+use crate::mapping_table::MappingTable;
+use co_dict::{ObjectStore, Side};
+use co_node_model::Marks;
+use co_pdo_compiled::Compiled;
+use std::alloc::{AllocError, Global};
+
+/// The compiled mappings of all PDOs of a device. They ask for no memory after `new`.
+#[derive(Drop)]
+pub struct CompiledMappings {
+    /// Those of the RPDOs.
+    pub rpdos: MappingTable,
+    /// Those of the TPDOs.
+    pub tpdos: MappingTable,
+}
+
+impl CompiledMappings {
+    /// The compiled mappings as the dictionary is now. `AllocError` where there is no memory.
+    pub fn new<S: ObjectStore>(alloc: Global, store: &S) -> Result<CompiledMappings, AllocError>
+        ensures mappings { IfOk result (λ mappings.
+            AreMappings (S.description store.now) (S.contents store.now) mappings) }
+        ensures rpdos { IfOk result (λ m. HaveParts (S.description store.now) m.rpdos) }
+        ensures tpdos { IfOk result (λ m. HaveParts (S.description store.now) m.tpdos) }
+    {
+        let rpdos = MappingTable::new(alloc, store, Side::Rpdo)?;
+        let tpdos = MappingTable::new(alloc, store, Side::Tpdo)?;
+        Ok(CompiledMappings { rpdos, tpdos })
+    }
+
+    /// Follows the dictionary over an input: the mappings are compiled anew at a reset and where a mapping parameter was
+    /// written.
+    #[inline(always)]
+    pub fn note<S: ObjectStore>(&mut self, marks: &Marks, store: &S)
+        ensures mappings { (before : Contents) → AreMappings (S.description store.now) before self.old →
+            (may_change_mappings marks.now ≡ false → AgreeOnMappings before (S.contents store.now)) →
+            AreMappings (S.description store.now) (S.contents store.now) self.new }
+        ensures rpdos { HaveParts (S.description store.now) self.old.rpdos →
+            HaveParts (S.description store.now) self.new.rpdos }
+        ensures tpdos { HaveParts (S.description store.now) self.old.tpdos →
+            HaveParts (S.description store.now) self.new.tpdos }
+    {
+        self.rpdos.note(marks, store, Side::Rpdo);
+        self.tpdos.note(marks, store, Side::Tpdo);
+    }
+
+    /// The compiled mapping of PDO k, 0 to 511, of a side. Each PDO that the dictionary has is there.
+    pub fn compiled(&self, side: Side, k: u16) -> Option<&Compiled>
+        requires { k < 512 }
+        ensures there { (d : Description) (contents : Contents) → AreMappings d contents self.now →
+            has_pdo side d.rows k ≡ true → IsSome result }
+        ensures form { (d : Description) (contents : Contents) → AreMappings d contents self.now →
+            IfSome result (λ compiled.
+            IsCompiledForm d (mapping_of side d contents k) compiled.now) }
+    {
+        match side {
+            Side::Rpdo => self.rpdos.compiled(k),
+            Side::Tpdo => self.tpdos.compiled(k),
+        }
+    }
+}

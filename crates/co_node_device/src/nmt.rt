@@ -1,0 +1,57 @@
+//! NMT: commands, resets, and what they are to the NMT state (CiA 301, 7.2.8.3.1 and 7.3.2).
+
+ghost use Rattle.std.specs.Prelude.{◌≡◌, ◌<◌, None};
+ghost use Rattle.co_frame.specs.Nmt.{nmt_command_in};
+ghost use Rattle.co_node_model.specs.Nmt.{after_service, service_for, state_event};
+ghost use Rattle.co_node_device.specs.Receiving.{command_marks};
+ghost use Rattle.co_node_model.specs.Moments.{quiet};
+
+use co_dict::{Area, ObjectStore};
+use co_frame::{Frame, NmtCommand, NmtService};
+use co_node_model::Marks;
+use co_node_parts::StateEvent;
+
+/// The service of a command for this node or for all nodes (CiA 301, 7.2.8.3.1).
+fn service_for<S: ObjectStore>(store: &S, frame: &Frame) -> Option<NmtService>
+    ensures { result ≡ service_for
+        (S.description store.now).node (nmt_command_in frame.now) }
+{
+    let command = NmtCommand::read(frame)?;
+    if command.node == 0 || command.node == store.node_id() {
+        Some(command.service)
+    } else {
+        None
+    }
+}
+
+/// A command for this node or for all nodes restores the area that it resets (CiA 301, 7.2.8.3.1).
+pub(crate) fn take_command<S: ObjectStore>(store: &mut S, frame: &Frame) -> Marks
+    ensures marks { result ≡ command_marks (service_for
+        (S.description store.old).node (nmt_command_in frame.now)) }
+    ensures contents { S.contents store.new ≡ after_service
+        (S.description store.old).initial (service_for (S.description store.old).node
+        (nmt_command_in frame.now)) (S.contents store.old) }
+    ensures description { S.description store.new ≡ S.description store.old }
+{
+    let service = service_for(store, frame);
+    match service {
+        Some(NmtService::ResetNode) => store.reset(Area::All),
+        Some(NmtService::ResetCommunication) => store.reset(Area::Communication),
+        Some(NmtService::Start | NmtService::Stop | NmtService::EnterPreOperational) | None => {}
+    }
+    Marks {
+        command: service,
+        ..Marks::quiet()
+    }
+}
+
+/// What the input was to the NMT state, besides heartbeats that are lost at it.
+#[inline(always)]
+pub(crate) fn state_event(marks: &Marks) -> StateEvent
+    ensures { result ≡ state_event marks.now }
+{
+    match marks.command {
+        Some(service) => StateEvent::Command(service),
+        None => StateEvent::Quiet,
+    }
+}

@@ -1,0 +1,170 @@
+//! Receiving an input: it alone is looked at by its kind, and a frame by who takes it.
+
+ghost use Rattle.std.specs.Prelude.{◌≡◌, ◌+◌, ◌<◌, ◌≤◌, ◌++◌, None, IfSome};
+ghost use Rattle.arrayvec.specs.ArrayVec.{array_vec_len};
+ghost use Rattle.co_frame.specs.Outboxes.{HasRoomFor};
+ghost use Rattle.co_frame.specs.SegmentSizes.{segments_per_sub_block};
+ghost use Rattle.co_sdo_bank.specs.Banks.{BankStands, all_settings};
+ghost use Rattle.co_sdo_bank.specs.Channels.{HaveRoom};
+ghost use Rattle.co_sdo_bank.specs.Events.{frames_at};
+ghost use Rattle.co_node_model.specs.Addresses.{HasNumber, address_at};
+ghost use Rattle.co_node_model.specs.declared.address.Address.TheVariants.{Channel};
+ghost use Rattle.co_node_model.specs.Moments.{Constants, History, channels};
+ghost use Rattle.co_node_device.specs.Befores.{IsBefore, IsAddressed, logs_received};
+ghost use Rattle.co_node_device.specs.Receiving.{IsFrameReceived, frame_moment};
+ghost use Rattle.co_node_parts.specs.EmergencyQueues.{EmergencyLog, EmergenciesStand, with_queued};
+ghost use Rattle.co_node_model.specs.Device.{received_at};
+ghost use Rattle.co_node_device.specs.Given.{IsNumbered, given_view};
+
+use crate::app_events::{change, clear_errors, event, raise, write};
+use crate::given::Given;
+use crate::heartbeats::take_error_control;
+use crate::nmt::take_command;
+use crate::rpdos::take_rpdo;
+use crate::sdo::{take_request, take_tick};
+use crate::sync::take_sync;
+use co_dict::ObjectStore;
+use co_frame::{Frame, Outbox};
+use co_node_model::{Address, AppAnswer, Marks};
+use co_node_parts::{Emergencies, NodeState};
+use co_sdo_bank::Bank;
+
+/// A frame goes to the one with this address.
+#[inline(always)]
+fn take_at<S: ObjectStore>(
+    store: &mut S,
+    bank: &mut Bank,
+    state: NodeState,
+    address: Address,
+    frame: &Frame,
+    outbox: &mut Outbox,
+) -> Marks
+    requires number { HasNumber address }
+    requires outbox { HasRoomFor segments_per_sub_block outbox.old }
+    requires room { HaveRoom (S.description store.old).rows (all_settings bank.old) }
+    ensures few { array_vec_len outbox.new ≤ array_vec_len outbox.old + segments_per_sub_block }
+    ensures number { IfSome result.rpdo (λ rpdo. rpdo.number < 512) }
+    ensures settings { all_settings bank.new ≡ all_settings bank.old }
+    ensures description { S.description store.new ≡ S.description store.old }
+    ensures received { (k : Constants) (history : History) →
+        IsBefore k history (S.description store.old) (S.contents store.old) bank.old state →
+        IsFrameReceived (S.description store.old) k history
+        (frame_moment k history address frame.now) result (S.contents store.new)
+        outbox.old.items outbox.new.items bank.new }
+{
+    match address {
+        Address::Nmt => take_command(store, frame),
+        Address::Sync => take_sync(state, frame),
+        Address::Channel(_) => take_request(store, bank, state, frame, outbox),
+        Address::Rpdo(number) => take_rpdo(state, number, frame),
+        Address::ErrorControl(node) => take_error_control(node, frame),
+        Address::Nobody => Marks::quiet(),
+    }
+}
+
+/// A frame goes to the one that takes it.
+#[inline(always)]
+fn take_frame<S: ObjectStore>(
+    store: &mut S,
+    bank: &mut Bank,
+    state: NodeState,
+    address: Address,
+    frame: &Frame,
+    outbox: &mut Outbox,
+) -> Marks
+    requires number { HasNumber address }
+    requires outbox { HasRoomFor segments_per_sub_block outbox.old }
+    requires room { HaveRoom (S.description store.old).rows (all_settings bank.old) }
+    ensures few { array_vec_len outbox.new ≤ array_vec_len outbox.old + segments_per_sub_block }
+    ensures number { IfSome result.rpdo (λ rpdo. rpdo.number < 512) }
+    ensures settings { all_settings bank.new ≡ all_settings bank.old }
+    ensures description { S.description store.new ≡ S.description store.old }
+    ensures received { (k : Constants) (history : History) →
+        IsBefore k history (S.description store.old) (S.contents store.old) bank.old state →
+        address ≡ address_at k history frame.now.id →
+        IsFrameReceived (S.description store.old) k history
+        (frame_moment k history (address_at k history frame.now.id) frame.now) result
+        (S.contents store.new) outbox.old.items outbox.new.items bank.new }
+{
+    take_at(store, bank, state, address, frame, outbox)
+}
+
+/// What an input was, and what it is answered where it is an application event.
+#[derive(Clone, Copy, Debug)]
+pub(crate) struct Received {
+    /// What it was to the parts of the device.
+    pub(crate) marks: Marks,
+    /// The answer to an application event.
+    pub(crate) app: AppAnswer,
+}
+
+/// Receives an input in an NMT state: a frame goes to the one that takes it, a tick to all SDO
+/// channels, an application event to the entries, the register of errors or nobody. The frames of SDO
+/// channels are put into the outbox, at most 127, and at a tick at most 1; the emergencies that the application raises are
+/// queued.
+#[inline(always)]
+pub(crate) fn receive<S: ObjectStore>(
+    store: &mut S,
+    bank: &mut Bank,
+    emergencies: &mut Emergencies,
+    state: NodeState,
+    given: Given<'_>,
+    frame: &Frame,
+    outbox: &mut Outbox,
+) -> Received
+    requires address { IsNumbered given }
+    requires outbox { HasRoomFor segments_per_sub_block outbox.old }
+    requires room { HaveRoom (S.description store.old).rows (all_settings bank.old) }
+    ensures few { array_vec_len outbox.new ≤ array_vec_len outbox.old + segments_per_sub_block }
+    ensures tick { given.entry ≡ Given.Tick →
+        array_vec_len outbox.new ≤ array_vec_len outbox.old + 1 }
+    ensures number { IfSome result.marks.rpdo (λ rpdo. rpdo.number < 512) }
+    ensures settings { all_settings bank.new ≡ all_settings bank.old }
+    ensures description { S.description store.new ≡ S.description store.old }
+    ensures marks { (k : Constants) (history : History) →
+        IsBefore k history (S.description store.old) (S.contents store.old) bank.old state →
+        IsAddressed k history given.entry frame.now →
+        result.marks ≡ (received_at k history (given_view given.entry frame.now)).marks }
+    ensures app { (k : Constants) (history : History) →
+        IsBefore k history (S.description store.old) (S.contents store.old) bank.old state →
+        IsAddressed k history given.entry frame.now →
+        result.app ≡ (received_at k history (given_view given.entry frame.now)).app }
+    ensures contents { (k : Constants) (history : History) →
+        IsBefore k history (S.description store.old) (S.contents store.old) bank.old state →
+        IsAddressed k history given.entry frame.now →
+        S.contents store.new ≡ (received_at k history (given_view given.entry frame.now)).received }
+    ensures frames { (k : Constants) (history : History) →
+        IsBefore k history (S.description store.old) (S.contents store.old) bank.old state →
+        IsAddressed k history given.entry frame.now →
+        outbox.new.items ≡ outbox.old.items
+        ++ (frames_at (received_at k history (given_view given.entry frame.now)).exchange
+        ++ frames_at (received_at k history (given_view given.entry frame.now)).timed_out) }
+    ensures channels { (k : Constants) (history : History) →
+        IsBefore k history (S.description store.old) (S.contents store.old) bank.old state →
+        IsAddressed k history given.entry frame.now →
+        BankStands (S.description store.old) (channels k) bank.new
+        (logs_received (received_at k history (given_view given.entry frame.now)) history) }
+    ensures emergencies { (k : Constants) (history : History) (log : EmergencyLog) →
+        IsBefore k history (S.description store.old) (S.contents store.old) bank.old state →
+        IsAddressed k history given.entry frame.now →
+        EmergenciesStand emergencies.old log → EmergenciesStand emergencies.new (with_queued
+        (received_at k history (given_view given.entry frame.now)).raised_by_app log) }
+{
+    match given {
+        Given::Frame(address) => Received {
+            marks: take_frame(store, bank, state, address, frame, outbox),
+            app: AppAnswer::None,
+        },
+        Given::Tick => Received {
+            marks: take_tick(bank, outbox),
+            app: AppAnswer::None,
+        },
+        Given::Write(key, bytes) => write(store, key, bytes),
+        Given::Event(number) => event(store, number),
+        Given::Changed(key) => change(store, key),
+        Given::Raise(code, bits, manufacturer) => {
+            raise(store, emergencies, code, bits, manufacturer)
+        }
+        Given::Clear(bits) => clear_errors(store, emergencies, bits),
+    }
+}

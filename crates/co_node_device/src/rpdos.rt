@@ -1,0 +1,357 @@
+//! RPDOs: their frames, those that wait for a SYNC, errors of length, and data that take effect (CiA 301, 7.2.2).
+
+ghost use Rattle.std.specs.Prelude.{◌≡◌, ◌<◌, None, IfSome, [], if◌then◌else◌, ◌∷◌};
+ghost use Rattle.co_dict.specs.Rows.{Contents};
+ghost use Rattle.co_dict.specs.Stores.{Description};
+ghost use Rattle.co_node_model.specs.Inputs.{InputView};
+ghost use Rattle.co_node_model.specs.Rpdos.{with_rpdo, rpdo_type, IsMappedLength, IsTypeOf, emptied_by, is_short, kept_by, mapped_length, slot_event, rpdo_errors, after_data, data_emergencies, immediate, value_errors, after_all_data, all_data_emergencies};
+ghost use Rattle.co_node_model.specs.Moments.{nothing_of};
+ghost use Rattle.std.specs.List.{cons_option, All};
+ghost use Rattle.co_dict.specs.declared.side.Side.TheVariants.{Rpdo};
+ghost use Rattle.co_node_device.specs.MappingTables.{HaveParts, IsMappingTable};
+ghost use Rattle.co_node_parts.specs.EmergencyQueues.{EmergencyLog, EmergenciesStand, with_queued};
+ghost use Rattle.co_pdo.specs.Images.{answered};
+ghost use Rattle.co_node_model.specs.Emergencies.{all_raised, emergencies_of};
+ghost use Rattle.co_node_parts.specs.RpdoSlots.{SlotLog, SlotsStand};
+ghost use Rattle.co_node_device.specs.Effects.{length_errors_of, after_lengths, after_effects, effect_emergencies};
+
+use crate::emergencies::{raise_and_queue, raise_some};
+use crate::mapping_table::{MappingTable, mappings_stay};
+use crate::sync::sync_error;
+use co_dict::{ObjectStore, number_u8};
+use co_frame::Frame;
+use co_node_laws::settings_kept;
+use co_node_model::{DeviceError, Marks};
+use co_node_parts::{Emergencies, KeptFrame, NodeState, RpdoSlots, SlotEvent, Transition};
+use co_pdo::PdoFault;
+use co_profile::{IndexRange, PDO_COB_ID, TRANSMISSION_TYPE};
+use co_value::Key;
+
+/// An RPDO's frame counts in operational (CiA 301, 7.2.2).
+#[inline(always)]
+pub(crate) fn take_rpdo(state: NodeState, number: u16, frame: &Frame) -> Marks
+    requires { number < 512 }
+    ensures marks { (input : InputView) (contents : Contents) → result
+        ≡ (with_rpdo number state frame.now (nothing_of input contents)).marks }
+    ensures number { IfSome result.rpdo (λ rpdo. rpdo.number < 512) }
+{
+    if state != NodeState::Operational {
+        return Marks::quiet();
+    }
+    Marks {
+        rpdo: Some(KeptFrame {
+            number,
+            frame: *frame,
+        }),
+        ..Marks::quiet()
+    }
+}
+
+/// The transmission type of RPDO k, 0 to 511; 0 where there is none (CiA 301, 7.5.2.35).
+fn rpdo_type<S: ObjectStore>(store: &S, k: u16) -> u8
+    requires { k < 512 }
+    ensures { result ≡ rpdo_type (S.contents store.now) k }
+{
+    let index = IndexRange::RPDO_COMMUNICATION.nth(k);
+    number_u8(
+        store,
+        Key {
+            index,
+            sub: TRANSMISSION_TYPE,
+        },
+    )
+}
+
+/// The transmission type of the RPDO whose frame came; 0 where none came.
+fn type_of<S: ObjectStore>(store: &S, rpdo: &Option<KeptFrame>) -> u8
+    requires { IfSome rpdo.now (λ rpdo. rpdo.number < 512) }
+    ensures { IsTypeOf (S.contents store.now) rpdo.now result }
+{
+    match rpdo {
+        Some(rpdo) => rpdo_type(store, rpdo.number),
+        None => 0,
+    }
+}
+
+/// Whether a frame of an RPDO has fewer bytes than are mapped, which are so many.
+#[inline(always)]
+fn is_short(mapped: usize, rpdo: &KeptFrame) -> bool
+    ensures { (d : Description) (contents : Contents) →
+        mapped ≡ mapped_length d contents rpdo.now.number →
+        result ≡ is_short d contents rpdo.now }
+{
+    rpdo.frame.bytes().len() < mapped
+}
+
+/// What a write to an entry is to the frames that wait.
+#[inline(always)]
+fn emptied_by(set: Option<Key>) -> SlotEvent
+    ensures { result ≡ emptied_by set }
+{
+    let Some(key) = set else {
+        return SlotEvent::Quiet;
+    };
+    let is_named = key.sub == PDO_COB_ID || key.sub == TRANSMISSION_TYPE;
+    if IndexRange::RPDO_COMMUNICATION.contains(key.index) && is_named {
+        SlotEvent::Empty(key.index - IndexRange::RPDO_COMMUNICATION.0)
+    } else {
+        SlotEvent::Quiet
+    }
+}
+
+/// What a frame of an RPDO is to those that wait, where its RPDO has this type and maps so many bytes.
+#[inline(always)]
+fn kept_by(kind: u8, mapped: usize, rpdo: &Option<KeptFrame>) -> SlotEvent
+    ensures { (d : Description) (contents : Contents) → IsTypeOf contents rpdo.now kind →
+        IsMappedLength d contents rpdo.now mapped → result ≡ kept_by d contents rpdo.now }
+{
+    let Some(rpdo) = rpdo else {
+        return SlotEvent::Quiet;
+    };
+    if kind <= 240 && !is_short(mapped, rpdo) {
+        SlotEvent::Keep(rpdo.number, rpdo.frame)
+    } else {
+        SlotEvent::Quiet
+    }
+}
+
+/// What the input was to the RPDO frames that wait for a SYNC, by the states before and after it. The RPDO whose frame
+/// came has this type, and maps so many bytes.
+#[inline(always)]
+fn slot_event(marks: &Marks, kind: u8, mapped: usize, transition: Transition) -> SlotEvent
+    ensures { (d : Description) (contents : Contents) →
+        IsTypeOf contents marks.now.rpdo kind → IsMappedLength d contents marks.now.rpdo mapped →
+        result ≡ slot_event d contents marks.now transition }
+{
+    if marks.is_reset() || transition.leaves(NodeState::Operational) {
+        return SlotEvent::EmptyAll;
+    }
+    if marks.sync.is_some() && transition.after == NodeState::Operational {
+        return SlotEvent::Sync;
+    }
+    if marks.set.is_some() {
+        return emptied_by(marks.set);
+    }
+    kept_by(kind, mapped, &marks.rpdo)
+}
+
+/// The error of the length of an RPDO's frame, if one came and has it, where the RPDO maps so many bytes: 8210h where it
+/// has fewer than are mapped, 8220h where it has more; whatever the transmission type (CiA 301, 7.2.2.5).
+#[inline(always)]
+fn rpdo_error(mapped: usize, rpdo: &Option<KeptFrame>) -> Option<DeviceError>
+    ensures { (d : Description) (contents : Contents) → IsMappedLength d contents rpdo.now mapped →
+        cons_option result [] ≡ rpdo_errors d contents rpdo.now }
+{
+    let Some(rpdo) = rpdo else {
+        return None;
+    };
+    let count = rpdo.frame.bytes().len();
+    if count < mapped {
+        Some(DeviceError::PDO_TOO_SHORT)
+    } else if mapped < count {
+        Some(DeviceError::PDO_TOO_LONG)
+    } else {
+        None
+    }
+}
+
+/// Whether the data of the frame of an RPDO that came take effect at once, if one came, where its RPDO has this type and
+/// maps so many bytes: the type is 254 or 255, and it isn't short (CiA 301, 7.2.2.2 and 7.5.2.35).
+#[inline(always)]
+fn is_immediate(kind: u8, mapped: usize, rpdo: &Option<KeptFrame>) -> bool
+    ensures { (d : Description) (contents : Contents) → IsTypeOf contents rpdo.now kind →
+        IsMappedLength d contents rpdo.now mapped →
+        (if result then cons_option rpdo.now [] else []) ≡ immediate d contents rpdo.now }
+{
+    let Some(rpdo) = rpdo else {
+        return false;
+    };
+    (kind == 254 || kind == 255) && !is_short(mapped, rpdo)
+}
+
+/// Raises the error of data that took effect, if they have one, and queues its emergency.
+fn raise_outcome<S: ObjectStore>(
+    store: &mut S,
+    emergencies: &mut Emergencies,
+    outcome: Result<(), PdoFault>,
+)
+    ensures description { S.description store.new ≡ S.description store.old }
+    ensures contents { S.contents store.new ≡ all_raised (S.description store.old).rows
+        (value_errors (answered outcome)) (S.contents store.old) }
+    ensures emergencies { (log : EmergencyLog) → EmergenciesStand emergencies.old log →
+        EmergenciesStand emergencies.new (with_queued (emergencies_of
+        (S.description store.old).rows (value_errors (answered outcome)) (S.contents store.old))
+        log) }
+{
+    if let Err(PdoFault::OutOfLimits) = outcome {
+        raise_and_queue(DeviceError::VALUE_OUTSIDE_LIMITS, store, emergencies);
+    }
+}
+
+/// The data of an RPDO's frame take effect, by the compiled mappings of the RPDOs: all values are written, or none where one
+/// is outside its limits; that is an error, 8200h, whose emergency is queued. Lengths were looked at as the frame came.
+fn take_data<S: ObjectStore>(
+    store: &mut S,
+    mappings: &MappingTable,
+    emergencies: &mut Emergencies,
+    rpdo: &KeptFrame,
+)
+    requires number { rpdo.now.number < 512 }
+    requires parts { HaveParts (S.description store.old) mappings.now }
+    ensures description { S.description store.new ≡ S.description store.old }
+    ensures contents { IsMappingTable Rpdo (S.description store.old) (S.contents store.old) mappings.now →
+        S.contents store.new ≡
+        after_data (S.description store.old) (S.contents store.old) rpdo.now }
+    ensures table { IsMappingTable Rpdo (S.description store.old) (S.contents store.old) mappings.now →
+        IsMappingTable Rpdo (S.description store.old) (S.contents store.new) mappings.now }
+    ensures emergencies { (log : EmergencyLog) →
+        IsMappingTable Rpdo (S.description store.old) (S.contents store.old) mappings.now →
+        EmergenciesStand emergencies.old log →
+        EmergenciesStand emergencies.new (with_queued
+        (data_emergencies (S.description store.old) (S.contents store.old) rpdo.now) log) }
+{
+    let outcome = mappings.apply(store, rpdo.number, rpdo.frame.bytes());
+    raise_outcome(store, emergencies, outcome);
+    // these laws do nothing
+    settings_kept();
+    mappings_stay();
+}
+
+/// Raises the errors of the length of a SYNC, and of an RPDO's frame, whose RPDO maps so many bytes.
+#[inline(always)]
+fn raise_lengths<S: ObjectStore>(
+    store: &mut S,
+    emergencies: &mut Emergencies,
+    marks: &Marks,
+    mapped: usize,
+)
+    ensures description { S.description store.new ≡ S.description store.old }
+    ensures contents { IsMappedLength (S.description store.old) (S.contents store.old) marks.now.rpdo mapped →
+        S.contents store.new ≡
+        after_lengths (S.description store.old) (S.contents store.old) marks.now }
+    ensures emergencies { (queued : EmergencyLog) →
+        IsMappedLength (S.description store.old) (S.contents store.old) marks.now.rpdo mapped →
+        EmergenciesStand emergencies.old queued →
+        EmergenciesStand emergencies.new (with_queued (emergencies_of (S.description store.old).rows
+        (length_errors_of (S.description store.old) (S.contents store.old) marks.now)
+        (S.contents store.old)) queued) }
+{
+    let of_sync = sync_error(store, &marks.sync);
+    let of_rpdo = rpdo_error(mapped, &marks.rpdo);
+    raise_some(store, emergencies, of_sync);
+    raise_some(store, emergencies, of_rpdo);
+}
+
+/// The data of frames take effect, in order. There is no RPDO with a number from 512 on.
+#[inline(always)]
+fn take_all_data<S: ObjectStore>(
+    store: &mut S,
+    mappings: &MappingTable,
+    emergencies: &mut Emergencies,
+    rpdos: &[KeptFrame],
+)
+    requires { HaveParts (S.description store.old) mappings.now }
+    ensures description { S.description store.new ≡ S.description store.old }
+    ensures contents { IsMappingTable Rpdo (S.description store.old) (S.contents store.old) mappings.now →
+        All (λ rpdo. rpdo.number < 512) rpdos.now → S.contents store.new ≡
+        after_all_data (S.description store.old) (S.contents store.old) rpdos.now }
+    ensures table { IsMappingTable Rpdo (S.description store.old) (S.contents store.old) mappings.now →
+        IsMappingTable Rpdo (S.description store.old) (S.contents store.new) mappings.now }
+    ensures emergencies { (queued : EmergencyLog) →
+        IsMappingTable Rpdo (S.description store.old) (S.contents store.old) mappings.now →
+        All (λ rpdo. rpdo.number < 512) rpdos.now →
+        EmergenciesStand emergencies.old queued → EmergenciesStand emergencies.new (with_queued
+        (all_data_emergencies (S.description store.old) (S.contents store.old) rpdos.now) queued) }
+{
+    for rpdo in rpdos {
+        if rpdo.number < 512 {
+            take_data(store, mappings, emergencies, rpdo);
+        }
+    }
+}
+
+/// The data of a frame take effect at once, if one came and they do.
+#[inline(always)]
+fn take_at_once<S: ObjectStore>(
+    store: &mut S,
+    mappings: &MappingTable,
+    emergencies: &mut Emergencies,
+    rpdo: &Option<KeptFrame>,
+    is_immediate: bool,
+)
+    requires number { IfSome rpdo.now (λ rpdo. rpdo.number < 512) }
+    requires parts { HaveParts (S.description store.old) mappings.now }
+    ensures description { S.description store.new ≡ S.description store.old }
+    ensures contents { IsMappingTable Rpdo (S.description store.old) (S.contents store.old) mappings.now →
+        S.contents store.new ≡ after_all_data (S.description store.old) (S.contents store.old)
+        (if is_immediate then cons_option rpdo.now [] else []) }
+    ensures emergencies { (queued : EmergencyLog) →
+        IsMappingTable Rpdo (S.description store.old) (S.contents store.old) mappings.now →
+        EmergenciesStand emergencies.old queued →
+        EmergenciesStand emergencies.new (with_queued (all_data_emergencies
+        (S.description store.old) (S.contents store.old)
+        (if is_immediate then cons_option rpdo.now [] else [])) queued) }
+{
+    if !is_immediate {
+        return;
+    }
+    if let Some(rpdo) = rpdo {
+        take_data(store, mappings, emergencies, rpdo);
+    }
+}
+
+/// How many bytes the RPDO maps whose frame came; 0 where none came.
+#[inline(always)]
+fn mapped_length(mappings: &MappingTable, rpdo: &Option<KeptFrame>) -> usize
+    requires { IfSome rpdo.now (λ rpdo. rpdo.number < 512) }
+    ensures { (d : Description) (contents : Contents) →
+        IsMappingTable Rpdo d contents mappings.now → IsMappedLength d contents rpdo.now result }
+{
+    match rpdo {
+        Some(rpdo) => mappings.width(rpdo.number),
+        None => 0,
+    }
+}
+
+/// SYNC and RPDO frames at an input, by the NMT states before and after it: errors of their lengths first, then the data
+/// of those that take effect, by number: those that wait, at a SYNC; the one that came, where its transmission type is
+/// 254 or 255. Each error's emergency is queued. `mappings` are the compiled mappings of the RPDOs, as the dictionary is now.
+#[inline(always)]
+pub(crate) fn take_pdos<S: ObjectStore>(
+    store: &mut S,
+    mappings: &MappingTable,
+    slots: &mut RpdoSlots,
+    emergencies: &mut Emergencies,
+    marks: &Marks,
+    transition: Transition,
+)
+    requires number { IfSome marks.now.rpdo (λ rpdo. rpdo.number < 512) }
+    requires parts { HaveParts (S.description store.old) mappings.now }
+    ensures description { S.description store.new ≡ S.description store.old }
+    ensures slots { (log : SlotLog) →
+        IsMappingTable Rpdo (S.description store.old) (S.contents store.old) mappings.now →
+        SlotsStand 512 slots.old log → SlotsStand 512 slots.new
+        (slot_event (S.description store.old) (S.contents store.old) marks.now transition ∷ log) }
+    ensures contents { (log : SlotLog) →
+        IsMappingTable Rpdo (S.description store.old) (S.contents store.old) mappings.now →
+        SlotsStand 512 slots.old log → S.contents store.new ≡
+        after_effects (S.description store.old) (S.contents store.old) marks.now transition log }
+    ensures emergencies { (log : SlotLog) (queued : EmergencyLog) →
+        IsMappingTable Rpdo (S.description store.old) (S.contents store.old) mappings.now →
+        SlotsStand 512 slots.old log → EmergenciesStand emergencies.old queued →
+        EmergenciesStand emergencies.new (with_queued (effect_emergencies
+        (S.description store.old) (S.contents store.old) marks.now transition log) queued) }
+{
+    // lent out in place of the marks, so that what is known of these stays known
+    let rpdo = marks.rpdo;
+    let mapped = mapped_length(mappings, &rpdo);
+    let kind = type_of(store, &rpdo);
+    slots.note(slot_event(marks, kind, mapped, transition));
+    let at_once = is_immediate(kind, mapped, &rpdo);
+    raise_lengths(store, emergencies, marks, mapped);
+    take_all_data(store, mappings, emergencies, slots.taken());
+    take_at_once(store, mappings, emergencies, &rpdo, at_once);
+    // these laws do nothing
+    settings_kept();
+    mappings_stay();
+}

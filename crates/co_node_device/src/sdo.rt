@@ -1,0 +1,101 @@
+//! The SDO server: frames to the channels of a device, their ticks, and the end of their transfers (CiA 301, 7.2.4).
+
+ghost use Rattle.std.specs.Prelude.{◌≡◌, ◌+◌, ◌<◌, ◌≤◌, ◌++◌, ℕ, List, None, ◌||◌};
+ghost use Rattle.arrayvec.specs.ArrayVec.{array_vec_len};
+ghost use Rattle.co_frame.specs.Outboxes.{HasRoomFor};
+ghost use Rattle.co_frame.specs.SegmentSizes.{segments_per_sub_block};
+ghost use Rattle.co_dict.specs.Stores.{Description};
+ghost use Rattle.co_sdo.specs.Log.{Log, Ticked};
+ghost use Rattle.co_sdo_bank.specs.Banks.{BankStands, all_settings};
+ghost use Rattle.co_sdo_bank.specs.Channels.{ChannelSettings, HaveRoom};
+ghost use Rattle.co_sdo_bank.specs.Events.{frames_at, logs_after, time_out_of, with_each};
+ghost use Rattle.co_node_model.specs.declared.address.Address.TheVariants.{Channel};
+ghost use Rattle.co_node_model.specs.Moments.{Constants, History};
+ghost use Rattle.co_node_device.specs.Befores.{IsBefore};
+ghost use Rattle.co_node_device.specs.Receiving.{IsFrameReceived, frame_moment, tick_marks};
+ghost use Rattle.co_node_parts.specs.NmtStates.{enters};
+ghost use Rattle.co_node_parts.specs.declared.nmt_state.NodeState.TheVariants.{Stopped};
+ghost use Rattle.co_node_model.specs.Nmt.{is_reset};
+ghost use Rattle.co_node_model.specs.Sdo.{with_drop};
+ghost use Rattle.co_node_model.specs.Inputs.{Ticked};
+
+use co_dict::ObjectStore;
+use co_frame::{Frame, Outbox};
+use co_node_model::Marks;
+use co_node_parts::{NodeState, Transition};
+use co_sdo_bank::Bank;
+
+/// An SDO channel takes a frame unless the device is stopped (CiA 301, 7.2.4).
+#[inline(always)]
+pub(crate) fn take_request<S: ObjectStore>(
+    store: &mut S,
+    bank: &mut Bank,
+    state: NodeState,
+    frame: &Frame,
+    outbox: &mut Outbox,
+) -> Marks
+    requires outbox { HasRoomFor segments_per_sub_block outbox.old }
+    requires room { HaveRoom (S.description store.old).rows (all_settings bank.old) }
+    ensures few { array_vec_len outbox.new ≤ array_vec_len outbox.old + segments_per_sub_block }
+    ensures settings { all_settings bank.new ≡ all_settings bank.old }
+    ensures description { S.description store.new ≡ S.description store.old }
+    ensures rpdo { result.rpdo ≡ None }
+    ensures received { (k : Constants) (history : History) (number : ℕ) →
+        IsBefore k history (S.description store.old) (S.contents store.old) bank.old state →
+        IsFrameReceived (S.description store.old) k history
+        (frame_moment k history (Channel number) frame.now) result (S.contents store.new)
+        outbox.old.items outbox.new.items bank.new }
+{
+    if state == NodeState::Stopped {
+        return Marks::quiet();
+    }
+    let set = bank.take(store, frame, outbox);
+    Marks {
+        set,
+        ..Marks::quiet()
+    }
+}
+
+/// 1 ms elapsed: of the SDO channels whose time is over the lowest gives up its transfer.
+#[inline(always)]
+pub(crate) fn take_tick(bank: &mut Bank, outbox: &mut Outbox) -> Marks
+    requires { HasRoomFor 1 outbox.old }
+    ensures few { array_vec_len outbox.new ≤ array_vec_len outbox.old + 1 }
+    ensures rpdo { result.rpdo ≡ None }
+    ensures settings { all_settings bank.new ≡ all_settings bank.old }
+    ensures marks { (d : Description) (channels : List ChannelSettings) (logs : ℕ → Log) →
+        BankStands d channels bank.old logs →
+        result ≡ tick_marks (time_out_of channels (with_each Ticked logs)) }
+    ensures frames { (d : Description) (channels : List ChannelSettings) (logs : ℕ → Log) →
+        BankStands d channels bank.old logs → outbox.new.items ≡
+        outbox.old.items ++ frames_at (time_out_of channels (with_each Ticked logs)) }
+    ensures channels { (d : Description) (channels : List ChannelSettings) (logs : ℕ → Log) →
+        BankStands d channels bank.old logs → BankStands d channels bank.new (logs_after
+        (time_out_of channels (with_each Ticked logs)) (with_each Ticked logs)) }
+{
+    let timed_out = bank.tick(outbox);
+    Marks {
+        ticked: true,
+        timed_out: timed_out.is_some(),
+        ..Marks::quiet()
+    }
+}
+
+/// A reset, and entering stopped, drop the transfers of all SDO channels.
+pub(crate) fn drops(marks: &Marks, transition: Transition) -> bool
+    ensures { result ≡ is_reset marks.now || enters Stopped transition }
+{
+    marks.is_reset() || transition.enters(NodeState::Stopped)
+}
+
+/// Drops the transfers of all SDO channels, or doesn't.
+pub(crate) fn drop_if(bank: &mut Bank, drops: bool)
+    ensures settings { all_settings bank.new ≡ all_settings bank.old }
+    ensures stands { (d : Description) (channels : List ChannelSettings) (logs : ℕ → Log) →
+        BankStands d channels bank.old logs →
+        BankStands d channels bank.new (with_drop drops logs) }
+{
+    if drops {
+        bank.drop_transfers();
+    }
+}

@@ -1,0 +1,226 @@
+//! TPDOs: what an input is to their schedule, which are due, and their frames (CiA 301, 7.2.2.2 to 7.2.2.4).
+
+ghost use Rattle.std.specs.Prelude.{◌≡◌, ◌<◌, ℕ, ◌≤◌, length, true, ◌+◌, ◌++◌, map};
+ghost use Rattle.std.specs.List.{list_any, slice_index_or};
+ghost use Rattle.co_node_model.specs.Tpdos.{is_entry, is_mapped_into, numbers_asked, turn_of, turn_by_write, HasTpdoNumber, due_at, with_turn, tpdo_frame};
+ghost use Rattle.co_node_model.specs.Sync.{counter_in};
+ghost use Rattle.co_pdo.specs.Schedules.{History, IsScheduleAfter, AllCurrent};
+ghost use Rattle.co_node_laws.specs.Calls.{is_asked};
+ghost use Rattle.co_frame.specs.Outboxes.{outbox_room};
+ghost use Rattle.co_dict.specs.declared.side.Side.TheVariants.{Tpdo};
+ghost use Rattle.co_node_device.specs.MappingTables.{HaveParts, IsMappingTable};
+
+use crate::mapping_table::MappingTable;
+use crate::sync::counter_in;
+use arrayvec::ArrayVec;
+use co_dict::{ObjectStore, Side};
+use co_frame::{Frame, Outbox};
+use co_node_model::{Asked, Marks, Turn};
+use co_node_parts::{NodeState, Transition};
+use co_pdo::{Due, Mapped, Mapping, Part, Schedule, is_active};
+use co_profile::{EVENT_TIMER, IndexRange, PDO_COB_ID, TRANSMISSION_TYPE};
+use co_value::Key;
+
+/// Whether what is mapped is an entry.
+fn is_entry(key: Key, mapped: Mapped) -> bool
+    ensures { result ≡ is_entry key mapped }
+{
+    match mapped {
+        Mapped::Entry(entry, _) => entry == key,
+        Mapped::Dummy(_) => false,
+    }
+}
+
+/// Whether an entry is mapped, once or more.
+fn maps(mapping: &[Mapped], key: Key) -> bool
+    ensures { result ≡ list_any (is_entry key) mapping.now }
+{
+    mapping.iter().any(|&mapped| is_entry(key, mapped))
+}
+
+/// Whether a TPDO is active and maps an entry.
+fn is_mapped_into<S: ObjectStore>(store: &S, key: Key, number: u16) -> bool
+    requires { number < 512 }
+    ensures { result ≡
+        is_mapped_into (S.description store.now) (S.contents store.now) key number }
+{
+    is_active(store, Side::Tpdo, number)
+        && maps(Mapping::read(store, Side::Tpdo, number).entries(), key)
+}
+
+/// The numbers of the active TPDOs that map an entry, increasing.
+fn numbers_with<S: ObjectStore>(store: &S, key: Key) -> ArrayVec<u16, 512>
+    ensures { result.items ≡ numbers_asked (S.description store.now) (S.contents store.now)
+        (Asked.Changed key) }
+{
+    let mut numbers = ArrayVec::new();
+    for number in 0..512u16 {
+        if is_mapped_into(store, key, number) {
+            numbers.push(number);
+        }
+    }
+    numbers
+}
+
+/// The numbers of the TPDOs that the application gave an event on, increasing.
+fn numbers_asked<S: ObjectStore>(store: &S, asked: Asked) -> ArrayVec<u16, 512>
+    ensures { result.items ≡ numbers_asked (S.description store.now) (S.contents store.now) asked }
+{
+    match asked {
+        Asked::Event(number) => {
+            let mut numbers = ArrayVec::new();
+            numbers.push(number);
+            numbers
+        }
+        Asked::Changed(key) => numbers_with(store, key),
+    }
+}
+
+/// The turn of a write to an entry.
+#[inline(always)]
+fn turn_by_write(key: Key) -> Turn
+    ensures turn { result ≡ turn_by_write key }
+    ensures number { HasTpdoNumber result }
+{
+    if !IndexRange::TPDO_COMMUNICATION.contains(key.index) {
+        return Turn::Quiet;
+    }
+    let number = key.index - IndexRange::TPDO_COMMUNICATION.0;
+    if key.sub == PDO_COB_ID || key.sub == TRANSMISSION_TYPE {
+        Turn::Start(number, Part::Whole)
+    } else if key.sub == EVENT_TIMER {
+        Turn::Start(number, Part::Timer)
+    } else {
+        Turn::Quiet
+    }
+}
+
+/// What the input was to the schedule of TPDOs, by the states before and after it.
+#[inline(always)]
+pub(crate) fn turn_of(marks: &Marks, transition: Transition) -> Turn
+    ensures turn { result ≡ turn_of marks.now transition }
+    ensures number { HasTpdoNumber result }
+{
+    if transition.after != NodeState::Operational {
+        return Turn::Quiet;
+    }
+    if transition.before != NodeState::Operational {
+        return Turn::StartAll;
+    }
+    if let Some(key) = marks.set {
+        return turn_by_write(key);
+    }
+    if marks.ticked {
+        return Turn::Tick;
+    }
+    if let Some(frame) = marks.sync {
+        return Turn::Sync(counter_in(&frame));
+    }
+    match marks.asked {
+        Some(asked) => Turn::Asked(asked),
+        None => Turn::Quiet,
+    }
+}
+
+/// Leaves in `sent` the numbers of the TPDOs that are due where the application gave an event, increasing; they count as
+/// sent.
+#[cold]
+#[inline(never)]
+fn take_asked<S: ObjectStore>(schedule: &mut Schedule, store: &S, asked: Asked, sent: &mut Due)
+    ensures due { (history : History) →
+        IsScheduleAfter (S.description store.now) schedule.old history →
+        AllCurrent (S.contents store.now) history →
+        sent.new.items ≡ due_at (S.description store.now) (Turn.Asked asked)
+        (S.contents store.now) history }
+    ensures after { (history : History) →
+        IsScheduleAfter (S.description store.now) schedule.old history →
+        AllCurrent (S.contents store.now) history →
+        IsScheduleAfter (S.description store.now) schedule.new (with_turn
+        (S.description store.now) (Turn.Asked asked) (S.contents store.now) sent.new.items history) }
+    ensures few { length sent.new.items ≤ length schedule.old.tpdos }
+    ensures small { (i e : ℕ) → i < length sent.new.items → slice_index_or sent.new.items i e < 512 }
+    ensures size { length schedule.new.tpdos ≡ length schedule.old.tpdos }
+{
+    schedule.on_events(store, &numbers_asked(store, asked), sent);
+}
+
+/// Leaves in `sent` the numbers of the TPDOs that are due at a turn, increasing; they count as sent. What the dictionary
+/// says of each TPDO is current where the schedule is asked.
+#[inline(always)]
+pub(crate) fn take_turn<S: ObjectStore>(
+    schedule: &mut Schedule,
+    store: &S,
+    turn: Turn,
+    sent: &mut Due,
+)
+    requires { HasTpdoNumber turn }
+    ensures due { (history : History) →
+        IsScheduleAfter (S.description store.now) schedule.old history →
+        (is_asked turn ≡ true → AllCurrent (S.contents store.now) history) →
+        sent.new.items ≡
+        due_at (S.description store.now) turn (S.contents store.now) history }
+    ensures after { (history : History) →
+        IsScheduleAfter (S.description store.now) schedule.old history →
+        (is_asked turn ≡ true → AllCurrent (S.contents store.now) history) →
+        IsScheduleAfter (S.description store.now) schedule.new (with_turn
+        (S.description store.now) turn (S.contents store.now) sent.new.items history) }
+    ensures few { length sent.new.items ≤ length schedule.old.tpdos }
+    ensures small { (i e : ℕ) → i < length sent.new.items → slice_index_or sent.new.items i e < 512 }
+    ensures size { length schedule.new.tpdos ≡ length schedule.old.tpdos }
+{
+    match turn {
+        Turn::Quiet => sent.clear(),
+        Turn::StartAll => {
+            schedule.start_all(store);
+            sent.clear();
+        }
+        Turn::Start(number, part) => {
+            schedule.start(store, number, part);
+            sent.clear();
+        }
+        Turn::Sync(counter) => schedule.on_sync(store, counter, sent),
+        Turn::Asked(asked) => take_asked(schedule, store, asked, sent),
+        Turn::Tick => schedule.on_tick(store, sent),
+    }
+}
+
+/// The frame of a TPDO, by the schedule and the compiled mappings of the TPDOs.
+#[inline(always)]
+fn tpdo_frame<S: ObjectStore>(
+    store: &S,
+    schedule: &Schedule,
+    mappings: &MappingTable,
+    number: u16,
+) -> Frame
+    requires number { number < 512 }
+    requires parts { HaveParts (S.description store.now) mappings.now }
+    ensures { (history : History) → IsScheduleAfter (S.description store.now) schedule.now history →
+        IsMappingTable Tpdo (S.description store.now) (S.contents store.now) mappings.now →
+        result ≡ tpdo_frame (S.description store.now) (S.contents store.now) number }
+{
+    let image = mappings.image(store, number);
+    Frame::packed(schedule.cob_id(store, number).identifier(), &image)
+}
+
+/// Puts the frames of TPDOs into the outbox, where it has room for all of them. `schedule` is the schedule of the TPDOs of the
+/// dictionary, `mappings` are their compiled mappings, as the dictionary is now.
+#[inline(always)]
+pub(crate) fn send_tpdos<S: ObjectStore>(
+    store: &S,
+    schedule: &Schedule,
+    mappings: &MappingTable,
+    numbers: &[u16],
+    outbox: &mut Outbox,
+)
+    requires numbers { (i e : ℕ) → i < length numbers.now → slice_index_or numbers.now i e < 512 }
+    requires parts { HaveParts (S.description store.now) mappings.now }
+    ensures { (history : History) → IsScheduleAfter (S.description store.now) schedule.now history →
+        IsMappingTable Tpdo (S.description store.now) (S.contents store.now) mappings.now →
+        length outbox.old.items + length numbers.now ≤ outbox_room →
+        outbox.new.items ≡ outbox.old.items
+        ++ map (tpdo_frame (S.description store.now) (S.contents store.now)) numbers.now }
+{
+    for &number in numbers {
+        let _ = outbox.try_push(tpdo_frame(store, schedule, mappings, number));
+    }
+}

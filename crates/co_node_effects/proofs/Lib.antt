@@ -1,3 +1,0 @@
-mod Data
-mod Examples
-pub mod SameSettings

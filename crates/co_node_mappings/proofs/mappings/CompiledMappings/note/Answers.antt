@@ -1,7 +1,0 @@
-use Rattle.co_node_mappings.proofs.mappings.CompiledMappings.note.Goals as goal
-
-pub returns-clause-mappings : goal.returns-clause-mappings
-returns-clause-mappings g c = λ before old agree. record {
-  rpdos = c.note.ensures.table before old.rpdos agree;
-  tpdos = c.note-2.ensures.table before old.tpdos agree;
-}

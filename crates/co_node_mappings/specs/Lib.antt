@@ -1,2 +1,0 @@
-pub mod MappingChanges
-pub mod MappingTables

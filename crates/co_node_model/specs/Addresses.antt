@@ -1,0 +1,78 @@
+-- Who takes a frame: the first of NMT, SYNC, the SDO channels by number, the active RPDOs by number, and heartbeats
+-- (CiA 301, 7.3.5).
+use Rattle.std.specs.Prelude.{ℕ, ◌&&◌, nat_lt, nat_le, Bool, ◌-◌, if◌then◌else◌, Option, Some, None, ◌==◌, ◌<◌, ◌≤◌, ◌||◌, false, ◌≡◌}
+use Rattle.co_value.specs.declared.key.Key.{Key}
+use Rattle.co_value.specs.Keys.{same_key}
+use Rattle.co_profile.specs.Indices.{rpdo_communication, rpdo_mapping, is_within}
+use Rattle.co_dict.specs.Rows.{Contents}
+use Rattle.co_sdo_bank.specs.Events.{number_for}
+use Rattle.co_node_model.specs.declared.address.Address.{Address}
+use Rattle.co_node_model.specs.declared.address.Address.TheVariants.{ErrorControl, Nobody, Rpdo, Channel, Nmt, Sync}
+use Rattle.co_node_model.specs.Rpdos.{rpdo_with}
+use Rattle.co_node_model.specs.Sync.{is_sync_id}
+use Rattle.co_node_model.specs.Moments.{Constants, History, channels, contents_at}
+use Rattle.co_node_model.specs.Keys.{sync_key}
+use Rattle.co_node_model.specs.Nmt.{is_reset}
+use Rattle.co_node_model.specs.declared.marks.Marks.{Marks}
+
+-- an identifier is that of the error control of a node with node-ID 1 to 127
+abbrev pub is_error_control : ℕ → Bool
+is_error_control id = nat_lt 0x700 id && nat_le id 0x77F
+
+-- error control
+abbrev pub address_last : ℕ → Address
+address_last id = if is_error_control id then ErrorControl (id - 0x700) else Nobody
+
+-- an RPDO
+abbrev pub address_unless_rpdo : Option ℕ → ℕ → Address
+address_unless_rpdo (Some k) id = Rpdo k
+address_unless_rpdo None id = address_last id
+
+-- an SDO channel
+abbrev pub address_unless_channel : Option ℕ → Contents → ℕ → Address
+address_unless_channel (Some j) contents id = Channel j
+address_unless_channel None contents id = address_unless_rpdo (rpdo_with contents id) id
+
+-- who takes a frame with an identifier, where this is the SDO channel whose requests have it, if one has
+abbrev pub address_of : Option ℕ → Contents → ℕ → Address
+address_of channel contents id =
+    if id == 0 then Nmt
+    else (if is_sync_id contents id then Sync
+    else address_unless_channel channel contents id)
+
+-- the numbers of channels are up to 127, of RPDOs up to 511, and node-IDs 1 to 127
+abbrev pub HasNumber : Address → Type 0
+HasNumber (Channel j) = j < 128
+HasNumber (Rpdo k) = k < 512
+HasNumber (ErrorControl node) = (1 ≤ node) × (node ≤ 127)
+HasNumber Nmt = Unit {0}
+HasNumber Sync = Unit {0}
+HasNumber Nobody = Unit {0}
+
+-- who takes a frame
+abbrev pub address_at : Constants → History → ℕ → Address
+address_at k history id = address_of (number_for (channels k) id) (contents_at k history) id
+
+-- ---- what may change it (7.5.2.5, 7.5.2.35 and 7.5.2.36)
+
+-- an entry of the parameters of an RPDO, 1400h to 15FFh and 1600h to 17FFh
+abbrev pub is_rpdo_key : Key → Bool
+is_rpdo_key key = is_within rpdo_communication key.index || is_within rpdo_mapping key.index
+
+-- the COB-ID of SYNC, or a parameter of an RPDO, was written
+abbrev pub is_address_set : Option Key → Bool
+is_address_set None = false
+is_address_set (Some key) = same_key key sync_key || is_rpdo_key key
+
+-- it was a reset, or one of these was written
+abbrev pub may_change_addresses : Marks → Bool
+may_change_addresses marks = is_reset marks || is_address_set marks.set
+
+-- the parameters of RPDOs are the same: 1400h to 15FFh and 1600h to 17FFh
+abbrev pub AgreeOnRpdos : Contents → Contents → Type 0
+AgreeOnRpdos contents others = (key : Key) → 0x1400 ≤ key.index → key.index < 0x1800 → contents key ≡ others key
+
+-- the COB-ID of SYNC and the parameters of RPDOs are the same
+pub record AgreeOnAddresses (contents others : Contents) : Type 0 where
+  pub sync : contents sync_key ≡ others sync_key
+  pub rpdos : AgreeOnRpdos contents others

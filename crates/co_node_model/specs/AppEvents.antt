@@ -1,0 +1,89 @@
+-- Application events: what they do, and what they are answered.
+use Rattle.std.specs.Prelude.{ℕ, ◌&&◌, nat_lt, Bool, ◌==◌, not, Option, None, Some, bit_or, List, [], ◌∷◌}
+use Rattle.co_frame.specs.AbortCodes.{object_missing, invalid_value}
+use Rattle.co_frame.specs.declared.emergency.Emergency.{Emergency}
+use Rattle.co_dict.specs.Rows.{Rows, Contents, written}
+use Rattle.co_dict.specs.Stores.{Description}
+use Rattle.co_dict.specs.Refusals.{refused_if}
+use Rattle.co_dict.specs.Objects.{missing_entry}
+use Rattle.co_dict.specs.WriteRefusals.{app_refusal}
+use Rattle.co_pdo.specs.Tpdos.{has_tpdo}
+use Rattle.co_node_model.specs.Inputs.{AppView, Written, EventOn, ChangedAt, Raised, Cleared}
+use Rattle.co_node_model.specs.declared.app_answer.AppAnswer.{AppAnswer}
+use Rattle.co_node_model.specs.Moments.{quiet, Moment, History}
+use Rattle.co_node_model.specs.declared.marks.Marks.{Marks}
+use Rattle.co_node_model.specs.declared.device_error.DeviceError.{DeviceError}
+use Rattle.co_node_model.specs.Emergencies.{raised, cleared, emergency_of, clearing_of}
+use Rattle.co_node_model.specs.declared.app_answer.AppAnswer.TheVariants as answer
+use Rattle.co_node_model.specs.declared.marks.Asked.TheVariants as asked
+
+-- ---- why one is refused
+
+-- the dictionary has TPDO k, 0 to 511
+abbrev pub is_tpdo : Rows → ℕ → Bool
+is_tpdo rows k = nat_lt k 512 && has_tpdo rows k
+
+-- why an application event is refused: a write as `app_refusal` has it; an event on a TPDO that isn't there; a change of
+-- an entry that isn't there; an error with code 0. Clearing never is
+abbrev pub event_refusal : Description → Contents → AppView → Option ℕ
+event_refusal d contents (Written key bytes) = app_refusal d contents key bytes
+event_refusal d contents (EventOn k) = refused_if (not (is_tpdo d.rows k)) object_missing
+event_refusal d contents (ChangedAt key) = missing_entry d.rows key
+event_refusal d contents (Raised code bits manufacturer) = refused_if (code == 0) invalid_value
+event_refusal d contents (Cleared bits) = None
+
+-- the answer where something is refused, or isn't
+abbrev pub answer_with : Option ℕ → AppAnswer
+answer_with None = answer.Done
+answer_with (Some code) = answer.Refused (record { 0 = code })
+
+-- the answer to an application event
+abbrev pub app_answer : Description → Contents → AppView → AppAnswer
+app_answer d contents event = answer_with (event_refusal d contents event)
+
+-- ---- what one does that isn't refused
+
+-- what they were to the parts
+abbrev pub app_marks : AppView → Marks
+app_marks (Written key bytes) = record quiet { set = Some key }
+app_marks (EventOn n) = record quiet { asked = Some (asked.Event n) }
+app_marks (ChangedAt key) = record quiet { asked = Some (asked.Changed key) }
+app_marks (Raised code bits manufacturer) = quiet
+app_marks (Cleared bits) = quiet
+
+-- the error of the application: it sets bit 0, generic error, too
+abbrev pub app_error : ℕ → ℕ → List ℕ → DeviceError
+app_error code bits manufacturer = record { code = code; bits = bit_or bits 1; manufacturer = manufacturer }
+
+-- the entries after them
+abbrev pub app_contents : Description → AppView → Contents → Contents
+app_contents d (Written key bytes) contents = written contents key bytes
+app_contents d (EventOn n) contents = contents
+app_contents d (ChangedAt key) contents = contents
+app_contents d (Raised code bits manufacturer) contents = raised d.rows (app_error code bits manufacturer) contents
+app_contents d (Cleared bits) contents = cleared d.rows bits contents
+
+-- the emergencies that they queue
+abbrev pub app_emergencies : AppView → Contents → List Emergency
+app_emergencies (Written key bytes) contents = []
+app_emergencies (EventOn n) contents = []
+app_emergencies (ChangedAt key) contents = []
+app_emergencies (Raised code bits manufacturer) contents = emergency_of (app_error code bits manufacturer) contents ∷ []
+app_emergencies (Cleared bits) contents = clearing_of bits contents ∷ []
+
+-- an application event, where this refuses it, or nothing does; a refused one changes nothing but the answer
+abbrev pub with_app_event : Description → AppView → Option ℕ → Moment → Moment
+with_app_event d event (Some code) m = record m { app = answer_with (Some code) }
+with_app_event d event None m = record m {
+  marks = app_marks event;
+  app = answer_with None;
+  raised_by_app = app_emergencies event m.received;
+  received = app_contents d event m.received;
+}
+
+-- ---- over all inputs
+
+-- the answer to the last application event, where that was the last input
+abbrev pub app_at : History → AppAnswer
+app_at [] = answer.None
+app_at (m ∷ history) = m.app

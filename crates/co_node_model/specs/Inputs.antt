@@ -1,0 +1,48 @@
+-- The inputs of a device: frames, ticks of 1 ms, and what its application does.
+use Rattle.std.specs.Prelude.{ℕ, List}
+use Rattle.co_value.specs.declared.key.Key.{Key}
+use Rattle.co_frame.specs.FrameContent.{FrameContent}
+use Rattle.co_node_model.specs.declared.input.AppEvent.{AppEvent}
+use Rattle.co_node_model.specs.declared.input.AppEvent.TheVariants.{Write, Event, Changed, Raise, Clear}
+use Rattle.co_node_model.specs.declared.input.Input.{Input}
+use Rattle.co_node_model.specs.declared.input.Input.TheVariants.{Frame, Tick, App}
+
+-- what the application does
+pub data AppView : Type 0 where
+  -- it writes bytes into an entry
+  Written : Key → List ℕ → AppView
+  -- an event on the TPDO with a number
+  EventOn : ℕ → AppView
+  -- the value of an entry changed
+  ChangedAt : Key → AppView
+  -- an error with its code, the bits of the error register, and the manufacturer's bytes
+  Raised : ℕ → ℕ → List ℕ → AppView
+  -- bits of the error register are cleared
+  Cleared : ℕ → AppView
+
+-- an input
+pub data InputView : Type 0 where
+  -- a frame was received
+  Framed : FrameContent → InputView
+  -- 1 ms elapsed
+  Ticked : InputView
+  -- the application did something
+  Applied : AppView → InputView
+
+-- all inputs since the device was built, the newest first
+abbrev pub Inputs : Type 0
+Inputs = List InputView
+
+-- what contracts see of an application event
+abbrev pub app_view : AppEvent → AppView
+app_view (Write key bytes) = Written key bytes.now
+app_view (Event k) = EventOn k
+app_view (Changed key) = ChangedAt key
+app_view (Raise code bits manufacturer) = Raised code bits manufacturer
+app_view (Clear bits) = Cleared bits
+
+-- what contracts see of an input
+abbrev pub input_view : Input → InputView
+input_view (Frame frame) = Framed frame
+input_view Tick = Ticked
+input_view (App event) = Applied (app_view event)

@@ -1,0 +1,15 @@
+pub mod Inputs
+pub mod Keys
+pub mod Moments
+pub mod Nmt
+pub mod Sdo
+pub mod Sync
+pub mod Emergencies
+pub mod Heartbeats
+pub mod Rpdos
+pub mod Tpdos
+pub mod AppEvents
+pub mod Addresses
+pub mod Mappings
+pub mod Device
+pub mod Loop

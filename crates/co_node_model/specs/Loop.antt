@@ -1,0 +1,129 @@
+-- An SDO client and a node over its default channel (CiA 301, 7.2.4.3 and 7.3.3): in rounds, each of which gives the node one
+-- request, or where none waits a tick.
+use Rattle.std.specs.Prelude.{ℕ, zero, suc, ◌+◌, ◌||◌, Bool, true, false, List, [], ◌∷◌, ◌++◌, if◌then◌else◌}
+use Rattle.co_value.specs.declared.key.Key.{Key}
+use Rattle.co_frame.specs.FrameContent.{FrameContent}
+use Rattle.co_sdo_client.specs.declared.state.ClientState.{ClientState}
+use Rattle.co_sdo_client.specs.declared.mode.Mode.{Mode}
+use Rattle.co_sdo_client.specs.Calls.{Call, Download, Event, Ticked as ClientTicked, frames_on}
+use Rattle.co_sdo_client.specs.Segments.{initiate_messages}
+use Rattle.co_sdo_client.specs.Outcomes.{outcome, asked_by, sent}
+use Rattle.co_sdo_client.specs.Standing.{waits, events_with, asked_with}
+use Rattle.co_node_model.specs.Inputs.{InputView, Inputs, Framed, Ticked as NodeTicked}
+use Rattle.co_node_model.specs.Moments.{Constants}
+use Rattle.co_node_model.specs.Device.{prescribed}
+
+-- what never changes: the node, and what the client is called for
+pub record Loop : Type 0 where
+  pub node : Constants
+  pub call : Call
+
+-- a download of these bytes to an entry, whose number is indicated, and which waits for each answer for ever
+abbrev pub download_of : Constants → Key → List ℕ → Mode → Loop
+download_of k key bytes mode = record {
+  node = k;
+  call = record { key = key; mode = mode; time = 0; job = Download bytes true };
+}
+
+-- the identifiers of the default SDO channel of the node: of requests and of responses
+abbrev pub request_id : Loop → ℕ
+request_id l = 0x600 + l.node.description.node
+
+abbrev pub response_id : Loop → ℕ
+response_id l = 0x580 + l.node.description.node
+
+-- what happened to the client since its begin, and to the node since it was built, newest first, and the client's requests
+-- that wait to be given to the node, oldest first
+pub record BothEnds : Type 0 where
+  pub events : List Event
+  pub inputs : Inputs
+  pub waiting : List FrameContent
+
+-- the client has begun
+abbrev pub first_ends : Loop → Inputs → BothEnds
+first_ends l before = record { events = []; inputs = before; waiting = frames_on (request_id l) (initiate_messages l.call) }
+
+-- how the client stands
+abbrev pub state_at : Loop → BothEnds → ClientState
+state_at l e = outcome l.call e.events
+
+-- ---- the node's frames come to the client, in their order; those that are no answers are passed over
+
+-- what has then happened to it
+abbrev pub events_after : ℕ → List Event → List FrameContent → List Event
+events_after id events [] = events
+events_after id events (frame ∷ frames) = events_after id (events_with id events frame) frames
+
+-- the frames that it then sends
+abbrev pub asked_after : ℕ → ℕ → Call → List Event → List FrameContent → List FrameContent
+asked_after request id call events [] = []
+asked_after request id call events (frame ∷ frames) =
+    frames_on request (asked_with id call events frame) ++ asked_after request id call (events_with id events frame) frames
+
+abbrev pub with_frames : Loop → List FrameContent → BothEnds → BothEnds
+with_frames l frames e = record e {
+  events = events_after (response_id l) e.events frames;
+  waiting = e.waiting ++ asked_after (request_id l) (response_id l) l.call e.events frames;
+}
+
+-- ---- a round
+
+-- the node takes an input, and its frames come to the client
+abbrev pub with_input : Loop → InputView → BothEnds → BothEnds
+with_input l input e = with_frames l (prescribed l.node e.inputs input) (record e { inputs = input ∷ e.inputs })
+
+-- a tick at the client
+abbrev pub with_client_tick : Loop → BothEnds → BothEnds
+with_client_tick l e = record e {
+  events = ClientTicked ∷ e.events;
+  waiting = e.waiting ++ frames_on (request_id l) (asked_by l.call e.events ClientTicked);
+}
+
+-- the oldest of these requests is given to the node; where there is none, it is a tick at both
+abbrev pub round_of : Loop → List FrameContent → BothEnds → BothEnds
+round_of l [] e = with_input l NodeTicked (with_client_tick l e)
+round_of l (request ∷ later) e = with_input l (Framed request) (record e { waiting = later })
+
+abbrev pub after_round : Loop → BothEnds → BothEnds
+after_round l e = round_of l e.waiting e
+
+-- the frames of a round: the request, and what the node sends
+abbrev pub frames_of : Loop → List FrameContent → Inputs → List FrameContent
+frames_of l [] inputs = prescribed l.node inputs NodeTicked
+frames_of l (request ∷ later) inputs = request ∷ prescribed l.node inputs (Framed request)
+
+-- ---- all rounds: as long as the client waits, or a request of it does, and at most so many
+
+abbrev pub some_wait : List FrameContent → Bool
+some_wait [] = false
+some_wait (request ∷ later) = true
+
+abbrev pub goes_on : Loop → BothEnds → Bool
+goes_on l e = waits (state_at l e) || some_wait e.waiting
+
+-- both ends after them
+unfoldable pub rounds : ℕ → Loop → BothEnds → BothEnds
+rounds zero l e = e
+rounds (suc left) l e = if goes_on l e then rounds left l (after_round l e) else e
+
+-- the frames of them
+unfoldable pub frames_in : ℕ → Loop → BothEnds → List FrameContent
+frames_in zero l e = []
+frames_in (suc left) l e =
+    if goes_on l e then frames_of l e.waiting e.inputs ++ frames_in left l (after_round l e) else []
+
+-- ---- from the begin, after what came to the node before
+
+-- how many rounds there are at most
+abbrev pub most_rounds : ℕ
+most_rounds = 20000
+
+abbrev pub last_ends : Loop → Inputs → BothEnds
+last_ends l before = rounds most_rounds l (first_ends l before)
+
+abbrev pub all_frames : Loop → Inputs → List FrameContent
+all_frames l before = frames_in most_rounds l (first_ends l before)
+
+-- how many frames the client sent
+abbrev pub sent_of : Loop → Inputs → ℕ
+sent_of l before = sent l.call (last_ends l before).events

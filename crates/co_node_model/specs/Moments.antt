@@ -1,0 +1,88 @@
+-- What one input of a device was, did and gave, service by service.
+use Rattle.std.specs.Prelude.{ℕ, List, Option, [], ◌∷◌, false, None}
+use Rattle.co_frame.specs.declared.emergency.Emergency.{Emergency}
+use Rattle.co_frame.specs.declared.heartbeat.Heartbeat.{Heartbeat}
+use Rattle.co_dict.specs.Rows.{Contents}
+use Rattle.co_dict.specs.Stores.{Description}
+use Rattle.co_sdo_bank.specs.Channels.{ChannelSettings, channels_of}
+use Rattle.co_sdo_bank.specs.Events.{ChannelEvent}
+use Rattle.co_node_parts.specs.declared.nmt_state.StateEvent.{StateEvent}
+use Rattle.co_node_parts.specs.declared.rpdo_slots.KeptFrame.{KeptFrame}
+use Rattle.co_node_parts.specs.declared.nmt_state.StateEvent.TheVariants as state
+use Rattle.co_node_model.specs.Inputs.{InputView}
+use Rattle.co_node_model.specs.declared.app_answer.AppAnswer.{AppAnswer}
+use Rattle.co_node_model.specs.declared.marks.Marks.{Marks}
+use Rattle.co_node_model.specs.declared.app_answer.AppAnswer.TheVariants as answer
+
+-- what never changes of a device: its dictionary's description, the bytes of the entries as it was built, the greatest
+-- capacity of an entry, and the time in ms after which an SDO transfer is aborted, 0 for never
+pub record Constants : Type 0 where
+  pub description : Description
+  pub start : Contents
+  pub greatest : ℕ
+  pub time : ℕ
+
+-- its SDO channels, by number (CiA 301, 7.5.2.33)
+abbrev pub channels : Constants → List ChannelSettings
+channels k = channels_of k.description k.start k.greatest k.time
+
+-- one input, and what came of it; each field is prescribed by the older moments and by the fields before it
+pub record Moment : Type 0 where
+  pub input : InputView
+  -- received: what it was; the exchange on an SDO channel; the channel whose time was over, with what is sent on it; the
+  -- answer to an application event; the emergencies that this event queued; the entries then
+  pub marks : Marks
+  pub exchange : Option ChannelEvent
+  pub timed_out : Option ChannelEvent
+  pub app : AppAnswer
+  pub raised_by_app : List Emergency
+  pub received : Contents
+  -- heartbeats of others: the sub-indices of 1016h that lost theirs; the emergencies that this queued; the entries then;
+  -- what it was to the NMT state
+  pub lost : List ℕ
+  pub raised_by_loss : List Emergency
+  pub watched : Contents
+  pub loss : StateEvent
+  -- SYNC and RPDOs: the frames whose data took effect; the emergencies that were queued; the entries at the end
+  pub taken : List KeptFrame
+  pub raised_by_pdo : List Emergency
+  pub contents : Contents
+  -- what is sent besides SDO: an emergency; the boot-up or a heartbeat; the TPDOs with these numbers
+  pub emergency : Option Emergency
+  pub life : Option Heartbeat
+  pub due : List ℕ
+
+-- the newest first
+abbrev pub History : Type 0
+History = List Moment
+
+-- the entries
+abbrev pub contents_at : Constants → History → Contents
+contents_at k [] = k.start
+contents_at k (m ∷ history) = m.contents
+
+-- nothing that concerns any part
+abbrev pub quiet : Marks
+quiet = record { command = None; set = None; sync = None; rpdo = None; heard = None; ticked = false; timed_out = false; asked = None }
+
+-- an input of which nothing came
+abbrev pub nothing_of : InputView → Contents → Moment
+nothing_of input contents = record {
+  input = input;
+  marks = quiet;
+  exchange = None;
+  timed_out = None;
+  app = answer.None;
+  raised_by_app = [];
+  received = contents;
+  lost = [];
+  raised_by_loss = [];
+  watched = contents;
+  loss = state.Quiet;
+  taken = [];
+  raised_by_pdo = [];
+  contents = contents;
+  emergency = None;
+  life = None;
+  due = [];
+}

@@ -1,0 +1,83 @@
+-- NMT: commands, resets, and the NMT state (CiA 301, 7.2.8.3.1 and 7.3.2).
+use Rattle.std.specs.Prelude.{Bool, true, false, Option, Some, None, ℕ, ◌==◌, ◌||◌, if◌then◌else◌, [], ◌∷◌}
+use Rattle.co_frame.specs.declared.nmt.NmtService.{NmtService}
+use Rattle.co_frame.specs.declared.nmt.NmtService.TheVariants.{Start, Stop, EnterPreOperational, ResetNode, ResetCommunication}
+use Rattle.co_frame.specs.declared.nmt.NmtCommand.{NmtCommand}
+use Rattle.co_dict.specs.declared.area.Area.TheVariants.{Communication, All}
+use Rattle.co_dict.specs.Rows.{Contents, restored}
+use Rattle.co_dict.specs.declared.area.Area.{Area}
+use Rattle.co_node_parts.specs.declared.nmt_state.StateEvent.{StateEvent}
+use Rattle.co_node_parts.specs.NmtStates.{StateLog, state_after}
+use Rattle.co_node_parts.specs.declared.nmt_state.NodeState.{NodeState}
+use Rattle.co_node_parts.specs.declared.nmt_state.Transition.{Transition}
+use Rattle.co_node_parts.specs.declared.nmt_state.StateEvent.TheVariants as state
+use Rattle.co_node_model.specs.declared.marks.Marks.{Marks}
+use Rattle.co_node_model.specs.Moments.{quiet, Moment, History}
+use Rattle.co_node_model.specs.Inputs.{InputView, Framed}
+
+-- ---- what a command is
+
+-- a service is a reset, of the node or of its communication
+abbrev pub resets : NmtService → Bool
+resets Start = false
+resets Stop = false
+resets EnterPreOperational = false
+resets ResetNode = true
+resets ResetCommunication = true
+
+-- a reset was commanded
+abbrev pub is_reset_by : Option NmtService → Bool
+is_reset_by None = false
+is_reset_by (Some service) = resets service
+
+-- the input was a reset
+abbrev pub is_reset : Marks → Bool
+is_reset marks = is_reset_by marks.command
+
+-- a command, if there was one
+abbrev pub commanded_event : Option NmtService → StateEvent
+commanded_event None = state.Quiet
+commanded_event (Some service) = state.Command service
+
+-- to the NMT state
+abbrev pub state_event : Marks → StateEvent
+state_event marks = commanded_event marks.command
+
+-- ---- a command is received
+
+-- the service of a command for this node or for all nodes
+abbrev pub service_for : ℕ → Option NmtCommand → Option NmtService
+service_for node None = None
+service_for node (Some command) = if command.node == 0 || command.node == node then Some command.service else None
+
+-- the entries after a service: reset node restores all, reset communication the communication profile
+abbrev pub after_service : Contents → Option NmtService → Contents → Contents
+after_service initial None contents = contents
+after_service initial (Some Start) contents = contents
+after_service initial (Some Stop) contents = contents
+after_service initial (Some EnterPreOperational) contents = contents
+after_service initial (Some ResetNode) contents = restored All initial contents
+after_service initial (Some ResetCommunication) contents = restored Communication initial contents
+
+abbrev pub with_service : Contents → Option NmtService → Moment → Moment
+with_service initial service m =
+    record m { marks = record quiet { command = service }; received = after_service initial service m.received }
+
+-- ---- the state, over all inputs: commands, and what lost heartbeats do
+
+abbrev pub state_log : History → StateLog
+state_log [] = []
+state_log (m ∷ history) = m.loss ∷ state_event m.marks ∷ state_log history
+
+-- the NMT state
+abbrev pub state_at : History → NodeState
+state_at history = state_after (state_log history)
+
+-- the states before and after an input
+abbrev pub transition_of : Moment → History → Transition
+transition_of m history = record { before = state_at history; after = state_at (m ∷ history) }
+
+-- the NMT command that resets an area of all nodes (CiA 301, 7.2.8.3.1)
+abbrev pub reset_of : Area → InputView
+reset_of All = Framed (record { id = 0; bytes = 129 ∷ 0 ∷ [] })
+reset_of Communication = Framed (record { id = 0; bytes = 130 ∷ 0 ∷ [] })

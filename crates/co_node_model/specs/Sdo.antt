@@ -1,0 +1,59 @@
+-- The SDO server: the channels of a device (CiA 301, 7.2.4).
+use Rattle.std.specs.Prelude.{ℕ, Bool, true, false, ◌||◌, [], ◌∷◌, if◌then◌else◌, is_some, Option}
+use Rattle.co_frame.specs.FrameContent.{FrameContent}
+use Rattle.co_sdo.specs.Log.{Log, Ticked, Dropped}
+use Rattle.co_sdo.specs.Completed.{contents_with, key_set}
+use Rattle.co_sdo_bank.specs.Events.{with_each, logs_after, exchange_of, set_of, ChannelEvent, time_out_of}
+use Rattle.co_node_parts.specs.declared.nmt_state.NodeState.TheVariants.{Stopped}
+use Rattle.co_node_parts.specs.NmtStates.{enters, is_state}
+use Rattle.co_node_model.specs.Nmt.{transition_of, is_reset, state_at}
+use Rattle.co_node_model.specs.Moments.{Moment, History, quiet, Constants, channels}
+
+-- ---- the log of each channel: requests with their responses, ticks, the end of a transfer's time, and drops
+
+-- a tick of every channel, if it was one
+abbrev pub with_channel_ticks : Bool → (ℕ → Log) → ℕ → Log
+with_channel_ticks true logs = with_each Ticked logs
+with_channel_ticks false logs = logs
+
+-- all transfers were dropped, if they were
+abbrev pub with_drop : Bool → (ℕ → Log) → ℕ → Log
+with_drop true logs = with_each Dropped logs
+with_drop false logs = logs
+
+-- a reset, and entering stopped, drop all transfers
+abbrev pub drops : Moment → History → Bool
+drops m history = is_reset m.marks || enters Stopped (transition_of m history)
+
+-- the log of each channel, by its number
+abbrev pub channel_logs : History → ℕ → Log
+channel_logs [] = λ j. []
+channel_logs (m ∷ history) =
+    with_drop (drops m history)
+    (logs_after m.timed_out (with_channel_ticks m.marks.ticked (logs_after m.exchange (channel_logs history))))
+
+-- ---- a frame to a channel: not while stopped; one that hasn't eight bytes is ignored
+
+-- a frame to a channel, with the log of each
+abbrev pub with_request : Constants → (ℕ → Log) → FrameContent → Moment → Moment
+with_request k logs frame m =
+    let set = set_of (channels k) k.description m.received logs frame in
+    record m {
+      marks = record quiet { set = key_set set };
+      exchange = exchange_of (channels k) k.description m.received logs frame;
+      received = contents_with m.received set;
+    }
+
+abbrev pub with_channel_frame : Constants → History → FrameContent → Moment → Moment
+with_channel_frame k history frame m =
+    if is_state Stopped (state_at history) then m else with_request k (channel_logs history) frame m
+
+-- ---- a tick: of the channels whose time is over with it the lowest is aborted; the others wait
+
+abbrev pub with_tick : Option ChannelEvent → Moment → Moment
+with_tick timed_out m =
+    record m { marks = record quiet { ticked = true; timed_out = is_some timed_out }; timed_out = timed_out }
+
+-- the channel that is aborted, with what is sent
+abbrev pub timed_out_at : Constants → History → Option ChannelEvent
+timed_out_at k history = time_out_of (channels k) (with_each Ticked (channel_logs history))

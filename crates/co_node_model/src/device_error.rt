@@ -1,0 +1,45 @@
+//! Errors of the device.
+
+/// An error that the device raises (CiA 301, 7.2.7.1).
+#[derive(Clone, Copy, Debug, PartialEq, Eq, Hash)]
+pub struct DeviceError {
+    /// The emergency error code.
+    pub code: u16,
+    /// The bits that it sets in the error register.
+    pub bits: u8,
+    /// The manufacturer's five bytes.
+    pub manufacturer: [u8; 5],
+}
+
+impl DeviceError {
+    /// The heartbeat of another node is lost.
+    pub const HEARTBEAT_LOST: DeviceError = DeviceError {
+        code: 0x8130,
+        bits: 0x11,
+        manufacturer: [0; 5],
+    };
+    /// The data of an RPDO have a value outside its limits.
+    pub const VALUE_OUTSIDE_LIMITS: DeviceError = DeviceError {
+        code: 0x8200,
+        bits: 0x11,
+        manufacturer: [0; 5],
+    };
+    /// A frame of an RPDO is too short to be processed.
+    pub const PDO_TOO_SHORT: DeviceError = DeviceError {
+        code: 0x8210,
+        bits: 0x11,
+        manufacturer: [0; 5],
+    };
+    /// A frame of an RPDO is longer than what is mapped.
+    pub const PDO_TOO_LONG: DeviceError = DeviceError {
+        code: 0x8220,
+        bits: 0x11,
+        manufacturer: [0; 5],
+    };
+    /// A SYNC has an unexpected length.
+    pub const UNEXPECTED_SYNC_LENGTH: DeviceError = DeviceError {
+        code: 0x8240,
+        bits: 0x11,
+        manufacturer: [0; 5],
+    };
+}

@@ -1,0 +1,18 @@
+//! What a CANopen device is, apart from how it is computed: definitions, a file a service, and the types that they cite.
+#![tactic(auto)]
+
+mod address;
+mod app_answer;
+mod device_error;
+mod input;
+mod limit;
+mod marks;
+mod turn;
+
+pub use address::Address;
+pub use app_answer::AppAnswer;
+pub use device_error::DeviceError;
+pub use input::{AppEvent, Input};
+pub use limit::most_rounds;
+pub use marks::{Asked, Marks};
+pub use turn::Turn;

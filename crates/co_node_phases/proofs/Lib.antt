@@ -1,3 +1,0 @@
-mod Raised
-mod Taken
-mod Words

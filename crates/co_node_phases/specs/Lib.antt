@@ -1,2 +1,0 @@
-pub mod Losses
-pub mod Effects

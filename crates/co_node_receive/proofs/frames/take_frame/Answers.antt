@@ -1,7 +1,0 @@
-use Rattle.co_node_history.specs.Received.{address_at}
-use Rattle.co_node_receive.proofs.Receptions.{at_address}
-use Rattle.co_node_receive.proofs.frames.take_frame.Goals as goal
-
-pub returns-clause-received : goal.returns-clause-received
-returns-clause-received g c = λ k history before who.
-    at_address c.args.frame.now c.args.address (address_at k history c.args.frame.now.id) who (c.take_at.ensures.received k history before)

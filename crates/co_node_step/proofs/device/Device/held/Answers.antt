@@ -1,7 +1,0 @@
-use Rattle.co_node_history.specs.Moments.{channels}
-use Rattle.co_node_history.specs.Logs.{channel_logs}
-use Rattle.co_node_history.specs.Histories.{moments}
-use Rattle.co_node_step.proofs.device.Device.held.Goals as goal
-
-pub returns-clause-held : goal.returns-clause-held
-returns-clause-held g c = λ k inputs stands. c.held.ensures.held _ (channels k) (channel_logs (moments k inputs)) stands.channels

@@ -1,9 +1,0 @@
--- What never changes of a device, as it is built.
-use Rattle.std.specs.Prelude.{ℕ}
-use Rattle.co_dict.specs.Rows.{Contents}
-use Rattle.co_dict.specs.Stores.{Description}
-use Rattle.co_node_history.specs.Moments.{Constants}
-
--- by its dictionary, the greatest capacity of an entry, and the time of an SDO transfer in ms
-abbrev pub constants_of : Description → Contents → ℕ → ℕ → Constants
-constants_of d contents greatest time = record { description = d; start = contents; greatest = greatest; time = time }

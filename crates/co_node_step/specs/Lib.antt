@@ -1,2 +1,0 @@
-pub mod NodeStanding
-pub mod Built

@@ -1,2 +1,0 @@
-mod Few
-mod Numbers
