@@ -1,17 +1,29 @@
 //! The dictionary of the data sheet, and writes into it.
 
-use crate::sheet::SHEET;
 use co_dict::{ObjectStore, may_store};
 use co_dict_image::ImageStore;
 use co_dict_list::{Limits, ListStore};
+use co_fixtures::{COUNTER, MANUFACTURER, PDOS, sheet_of};
 use co_sheet::read;
 use co_value::Key;
-use std::alloc::Global;
+use std::alloc::{AllocError, Global};
+use std::string::String;
 use std::test::Fail;
+
+// An RPDO of two entries, two TPDOs, the second with a SYNC start value, and a SYNC counter.
+fn sheet_text(alloc: Global) -> Result<String, AllocError> {
+    sheet_of(
+        alloc,
+        &[PDOS, COUNTER, "1801sub6 5 rw 241"],
+        &[MANUFACTURER],
+        "1600sub0=2 1600sub2=0x20030010",
+    )
+}
 
 /// The dictionary at node-ID 5.
 pub(crate) fn device(alloc: Global) -> Result<ListStore, Fail> {
-    let sheet = read(alloc, SHEET.as_bytes())?;
+    let text = sheet_text(alloc)?;
+    let sheet = read(alloc, text.as_bytes())?;
     let limits = Limits {
         strings: 16,
         domains: 0,
@@ -22,7 +34,8 @@ pub(crate) fn device(alloc: Global) -> Result<ListStore, Fail> {
 
 /// The same dictionary as one image of all values.
 pub(crate) fn image_device(alloc: Global) -> Result<ImageStore, Fail> {
-    let sheet = read(alloc, SHEET.as_bytes())?;
+    let text = sheet_text(alloc)?;
+    let sheet = read(alloc, text.as_bytes())?;
     let limits = Limits {
         strings: 16,
         domains: 0,

@@ -9,5 +9,3 @@ mod data;
 mod device;
 #[cfg(test)]
 mod schedule;
-#[cfg(test)]
-mod sheet;

@@ -1,6 +1,6 @@
 //! Lines, however the bytes come.
 
-use crate::fakes::{Endless, Pieces};
+use co_fixtures::{Endless, Pieces};
 use co_stream::{LineFault, LineReader};
 use std::io::Read;
 use std::process::Abort;
@@ -91,6 +91,7 @@ fn a_read_fails(rt: HostRuntime) -> Result<(), Fail> {
         let mut reader = Pieces {
             text: b"ab\ncd\nef",
             size: 1,
+            interruptions: 0,
             calls,
         };
         let mut lines = LineReader::new();
@@ -104,7 +105,9 @@ fn a_read_fails(rt: HostRuntime) -> Result<(), Fail> {
 
 #[test]
 fn lines_without_end(rt: HostRuntime) -> Result<(), Fail> {
-    let mut reader = Endless { times: 16_777_213 };
+    let mut reader = Endless {
+        interruptions: 16_777_213,
+    };
     let (text, fault) = joined(&rt, &mut reader)?;
     assert_eq!(rt; text.as_str(), "|||");
     assert_eq!(rt; fault, Some(LineFault::NeverEnds));

@@ -1,6 +1,6 @@
 //! Whole texts, however the bytes come.
 
-use crate::fakes::{Endless, Pieces};
+use co_fixtures::{Endless, Pieces};
 use co_stream::{StreamFault, read_text};
 use std::io;
 use std::process::Abort;
@@ -35,6 +35,7 @@ fn a_read_fails(rt: HostRuntime) -> Result<(), Fail> {
         let mut reader = Pieces {
             text: b"abcdefg",
             size: 2,
+            interruptions: 0,
             calls,
         };
         assert_eq!(rt; read_text(&mut reader, &mut text), Err(StreamFault::Read));
@@ -46,7 +47,9 @@ fn a_read_fails(rt: HostRuntime) -> Result<(), Fail> {
 #[test]
 fn a_text_without_end(rt: HostRuntime) -> Result<(), Fail> {
     let mut text = Vec::new(rt.alloc());
-    let mut reader = Endless { times: 16_777_213 };
+    let mut reader = Endless {
+        interruptions: 16_777_213,
+    };
     assert_eq!(rt;
         read_text(&mut reader, &mut text),
         Err(StreamFault::NeverEnds)

@@ -12,7 +12,7 @@ ghost use Rattle.conode_io.specs.Written.{WritesFrontOrLines, WritesLines};
 use crate::sheet_check::check;
 use co_dict_list::Limits;
 use co_sheet::{FaultKind, SheetFault};
-use conode_io::{CmdFault, Ending, Message, file_text, flushed, out_of_memory, say, stopped};
+use conode_io::{CmdFault, Ending, Message, file_text, flushed, no_text, say, stopped};
 use std::alloc::Global;
 use std::io::Write;
 use std::process::ExitCode;
@@ -20,7 +20,8 @@ use std::rt::Files;
 
 // says that memory ran out
 fn say_memory<O: Write>(out: &mut O) -> Ending
-    ensures ending { (result ≡ Ending.Said CmdFault.Memory) ⊎ (result ≡ Ending.Unsaid CmdFault.Memory) }
+    ensures ending { (result ≡ Ending.Said CmdFault.Memory)
+        ⊎ (result ≡ Ending.Unsaid CmdFault.Memory) }
     ensures said { result ≡ Ending.Said CmdFault.Memory →
         Appends (O.contents out.old) (O.contents out.new) memory_line }
 {
@@ -113,10 +114,6 @@ pub fn check_file<R: Files + AllocGlobal, O: Write, E: Write>(
 {
     match file_text(rt, path) {
         Ok(text) => status_of(check_text(rt.alloc(), text.as_slice(), node, limits, out, err)),
-        Err(CmdFault::Memory) => out_of_memory(out),
-        Err(_) => {
-            let _ = say(Message::CannotRead(path), err);
-            ExitCode::FAILURE
-        }
+        Err(fault) => no_text(fault, path, out, err),
     }
 }

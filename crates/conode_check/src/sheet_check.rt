@@ -125,9 +125,11 @@ fn write_sheet<W: Write>(
         (WritesLines (W.contents writer.old) (W.contents writer.new)
         (sheet_lines sheet.now own fault)) }
     ensures write { result ≡ Err CmdFault.Write →
-        WritesFront (W.contents writer.old) (W.contents writer.new) (sheet_lines sheet.now own fault) }
+        WritesFront (W.contents writer.old) (W.contents writer.new)
+        (sheet_lines sheet.now own fault) }
     ensures memory { result ≡ Err CmdFault.Memory →
-        WritesSome (W.contents writer.old) (W.contents writer.new) (sheet_lines sheet.now own fault) }
+        WritesSome (W.contents writer.old) (W.contents writer.new)
+        (sheet_lines sheet.now own fault) }
     ensures err { IfErr result (λ fault. (fault ≡ CmdFault.Write) ⊎ (fault ≡ CmdFault.Memory)) }
 {
     set_summary_line(line, sheet)?;
@@ -159,7 +161,8 @@ fn sheet_build_fault(
     node: Option<u8>,
     limits: &Limits<'_>,
 ) -> Result<Option<BuildFault>, CmdFault>
-    ensures ok { IfOk result (λ fault. fault ≡ sheet_build_fault node (limits_view limits.now) sheet.now) }
+    ensures ok { IfOk result (λ fault.
+        fault ≡ sheet_build_fault node (limits_view limits.now) sheet.now) }
     ensures err { IfErr result (λ fault. fault ≡ CmdFault.Memory) }
 {
     let Some(node_id) = node else {

@@ -9,7 +9,7 @@ use Rattle.conode_io.specs.declared.fault.CmdFault.TheVariants.{Read, Write, Nev
 use Rattle.conode_io.specs.Endings.{stopped_line, SomeStopped, WritesStopped}
 use Rattle.conode_io.specs.Written.{WritesFrontOrLines, WritesLines, WritesSome}
 use Rattle.conode_io.proofs.StoppedLemmas.{some_stopped, stopped_after}
-use Rattle.conode_decode.specs.DecodedTraces.{FailsWithinLine}
+use Rattle.conode_lines.specs.TraceTexts.{FailsWithinLine}
 
 -- its line follows what was written
 module _ (old mid kept new : Option (List ℕ)) (fault : CmdFault) (flushed : Keeps mid kept) (last : Appends kept new (stopped_line fault)) where

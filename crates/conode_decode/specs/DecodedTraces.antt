@@ -1,15 +1,14 @@
 -- What is written of a trace that is decoded.
-use Rattle.std.specs.Prelude.{◌≡◌, ℕ, ◌<◌, false, List, [], ◌∷◌, ◌++◌, length, Option, Some, None, Result, Ok, Err, IfSome, ⊤}
+use Rattle.std.specs.Prelude.{◌≡◌, ℕ, List, [], ◌∷◌, Option, Some, None, Result, Ok, Err, IfSome}
 use Rattle.std.specs.List.{flat_map}
 use Rattle.co_sheet.specs.Content.{SheetContent}
 use Rattle.conode_trace.specs.declared.trace_line.TraceLine.{TraceLine}
 use Rattle.conode_trace.specs.declared.trace_line.TraceLine.TheVariants.{Data}
-use Rattle.std.specs.Str.Lines.{lines}
-use Rattle.co_stream.specs.Lines.{has_line_feed}
-use Rattle.conode_trace.specs.Traces.{Input, frame, tick, app, TimedInput, Trace, Progress, trace_next, trace_of}
+use Rattle.conode_trace.specs.Traces.{Input, frame, tick, app, TimedInput, trace_of}
 use Rattle.conode_io.specs.declared.fault.CmdFault.{CmdFault}
 use Rattle.conode_io.specs.declared.fault.CmdFault.TheVariants.{Read, Write, BadLine, Memory, NeverEnds}
 use Rattle.conode_io.specs.Written.{WritesFrontOrLines, WritesLines, WritesSome}
+use Rattle.conode_lines.specs.TraceTexts.{trace_in, FailsWithinLine}
 use Rattle.conode_decode.specs.Names.{Names}
 use Rattle.conode_decode.specs.Texts.{decoded_line}
 
@@ -27,10 +26,6 @@ input_lines names number (app event) = []
 abbrev pub decoded_lines : Names → List TimedInput → List (List ℕ)
 decoded_lines names inputs = flat_map (λ t. input_lines names t.line t.input) inputs
 
--- the trace that a text is
-abbrev pub trace_in : List ℕ → Trace
-trace_in text = trace_of (lines text)
-
 -- the lines of the frames in a text, up to its first bad line
 abbrev pub trace_lines : Names → List ℕ → List (List ℕ)
 trace_lines names text = decoded_lines names (trace_in text).inputs
@@ -44,29 +39,7 @@ said_lines names number other = []
 abbrev pub lines_of : Names → List (List ℕ) → List (List ℕ)
 lines_of names lines = decoded_lines names (trace_of lines).inputs
 
--- ---- a trace whose reader fails
-
--- These lines of a text came, and are good. What the reader gave after them is a part of a line; the rest didn't come.
-pub record CameBefore (text rest : List ℕ) : Type 0 where
-  pub taken : List (List ℕ)
-  pub part : List ℕ
-  pub front : lines text ≡ taken ++ lines (part ++ rest)
-  pub within : has_line_feed part ≡ false
-  pub good : (trace_of taken).bad ≡ None
-
--- where the bytes are known: this holds of the lines that came
-abbrev pub FailsWithinLine : Option (List ℕ) → Option (List ℕ) → (List (List ℕ) → Type 0) → Type 0
-FailsWithinLine None rest P = ⊤
-FailsWithinLine (Some text) None P = ⊥
-FailsWithinLine (Some text) (Some rest) P = (came : CameBefore text rest) × P came.taken
-
 -- ---- how decoding ends
-
--- the fault names the next line, where that has more than 512 bytes
-abbrev pub NamesLongLine : Progress → CmdFault → Type 0
-NamesLongLine progress (BadLine number) =
-    (line : List ℕ) (more : List (List ℕ)) → 512 < length line → trace_next progress (line ∷ more) ≡ record { inputs = []; bad = Some number }
-NamesLongLine progress other = ⊥
 
 -- `known` and `rest` are what the reader has before and after, `old` and `new` what the writer has, where that is known
 abbrev pub Decoded : Names → Option (List ℕ) → Option (List ℕ) → Option (List ℕ) → Option (List ℕ) → Result (Unit {0}) CmdFault → Type 0

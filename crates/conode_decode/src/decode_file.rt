@@ -3,13 +3,16 @@
 ghost use Rattle.std.specs.Prelude.{◌≡◌, ◌⊎◌, ℕ, [], IfSome, Some, None};
 ghost use Rattle.std.specs.Option.{option_copied};
 ghost use Rattle.std.specs.Process.{exit_status};
-ghost use Rattle.conode_decode.specs.DecodedTraces.{lines_of, names_in, trace_in, trace_lines, FailsWithinLine};
+ghost use Rattle.conode_lines.specs.TraceTexts.{trace_in, FailsWithinLine};
+ghost use Rattle.conode_decode.specs.DecodedTraces.{lines_of, names_in, trace_lines};
 ghost use Rattle.conode_io.specs.Endings.{SomeStopped, WritesStopped};
 ghost use Rattle.conode_io.specs.Written.{WritesFrontOrLines, WritesLines};
 
 use crate::decoded_trace::decode;
 use co_sheet::{Sheet, read};
-use conode_io::{CmdFault, Ending, Message, file_text, flushed, out_of_memory, say, stopped};
+use conode_io::{
+    CmdFault, Ending, cannot_read, faulty_sheet, file_text, flushed, no_text, stopped,
+};
 use std::alloc::Global;
 use std::fs;
 use std::io::{Input, Read, Write};
@@ -72,14 +75,6 @@ pub fn decode_input<R: Read, O: Write, E: Write>(
     }
 }
 
-// names a file that can't be read
-fn cannot_read<E: Write>(path: &str, err: &mut E) -> ExitCode
-    ensures { exit_status result ≡ 1 }
-{
-    let _ = say(Message::CannotRead(path), err);
-    ExitCode::FAILURE
-}
-
 // decodes the trace of a path, or where that is `-` standard input
 fn decode_trace<R: Files + AllocGlobal + Input, O: Write, E: Write>(
     rt: &R,
@@ -113,10 +108,7 @@ fn decode_named<R: Files + AllocGlobal + Input, O: Write, E: Write>(
 {
     match read(rt.alloc(), text) {
         Ok(sheet) => decode_trace(rt, path, Some(&sheet), node, out, err),
-        Err(fault) => {
-            let _ = say(Message::Fault(fault), out);
-            ExitCode::FAILURE
-        }
+        Err(fault) => faulty_sheet(fault, out),
     }
 }
 
@@ -137,7 +129,6 @@ pub fn decode_files<R: Files + AllocGlobal + Input, O: Write, E: Write>(
     };
     match file_text(rt, sheet) {
         Ok(text) => decode_named(rt, trace, text.as_slice(), node, out, err),
-        Err(CmdFault::Memory) => out_of_memory(out),
-        Err(_) => cannot_read(sheet, err),
+        Err(fault) => no_text(fault, sheet, out, err),
     }
 }

@@ -1,17 +1,18 @@
 //! A trace decoded: each frame with what it says.
 
-ghost use Rattle.std.specs.Prelude.{◌≡◌, ◌⊎◌, ℕ, OnOk, ◌+◌, ◌<◌, ◌^◌, IfErr, IfSome, Err, Some, None};
+ghost use Rattle.std.specs.Prelude.{◌≡◌, ◌⊎◌, ℕ, OnOk, IfErr, IfSome, Err, Some, None};
 ghost use Rattle.std.specs.Option.{option_copied};
-ghost use Rattle.std.specs.Io.KnownBytes.{Keeps};
 ghost use Rattle.conode_decode.specs.Names.{names_view};
-ghost use Rattle.conode_decode.specs.DecodedTraces.{names_in, said_lines, trace_in, trace_lines, lines_of, Decoded, FailsWithinLine, NamesLongLine};
+ghost use Rattle.conode_lines.specs.TraceTexts.{trace_in, FailsWithinLine};
+ghost use Rattle.conode_decode.specs.DecodedTraces.{names_in, said_lines, trace_lines, lines_of, Decoded};
 ghost use Rattle.conode_io.specs.Written.{WritesFront, WritesFrontOrLines, WritesLines, WritesSome};
 
 use crate::line::set_decoded_line;
 use crate::names::Names;
 use co_sheet::Sheet;
-use co_stream::{LineFault, LineReader};
-use conode_io::{CmdFault, flushed, hand_over};
+use co_stream::LineReader;
+use conode_io::{CmdFault, hand_over};
+use conode_lines::{let_out, line_fault};
 use conode_trace::{BadLine, TimedLine, TraceLine, TraceProgress};
 use std::alloc::Global;
 use std::io::{Read, Write};
@@ -39,34 +40,6 @@ fn write_line<W: Write>(
     };
     set_decoded_line(text, names, timed.number, frame)?;
     hand_over(text.as_bytes(), writer)
-}
-
-// why a trace isn't decoded to its end where no line comes
-fn line_fault(fault: LineFault, progress: &TraceProgress) -> CmdFault
-    requires { progress.now.number + 1 < 2 ^ 64 }
-    ensures read { fault ≡ LineFault.Read → result ≡ CmdFault.Read }
-    ensures never_ends { fault ≡ LineFault.NeverEnds → result ≡ CmdFault.NeverEnds }
-    ensures too_long { fault ≡ LineFault.TooLong → NamesLongLine progress.now result }
-{
-    match fault {
-        LineFault::Read => CmdFault::Read,
-        LineFault::NeverEnds => CmdFault::NeverEnds,
-        LineFault::TooLong => {
-            let BadLine(number) = progress.too_long();
-            CmdFault::BadLine(number)
-        }
-    }
-}
-
-// lets out what was decoded, before a read that could wait
-fn let_out<W: Write>(lines: &LineReader, writer: &mut W) -> Result<(), CmdFault>
-    ensures text { Keeps (W.contents writer.old) (W.contents writer.new) }
-    ensures err { IfErr result (λ fault. fault ≡ CmdFault.Write) }
-{
-    if lines.has_line() {
-        return Ok(());
-    }
-    flushed(writer, Ok(()))
 }
 
 // decodes line by line

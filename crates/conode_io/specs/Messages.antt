@@ -4,7 +4,8 @@ use Rattle.co_sheet_rows.specs.FaultTexts.{fault_text}
 use Rattle.conode_io.specs.declared.fault.CmdFault.{CmdFault}
 use Rattle.conode_io.specs.declared.fault.CmdFault.TheVariants.{Read, Write, BadLine, Memory, NeverEnds}
 use Rattle.conode_io.specs.declared.message.Message.{Message}
-use Rattle.conode_io.specs.declared.message.Message.TheVariants.{Stopped, Fault, CannotRead}
+use Rattle.co_dict_list.specs.BuildFaultTexts.{fault_text as build_fault_text}
+use Rattle.conode_io.specs.declared.message.Message.TheVariants.{Stopped, Fault, BuildFault, CannotRead}
 
 -- the number of a command's fault
 abbrev pub cmd_fault_number : CmdFault → ℕ
@@ -22,10 +23,12 @@ cmd_fault_text (BadLine line) = codes "BadLine " ++ decimal line
 cmd_fault_text Memory = codes "Memory"
 cmd_fault_text NeverEnds = codes "NeverEnds"
 
--- the text of a message: `stopped: BadLine 3`, `fault 20 Memory line 0`, `cannot read NAME`
+-- the text of a message: `stopped: BadLine 3`, `fault 20 Memory line 0`, `build fault 3 BadCobId 1800:01`,
+-- `cannot read NAME`
 abbrev pub message_text : Message → List ℕ
 message_text (Stopped fault) = codes "stopped: " ++ cmd_fault_text fault
 message_text (Fault fault) = fault_text fault
+message_text (BuildFault fault) = build_fault_text fault
 message_text (CannotRead name) = codes "cannot read " ++ name.now
 
 -- the line of a message

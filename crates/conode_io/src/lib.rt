@@ -6,10 +6,14 @@ mod ending;
 mod fault;
 mod message;
 mod output;
+mod refusal;
 mod sheet_file;
 
 pub use ending::Ending;
 pub use fault::CmdFault;
 pub use message::Message;
 pub use output::{flushed, hand_over, say, stopped};
-pub use sheet_file::{file_text, out_of_memory};
+pub use refusal::{
+    bad_word, cannot_read, faulty_build, faulty_sheet, no_node_id, no_text, out_of_memory,
+};
+pub use sheet_file::file_text;

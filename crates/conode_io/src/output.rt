@@ -74,6 +74,11 @@ pub fn say<W: Write>(message: Message<'_>, writer: &mut W) -> io::Result<()>
             let text = text.as_str();
             writeln!(writer, "{text}")?;
         }
+        Message::BuildFault(fault) => {
+            let text = fault.text();
+            let text = text.as_str();
+            writeln!(writer, "{text}")?;
+        }
         Message::CannotRead(name) => writeln!(writer, "cannot read {name}")?,
     }
     writer.flush()

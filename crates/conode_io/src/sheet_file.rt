@@ -1,15 +1,10 @@
 //! The file of a data sheet.
 
 ghost use Rattle.std.specs.Prelude.{◌≡◌, ◌⊎◌, IfErr};
-ghost use Rattle.std.specs.Process.{exit_status};
 
 use crate::fault::CmdFault;
-use crate::message::Message;
-use crate::output::say;
-use co_sheet::{FaultKind, SheetFault, StreamFault, read_text};
+use co_sheet::{StreamFault, read_text};
 use std::fs;
-use std::io::Write;
-use std::process::ExitCode;
 use std::rt::Files;
 
 /// As much of a file as a data sheet may have, and a byte more where there is one, so that it is seen to be too large.
@@ -28,16 +23,4 @@ pub fn file_text<R: Files + AllocGlobal>(rt: &R, path: &str) -> Result<Vec<u8>, 
         Err(StreamFault::NeverEnds) => Err(CmdFault::NeverEnds),
         Err(StreamFault::Memory) => Err(CmdFault::Memory),
     }
-}
-
-/// Says that memory ran out while a data sheet was read. The status is 1.
-pub fn out_of_memory<O: Write>(out: &mut O) -> ExitCode
-    ensures { exit_status result ≡ 1 }
-{
-    let fault = SheetFault {
-        kind: FaultKind::Memory,
-        line: 0,
-    };
-    let _ = say(Message::Fault(fault), out);
-    ExitCode::FAILURE
 }

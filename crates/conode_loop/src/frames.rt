@@ -39,7 +39,8 @@ pub(crate) fn take_frames(
     waiting: &mut Vec<Frame>,
 ) -> Result<(), AllocError>
     ensures stands { (call : Call) (events : List Event) → ClientStands call events client.old →
-        OnOk result (ClientStands call (events_after client.old.answer events frames.now) client.new) }
+        OnOk result
+        (ClientStands call (events_after client.old.answer events frames.now) client.new) }
     ensures asked { (call : Call) (events : List Event) → ClientStands call events client.old →
         OnOk result (waiting.new.items ≡ waiting.old.items ++ asked_after client.old.request
         client.old.answer call events frames.now) }

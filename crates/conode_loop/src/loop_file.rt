@@ -7,15 +7,16 @@ ghost use Rattle.co_value.specs.KeyTexts.{key_in};
 ghost use Rattle.conode_loop.specs.Words.{bytes_in};
 
 use crate::looped::loop_back;
-use co_dict_list::BuildFault;
 use co_node::{Config, Node};
 use co_sdo_client::{ClientState, Mode};
-use co_sheet::{Sheet, SheetFault, read};
+use co_sheet::{Sheet, read};
 use co_text::HexPairs;
 use co_value::Key;
-use conode_io::{CmdFault, Message, file_text, flushed, out_of_memory, say, stopped};
+use conode_io::{
+    CmdFault, bad_word, faulty_build, faulty_sheet, file_text, flushed, no_node_id, no_text,
+    stopped,
+};
 use std::alloc::{AllocError, Global};
-use std::io;
 use std::io::Write;
 use std::process::ExitCode;
 use std::rt::Files;
@@ -48,45 +49,6 @@ fn bytes_in(alloc: Global, word: &str) -> Result<Option<Vec<u8>>, AllocError>
         return Ok(None);
     }
     Ok(Some(collected(alloc, pairs)?))
-}
-
-// Says what is wrong with a word, or missing. The status is 2.
-fn bad_word<E: Write>(what: &str, err: &mut E) -> ExitCode
-    ensures { exit_status result ≡ 2 }
-{
-    let _ = writeln!(err, "{what}");
-    ExitCode::from(2)
-}
-
-// Names a file that can't be read.
-fn cannot_read<E: Write>(path: &str, err: &mut E) -> ExitCode
-    ensures { exit_status result ≡ 1 }
-{
-    let _ = say(Message::CannotRead(path), err);
-    ExitCode::FAILURE
-}
-
-// Says why a text is no data sheet.
-fn faulty_sheet<O: Write>(fault: SheetFault, out: &mut O) -> ExitCode
-    ensures { exit_status result ≡ 1 }
-{
-    let _ = say(Message::Fault(fault), out);
-    ExitCode::FAILURE
-}
-
-fn say_build_fault<O: Write>(fault: BuildFault, out: &mut O) -> io::Result<()> {
-    let text = fault.text();
-    let text = text.as_str();
-    writeln!(out, "{text}")?;
-    out.flush()
-}
-
-// Says why a data sheet makes no device, as `build fault 3 BadCobId 1800:01`.
-fn faulty_build<O: Write>(fault: BuildFault, out: &mut O) -> ExitCode
-    ensures { exit_status result ≡ 1 }
-{
-    let _ = say_build_fault(fault, out);
-    ExitCode::FAILURE
 }
 
 /// A download that a client loops against a node.
@@ -152,7 +114,7 @@ fn loop_sheet<O: Write, E: Write>(
 {
     match node.or(sheet.node_id()) {
         Some(node_id) => loop_device(alloc, sheet, job, node_id, config, out, err),
-        None => bad_word("no node-ID", err),
+        None => no_node_id(err),
     }
 }
 
@@ -168,7 +130,8 @@ fn loop_text<O: Write, E: Write>(
 ) -> ExitCode
     requires { length job.now.bytes.now ≤ 65535 }
     ensures given { IfSome node (λ id. (exit_status result ≡ 0) ⊎ (exit_status result ≡ 1)) }
-    ensures status { (exit_status result ≡ 0) ⊎ (exit_status result ≡ 1) ⊎ (exit_status result ≡ 2) }
+    ensures status { (exit_status result ≡ 0) ⊎ (exit_status result ≡ 1)
+        ⊎ (exit_status result ≡ 2) }
 {
     match read(alloc, text) {
         Ok(sheet) => loop_sheet(alloc, &sheet, job, node, config, out, err),
@@ -188,12 +151,12 @@ fn loop_path<R: Files + AllocGlobal, O: Write, E: Write>(
 ) -> ExitCode
     requires { length job.now.bytes.now ≤ 65535 }
     ensures given { IfSome node (λ id. (exit_status result ≡ 0) ⊎ (exit_status result ≡ 1)) }
-    ensures status { (exit_status result ≡ 0) ⊎ (exit_status result ≡ 1) ⊎ (exit_status result ≡ 2) }
+    ensures status { (exit_status result ≡ 0) ⊎ (exit_status result ≡ 1)
+        ⊎ (exit_status result ≡ 2) }
 {
     match file_text(rt, path) {
         Ok(text) => loop_text(rt.alloc(), text.as_slice(), job, node, config, out, err),
-        Err(CmdFault::Memory) => out_of_memory(out),
-        Err(_) => cannot_read(path, err),
+        Err(fault) => no_text(fault, path, out, err),
     }
 }
 
@@ -216,10 +179,12 @@ pub fn loop_files<R: Files + AllocGlobal, O: Write, E: Write>(
     err: &mut E,
 ) -> ExitCode
     ensures bad_key { key_in key.now ≡ None → exit_status result ≡ 2 }
-    ensures bad_bytes { bytes_in hex.now ≡ None → (exit_status result ≡ 1) ⊎ (exit_status result ≡ 2) }
+    ensures bad_bytes { bytes_in hex.now ≡ None →
+        (exit_status result ≡ 1) ⊎ (exit_status result ≡ 2) }
     ensures given { IfSome (key_in key.now) (λ k. IfSome (bytes_in hex.now) (λ b.
         IfSome node (λ id. (exit_status result ≡ 0) ⊎ (exit_status result ≡ 1)))) }
-    ensures status { (exit_status result ≡ 0) ⊎ (exit_status result ≡ 1) ⊎ (exit_status result ≡ 2) }
+    ensures status { (exit_status result ≡ 0) ⊎ (exit_status result ≡ 1)
+        ⊎ (exit_status result ≡ 2) }
 {
     let Some(key) = Key::parse(key.as_bytes()) else {
         return bad_word("bad key", err);

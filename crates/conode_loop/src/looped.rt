@@ -47,16 +47,19 @@ fn loop_client<W: Write>(
     line: &mut String,
     writer: &mut W,
 ) -> Result<ClientState, CmdFault>
-    ensures state { (l : Loop) (e : BothEnds) → EndsStand l e node.old client.old waiting.old.items →
+    ensures state { (l : Loop) (e : BothEnds) →
+        EndsStand l e node.old client.old waiting.old.items →
         IfOk result (λ state. state ≡ state_at l (rounds 20000 l e)) }
     ensures text { (l : Loop) (e : BothEnds) → EndsStand l e node.old client.old waiting.old.items →
         OnOk result (WritesLines (W.contents writer.old) (W.contents writer.new) (lines_from l e)) }
     ensures node { (l : Loop) (e : BothEnds) → EndsStand l e node.old client.old waiting.old.items →
         OnOk result (Stands l.node node.new (rounds 20000 l e).inputs) }
-    ensures write { (l : Loop) (e : BothEnds) → EndsStand l e node.old client.old waiting.old.items →
+    ensures write { (l : Loop) (e : BothEnds) →
+        EndsStand l e node.old client.old waiting.old.items →
         result ≡ Err CmdFault.Write →
         WritesFront (W.contents writer.old) (W.contents writer.new) (lines_from l e) }
-    ensures memory { (l : Loop) (e : BothEnds) → EndsStand l e node.old client.old waiting.old.items →
+    ensures memory { (l : Loop) (e : BothEnds) →
+        EndsStand l e node.old client.old waiting.old.items →
         result ≡ Err CmdFault.Memory →
         WritesSome (W.contents writer.old) (W.contents writer.new) (lines_from l e) }
     ensures some { (l : Loop) (e : BothEnds) → EndsStand l e node.old client.old waiting.old.items →
@@ -94,8 +97,10 @@ pub fn loop_back<W: Write>(
     writer: &mut W,
 ) -> Result<ClientState, CmdFault>
     requires { length bytes.now ≤ 65535 }
-    ensures state { (k : Constants) (before : Inputs) → Stands k node.old before → IfOk result (λ state.
-        state ≡ state_at (download_of k key bytes.now mode) (last_ends (download_of k key bytes.now mode) before)) }
+    ensures state { (k : Constants) (before : Inputs) → Stands k node.old before →
+        IfOk result (λ state.
+        state ≡ state_at (download_of k key bytes.now mode)
+        (last_ends (download_of k key bytes.now mode) before)) }
     ensures text { (k : Constants) (before : Inputs) → Stands k node.old before → OnOk result
         (WritesLines (W.contents writer.old) (W.contents writer.new)
         (loop_lines (download_of k key bytes.now mode) before)) }

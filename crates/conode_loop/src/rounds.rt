@@ -65,13 +65,16 @@ fn tick<W: Write>(
         OnOk result (EndsStand l (after_round l e) node.new client.new waiting.new.items) }
     ensures node { (l : Loop) (e : BothEnds) → EndsStand l e node.old client.old waiting.old.items →
         Stands l.node node.new (after_round l e).inputs }
-    ensures ok { (l : Loop) (e : BothEnds) → EndsStand l e node.old client.old waiting.old.items →
+    ensures ok { (l : Loop) (e : BothEnds) →
+        EndsStand l e node.old client.old waiting.old.items →
         OnOk result (WritesLines (W.contents writer.old) (W.contents writer.new)
         (frame_lines (frames_of l e.waiting e.inputs))) }
-    ensures write { (l : Loop) (e : BothEnds) → EndsStand l e node.old client.old waiting.old.items →
+    ensures write { (l : Loop) (e : BothEnds) →
+        EndsStand l e node.old client.old waiting.old.items →
         result ≡ Err CmdFault.Write → WritesFront (W.contents writer.old) (W.contents writer.new)
         (frame_lines (frames_of l e.waiting e.inputs)) }
-    ensures memory { (l : Loop) (e : BothEnds) → EndsStand l e node.old client.old waiting.old.items →
+    ensures memory { (l : Loop) (e : BothEnds) →
+        EndsStand l e node.old client.old waiting.old.items →
         result ≡ Err CmdFault.Memory → WritesFirst (W.contents writer.old) (W.contents writer.new)
         (frame_lines (frames_of l e.waiting e.inputs)) }
     ensures err { IfErr result (λ fault. (fault ≡ CmdFault.Write) ⊎ (fault ≡ CmdFault.Memory)) }
@@ -96,13 +99,16 @@ fn exchange<W: Write>(
         OnOk result (EndsStand l (after_round l e) node.new client.new waiting.new.items) }
     ensures node { (l : Loop) (e : BothEnds) → EndsStand l e node.old client.old waiting.old.items →
         Stands l.node node.new (after_round l e).inputs }
-    ensures ok { (l : Loop) (e : BothEnds) → EndsStand l e node.old client.old waiting.old.items →
+    ensures ok { (l : Loop) (e : BothEnds) →
+        EndsStand l e node.old client.old waiting.old.items →
         OnOk result (WritesLines (W.contents writer.old) (W.contents writer.new)
         (frame_lines (frames_of l e.waiting e.inputs))) }
-    ensures write { (l : Loop) (e : BothEnds) → EndsStand l e node.old client.old waiting.old.items →
+    ensures write { (l : Loop) (e : BothEnds) →
+        EndsStand l e node.old client.old waiting.old.items →
         result ≡ Err CmdFault.Write → WritesFront (W.contents writer.old) (W.contents writer.new)
         (frame_lines (frames_of l e.waiting e.inputs)) }
-    ensures memory { (l : Loop) (e : BothEnds) → EndsStand l e node.old client.old waiting.old.items →
+    ensures memory { (l : Loop) (e : BothEnds) →
+        EndsStand l e node.old client.old waiting.old.items →
         result ≡ Err CmdFault.Memory → WritesFirst (W.contents writer.old) (W.contents writer.new)
         (frame_lines (frames_of l e.waiting e.inputs)) }
     ensures err { IfErr result (λ fault. (fault ≡ CmdFault.Write) ⊎ (fault ≡ CmdFault.Memory)) }
@@ -127,13 +133,16 @@ fn round<W: Write>(
         OnOk result (EndsStand l (after_round l e) node.new client.new waiting.new.items) }
     ensures node { (l : Loop) (e : BothEnds) → EndsStand l e node.old client.old waiting.old.items →
         Stands l.node node.new (after_round l e).inputs }
-    ensures ok { (l : Loop) (e : BothEnds) → EndsStand l e node.old client.old waiting.old.items →
+    ensures ok { (l : Loop) (e : BothEnds) →
+        EndsStand l e node.old client.old waiting.old.items →
         OnOk result (WritesLines (W.contents writer.old) (W.contents writer.new)
         (frame_lines (frames_of l e.waiting e.inputs))) }
-    ensures write { (l : Loop) (e : BothEnds) → EndsStand l e node.old client.old waiting.old.items →
+    ensures write { (l : Loop) (e : BothEnds) →
+        EndsStand l e node.old client.old waiting.old.items →
         result ≡ Err CmdFault.Write → WritesFront (W.contents writer.old) (W.contents writer.new)
         (frame_lines (frames_of l e.waiting e.inputs)) }
-    ensures memory { (l : Loop) (e : BothEnds) → EndsStand l e node.old client.old waiting.old.items →
+    ensures memory { (l : Loop) (e : BothEnds) →
+        EndsStand l e node.old client.old waiting.old.items →
         result ≡ Err CmdFault.Memory → WritesFirst (W.contents writer.old) (W.contents writer.new)
         (frame_lines (frames_of l e.waiting e.inputs)) }
     ensures err { IfErr result (λ fault. (fault ≡ CmdFault.Write) ⊎ (fault ≡ CmdFault.Memory)) }
@@ -156,13 +165,16 @@ pub(crate) fn all_rounds<W: Write>(
         OnOk result (EndsStand l (rounds 20000 l e) node.new client.new waiting.new.items) }
     ensures node { (l : Loop) (e : BothEnds) → EndsStand l e node.old client.old waiting.old.items →
         StandsAfterSome l e node.new }
-    ensures ok { (l : Loop) (e : BothEnds) → EndsStand l e node.old client.old waiting.old.items →
+    ensures ok { (l : Loop) (e : BothEnds) →
+        EndsStand l e node.old client.old waiting.old.items →
         OnOk result (WritesLines (W.contents writer.old) (W.contents writer.new)
         (frame_lines (frames_in 20000 l e))) }
-    ensures write { (l : Loop) (e : BothEnds) → EndsStand l e node.old client.old waiting.old.items →
+    ensures write { (l : Loop) (e : BothEnds) →
+        EndsStand l e node.old client.old waiting.old.items →
         result ≡ Err CmdFault.Write → WritesFront (W.contents writer.old) (W.contents writer.new)
         (frame_lines (frames_in 20000 l e)) }
-    ensures memory { (l : Loop) (e : BothEnds) → EndsStand l e node.old client.old waiting.old.items →
+    ensures memory { (l : Loop) (e : BothEnds) →
+        EndsStand l e node.old client.old waiting.old.items →
         result ≡ Err CmdFault.Memory → WritesFirst (W.contents writer.old) (W.contents writer.new)
         (frame_lines (frames_in 20000 l e)) }
     ensures err { IfErr result (λ fault. (fault ≡ CmdFault.Write) ⊎ (fault ≡ CmdFault.Memory)) }

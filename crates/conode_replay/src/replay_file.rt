@@ -5,15 +5,18 @@ ghost use Rattle.std.specs.Option.{option_or};
 ghost use Rattle.std.specs.Process.{exit_status};
 
 use crate::replayed_trace::replay;
-use co_dict_list::{BuildFault, Limits};
+use co_dict_list::Limits;
 use co_node::{Config, Node};
-use co_sheet::{Sheet, SheetFault, read};
-use conode_io::{CmdFault, Ending, Message, file_text, flushed, out_of_memory, say, stopped};
+use co_sheet::{Sheet, read};
+use conode_io::{
+    Ending, cannot_read, faulty_build, faulty_sheet, file_text, flushed, no_node_id, no_text,
+    stopped,
+};
 use std::alloc::Global;
+use std::fs;
 use std::io::{Input, Read, Write};
 use std::process::ExitCode;
 use std::rt::Files;
-use std::{fs, io};
 
 /// The path that stands for standard input.
 const STANDARD_INPUT: &str = "-";
@@ -39,45 +42,6 @@ const STORED_CONFIG: Config<'static> = Config {
     },
     time: 1000,
 };
-
-// names a file that can't be read
-fn cannot_read<E: Write>(path: &str, err: &mut E) -> ExitCode
-    ensures { exit_status result ≡ 1 }
-{
-    let _ = say(Message::CannotRead(path), err);
-    ExitCode::FAILURE
-}
-
-// says why a text is no data sheet
-fn faulty_sheet<O: Write>(fault: SheetFault, out: &mut O) -> ExitCode
-    ensures { exit_status result ≡ 1 }
-{
-    let _ = say(Message::Fault(fault), out);
-    ExitCode::FAILURE
-}
-
-fn say_build_fault<O: Write>(fault: BuildFault, out: &mut O) -> io::Result<()> {
-    let text = fault.text();
-    let text = text.as_str();
-    writeln!(out, "{text}")?;
-    out.flush()
-}
-
-// says why a data sheet makes no device, as `build fault 3 BadCobId 1800:01`
-fn faulty_build<O: Write>(fault: BuildFault, out: &mut O) -> ExitCode
-    ensures { exit_status result ≡ 1 }
-{
-    let _ = say_build_fault(fault, out);
-    ExitCode::FAILURE
-}
-
-// says that there is no node-ID: none is given, and the sheet has none
-fn no_node_id<E: Write>(err: &mut E) -> ExitCode
-    ensures { exit_status result ≡ 2 }
-{
-    let _ = writeln!(err, "no node-ID");
-    ExitCode::from(2)
-}
 
 /// Replays an input, a trace, against a device on `out`, and says why it stopped where it did: on `out`, after what was
 /// printed before, or where that can't be written on `err`.
@@ -163,7 +127,8 @@ fn replay_text<R: Files + AllocGlobal + Input, O: Write, E: Write>(
     err: &mut E,
 ) -> ExitCode
     ensures given { IfSome node (λ id. (exit_status result ≡ 0) ⊎ (exit_status result ≡ 1)) }
-    ensures status { (exit_status result ≡ 0) ⊎ (exit_status result ≡ 1) ⊎ (exit_status result ≡ 2) }
+    ensures status { (exit_status result ≡ 0) ⊎ (exit_status result ≡ 1)
+        ⊎ (exit_status result ≡ 2) }
 {
     match read(rt.alloc(), text) {
         Ok(sheet) => replay_sheet(rt, &sheet, trace, node, config, out, err),
@@ -188,12 +153,12 @@ pub fn replay_files<R: Files + AllocGlobal + Input, O: Write, E: Write>(
     err: &mut E,
 ) -> ExitCode
     ensures given { IfSome node (λ id. (exit_status result ≡ 0) ⊎ (exit_status result ≡ 1)) }
-    ensures status { (exit_status result ≡ 0) ⊎ (exit_status result ≡ 1) ⊎ (exit_status result ≡ 2) }
+    ensures status { (exit_status result ≡ 0) ⊎ (exit_status result ≡ 1)
+        ⊎ (exit_status result ≡ 2) }
 {
     match file_text(rt, sheet) {
         Ok(text) => replay_text(rt, text.as_slice(), trace, node, config, out, err),
-        Err(CmdFault::Memory) => out_of_memory(out),
-        Err(_) => cannot_read(sheet, err),
+        Err(fault) => no_text(fault, sheet, out, err),
     }
 }
 

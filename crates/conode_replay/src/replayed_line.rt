@@ -28,7 +28,8 @@ fn replay_ticks<W: Write>(
     writer: &mut W,
 ) -> Result<u64, CmdFault>
     requires { timed.now.before + 2 ^ 32 < 2 ^ 128 }
-    ensures ok { IfOk result (λ printed. (k : Constants) (before : Inputs) → Stands k node.old before →
+    ensures ok { IfOk result (λ printed. (k : Constants) (before : Inputs) →
+        Stands k node.old before →
         HasPrinted k before (W.contents writer.old) (W.contents writer.new) node.new printed
         (ticks_after timed.now.number timed.now.before timed.now.ticks)) }
     ensures write { result ≡ Err CmdFault.Write →
@@ -95,7 +96,8 @@ fn replay_own<W: Write>(
     writer: &mut W,
 ) -> Result<u64, CmdFault>
     requires { WritesFewBytes timed.now.said }
-    ensures ok { IfOk result (λ printed. (k : Constants) (before : Inputs) → Stands k node.old before →
+    ensures ok { IfOk result (λ printed. (k : Constants) (before : Inputs) →
+        Stands k node.old before →
         HasPrinted k before (W.contents writer.old) (W.contents writer.new) node.new printed
         (own_inputs timed.now)) }
     ensures write { result ≡ Err CmdFault.Write →
@@ -133,7 +135,8 @@ pub(crate) fn replay_line<W: Write>(
 ) -> Result<u64, CmdFault>
     requires early { timed.now.before + 2 ^ 32 < 2 ^ 128 }
     requires few { WritesFewBytes timed.now.said }
-    ensures ok { IfOk result (λ printed. (k : Constants) (before : Inputs) → Stands k node.old before →
+    ensures ok { IfOk result (λ printed. (k : Constants) (before : Inputs) →
+        Stands k node.old before →
         HasPrinted k before (W.contents writer.old) (W.contents writer.new) node.new printed
         (inputs_of timed.now)) }
     ensures write { result ≡ Err CmdFault.Write →

@@ -1,9 +1,8 @@
 -- Lines of a trace, evaluated: both sides of each edge.
-use Rattle.std.proofs.Common.{◌≡◌, [], ◌∷◌, ◌++◌, Some, None, refl, true, false}
+use Rattle.std.proofs.Common.{◌≡◌, [], ◌∷◌, ◌++◌, Some, None, refl}
 use Rattle.std.specs.Prelude.{codes, replicate}
 use Rattle.std.specs.Fmt.{digits}
 use Rattle.conode_trace.specs.declared.trace_line.TraceLine.TheVariants.{Skipped, PassedOver, Data}
-use Rattle.conode_trace.specs.Clocks.{ClockState, clock_at_start, clock_after}
 use Rattle.conode_trace.specs.FrameLines.{line_in, stamp_at, identifier_at, body_in, frame_at, frame_line_in}
 use Rattle.co_text.specs.Printed.{digits_text}
 use Rattle.conode_trace.specs.Printed.{frame_line, frame_text, seconds_text, stamp_text}
@@ -199,27 +198,6 @@ blank_line = refl
 blank_at_front : line_in (codes " (0.000000) can0 605#") ≡ None
 unfolding line_in frame_line_in stamp_at
 blank_at_front = refl
-
--- ---- the clock
-
-abbrev at_1000 : ClockState
-at_1000 = record { ms = 1000; started = true }
-
-first_stamp : clock_after clock_at_start 999999999999999 ≡ Some (record { ms = 999999999999999; started = true })
-first_stamp = refl
-
--- after ticks the first stamp sets it backwards
-first_stamp_before : clock_after (record { ms = 1000; started = false }) 5 ≡ Some (record { ms = 5; started = true })
-first_stamp_before = refl
-
-later_stamp_before : clock_after at_1000 999 ≡ Some at_1000
-later_stamp_before = refl
-
-a_day_later : clock_after at_1000 86401000 ≡ Some (record { ms = 86401000; started = true })
-a_day_later = refl
-
-more_than_a_day_later : clock_after at_1000 86401001 ≡ None
-more_than_a_day_later = refl
 
 -- ---- the line of a frame
 

@@ -1,6 +1,5 @@
 -- The clock of a trace.
 use Rattle.std.specs.Prelude.{ℕ, ◌+◌, ◌-◌, nat_lt, max, Bool, true, false, not, if◌then◌else◌, Option, Some, None}
-use Rattle.std.specs.Option.{option_map}
 
 -- the time in ms, and whether a frame line came
 pub record ClockState : Type 0 where
@@ -23,7 +22,3 @@ move_to clock stamp =
 -- so many ticks, and the clock after them
 abbrev pub move_by : ClockState → ℕ → ℕ × ClockState
 move_by clock count = (count, record clock { ms = clock.ms + count })
-
--- the clock after a frame line alone
-abbrev pub clock_after : ClockState → ℕ → Option ClockState
-clock_after clock stamp = option_map (λ moved. moved.1) (move_to clock stamp)

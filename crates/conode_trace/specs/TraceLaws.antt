@@ -1,18 +1,12 @@
 -- Laws of traces, for those who go through one line by line.
-use Rattle.std.specs.Prelude.{◌≡◌, ℕ, zero, suc, ◌+◌, List, [], ◌∷◌, ◌++◌, length, Option, Some, None}
+use Rattle.std.specs.Prelude.{◌≡◌, ℕ, zero, suc, ◌+◌, List, [], ◌∷◌, Option, Some, None}
 use Rattle.std.specs.Option.{option_map_or}
 use Rattle.std.specs.List.{flat_map}
-use Rattle.std.proofs.Common.{refl, ap, ◌∙◌}
+use Rattle.std.proofs.Common.{refl, ◌∙◌}
 use Rattle.std.proofs.lemmas.List.{append-nil}
 use Rattle.std.proofs.lemmas.Grind.{flat_map-append}
 use Rattle.conode_trace.specs.declared.timed_line.TimedLine.{TimedLine}
-use Rattle.conode_trace.specs.Traces.{Input, tick, TimedInput, Trace, own_input, ticks_after, inputs_of, preceded}
-
--- as many ticks as are asked for
-pub length-ticks_after : (line ms count : ℕ) → length (ticks_after line ms count) ≡ count
-unfolding ticks_after
-length-ticks_after line ms zero = refl
-length-ticks_after line ms (suc count) = ap suc (length-ticks_after line (ms + 1) count)
+use Rattle.conode_trace.specs.Traces.{Input, tick, TimedInput, own_input, ticks_after, inputs_of}
 
 -- what is made of the own input of a line, if it has one
 abbrev pub made_of_own : {A : Type 0} → (TimedInput → List A) → TimedLine → List A
@@ -30,14 +24,8 @@ module _ {A : Type 0} (f : TimedInput → List A) (nothing : (line ms : ℕ) →
   own_alone line ms None = refl
   own_alone line ms (Some input) = append-nil (f (record { line = line; ms = ms; input = input }))
 
-  -- .. what is made of a line is made of its own input,
+  -- .. and what is made of a line is made of its own input
   pub flat_map-inputs_of : (t : TimedLine) → flat_map f (inputs_of t) ≡ made_of_own f t
   flat_map-inputs_of t =
       flat_map-append f (ticks_after t.number t.before t.ticks) (option_map_or (λ input. record { line = t.number; ms = t.ms; input = input } ∷ []) (own_input t.said) [])
       ∙ rw (flat_map-ticks_after t.number t.before t.ticks) (own_alone t.number t.ms (own_input t.said))
-
-  -- .. and what is made of a trace that a line precedes is made of that input and of the rest
-  pub flat_map-preceded : (whole rest : Trace) (t : TimedLine) → whole ≡ preceded (inputs_of t) rest → flat_map f whole.inputs ≡ made_of_own f t ++ flat_map f rest.inputs
-  flat_map-preceded whole rest t e =
-      ap (λ (trace : Trace). flat_map f trace.inputs) e ∙ flat_map-append f (inputs_of t) rest.inputs
-      ∙ ap (λ (front : List A). front ++ flat_map f rest.inputs) (flat_map-inputs_of t)

@@ -1,5 +1,5 @@
 -- What a trace is: the inputs that its lines give, each at its time, before its first bad line.
-use Rattle.std.specs.Prelude.{◌≡◌, ℕ, zero, suc, ◌+◌, List, [], ◌∷◌, ◌++◌, Option, Some, None}
+use Rattle.std.specs.Prelude.{ℕ, zero, suc, ◌+◌, List, [], ◌∷◌, ◌++◌, Option, Some, None}
 use Rattle.std.specs.Option.{option_map, option_map_or}
 use Rattle.co_frame.specs.FrameContent.{FrameContent}
 use Rattle.conode_trace.specs.declared.trace_line.TraceLine.{TraceLine}
@@ -86,28 +86,3 @@ pub record Progress : Type 0 where
 -- the trace of the lines that come next
 unfoldable pub trace_next : Progress → List (List ℕ) → Trace
 trace_next progress lines = trace_from (progress.number + 1) progress.clock lines
-
--- the lines that are left, the number of lines read, and the clock after them
-pub record ReaderState : Type 0 where
-  pub lines : List (List ℕ)
-  pub number : ℕ
-  pub clock : ClockState
-
--- the trace of the lines that are left
-unfoldable pub trace_left : ReaderState → Trace
-trace_left reader = trace_from (reader.number + 1) reader.clock reader.lines
-
--- this is what the first of the lines that are left gives
-pub record IsRead (old : ReaderState) (read : TimedLine) (new : ReaderState) : Type 0 where
-  pub line : List ℕ
-  pub lines : old.lines ≡ line ∷ new.lines
-  pub number : new.number ≡ old.number + 1
-  pub gives : timed (old.number + 1) old.clock line ≡ Some (read, new.clock)
-
--- the first of the lines that are left is bad, and has this number
-pub record IsBad (reader : ReaderState) (number : ℕ) : Type 0 where
-  pub line : List ℕ
-  pub more : List (List ℕ)
-  pub lines : reader.lines ≡ line ∷ more
-  pub counted : number ≡ reader.number + 1
-  pub gives : timed (reader.number + 1) reader.clock line ≡ None

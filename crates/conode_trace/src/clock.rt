@@ -2,7 +2,7 @@
 
 ghost use Rattle.std.specs.Prelude.{◌≡◌, ◌+◌, ◌<◌, ◌≤◌, ◌^◌, Some, None, IfSome, IfNone};
 ghost use Rattle.std.specs.Option.{option_map};
-ghost use Rattle.conode_trace.specs.Clocks.{ClockState, clock_at_start, move_to, move_by, clock_after};
+ghost use Rattle.conode_trace.specs.Clocks.{ClockState, clock_at_start, move_to, move_by};
 
 use std::marker::Model;
 
@@ -14,7 +14,7 @@ const GREATEST_STEP: u32 = 86_400_000;
 /// A stamp is below 2^64 ms, and a line moves the clock by at most a day: so the time stays far below 2^128 whatever
 /// the number of lines.
 #[derive(Clone, Copy, Debug)]
-pub struct Clock {
+pub(crate) struct Clock {
     ms: u128,
     started: bool,
 }
@@ -31,7 +31,7 @@ impl Model for Clock {
 
 impl Clock {
     /// A clock that no frame line has set: 0 ms.
-    pub fn new() -> Self
+    pub(crate) fn new() -> Self
         ensures { result ≡ clock_at_start }
     {
         Clock {
@@ -41,7 +41,7 @@ impl Clock {
     }
 
     /// The time in ms.
-    pub fn ms(self) -> u128
+    pub(crate) fn ms(self) -> u128
         ensures { result ≡ self.ms }
     {
         self.ms
@@ -50,7 +50,7 @@ impl Clock {
     /// Moves the clock to the stamp of a frame line in ms, and gives the ticks of 1 ms on the way. The first frame line
     /// sets it without a tick, also backwards; a later one moves it forward, or where its stamp is older not at all.
     /// `None` where the stamp is more than a day past it: then it stays.
-    pub fn move_to(&mut self, stamp: u64) -> Option<u32>
+    pub(crate) fn move_to(&mut self, stamp: u64) -> Option<u32>
         ensures exact { option_map (λ ticks. (ticks, self.new)) result ≡ move_to self.old stamp }
         ensures within { IfSome result (λ ticks. ticks ≤ 86400000) }
         ensures far { IfNone result (self.new ≡ self.old) }
@@ -70,19 +70,10 @@ impl Clock {
     }
 
     /// Moves the clock by ticks of 1 ms.
-    pub fn move_by(&mut self, ticks: u32)
+    pub(crate) fn move_by(&mut self, ticks: u32)
         requires { self.old.ms + ticks < 2 ^ 128 }
         ensures { (ticks, self.new) ≡ move_by self.old ticks }
     {
         self.ms += u128::from(ticks);
-    }
-
-    /// The clock after a frame line with this stamp in ms, as `move_to` leaves it.
-    pub fn after(self, stamp: u64) -> Option<Clock>
-        ensures { result ≡ clock_after self stamp }
-    {
-        let mut clock = self;
-        clock.move_to(stamp)?;
-        Some(clock)
     }
 }

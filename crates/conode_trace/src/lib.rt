@@ -9,12 +9,9 @@ mod frame_text;
 mod timed_line;
 mod trace_line;
 mod trace_progress;
-mod trace_reader;
 
-pub use clock::Clock;
 pub use event_line::{AppLine, EventLine};
 pub use frame_text::{FrameLine, frame_line, push_frame};
 pub use timed_line::TimedLine;
 pub use trace_line::TraceLine;
-pub use trace_progress::TraceProgress;
-pub use trace_reader::{BadLine, TraceReader};
+pub use trace_progress::{BadLine, TraceProgress};

@@ -6,8 +6,11 @@ ghost use Rattle.conode_trace.specs.Traces.{inputs_of, preceded, trace_of, trace
 
 use crate::clock::Clock;
 use crate::timed_line::TimedLine;
-use crate::trace_reader::BadLine;
 use std::marker::Model;
+
+/// A line that is no line of a trace, or whose stamp is too far past the clock, by its number from 1.
+#[derive(Clone, Copy, Debug, PartialEq, Eq)]
+pub struct BadLine(pub usize);
 
 /// How far a trace is read: the number of its lines so far, and the clock after them. It takes one line at a time, wherever
 /// the lines come from. Contracts see both.

@@ -6,7 +6,8 @@ use Rattle.conode_io.specs.declared.fault.CmdFault.{CmdFault}
 use Rattle.conode_io.specs.declared.fault.CmdFault.TheVariants.{Write}
 use Rattle.conode_decode.specs.Names.{names_view}
 use Rattle.conode_decode.specs.DecodedTraces.{Decoded}
-use Rattle.conode_decode.proofs.Decoding.{decoded_none, decoded_flushed, decoded_more, ends, ends_at_fault, fails_to_flush, fails_in_line, next_line, next_fewer, next_no_fault, next_end}
+use Rattle.conode_lines.proofs.Taking.{next_line, next_fewer, next_no_fault, next_end}
+use Rattle.conode_decode.proofs.Decoding.{decoded_none, decoded_flushed, decoded_more, ends, ends_at_bad_line, ends_at_fault, fails_to_flush, fails_in_line}
 use Rattle.conode_decode.proofs.decoded_trace.decode_lines.Goals as goal
 
 pub trace-init : goal.trace-init
@@ -60,7 +61,7 @@ returns-in_err-write_line-in-Ok g c =
     let passed = err_from_is_err_and c.from_residual-in_err-write_line-in-Ok.result c.from_residual-in_err-write_line-in-Ok.ensures.1 in
     let same : c.from_residual-in_err-write_line-in-Ok.result ≡ Err c.in_err-write_line-in-Ok.field-0.0 = passed.1 ∙ ap (λ (e : CmdFault). Err e) passed.2 in
     subst (Decoded names known after old new) (sym same)
-    (fails_in_line names known (to_come c.trace.lines before) (to_come next after) after c.trace.progress c.read.new.self old mid new c.in-Ok-Some.line.now c.in-Ok.timed c.in_err-write_line-in-Ok.field-0.0 held
+    (fails_in_line names known (to_come c.trace.lines before) after c.trace.progress old mid held (to_come next after) c.read.new.self new c.in-Ok-Some.line.now c.in-Ok.timed c.in_err-write_line-in-Ok.field-0.0
     (next_line c.trace.lines next before after c.next.result c.next.follows.holds-at-none c.in-Ok-Some.line is) c.in-Ok.ensures.line c.in_err-write_line-in-Ok.ensures.err
     (λ w. c.in_err-write_line-in-Ok.ensures.write (ap (λ (e : CmdFault). Err e) w)) (λ m. c.in_err-write_line-in-Ok.ensures.memory (ap (λ (e : CmdFault). Err e) m)))
 
@@ -72,7 +73,7 @@ returns-in-Ok-None g c =
     let after = g.R.Read.remaining c.next.new.reader in
     let is : c.next.result ≡ Ok None = cc in
     let held = decoded_flushed names known (to_come c.trace.lines before) c.trace.progress (g.W.Write.contents c.args.writer.now) (g.W.Write.contents c.trace.writer) c.trace.invariant.decoded (g.W.Write.contents c.let_out.new.writer) c.let_out.ensures.text in
-    ends names known (to_come c.trace.lines before) after c.trace.progress (g.W.Write.contents c.args.writer.now) (g.W.Write.contents c.let_out.new.writer) held
+    ends names known (to_come c.trace.lines before) c.trace.progress (g.W.Write.contents c.args.writer.now) (g.W.Write.contents c.let_out.new.writer) held after
     (next_end c.trace.lines c.next.follows.lender-at-none before after c.next.result c.next.follows.holds-at-none is)
 
 pub returns-in-Err : goal.returns-in-Err
@@ -84,6 +85,6 @@ returns-in-Err g c =
     let mid = g.W.Write.contents c.let_out.new.writer in
     let held = decoded_flushed names known (to_come c.trace.lines before) c.trace.progress (g.W.Write.contents c.args.writer.now) (g.W.Write.contents c.trace.writer) c.trace.invariant.decoded mid c.let_out.ensures.text in
     let none : IsNone c.trace.lines.fault = search rules in
-    ends_at_fault names known (to_come c.trace.lines before) after c.trace.progress (g.W.Write.contents c.args.writer.now) mid c.in-Err.fault c.line_fault.result held
+    ends_at_fault names known (to_come c.trace.lines before) c.trace.progress (g.W.Write.contents c.args.writer.now) mid held after c.in-Err.fault c.line_fault.result
     c.line_fault.ensures.read c.line_fault.ensures.never_ends c.line_fault.ensures.too_long
     (λ long. c.in-Err.ensures.too_long long none) (λ other. c.in-Err.ensures.within other none)
