@@ -1,0 +1,155 @@
+#!/bin/sh
+# Boots Debian's kernel under qemu, since many a machine has no CAN, and puts canopen-device on a virtual bus there: what it answers,
+# how exact its heartbeats are, what it takes while the bus is quiet, bus trouble, and random frames at full speed for a minute,
+# or as many seconds as are given: bench/vm.sh [SECONDS]. The machine's files are there read-only, so its candump, cansend,
+# cangen and ip are used. ACCELERATOR=kvm makes it faster where the machine can. Status 1 where something is wrong.
+#
+# Debian's packages: qemu-system-x86 linux-image-amd64 busybox-static cpio kmod can-utils iproute2 gcc make libc6-dev
+set -eu
+# shellcheck source=bench/folder.sh
+. "$(dirname "$(readlink -f "$0")")/folder.sh"
+seconds=${1:-60}
+release=$(basename "$(find /lib/modules -mindepth 1 -maxdepth 1 | sort -V | tail -n 1)")
+
+"$root/bin/libbafokun" "$folder/lib"
+make -s -C "$root/tools/device" LIB="$folder/lib" OUT="$folder/made"
+
+# what the machine begins with: busybox, the modules in their order, and the files of the run
+mkdir -p "$folder/disk/bin" "$folder/disk/modules" "$folder/disk/run" "$folder/disk/mnt" "$folder/disk/proc" "$folder/disk/dev"
+cp /bin/busybox "$folder/disk/bin"
+ln -s busybox "$folder/disk/bin/sh"
+cp "$folder/made/canopen-device" "$root/examples/temperature-sensor.eds" "$root/examples/io-module.eds" "$folder/disk/run"
+echo "$seconds" > "$folder/disk/run/seconds"
+for module in virtio_pci 9pnet_virtio 9p vcan can-raw; do
+    /sbin/modprobe -S "$release" --show-depends "$module" | awk '$1 == "insmod" { print $2 }'
+done | awk '!seen[$0]++' > "$folder/paths"
+while read -r path; do
+    cp "$path" "$folder/disk/modules"
+    basename "$path" >> "$folder/disk/modules/list"
+done < "$folder/paths"
+
+cat > "$folder/disk/init" << 'END'
+#!/bin/sh
+/bin/busybox mount -t proc proc /proc
+/bin/busybox mount -t devtmpfs dev /dev
+while read -r module; do /bin/busybox insmod "/modules/$module"; done < /modules/list
+/bin/busybox mount -t 9p -o trans=virtio,version=9p2000.L,ro host /mnt
+/bin/busybox mount -t proc proc /mnt/proc
+/bin/busybox mount -t sysfs sys /mnt/sys
+/bin/busybox mount -t devtmpfs dev /mnt/dev
+/bin/busybox mount -t tmpfs tmp /mnt/tmp
+/bin/busybox cp /run/* /mnt/tmp
+/bin/busybox chroot /mnt /bin/sh -c 'cd /tmp && PATH=/usr/sbin:/usr/bin:/sbin:/bin exec sh ./in-machine'
+/bin/busybox poweroff -f
+END
+chmod +x "$folder/disk/init"
+
+cat > "$folder/disk/run/in-machine" << 'MACHINE'
+failed=0
+echo begins
+
+# fails unless the words are the same: is NAME FOUND WANTED
+is() {
+    if [ "$2" = "$3" ]; then echo "ok: $1"; else failed=$((failed + 1)); echo "FAILED: $1: $2, not $3"; fi
+}
+
+# the first frame with an identifier, and with these bytes if they are given, after a frame is sent: answer FRAME ID [BYTES]
+answer() {
+    candump -L "vcan0,$2:7FF" > answer &
+    listener=$!
+    sleep 1
+    cansend vcan0 "$1"
+    sleep 1
+    kill $listener
+    sed -n "s/.* \($2#${3:-.*}\)$/\1/p" answer | head -n 1
+}
+
+# what a process took so far, in ticks of the processor, and its memory in kB
+spent() { awk '{ print $14 + $15 }' "/proc/$device/stat"; }
+memory() { awk '$1 == "VmRSS:" { print $2 }' "/proc/$device/status"; }
+errors() { tr '\n' ';' < err; }
+
+ip link add dev vcan0 type vcan
+ip link set vcan0 up
+candump -L vcan0 > boot &
+listener=$!
+sleep 1
+mkfifo lines
+./canopen-device 5=temperature-sensor.eds 8=io-module.eds --can vcan0 < lines > out 2> err &
+device=$!
+exec 3> lines
+sleep 2
+kill $listener
+is 'boot-up' "$(head -n 2 boot | cut -d ' ' -f 3 | tr '\n' ' ')" '705#00 708#00 '
+is 'SDO of node 5' "$(answer 605#4000100000000000 585)" '585#4300100094010200'
+is 'SDO of node 8' "$(answer 608#4018100200000000 588)" '588#4318100201042800'
+is 'a refused write' "$(answer 605#2B00200005000000 585)" '585#8000200032000906'
+
+echo '5 set 1017:00 100' >&3
+sleep 1
+was=$(spent)
+candump -L -n 101 vcan0,705:7FF > beats
+echo "while the bus is quiet, $(($(spent) - was)) of 1000 ticks of a processor for both"
+tr -d '()' < beats | awk '
+    NR > 1 { late = ($1 - last) * 1000 - 100; if (late < 0) late = -late; sum += late; if (late > most) most = late }
+    { last = $1 }
+    END { printf "heartbeats each 100 ms: off by %.2f ms on average, %.2f ms at most\n", sum / (NR - 1), most }'
+
+cansend vcan0 000#0108
+echo '8 set Read input 8-bit.Inputs 1 to 8 5' >&3
+echo '8 get 6000:01' >&3
+sleep 0.5
+is 'lines of the application' "$(tr '\n' ' ' < out)" 'ok ok 6000:01 5 '
+
+cansend vcan0 20000004#0010000000000000
+sleep 0.5
+cansend vcan0 20000004#0040000000000000
+sleep 0.5
+cansend vcan0 20000040#0000000000000000
+sleep 0.5
+candump -L -n 2 -T 5000 vcan0,088:7FF > emergency &
+sleep 0.5
+cansend vcan0 20000100#0000000000000000
+wait $!
+is 'recovered from bus-off' "$(cut -d ' ' -f 3 emergency | tr '\n' ' ')" '088#4081110000000000 088#0000000000000000 '
+ip link set vcan0 down
+sleep 1
+for value in 1 2 3; do echo "8 set 6000:01 $value" >&3; done
+sleep 1
+is 'what waits' "$(echo '8 state' >&3; sleep 0.5; tail -n 1 out | cut -d , -f 2-4)" ' vcan0 down, 1 frames wait, 0 TPDOs thrown away'
+candump -D -L vcan0,088:7FF > waited 2> /dev/null &
+listener=$!
+for _ in $(seq 600); do echo '8 raise 3120' >&3; done
+sleep 2
+is 'no more than 501 wait' "$(tail -n 1 out)" 'error: 501 frames wait for vcan0'
+ip link set vcan0 up
+sleep 2
+kill $listener
+is 'all of them are sent' "$(cut -d ' ' -f 3 waited | cut -c 1-8 | uniq -c | tr -s ' \n' ' ')" ' 500 088#2031 1 088#4081 1 088#0000 '
+is 'trouble, said once' "$(errors)" \
+    'vcan0: error passive;vcan0: error active;vcan0: bus-off;vcan0: error active;vcan0: down;vcan0: error active;'
+is 'SDO after that' "$(answer 605#4000100000000000 585)" '585#4300100094010200'
+
+before=$(memory)
+sent=$(cat /sys/class/net/vcan0/statistics/tx_packets)
+was=$(spent)
+timeout "$(cat seconds)" cangen vcan0 -g 0 -i
+sent=$(($(cat /sys/class/net/vcan0/statistics/tx_packets) - sent))
+echo "$sent frames in $(cat seconds) s; $(($(spent) - was)) ticks of the processor; memory $before kB before, $(memory) kB after"
+sleep 2
+is 'boot-up by NMT' "$(answer 000#8105 705 00)" '705#00'
+is 'SDO of node 5' "$(answer 605#4000100000000000 585)" '585#4300100094010200'
+is 'boot-up by NMT' "$(answer 000#8108 708 00)" '708#00'
+is 'SDO of node 8' "$(answer 608#4018100200000000 588)" '588#4318100201042800'
+kill -TERM "$device"
+wait "$device"
+is 'the status' $? 0
+is 'nothing else said' "$(wc -l < err)" 6
+echo "$failed failed"
+MACHINE
+
+(cd "$folder/disk" && find . | cpio -o -H newc 2> /dev/null | gzip) > "$folder/image"
+timeout $((seconds + 600)) qemu-system-x86_64 -accel "${ACCELERATOR:-tcg}" -m 1024 -smp 2 -cpu max -nographic -no-reboot \
+    -kernel "/boot/vmlinuz-$release" -initrd "$folder/image" -append 'console=ttyS0 quiet panic=1' \
+    -virtfs local,path=/,mount_tag=host,security_model=none,readonly=on,multidevs=remap 2>&1 | sed -u -n '1,/begins/d; s/\r$//p' | tee "$folder/said"
+grep -qx '0 failed' "$folder/said"
