@@ -1,0 +1,49 @@
+-- What all faults of a text keep, beside what is found: against the first fault that is answered for
+-- a sheet, and of a text without its lines of one kind (CiA 306).
+use Rattle.std.specs.Prelude.{◌≡◌, ◌⊎◌, ℕ, Bool, true, false, not, ◌==◌, ◌<◌, length, if◌then◌else◌, List, [], ◌∷◌, ◌++◌, Contains, filter}
+use Rattle.co_sheet_rows.specs.declared.fault.FaultKind.{FaultKind}
+use Rattle.co_sheet_rows.specs.declared.fault.FaultKind.TheVariants.{TooLarge}
+use Rattle.co_sheet_rows.specs.declared.fault.SheetFault.{SheetFault}
+use Rattle.co_sheet_rows.specs.FaultTexts.{fault_number}
+use Rattle.co_sheet_text.specs.Text.{Line, lines_of}
+use Rattle.co_sheet.specs.Faults.{fault_at}
+use Rattle.co_sheet.specs.Checks.{checks}
+use Rattle.co_sheet_faults.specs.LinesAtFault.{emptied, own_fault, next_read, fault_of_line, lines_read, sections_read}
+use Rattle.co_sheet_faults.specs.AllFaults.{found_by}
+
+-- a fault is of a kind, and whether any of a list is
+abbrev pub is_of : FaultKind → SheetFault → Bool
+is_of kind fault = fault_number fault.kind == fault_number kind
+
+abbrev pub has_kind : FaultKind → List SheetFault → Bool
+has_kind kind [] = false
+has_kind kind (fault ∷ faults) = if is_of kind fault then true else has_kind kind faults
+
+-- lines, of which those whose own fault is of a kind are emptied
+abbrev pub emptied_of : FaultKind → List Line → List Line → List Line
+emptied_of kind before [] = []
+emptied_of kind before (line ∷ lines) =
+    (if has_kind kind (fault_of_line line (own_fault before line)) then emptied line else line)
+    ∷ emptied_of kind (before ++ next_read before line ∷ []) lines
+
+-- faults without those of a kind
+abbrev pub without : FaultKind → List SheetFault → List SheetFault
+without kind faults = filter (λ f. not (is_of kind f)) faults
+
+-- a line has the fault, after the lines before it as they are read
+pub record IsLineFault (lines : List Line) (fault : SheetFault) : Type 0 where
+  pub before : List Line
+  pub line : Line
+  pub after : List Line
+  pub cut : lines ≡ before ++ line ∷ after
+  pub own : Contains (fault_of_line line (own_fault (lines_read [] before) line)) fault
+
+-- a check of a sheet finds the fault in the sections that are read
+abbrev pub IsFoundFault : List Line → SheetFault → Type 0
+IsFoundFault lines fault = Contains (found_by checks (sections_read lines)) fault
+
+-- a fault is one by its own definition: the text is too large, a line has it, or a check finds it
+abbrev pub IsFaultOf : List ℕ → SheetFault → Type 0
+IsFaultOf text fault =
+    ((1048576 < length text) × (fault ≡ fault_at 0 TooLarge))
+    ⊎ IsLineFault (lines_of text) fault ⊎ IsFoundFault (lines_of text) fault

@@ -1,0 +1,7 @@
+pub mod LinesAtFault
+pub mod Soundness
+pub mod AllChecks
+pub mod AllFaults
+pub mod FaultLaws
+pub mod FaultWords
+pub mod private
