@@ -163,7 +163,9 @@ pub(crate) fn looped(alloc: Global, sheet: &Sheet<'_>, out: &mut Vec<u8>) -> Out
 
 pub(crate) fn words_read(alloc: Global) -> Outcome {
     match task(alloc, &["conode", "check", "a"]) {
-        Ok(Some(Task::Check { sheet, node, .. })) => right_if(sheet == "a" && node.is_none()),
+        Ok(Some(Task::Check { sheet, dictionary })) => {
+            right_if(sheet == "a" && dictionary.node.is_none())
+        }
         Ok(_) => Outcome::Wrong,
         Err(error) => refused_if(error.kind() == ErrorKind::OutOfMemory),
     }

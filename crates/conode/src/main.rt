@@ -9,17 +9,25 @@ use conode_decode::decode_files;
 use conode_io::{CmdFault, stopped};
 use conode_loop::loop_files;
 use conode_replay::{replay_files, replay_stored};
-use conode_words::{Task, task};
+use conode_words::{DeviceWords, DictionaryWords, Task, task};
 use std::io::{BufWriter, Write};
 use std::process::ExitCode;
 use std::{env, io};
 
 /// The room of strings and domains.
-fn limits_of(strings: u16, domains: u16) -> Limits<'static> {
+fn limits_of(dictionary: &DictionaryWords) -> Limits<'static> {
     Limits {
-        strings,
-        domains,
+        strings: dictionary.strings,
+        domains: dictionary.domains,
         own: &[],
+    }
+}
+
+/// The rooms and the SDO timeout of a device.
+fn config_of(device: &DeviceWords) -> Config<'static> {
+    Config {
+        limits: limits_of(&device.dictionary),
+        time: device.time,
     }
 }
 
@@ -31,36 +39,28 @@ fn carry_out_task<O: Write, E: Write>(
     err: &mut E,
 ) -> ExitCode {
     match task {
-        Task::Check {
-            sheet,
-            node,
-            strings,
-            domains,
-        } => check_file(rt, sheet, node, &limits_of(strings, domains), out, err),
+        Task::Check { sheet, dictionary } => {
+            let limits = limits_of(&dictionary);
+            check_file(rt, sheet, dictionary.node, &limits, out, err)
+        }
         Task::Decode { trace, sheet, node } => decode_files(rt, trace, sheet, node, out, err),
         Task::Replay {
             sheet,
             trace,
-            node,
-            strings,
-            domains,
-            time,
+            device,
         } => {
-            let limits = limits_of(strings, domains);
-            replay_files(rt, sheet, trace, node, &Config { limits, time }, out, err)
+            let node = device.dictionary.node;
+            replay_files(rt, sheet, trace, node, &config_of(&device), out, err)
         }
         Task::LoopBack {
             sheet,
             key,
             bytes,
-            node,
             mode,
-            strings,
-            domains,
-            time,
+            device,
         } => {
-            let limits = limits_of(strings, domains);
-            let config = Config { limits, time };
+            let node = device.dictionary.node;
+            let config = config_of(&device);
             loop_files(rt, sheet, key, bytes, node, mode, &config, out, err)
         }
     }

@@ -55,6 +55,7 @@ fn decode_lines<R: Read, W: Write>(
     let mut text = String::new(alloc);
     let mut lines = LineReader::new();
     let mut progress = TraceProgress::new();
+    // its invariant goes by the label
     'trace: loop {
         let_out(&lines, writer)?;
         match lines.next(reader) {

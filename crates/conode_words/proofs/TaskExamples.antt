@@ -1,25 +1,33 @@
 -- Command lines, evaluated.
-use Rattle.std.proofs.Common.{◌≡◌, List, [], ◌∷◌, Option, Some, None, codes, refl, true}
+use Rattle.std.proofs.Common.{◌≡◌, ℕ, List, [], ◌∷◌, Option, Some, None, codes, refl, true}
 use Rattle.clap.specs.Words.{Text, fault_of, is_simple_and_free, subcommand_of}
 use Rattle.clap.specs.declared.error.kind.ErrorKind.{ErrorKind}
 use Rattle.clap.specs.declared.error.kind.ErrorKind.TheVariants as kind
 use Rattle.clap.proofs.OnLiterals.{clap_on_literals}
 use Rattle.co_sdo_client.specs.declared.mode.Mode.TheVariants.{Plain, Block}
+use Rattle.conode_words.specs.declared.tasks.DeviceWords.{DeviceWords}
+use Rattle.conode_words.specs.declared.tasks.DictionaryWords.{DictionaryWords}
 use Rattle.conode_words.specs.Tasks.{Asked, check, decode, replay, loop_back, asked_of, conode_command, task_fault}
 
 abbrev asked : List Text → Option Asked
 asked words = asked_of (subcommand_of conode_command (codes "conode" ∷ words))
 
+abbrev dictionary : Option ℕ → ℕ → ℕ → DictionaryWords
+dictionary node strings domains = record { node = node; strings = strings; domains = domains }
+
+abbrev device : Option ℕ → ℕ → ℕ → ℕ → DeviceWords
+device node strings domains time = record { dictionary = dictionary node strings domains; time = time }
+
 is_simple : is_simple_and_free conode_command ≡ true
 unfolding clap_on_literals
 is_simple = refl
 
-check_of_a_sheet : asked (codes "check" ∷ codes "a" ∷ []) ≡ Some (check (record { sheet = codes "a"; node = None; strings = 16; domains = 889 }))
+check_of_a_sheet : asked (codes "check" ∷ codes "a" ∷ []) ≡ Some (check (record { sheet = codes "a"; dictionary = dictionary None 16 889 }))
 unfolding clap_on_literals
 check_of_a_sheet = refl
 
 all_options : asked (codes "check" ∷ codes "--node" ∷ codes "127" ∷ codes "a" ∷ codes "--strings=0" ∷ codes "--domains" ∷ codes "65535" ∷ [])
-    ≡ Some (check (record { sheet = codes "a"; node = Some 127; strings = 0; domains = 65535 }))
+    ≡ Some (check (record { sheet = codes "a"; dictionary = dictionary (Some 127) 0 65535 }))
 unfolding clap_on_literals
 all_options = refl
 
@@ -104,12 +112,12 @@ unfolding clap_on_literals
 asked_for_version = refl
 
 replay_of_a_trace : asked (codes "replay" ∷ codes "s" ∷ codes "-" ∷ codes "--node" ∷ codes "5" ∷ [])
-    ≡ Some (replay (record { sheet = codes "s"; trace = codes "-"; device = record { node = Some 5; strings = 16; domains = 889; time = 1000 } }))
+    ≡ Some (replay (record { sheet = codes "s"; trace = codes "-"; device = device (Some 5) 16 889 1000 }))
 unfolding clap_on_literals
 replay_of_a_trace = refl
 
 replay_without_node : asked (codes "replay" ∷ codes "s" ∷ codes "t" ∷ [])
-    ≡ Some (replay (record { sheet = codes "s"; trace = codes "t"; device = record { node = None; strings = 16; domains = 889; time = 1000 } }))
+    ≡ Some (replay (record { sheet = codes "s"; trace = codes "t"; device = device None 16 889 1000 }))
 unfolding clap_on_literals
 replay_without_node = refl
 
@@ -130,12 +138,12 @@ unfolding clap_on_literals
 time_65536 = refl
 
 loop_of_bytes : asked (codes "loop" ∷ codes "s" ∷ codes "2001:00" ∷ codes "-" ∷ codes "--node" ∷ codes "127" ∷ [])
-    ≡ Some (loop_back (record { sheet = codes "s"; key = codes "2001:00"; bytes = codes "-"; mode = Plain; device = record { node = Some 127; strings = 16; domains = 889; time = 1000 } }))
+    ≡ Some (loop_back (record { sheet = codes "s"; key = codes "2001:00"; bytes = codes "-"; mode = Plain; device = device (Some 127) 16 889 1000 }))
 unfolding clap_on_literals
 loop_of_bytes = refl
 
 loop_without_node : asked (codes "loop" ∷ codes "s" ∷ codes "k" ∷ codes "-" ∷ codes "--time" ∷ codes "0" ∷ [])
-    ≡ Some (loop_back (record { sheet = codes "s"; key = codes "k"; bytes = codes "-"; mode = Plain; device = record { node = None; strings = 16; domains = 889; time = 0 } }))
+    ≡ Some (loop_back (record { sheet = codes "s"; key = codes "k"; bytes = codes "-"; mode = Plain; device = device None 16 889 0 }))
 unfolding clap_on_literals
 loop_without_node = refl
 
@@ -144,7 +152,7 @@ unfolding clap_on_literals
 loop_for_node_128 = refl
 
 loop_with_options : asked (codes "loop" ∷ codes "--mode" ∷ codes "block" ∷ codes "s" ∷ codes "k" ∷ codes "01" ∷ codes "--node=1" ∷ codes "--strings" ∷ codes "1" ∷ codes "--domains" ∷ codes "2" ∷ codes "--time" ∷ codes "3" ∷ [])
-    ≡ Some (loop_back (record { sheet = codes "s"; key = codes "k"; bytes = codes "01"; mode = Block; device = record { node = Some 1; strings = 1; domains = 2; time = 3 } }))
+    ≡ Some (loop_back (record { sheet = codes "s"; key = codes "k"; bytes = codes "01"; mode = Block; device = device (Some 1) 1 2 3 }))
 unfolding clap_on_literals
 loop_with_options = refl
 

@@ -10,7 +10,8 @@ use Rattle.clap.specs.declared.builder.value_parser.ValueParser.TheVariants.{Uns
 use Rattle.clap.specs.declared.error.kind.ErrorKind.TheVariants.{InvalidValue}
 use Rattle.co_sdo_client.specs.declared.mode.Mode.{Mode}
 use Rattle.co_sdo_client.specs.declared.mode.Mode.TheVariants.{Plain, Segmented, Block}
-use Rattle.conode_words.specs.declared.command_line.DeviceWords.{DeviceWords}
+use Rattle.conode_words.specs.declared.tasks.DeviceWords.{DeviceWords}
+use Rattle.conode_words.specs.declared.tasks.DictionaryWords.{DictionaryWords}
 use Rattle.conode_words.specs.declared.tasks.Task.{Task}
 use Rattle.conode_words.specs.declared.tasks.Task.TheVariants.{Check, Decode, Replay, LoopBack}
 
@@ -92,9 +93,7 @@ conode_command =
 -- what the words after `check` ask for: texts and numbers
 pub record AskedCheck : Type 0 where
   pub sheet : Text
-  pub node : Option ℕ
-  pub strings : ℕ
-  pub domains : ℕ
+  pub dictionary : DictionaryWords
 
 -- what the words after `decode` ask for
 pub record AskedDecode : Type 0 where
@@ -102,18 +101,11 @@ pub record AskedDecode : Type 0 where
   pub sheet : Option Text
   pub node : Option ℕ
 
--- what the words say of a device
-pub record AskedDevice : Type 0 where
-  pub node : Option ℕ
-  pub strings : ℕ
-  pub domains : ℕ
-  pub time : ℕ
-
 -- what the words after `replay` ask for
 pub record AskedReplay : Type 0 where
   pub sheet : Text
   pub trace : Text
-  pub device : AskedDevice
+  pub device : DeviceWords
 
 -- what the words after `loop` ask for
 pub record AskedLoop : Type 0 where
@@ -121,7 +113,7 @@ pub record AskedLoop : Type 0 where
   pub key : Text
   pub bytes : Text
   pub mode : Mode
-  pub device : AskedDevice
+  pub device : DeviceWords
 
 -- what the words ask for
 pub data Asked : Type 0 where
@@ -130,29 +122,15 @@ pub data Asked : Type 0 where
   replay : AskedReplay → Asked
   loop_back : AskedLoop → Asked
 
--- numbers of a device
-abbrev pub device_with : Option ℕ → ℕ → ℕ → ℕ → AskedDevice
-device_with node strings domains time = record { node = node; strings = strings; domains = domains; time = time }
-
-abbrev pub device_by : DeviceWords → AskedDevice
-device_by words = device_with words.node words.strings words.domains words.time
-
 -- what a task asks for
 abbrev pub asked_by : Task → Asked
-asked_by (Check sheet node strings domains) =
-    check (record { sheet = sheet.now; node = node; strings = strings; domains = domains })
+asked_by (Check sheet dictionary) = check (record { sheet = sheet.now; dictionary = dictionary })
 asked_by (Decode trace sheet node) =
     decode (record { trace = trace.now; sheet = option_copied sheet; node = node })
-asked_by (Replay sheet trace node strings domains time) =
-    replay (record { sheet = sheet.now; trace = trace.now; device = device_with node strings domains time })
-asked_by (LoopBack sheet key bytes node mode strings domains time) =
-    loop_back (record {
-      sheet = sheet.now;
-      key = key.now;
-      bytes = bytes.now;
-      mode = mode;
-      device = device_with node strings domains time;
-    })
+asked_by (Replay sheet trace device) =
+    replay (record { sheet = sheet.now; trace = trace.now; device = device })
+asked_by (LoopBack sheet key bytes mode device) =
+    loop_back (record { sheet = sheet.now; key = key.now; bytes = bytes.now; mode = mode; device = device })
 
 -- the number that a word is, of so many bits: decimal digits, perhaps after a plus
 abbrev pub number_of_bits : ℕ → Text → Option ℕ
@@ -164,12 +142,25 @@ number_of_bits bits word =
 abbrev pub number_for : ℕ → Text → List Row → Option ℕ
 number_for bits name rows = option_and_then (number_of_bits bits) (first_of name rows)
 
+-- what the matches say of a dictionary
+abbrev pub asked_dictionary : List Row → Option DictionaryWords
+asked_dictionary rows =
+    option_and_then (λ strings. option_map (λ domains.
+    record { node = number_for 8 (codes "node") rows; strings = strings; domains = domains })
+    (number_for 16 (codes "domains") rows)) (number_for 16 (codes "strings") rows)
+
+-- what the matches say of a device
+abbrev pub asked_device : List Row → Option DeviceWords
+asked_device rows =
+    option_and_then (λ dictionary. option_map (λ time. record { dictionary = dictionary; time = time })
+    (number_for 16 (codes "time") rows)) (asked_dictionary rows)
+
 -- what the matches of `check` ask for
 abbrev pub asked_check : List Row → Option Asked
 asked_check rows =
-    option_and_then (λ sheet. option_and_then (λ strings. option_map (λ domains.
-    check (record { sheet = sheet; node = number_for 8 (codes "node") rows; strings = strings; domains = domains }))
-    (number_for 16 (codes "domains") rows)) (number_for 16 (codes "strings") rows)) (first_of (codes "SHEET") rows)
+    option_and_then (λ sheet. option_map (λ dictionary.
+    check (record { sheet = sheet; dictionary = dictionary }))
+    (asked_dictionary rows)) (first_of (codes "SHEET") rows)
 
 -- what the matches of `decode` ask for
 abbrev pub asked_decode : List Row → Option Asked
@@ -177,14 +168,6 @@ asked_decode rows =
     option_map (λ trace. decode
     (record { trace = trace; sheet = first_of (codes "sheet") rows; node = number_for 8 (codes "node") rows }))
     (first_of (codes "TRACE") rows)
-
--- what the matches say of a device
-abbrev pub asked_device : List Row → Option AskedDevice
-asked_device rows =
-    option_and_then (λ strings. option_and_then (λ domains. option_map (λ time.
-    device_with (number_for 8 (codes "node") rows) strings domains time)
-    (number_for 16 (codes "time") rows)) (number_for 16 (codes "domains") rows))
-    (number_for 16 (codes "strings") rows)
 
 -- what the matches of `replay` ask for
 abbrev pub asked_replay : List Row → Option Asked

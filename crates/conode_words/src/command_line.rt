@@ -3,10 +3,10 @@
 ghost use Rattle.std.specs.Prelude.{◌≡◌, map, IfOk, option_map, false, [], codes};
 ghost use Rattle.clap.specs.Words.{FailsBy, app_of, found_of, rows_of, rule_of, subcommand_of, subcommand_rows_of};
 ghost use Rattle.clap.specs.declared.builder.command.Command.TheViews.{out-Command};
-ghost use Rattle.conode_words.specs.Tasks.{asked_by, asked_check, asked_decode, asked_device, asked_in, asked_loop, asked_of, asked_replay, check_command, conode_command, decode_command, device_by, domains_option, has_other_mode, loop_command, mode_fault, mode_for, mode_of, mode_option, node_option, number_for, numbered, replay_command, sheet_option, strings_option, task_fault, time_option, wanted, with_rooms};
+ghost use Rattle.conode_words.specs.Tasks.{asked_by, asked_check, asked_decode, asked_device, asked_dictionary, asked_in, asked_loop, asked_of, asked_replay, check_command, conode_command, decode_command, domains_option, has_other_mode, loop_command, mode_fault, mode_for, mode_of, mode_option, node_option, number_for, numbered, replay_command, sheet_option, strings_option, task_fault, time_option, wanted, with_rooms};
 
 use crate::help;
-use crate::tasks::Task;
+use crate::tasks::{DeviceWords, DictionaryWords, Task};
 use clap::builder::ValueParser;
 use clap::error::ErrorKind;
 use clap::{Arg, ArgMatches, Command, Error};
@@ -230,20 +230,38 @@ fn number_u16(found: &ArgMatches<'_>, name: &str) -> Option<u16>
     found.get_str(name)?.parse().ok()
 }
 
+// what the words say of a dictionary
+#[tactic(auto, using(crate::proofs::TaskLemmas::first_in_rows))]
+fn dictionary_words(found: &ArgMatches<'_>) -> Option<DictionaryWords>
+    ensures { result ≡ asked_dictionary (rows_of (found_of found.now)) }
+{
+    let strings = number_u16(found, "strings")?;
+    let domains = number_u16(found, "domains")?;
+    Some(DictionaryWords {
+        node: number_u8(found, "node"),
+        strings,
+        domains,
+    })
+}
+
+// what the words say of a device
+#[tactic(auto, using(crate::proofs::TaskLemmas::first_in_rows))]
+fn device_words(found: &ArgMatches<'_>) -> Option<DeviceWords>
+    ensures { result ≡ asked_device (rows_of (found_of found.now)) }
+{
+    let dictionary = dictionary_words(found)?;
+    let time = number_u16(found, "time")?;
+    Some(DeviceWords { dictionary, time })
+}
+
 // what the words after `check` ask for
 #[tactic(auto, using(crate::proofs::TaskLemmas::first_in_rows))]
 fn asked_check<'a>(found: &ArgMatches<'a>) -> Option<Task<'a>>
     ensures { option_map asked_by result ≡ asked_check (rows_of (found_of found.now)) }
 {
     let sheet = found.get_str("SHEET")?;
-    let strings = number_u16(found, "strings")?;
-    let domains = number_u16(found, "domains")?;
-    Some(Task::Check {
-        sheet,
-        node: number_u8(found, "node"),
-        strings,
-        domains,
-    })
+    let dictionary = dictionary_words(found)?;
+    Some(Task::Check { sheet, dictionary })
 }
 
 // what the words after `decode` ask for
@@ -259,30 +277,6 @@ fn asked_decode<'a>(found: &ArgMatches<'a>) -> Option<Task<'a>>
     })
 }
 
-// what the words say of a device
-#[derive(Clone, Copy)]
-struct DeviceWords {
-    node: Option<u8>,
-    strings: u16,
-    domains: u16,
-    time: u16,
-}
-
-#[tactic(auto, using(crate::proofs::TaskLemmas::first_in_rows))]
-fn device_words(found: &ArgMatches<'_>) -> Option<DeviceWords>
-    ensures { option_map device_by result ≡ asked_device (rows_of (found_of found.now)) }
-{
-    let strings = number_u16(found, "strings")?;
-    let domains = number_u16(found, "domains")?;
-    let time = number_u16(found, "time")?;
-    Some(DeviceWords {
-        node: number_u8(found, "node"),
-        strings,
-        domains,
-        time,
-    })
-}
-
 // what the words after `replay` ask for
 #[tactic(auto, using(crate::proofs::TaskLemmas::first_in_rows))]
 fn asked_replay<'a>(found: &ArgMatches<'a>) -> Option<Task<'a>>
@@ -290,14 +284,11 @@ fn asked_replay<'a>(found: &ArgMatches<'a>) -> Option<Task<'a>>
 {
     let sheet = found.get_str("SHEET")?;
     let trace = found.get_str("TRACE")?;
-    let words = device_words(found)?;
+    let device = device_words(found)?;
     Some(Task::Replay {
         sheet,
         trace,
-        node: words.node,
-        strings: words.strings,
-        domains: words.domains,
-        time: words.time,
+        device,
     })
 }
 
@@ -332,16 +323,13 @@ fn asked_loop<'a>(found: &ArgMatches<'a>) -> Option<Task<'a>>
     let key = found.get_str("KEY")?;
     let bytes = found.get_str("HEX")?;
     let mode = mode_for(found)?;
-    let words = device_words(found)?;
+    let device = device_words(found)?;
     Some(Task::LoopBack {
         sheet,
         key,
         bytes,
-        node: words.node,
         mode,
-        strings: words.strings,
-        domains: words.domains,
-        time: words.time,
+        device,
     })
 }
 

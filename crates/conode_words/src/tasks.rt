@@ -2,6 +2,26 @@
 
 use co_sdo_client::Mode;
 
+/// What the words say of the object dictionary that is built from a sheet.
+#[derive(Clone, Copy, Debug, PartialEq, Eq)]
+pub struct DictionaryWords {
+    /// The node-ID that it is built for, 1 to 127; `None`: the one that the sheet itself has.
+    pub node: Option<u8>,
+    /// The room of each string that may be written, in bytes.
+    pub strings: u16,
+    /// The room of each domain, in bytes.
+    pub domains: u16,
+}
+
+/// What the words say of a device.
+#[derive(Clone, Copy, Debug, PartialEq, Eq)]
+pub struct DeviceWords {
+    /// Its node-ID and its rooms.
+    pub dictionary: DictionaryWords,
+    /// The SDO timeout in ms; 0 disables it.
+    pub time: u16,
+}
+
 /// What the program is asked to do.
 #[derive(Clone, Copy, Debug, PartialEq, Eq)]
 pub enum Task<'a> {
@@ -9,12 +29,8 @@ pub enum Task<'a> {
     Check {
         /// The sheet's path.
         sheet: &'a str,
-        /// The node-ID that the sheet's dictionary is built for, 1 to 127; `None`: the sheet's own, if it has one.
-        node: Option<u8>,
-        /// The room of each string that may be written, in bytes.
-        strings: u16,
-        /// The room of each domain, in bytes.
-        domains: u16,
+        /// The dictionary that is to be built from it.
+        dictionary: DictionaryWords,
     },
     /// To decode a trace.
     Decode {
@@ -31,14 +47,8 @@ pub enum Task<'a> {
         sheet: &'a str,
         /// The trace's path, `-` for standard input.
         trace: &'a str,
-        /// The device's node-ID, 1 to 127; `None`: the one that the sheet itself has.
-        node: Option<u8>,
-        /// The room of each string that may be written, in bytes.
-        strings: u16,
-        /// The room of each domain, in bytes.
-        domains: u16,
-        /// The SDO timeout in ms; 0 disables it.
-        time: u16,
+        /// The device.
+        device: DeviceWords,
     },
     /// To download bytes by an SDO client to the device of a data sheet.
     LoopBack {
@@ -48,15 +58,9 @@ pub enum Task<'a> {
         key: &'a str,
         /// The word of the bytes.
         bytes: &'a str,
-        /// The device's node-ID, 1 to 127; `None`: the one that the sheet itself has.
-        node: Option<u8>,
         /// By which of the SDO protocols the client transfers.
         mode: Mode,
-        /// The room of each string that may be written, in bytes.
-        strings: u16,
-        /// The room of each domain, in bytes.
-        domains: u16,
-        /// The SDO timeout in ms; 0 disables it.
-        time: u16,
+        /// The device.
+        device: DeviceWords,
     },
 }
