@@ -15,7 +15,8 @@ use Rattle.co_pdo.specs.declared.tpdo.Occasion.{Occasion}
 use Rattle.co_pdo.specs.declared.tpdo.Occasion.TheVariants.{Sync, Event, Tick}
 use Rattle.co_pdo.specs.declared.tpdo.Tpdo.{Tpdo}
 use Rattle.co_pdo.specs.declared.places.Places.{Places}
-use Rattle.co_pdo.specs.Tpdos.{counter_overflow_key, places_of, settings_of, has_tpdo, tpdo_numbers, tpdos_of}
+use Rattle.co_profile.specs.Keys.{counter_overflow_key}
+use Rattle.co_pdo.specs.Tpdos.{places_of, settings_of, has_tpdo, tpdo_numbers, tpdos_of}
 use Rattle.co_pdo.specs.Log.{Log, LogEntry, Started, Happened}
 use Rattle.co_pdo.specs.Due.{is_due, is_due_at_sync, is_due_by_event}
 use Rattle.co_pdo.specs.Countdowns.{IsAfter, IsCurrent}
@@ -39,7 +40,7 @@ eqb_same n = grind (arith, nat_tests)
 -- ---- a TPDO that the dictionary doesn't have is never due
 
 not_due : (s : Settings) (log : Log) (o : Occasion) → s.is_active ≡ false → is_due s log o ≡ false
-not_due s log (Sync overflow counter) e = ap (λ b. b && is_due_at_sync s.transmission_type log (Happened (Sync overflow counter) s false)) e
+not_due s log (Sync overflow counter) e = ap (λ b. b && is_due_at_sync s.transmission_type.0 log (Happened (Sync overflow counter) s false)) e
 not_due s log Event e = ap (λ b. b && is_due_by_event s (Happened Event s false ∷ log)) e
 not_due s log Tick e = ap (λ b. b && is_due_by_event s (Happened Tick s false ∷ log)) e
 

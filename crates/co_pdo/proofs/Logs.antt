@@ -11,7 +11,8 @@ use Rattle.co_pdo.specs.declared.tpdo.Occasion.TheVariants.{Sync, Event, Tick}
 use Rattle.co_pdo.specs.declared.tpdo.Part.TheVariants.{Whole, Timer}
 use Rattle.co_pdo.specs.declared.tpdo.Tpdo.{Tpdo}
 use Rattle.co_pdo.specs.Log.{Log, Started, Happened, started_with}
-use Rattle.co_pdo.specs.Due.{begins_count, syncs, has_begun, since_beginning, counted_syncs, event_since_sync, timer_ticks, event_waits, sendings, is_due_by_count, is_due_at_sync, is_event_driven, is_due_by_event, is_due}
+use Rattle.co_pdo.specs.Due.{begins_count, syncs, has_begun, since_beginning, counted_syncs, event_since_sync, timer_ticks, event_waits, sendings, is_due_by_count, is_due_at_sync, is_due_by_event, is_due}
+use Rattle.co_profile.specs.TransmissionTypes.{is_event_driven}
 use Rattle.co_pdo.specs.Countdowns.{left_of, type_of, inhibit_of, CountsSyncs, IsAfter, IsAsAt, IsCurrent}
 use Rattle.co_pdo.specs.Steps.{passes_over, counted, counted_with, wants_with, marked}
 use Rattle.co_pdo.proofs.Counts.{last_sync, next_sync, left-tick, last_tick}
@@ -94,7 +95,7 @@ after_counted t log s (Sync overflow counter) h f =
       inhibit = h.inhibit;
       timer = h.timer;
       has_begun = c;
-      syncs_left = λ low. left_then t.transmission_type t.syncs_left b (t.has_begun || b) (syncs log) (sym (c low)) (h.syncs_left low);
+      syncs_left = λ low. left_then t.transmission_type.0 t.syncs_left b (t.has_begun || b) (syncs log) (sym (c low)) (h.syncs_left low);
       event_since_sync = λ low. refl;
       event_waits = h.event_waits;
       inhibit_left = h.inhibit_left;
@@ -134,10 +135,10 @@ after_marked t log s Tick h = record { transmission_type = h.transmission_type; 
 
 -- the type and the inhibit time are those that it was started with
 record Same (t : Tpdo) (s : Settings) : Type 0 where
-  kind : t.transmission_type ≡ s.transmission_type
+  kind : t.transmission_type.0 ≡ s.transmission_type.0
   inhibit : t.inhibit ≡ in_ms s.inhibit_time
 
-same_as_started : (t : Tpdo) (s : Settings) (at : Option Settings) → t.transmission_type ≡ type_of at → t.inhibit ≡ inhibit_of at → IsAsAt at s → Same t s
+same_as_started : (t : Tpdo) (s : Settings) (at : Option Settings) → t.transmission_type.0 ≡ type_of at → t.inhibit ≡ inhibit_of at → IsAsAt at s → Same t s
 same_as_started t s None k i h = absurd h
 same_as_started t s (Some at) k i h = record { kind = k ∙ h.0; inhibit = i ∙ ap in_ms h.1 }
 
@@ -154,39 +155,39 @@ by_count kind left b false older above e h = refl
 none_high : (x y low : Bool) → low ≡ false → x && (y && low) ≡ false
 none_high x y low high = ap (λ w. x && (y && w)) high ∙ ap (λ w. x && w) (and-false y) ∙ and-false x
 
-at_sync : (t : Tpdo) (log : Log) (b : Bool) → IsAfter t log → (zero : Bool) → eqb t.transmission_type 0 ≡ zero
-    → cond zero t.event_since_sync ((t.has_begun || b) && (leb t.syncs_left 1 && leb t.transmission_type 240)) ≡ cond zero (event_since_sync log) (is_due_by_count t.transmission_type (b ∷ syncs log))
+at_sync : (t : Tpdo) (log : Log) (b : Bool) → IsAfter t log → (zero : Bool) → eqb t.transmission_type.0 0 ≡ zero
+    → cond zero t.event_since_sync ((t.has_begun || b) && (leb t.syncs_left 1 && leb t.transmission_type.0 240)) ≡ cond zero (event_since_sync log) (is_due_by_count t.transmission_type.0 (b ∷ syncs log))
 at_sync t log b h true e = h.event_since_sync low
   where
-    low : leb t.transmission_type 240 ≡ true
-    low = let none : t.transmission_type ≡ 0 = grind (arith, nat_tests) in ap (λ n. leb n 240) none
-at_sync t log b h false e = by_type (leb t.transmission_type 240) refl
+    low : leb t.transmission_type.0 240 ≡ true
+    low = let none : t.transmission_type.0 ≡ 0 = grind (arith, nat_tests) in ap (λ n. leb n 240) none
+at_sync t log b h false e = by_type (leb t.transmission_type.0 240) refl
   where
     due : Bool
-    due = eqb (counted_syncs (b ∷ syncs log) % t.transmission_type) 0
+    due = eqb (counted_syncs (b ∷ syncs log) % t.transmission_type.0) 0
 
-    counted_low : leb t.transmission_type 240 ≡ true → (t.has_begun || b) && (leb t.syncs_left 1 && leb t.transmission_type 240) ≡ is_due_by_count t.transmission_type (b ∷ syncs log)
+    counted_low : leb t.transmission_type.0 240 ≡ true → (t.has_begun || b) && (leb t.syncs_left 1 && leb t.transmission_type.0 240) ≡ is_due_by_count t.transmission_type.0 (b ∷ syncs log)
     counted_low low =
-        let above : 0 < t.transmission_type = grind (arith, nat_tests) in
+        let above : 0 < t.transmission_type.0 = grind (arith, nat_tests) in
         let c : t.has_begun || b ≡ has_begun (b ∷ syncs log) = counts_is t.has_begun b (syncs log) (h.has_begun low) in
-        by_count t.transmission_type t.syncs_left b (t.has_begun || b) (syncs log) above (sym c) (h.syncs_left low)
-        ∙ ap (λ x. x && (due && leb t.transmission_type 240)) c
+        by_count t.transmission_type.0 t.syncs_left b (t.has_begun || b) (syncs log) above (sym c) (h.syncs_left low)
+        ∙ ap (λ x. x && (due && leb t.transmission_type.0 240)) c
 
-    by_type : (low : Bool) → leb t.transmission_type 240 ≡ low → (t.has_begun || b) && (leb t.syncs_left 1 && leb t.transmission_type 240) ≡ is_due_by_count t.transmission_type (b ∷ syncs log)
+    by_type : (low : Bool) → leb t.transmission_type.0 240 ≡ low → (t.has_begun || b) && (leb t.syncs_left 1 && leb t.transmission_type.0 240) ≡ is_due_by_count t.transmission_type.0 (b ∷ syncs log)
     by_type true low = counted_low low
     by_type false high = none_high (t.has_begun || b) (leb t.syncs_left 1) _ high ∙ sym (none_high (has_begun (b ∷ syncs log)) due _ high)
 
 -- due by the counts after a call, types 254 and 255
-by_event : (t : Tpdo) (log : Log) (s : Settings) → Same t s → IsAfter t log → is_event_driven t.transmission_type && (t.event_waits && eqb t.inhibit_left 0) ≡ is_due_by_event s log
+by_event : (t : Tpdo) (log : Log) (s : Settings) → Same t s → IsAfter t log → is_event_driven t.transmission_type.0 && (t.event_waits && eqb t.inhibit_left 0) ≡ is_due_by_event s log
 by_event t log s e h =
     ap (λ k. is_event_driven k && (t.event_waits && eqb t.inhibit_left 0)) e.kind
-    ∙ ap (λ b. is_event_driven s.transmission_type && (b && eqb t.inhibit_left 0)) h.event_waits
-    ∙ ap (λ b. is_event_driven s.transmission_type && (event_waits log && b)) (ap (λ n. eqb n 0) h.inhibit_left ∙ none_left t.inhibit log ∙ ap (λ n. list_all (λ m. leb n m) (sendings log)) e.inhibit)
+    ∙ ap (λ b. is_event_driven s.transmission_type.0 && (b && eqb t.inhibit_left 0)) h.event_waits
+    ∙ ap (λ b. is_event_driven s.transmission_type.0 && (event_waits log && b)) (ap (λ n. eqb n 0) h.inhibit_left ∙ none_left t.inhibit log ∙ ap (λ n. list_all (λ m. leb n m) (sendings log)) e.inhibit)
 
 -- a TPDO wants to go when it is due
 wants_is : (t : Tpdo) (log : Log) (s : Settings) (o : Occasion) → IsAfter t log → IsCurrent s log → Same t s → s.is_active && wants_with s o t ≡ is_due s log o
 wants_is t log s (Sync overflow counter) h f e =
-    ap (λ b. s.is_active && b) (at_sync t log (begins_count s.start_value overflow counter) h (eqb t.transmission_type 0) refl ∙ ap (λ k. is_due_at_sync k log (Happened (Sync overflow counter) s false)) e.kind)
+    ap (λ b. s.is_active && b) (at_sync t log (begins_count s.start_value overflow counter) h (eqb t.transmission_type.0 0) refl ∙ ap (λ k. is_due_at_sync k log (Happened (Sync overflow counter) s false)) e.kind)
 wants_is t log s Event h f e =
     ap (λ b. s.is_active && b) (by_event (counted_with s Event t) _ s (record { kind = e.kind; inhibit = e.inhibit }) (after_counted t log s Event h f))
 wants_is t log s Tick h f e =
@@ -194,7 +195,7 @@ wants_is t log s Tick h f e =
 
 due_by : (t : Tpdo) (log : Log) (s : Settings) (o : Occasion) → IsAfter t log → IsCurrent s log → (b : Bool) → s.is_active ≡ b → s.is_active && wants_with s o t ≡ is_due s log o
 due_by t log s o h f true e = wants_is t log s o h f (same t log s h f e)
-due_by t log s (Sync overflow counter) h f false e = ap (λ b. b && wants_with s (Sync overflow counter) t) e ∙ ap (λ b. b && is_due_at_sync s.transmission_type log (Happened (Sync overflow counter) s false)) (sym e)
+due_by t log s (Sync overflow counter) h f false e = ap (λ b. b && wants_with s (Sync overflow counter) t) e ∙ ap (λ b. b && is_due_at_sync s.transmission_type.0 log (Happened (Sync overflow counter) s false)) (sym e)
 due_by t log s Event h f false e = ap (λ b. b && wants_with s Event t) e ∙ ap (λ b. b && is_due_by_event s (Happened Event s false ∷ log)) (sym e)
 due_by t log s Tick h f false e = ap (λ b. b && wants_with s Tick t) e ∙ ap (λ b. b && is_due_by_event s (Happened Tick s false ∷ log)) (sym e)
 
@@ -245,21 +246,21 @@ after_passed t log s (Sync overflow counter) p h = record {
 }
   where
     never : CountsSyncs t → ⊥
-    never low = let high : leb t.transmission_type 240 ≡ false = is_high _ p in cc
+    never low = let high : leb t.transmission_type.0 240 ≡ false = is_high _ p in cc
 after_passed t log s Event p h = cc
 after_passed t log s Tick p h = cc
 
 unwanted_passed : (t : Tpdo) (s : Settings) (o : Occasion) → passes_over o t ≡ true → false ≡ wants_with s o t
-unwanted_passed t s (Sync overflow counter) p = sym (by_zero (eqb t.transmission_type 0) refl)
+unwanted_passed t s (Sync overflow counter) p = sym (by_zero (eqb t.transmission_type.0 0) refl)
   where
-    high : leb t.transmission_type 240 ≡ false
+    high : leb t.transmission_type.0 240 ≡ false
     high = is_high _ p
 
-    by_zero : (zero : Bool) → eqb t.transmission_type 0 ≡ zero
-        → cond zero t.event_since_sync ((t.has_begun || begins_count s.start_value overflow counter) && (leb t.syncs_left 1 && leb t.transmission_type 240)) ≡ false
+    by_zero : (zero : Bool) → eqb t.transmission_type.0 0 ≡ zero
+        → cond zero t.event_since_sync ((t.has_begun || begins_count s.start_value overflow counter) && (leb t.syncs_left 1 && leb t.transmission_type.0 240)) ≡ false
     by_zero true e =
-        let none : t.transmission_type ≡ 0 = grind (arith, nat_tests) in
-        let low : leb t.transmission_type 240 ≡ true = ap (λ n. leb n 240) none in
+        let none : t.transmission_type.0 ≡ 0 = grind (arith, nat_tests) in
+        let low : leb t.transmission_type.0 240 ≡ true = ap (λ n. leb n 240) none in
         cc
     by_zero false e = none_high _ _ _ high
 unwanted_passed t s Event p = cc

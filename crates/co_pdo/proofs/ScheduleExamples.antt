@@ -39,7 +39,7 @@ reserved_type = refl
 absent : is_active (device 255 0 0) 2 ≡ false
 absent = refl
 
-settings : settings_of (device 254 25 10) 0 ≡ record { is_active = true; transmission_type = 254; inhibit_time = 25; event_timer = 10; start_value = 0 }
+settings : settings_of (device 254 25 10) 0 ≡ record { is_active = true; transmission_type = record { 0 = 254 }; inhibit_time = 25; event_timer = 10; start_value = 0 }
 settings = refl
 
 -- both started
@@ -164,7 +164,7 @@ sync_after_event_for_another = refl
 abbrev counting : ℕ → ℕ → ℕ → Contents
 counting kind start_value overflow = with_u8 0x1800 6 start_value (with_u8 0x1019 0 overflow (device kind 0 0))
 
-settings_from_value : settings_of (counting 2 240 4) 0 ≡ record { is_active = true; transmission_type = 2; inhibit_time = 0; event_timer = 0; start_value = 240 }
+settings_from_value : settings_of (counting 2 240 4) 0 ≡ record { is_active = true; transmission_type = record { 0 = 2 }; inhibit_time = 0; event_timer = 0; start_value = 240 }
 settings_from_value = refl
 
 -- TPDO 1 has none

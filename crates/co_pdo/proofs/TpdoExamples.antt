@@ -5,13 +5,12 @@ use Rattle.co_pdo.specs.declared.settings.Settings.{Settings}
 use Rattle.co_pdo.specs.declared.tpdo.Occasion.{Occasion}
 use Rattle.co_pdo.specs.declared.tpdo.Occasion.TheVariants.{Sync, Event, Tick}
 use Rattle.co_pdo.specs.declared.tpdo.Part.TheVariants.{Whole, Timer}
-use Rattle.co_pdo.specs.Pdos.{is_supported_type}
 use Rattle.co_pdo.specs.Log.{Log, Started, Happened}
 use Rattle.co_pdo.specs.Due.{begins_count, is_due}
 
 -- an active TPDO with a transmission type, an inhibit time in 100 µs and an event timer in ms
 abbrev active : ℕ → ℕ → ℕ → Settings
-active kind inhibit_time event_timer = record { is_active = true; transmission_type = kind; inhibit_time = inhibit_time; event_timer = event_timer; start_value = 0 }
+active kind inhibit_time event_timer = record { is_active = true; transmission_type = record { 0 = kind }; inhibit_time = inhibit_time; event_timer = event_timer; start_value = 0 }
 
 -- a SYNC where no counter is used
 abbrev sync : Occasion
@@ -25,23 +24,6 @@ sent_at s log (o ∷ os) = is_due s log o ∷ sent_at s (Happened o s (is_due s 
 -- the same from a whole start on
 abbrev from_start : Settings → List Occasion → List Bool
 from_start s os = sent_at s (Started Whole s ∷ []) os
-
--- ---- transmission types
-
-type_240 : is_supported_type 240 ≡ true
-type_240 = refl
-
-type_241 : is_supported_type 241 ≡ false
-type_241 = refl
-
-type_253 : is_supported_type 253 ≡ false
-type_253 = refl
-
-type_254 : is_supported_type 254 ≡ true
-type_254 = refl
-
-type_255 : is_supported_type 255 ≡ true
-type_255 = refl
 
 -- ---- types 1 to 240
 

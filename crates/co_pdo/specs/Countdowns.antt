@@ -1,6 +1,7 @@
 -- Which countdowns a TPDO has after its log.
 use Rattle.std.specs.Prelude.{◌≡◌, ℕ, ◌-◌, ◌%◌, nat_le, true, List, [], ◌∷◌, Option, Some, None}
 use Rattle.co_frame.specs.InhibitTimes.{in_ms}
+use Rattle.co_profile.specs.TransmissionTypes.{is_synchronous}
 use Rattle.co_pdo.specs.declared.settings.Settings.{Settings}
 use Rattle.co_pdo.specs.declared.tpdo.Tpdo.{Tpdo}
 use Rattle.co_pdo.specs.Log.{Log, started_with, timer_of}
@@ -14,7 +15,7 @@ left_of time (n ∷ older) = time - n
 -- the transmission type of a start, 0 where there was none
 abbrev pub type_of : Option Settings → ℕ
 type_of None = 0
-type_of (Some s) = s.transmission_type
+type_of (Some s) = s.transmission_type.0
 
 -- the inhibit time of a start in ms, 0 where there was none
 abbrev pub inhibit_of : Option Settings → ℕ
@@ -23,15 +24,15 @@ inhibit_of (Some s) = in_ms s.inhibit_time
 
 -- SYNCs count at transmission types 0 to 240; above, what is counted of them is of no use
 abbrev pub CountsSyncs : Tpdo → Type 0
-CountsSyncs t = nat_le t.transmission_type 240 ≡ true
+CountsSyncs t = is_synchronous t.transmission_type.0 ≡ true
 
 -- the countdowns of a TPDO are those after this log
 pub record IsAfter (t : Tpdo) (log : Log) : Type 0 where
-  pub transmission_type : t.transmission_type ≡ type_of (started_with log)
+  pub transmission_type : t.transmission_type.0 ≡ type_of (started_with log)
   pub inhibit : t.inhibit ≡ inhibit_of (started_with log)
   pub timer : t.timer ≡ timer_of log
   pub has_begun : CountsSyncs t → t.has_begun ≡ has_begun (syncs log)
-  pub syncs_left : CountsSyncs t → t.syncs_left ≡ t.transmission_type - counted_syncs (syncs log) % t.transmission_type
+  pub syncs_left : CountsSyncs t → t.syncs_left ≡ t.transmission_type.0 - counted_syncs (syncs log) % t.transmission_type.0
   pub event_since_sync : CountsSyncs t → t.event_since_sync ≡ event_since_sync log
   pub event_waits : t.event_waits ≡ event_waits log
   pub inhibit_left : t.inhibit_left ≡ left_of t.inhibit (sendings log)
@@ -40,7 +41,7 @@ pub record IsAfter (t : Tpdo) (log : Log) : Type 0 where
 -- the same transmission type and inhibit time as at a start
 abbrev pub IsAsAt : Option Settings → Settings → Type 0
 IsAsAt None s = ⊥
-IsAsAt (Some start) s = (start.transmission_type ≡ s.transmission_type) × (start.inhibit_time ≡ s.inhibit_time)
+IsAsAt (Some start) s = (start.transmission_type.0 ≡ s.transmission_type.0) × (start.inhibit_time ≡ s.inhibit_time)
 
 -- a TPDO that is active has the transmission type and the inhibit time of its last whole start
 abbrev pub IsAsStarted : Settings → Log → Type 0

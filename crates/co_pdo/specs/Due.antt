@@ -1,7 +1,9 @@
 -- When a TPDO is due, by distances in its log (CiA 301, 7.2.2.2 to 7.2.2.4 and 7.5.2.37). A tick is 1 ms.
-use Rattle.std.specs.Prelude.{ℕ, ◌+◌, ◌%◌, ◌==◌, ◌&&◌, ◌||◌, Bool, true, false, not, nat_le, nat_lt, Option, List, [], ◌∷◌, length, map, if◌then◌else◌}
+use Rattle.std.specs.Prelude.{ℕ, ◌+◌, ◌%◌, ◌==◌, ◌&&◌, ◌||◌, Bool, true, false, not, nat_lt, Option, List, [], ◌∷◌, length, map, if◌then◌else◌}
 use Rattle.std.specs.List.{list_all, list_any}
 use Rattle.std.specs.Option.{option_map_or}
+use Rattle.co_profile.specs.TransmissionTypes.{is_synchronous}
+pub use Rattle.co_profile.specs.TransmissionTypes.{is_event_driven}
 use Rattle.co_frame.specs.InhibitTimes.{has_elapsed}
 use Rattle.co_pdo.specs.declared.settings.Settings.{Settings}
 use Rattle.co_pdo.specs.declared.tpdo.Occasion.{Occasion}
@@ -88,23 +90,19 @@ is_inhibit_over inhibit_time log = list_all (λ n. has_elapsed inhibit_time n) (
 -- type n from 1 to 240 is due at the newest of some SYNCs where the count has begun, and how many came since then is a
 -- multiple of n
 abbrev pub is_due_by_count : ℕ → List Bool → Bool
-is_due_by_count kind begins = has_begun begins && (counted_syncs begins % kind == 0 && nat_le kind 240)
+is_due_by_count kind begins = has_begun begins && (counted_syncs begins % kind == 0 && is_synchronous kind)
 
 -- a SYNC after this log sends type 0 where an event came since the last SYNC, and type n from 1 to 240 by its count
 abbrev pub is_due_at_sync : ℕ → Log → LogEntry → Bool
 is_due_at_sync kind log sync = if kind == 0 then event_since_sync log else is_due_by_count kind (syncs (sync ∷ log))
 
--- types 254 and 255 are sent at events
-abbrev pub is_event_driven : ℕ → Bool
-is_event_driven kind = kind == 254 || kind == 255
-
 -- types 254 and 255 are due at an event or a tick, here the newest of the log, where an event waits and the inhibit time is over
 abbrev pub is_due_by_event : Settings → Log → Bool
-is_due_by_event s log = is_event_driven s.transmission_type && (event_waits log && is_inhibit_over s.inhibit_time log)
+is_due_by_event s log = is_event_driven s.transmission_type.0 && (event_waits log && is_inhibit_over s.inhibit_time log)
 
 -- whether a TPDO is due at a SYNC, an event or a tick after this log
 abbrev pub is_due : Settings → Log → Occasion → Bool
 is_due s log (Sync overflow counter) =
-    s.is_active && is_due_at_sync s.transmission_type log (Happened (Sync overflow counter) s false)
+    s.is_active && is_due_at_sync s.transmission_type.0 log (Happened (Sync overflow counter) s false)
 is_due s log Event = s.is_active && is_due_by_event s (Happened Event s false ∷ log)
 is_due s log Tick = s.is_active && is_due_by_event s (Happened Tick s false ∷ log)

@@ -1,7 +1,8 @@
 -- What an object dictionary says of one PDO, of either side: its communication and mapping parameter
 -- (CiA 301, 7.5.2.35 to 7.5.2.38).
-use Rattle.std.specs.Prelude.{ℕ, ◌==◌, ◌&&◌, ◌||◌, Bool, not, nat_le}
+use Rattle.std.specs.Prelude.{ℕ, ◌==◌, ◌&&◌, Bool, not}
 use Rattle.co_value.specs.declared.key.Key.{Key}
+pub use Rattle.co_profile.specs.TransmissionTypes.{is_supported_type}
 use Rattle.co_dict.specs.declared.side.Side.{Side}
 use Rattle.co_dict.specs.Rows.{Contents, number_at}
 use Rattle.co_dict.specs.CobIds.{is_valid}
@@ -14,10 +15,6 @@ communication_key side k sub = record { index = communication_of side k; sub = s
 -- the COB-ID word of PDO k, 0 where there is none
 abbrev pub cob_id_of : Side → Contents → ℕ → ℕ
 cob_id_of side contents k = number_at contents (communication_key side k 1)
-
--- the transmission types that are supported: 0 to 240, 254 and 255
-abbrev pub is_supported_type : ℕ → Bool
-is_supported_type kind = nat_le kind 240 || (kind == 254 || kind == 255)
 
 -- PDO k is active: its COB-ID word is valid, something is mapped, and its transmission type is supported
 abbrev pub is_pdo_active : Side → Contents → ℕ → Bool

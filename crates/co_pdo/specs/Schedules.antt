@@ -10,7 +10,8 @@ use Rattle.co_pdo.specs.declared.tpdo.Occasion.{Occasion}
 use Rattle.co_pdo.specs.declared.tpdo.Occasion.TheVariants.{Sync, Event, Tick}
 use Rattle.co_pdo.specs.declared.tpdo.Tpdo.{Tpdo}
 use Rattle.co_pdo.specs.declared.places.Places.{Places}
-use Rattle.co_pdo.specs.Tpdos.{counter_overflow_key, places_of, settings_of, tpdo_numbers, tpdos_of}
+use Rattle.co_profile.specs.Keys.{counter_overflow_key}
+use Rattle.co_pdo.specs.Tpdos.{places_of, settings_of, tpdo_numbers, tpdos_of}
 use Rattle.co_pdo.specs.Log.{Log, Started, Happened}
 use Rattle.co_pdo.specs.Due.{is_due}
 use Rattle.co_pdo.specs.Countdowns.{IsAfter, IsCurrent}

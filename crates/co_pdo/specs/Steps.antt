@@ -4,7 +4,8 @@ use Rattle.co_pdo.specs.declared.settings.Settings.{Settings}
 use Rattle.co_pdo.specs.declared.tpdo.Occasion.{Occasion}
 use Rattle.co_pdo.specs.declared.tpdo.Occasion.TheVariants.{Sync, Event, Tick}
 use Rattle.co_pdo.specs.declared.tpdo.Tpdo.{Tpdo}
-use Rattle.co_pdo.specs.Due.{begins_count, is_event_driven}
+use Rattle.co_profile.specs.TransmissionTypes.{is_synchronous, is_event_driven}
+use Rattle.co_pdo.specs.Due.{begins_count}
 
 -- it is a SYNC that counts: the count has begun, or begins with it
 abbrev pub counts : Settings → Occasion → Tpdo → Bool
@@ -14,21 +15,21 @@ counts s Tick t = false
 
 -- it is a SYNC at a transmission type at which no SYNC counts: nothing is counted
 abbrev pub passes_over : Occasion → Tpdo → Bool
-passes_over (Sync overflow counter) t = not (nat_le t.transmission_type 240)
+passes_over (Sync overflow counter) t = not (is_synchronous t.transmission_type.0)
 passes_over Event t = false
 passes_over Tick t = false
 
 -- the countdowns after it, where the TPDO is not sent; by whether it counts
 abbrev pub counted : Occasion → Bool → Tpdo → Tpdo
-counted (Sync overflow counter) c t = record t { has_begun = c; syncs_left = if c then (if nat_le t.syncs_left 1 then t.transmission_type else t.syncs_left - 1) else t.syncs_left; event_since_sync = false }
+counted (Sync overflow counter) c t = record t { has_begun = c; syncs_left = if c then (if nat_le t.syncs_left 1 then t.transmission_type.0 else t.syncs_left - 1) else t.syncs_left; event_since_sync = false }
 counted Event c t = record t { event_since_sync = true; event_waits = true }
 counted Tick c t = record t { event_waits = t.event_waits || t.timer_left == 1; inhibit_left = t.inhibit_left - 1; timer_left = t.timer_left - 1 }
 
 -- the countdowns make the TPDO due; by whether it counts
 abbrev pub wants : Occasion → Bool → Tpdo → Bool
-wants (Sync overflow counter) c t = if t.transmission_type == 0 then t.event_since_sync else (c && (nat_le t.syncs_left 1 && nat_le t.transmission_type 240))
-wants Event c t = is_event_driven t.transmission_type && (true && t.inhibit_left == 0)
-wants Tick c t = is_event_driven t.transmission_type && ((t.event_waits || t.timer_left == 1) && t.inhibit_left - 1 == 0)
+wants (Sync overflow counter) c t = if t.transmission_type.0 == 0 then t.event_since_sync else (c && (nat_le t.syncs_left 1 && is_synchronous t.transmission_type.0))
+wants Event c t = is_event_driven t.transmission_type.0 && (true && t.inhibit_left == 0)
+wants Tick c t = is_event_driven t.transmission_type.0 && ((t.event_waits || t.timer_left == 1) && t.inhibit_left - 1 == 0)
 
 -- the same, by what the dictionary says of the TPDO
 abbrev pub counted_with : Settings → Occasion → Tpdo → Tpdo

@@ -2,7 +2,8 @@
 use Rattle.std.specs.Prelude.{ℕ, Bool, is_some, List}
 use Rattle.std.specs.List.{filter, range_with_len}
 use Rattle.co_value.specs.declared.key.Key.{Key}
-use Rattle.co_profile.specs.Indices.{nth, sync_counter_overflow, tpdo_communication, tpdo_mapping}
+use Rattle.co_profile.specs.Indices.{nth, tpdo_communication, tpdo_mapping}
+pub use Rattle.co_profile.specs.Keys.{counter_overflow_key}
 use Rattle.co_dict.specs.Rows.{Rows, Contents, number_at}
 use Rattle.co_dict.specs.Stores.{Description}
 use Rattle.co_dict.specs.Places.{place_of}
@@ -19,10 +20,6 @@ tpdo_key k sub = record { index = nth tpdo_communication k; sub = sub }
 abbrev pub tpdo_count_key : ℕ → Key
 tpdo_count_key k = record { index = nth tpdo_mapping k; sub = 0 }
 
--- the synchronous counter overflow value (7.5.2.22)
-abbrev pub counter_overflow_key : Key
-counter_overflow_key = record { index = sync_counter_overflow; sub = 0 }
-
 -- TPDO k is active
 abbrev pub is_active : Contents → ℕ → Bool
 is_active contents k = is_pdo_active Tpdo contents k
@@ -32,7 +29,7 @@ is_active contents k = is_pdo_active Tpdo contents k
 abbrev pub settings_of : Contents → ℕ → Settings
 settings_of contents k = record {
   is_active = is_active contents k;
-  transmission_type = number_at contents (tpdo_key k 2);
+  transmission_type = record { 0 = number_at contents (tpdo_key k 2) };
   inhibit_time = number_at contents (tpdo_key k 3);
   event_timer = number_at contents (tpdo_key k 5);
   start_value = number_at contents (tpdo_key k 6);

@@ -10,7 +10,6 @@ mod schedule;
 mod settings;
 mod tpdo;
 mod tpdos;
-mod unsigned;
 
 pub use co_dict::{CobId, Side};
 pub use data::{PdoFault, apply, image, parts_joined};

@@ -5,10 +5,10 @@ ghost use Rattle.co_value.specs.declared.data_type.DataType.TheVariants.{Unsigne
 ghost use Rattle.co_profile.specs.FixedTypes.{fixed_type_of};
 ghost use Rattle.co_dict.specs.MappingCounts.{is_mapping_index};
 ghost use Rattle.co_pdo.specs.Mappings.{communication_of, mapping_index, has_pdo};
-ghost use Rattle.co_pdo.specs.Pdos.{cob_id_of, is_supported_type, is_pdo_active};
+ghost use Rattle.co_pdo.specs.Pdos.{cob_id_of, is_pdo_active};
 
 use co_dict::{CobId, ObjectStore, Side, number_u8, number_u32};
-use co_profile::IndexRange;
+use co_profile::{IndexRange, TransmissionType};
 use co_value::Key;
 
 /// The index of the communication parameter of PDO k.
@@ -54,13 +54,6 @@ pub fn cob_id<S: ObjectStore>(store: &S, side: Side, k: u16) -> CobId
     CobId(number_u32(store, Key { index, sub: 1 }))
 }
 
-/// Whether a transmission type is supported: 0 to 240, 254 and 255.
-pub(crate) fn is_supported(transmission_type: u8) -> bool
-    ensures { result ≡ is_supported_type transmission_type }
-{
-    transmission_type <= 240 || transmission_type == 254 || transmission_type == 255
-}
-
 /// Whether PDO k, 0 to 511, of a side is active: its COB-ID word is valid, something is mapped, and its transmission type
 /// is 0 to 240, 254 or 255 (CiA 301, 7.5.2.35 to 7.5.2.38).
 pub fn is_active<S: ObjectStore>(store: &S, side: Side, k: u16) -> bool
@@ -76,6 +69,6 @@ pub fn is_active<S: ObjectStore>(store: &S, side: Side, k: u16) -> bool
             sub: 0,
         },
     );
-    let transmission_type = number_u8(store, Key { index, sub: 2 });
-    cob_id(store, side, k).is_valid() && count != 0 && is_supported(transmission_type)
+    let kind = TransmissionType(number_u8(store, Key { index, sub: 2 }));
+    cob_id(store, side, k).is_valid() && count != 0 && kind.is_supported()
 }

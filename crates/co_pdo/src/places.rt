@@ -1,22 +1,23 @@
 //! Where the dictionary has what it says of one TPDO.
 
-ghost use Rattle.std.specs.Prelude.{◌≡◌, ◌<◌, ℕ, Some, option_map};
+ghost use Rattle.std.specs.Prelude.{◌≡◌, ◌<◌, ℕ, Some, option_map, IfSome, length};
 ghost use Rattle.co_value.specs.declared.key.Key.{Key};
+ghost use Rattle.co_value.specs.declared.data_type.DataType.{DataType};
 ghost use Rattle.co_value.specs.declared.data_type.DataType.TheVariants.{Unsigned8, Unsigned16, Unsigned32};
+ghost use Rattle.co_value.specs.Types.{width_of};
 ghost use Rattle.co_profile.specs.FixedTypes.{fixed_type_of};
 ghost use Rattle.co_dict.specs.Rows.{number_at};
 ghost use Rattle.co_dict.specs.Places.{place_of};
 ghost use Rattle.co_dict.specs.declared.side.Side.{Side};
 ghost use Rattle.co_pdo.specs.Mappings.{count_of};
 ghost use Rattle.co_pdo.specs.Pdos.{cob_id_of};
-ghost use Rattle.co_pdo.specs.Tpdos.{tpdo_key, counter_overflow_key, is_active, places_of, settings_of};
+ghost use Rattle.co_profile.specs.Keys.{counter_overflow_key};
+ghost use Rattle.co_pdo.specs.Tpdos.{tpdo_key, is_active, places_of, settings_of};
 
-use crate::pdos::is_supported;
 use crate::settings::Settings;
-use crate::unsigned::{number_of_1, number_of_2, number_of_4};
 use co_dict::{CobId, ObjectStore, place_laws, store_laws};
-use co_profile::{IndexRange, SYNC_COUNTER_OVERFLOW};
-use co_value::Key;
+use co_profile::{IndexRange, TransmissionType, keys};
+use co_value::{Key, read_u8, read_u16, read_u32};
 
 /// The places of the entries that say when a TPDO is due, `None` where there is no such entry. No call of a dictionary
 /// changes a place, so they are looked up once.
@@ -59,15 +60,30 @@ fn bytes_at<S: ObjectStore>(store: &S, place: Option<u32>) -> Option<&[u8]>
     store.bytes_at(place?)
 }
 
+/// The bytes at a place, if there is one of so many bytes.
+fn bytes_of_width<S: ObjectStore>(store: &S, place: Option<u32>, width: usize) -> Option<&[u8]>
+    ensures bytes { (key : Key) (t : DataType) → fixed_type_of key ≡ Some t →
+        width_of t ≡ Some width → place ≡ place_of (S.description store.now) key →
+        option_map (λ bytes. bytes.now) result ≡ S.contents store.now key }
+    ensures len { IfSome result (λ bytes. length bytes.now ≡ width) }
+{
+    store_laws(store);
+    let bytes = bytes_at(store, place)?;
+    if bytes.len() == width {
+        Some(bytes)
+    } else {
+        None
+    }
+}
+
 /// The number of one byte at a place, 0 where there is none.
 fn number_u8<S: ObjectStore>(store: &S, place: Option<u32>) -> u8
     ensures { (key : Key) → fixed_type_of key ≡ Some Unsigned8 →
         place ≡ place_of (S.description store.now) key →
         result ≡ number_at (S.contents store.now) key }
 {
-    store_laws(store);
-    match bytes_at(store, place) {
-        Some(bytes) => number_of_1(bytes),
+    match bytes_of_width(store, place, 1) {
+        Some(bytes) => read_u8(bytes),
         None => 0,
     }
 }
@@ -78,9 +94,8 @@ fn number_u16<S: ObjectStore>(store: &S, place: Option<u32>) -> u16
         place ≡ place_of (S.description store.now) key →
         result ≡ number_at (S.contents store.now) key }
 {
-    store_laws(store);
-    match bytes_at(store, place) {
-        Some(bytes) => number_of_2(bytes),
+    match bytes_of_width(store, place, 2) {
+        Some(bytes) => read_u16(bytes),
         None => 0,
     }
 }
@@ -91,9 +106,8 @@ fn number_u32<S: ObjectStore>(store: &S, place: Option<u32>) -> u32
         place ≡ place_of (S.description store.now) key →
         result ≡ number_at (S.contents store.now) key }
 {
-    store_laws(store);
-    match bytes_at(store, place) {
-        Some(bytes) => number_of_4(bytes),
+    match bytes_of_width(store, place, 4) {
+        Some(bytes) => read_u32(bytes),
         None => 0,
     }
 }
@@ -114,10 +128,7 @@ impl Places {
                 index: IndexRange::TPDO_MAPPING.nth(k),
                 sub: 0,
             }),
-            counter_overflow: store.place(Key {
-                index: SYNC_COUNTER_OVERFLOW,
-                sub: 0,
-            }),
+            counter_overflow: store.place(keys::SYNC_COUNTER_OVERFLOW),
         }
     }
 
@@ -138,11 +149,11 @@ impl Places {
     }
 
     /// The transmission type.
-    fn transmission_type<S: ObjectStore>(&self, store: &S) -> u8
+    fn transmission_type<S: ObjectStore>(&self, store: &S) -> TransmissionType
         ensures { (k : ℕ) → k < 512 → self.now ≡ places_of (S.description store.now) k →
-            result ≡ number_at (S.contents store.now) (tpdo_key k 2) }
+            result.0 ≡ number_at (S.contents store.now) (tpdo_key k 2) }
     {
-        number_u8(store, self.transmission_type)
+        TransmissionType(number_u8(store, self.transmission_type))
     }
 
     /// Whether the TPDO of these places is active. One that is not valid costs one read.
@@ -156,7 +167,7 @@ impl Places {
         if self.mapped(store) == 0 {
             return false;
         }
-        is_supported(self.transmission_type(store))
+        self.transmission_type(store).is_supported()
     }
 
     /// What the dictionary says of the TPDO of these places.

@@ -3,13 +3,14 @@
 ghost use Rattle.std.specs.Prelude.{◌≡◌};
 ghost use Rattle.co_pdo.specs.Due.{waits_for_none, begins_count};
 
+use co_profile::TransmissionType;
+
 /// What the dictionary says of one TPDO (CiA 301, 7.5.2.37).
 #[derive(Clone, Copy, Debug)]
 pub struct Settings {
     /// Its COB-ID word is valid, something is mapped, and its transmission type is supported.
     pub is_active: bool,
-    /// 0 to 255.
-    pub transmission_type: u8,
+    pub transmission_type: TransmissionType,
     /// In 100 µs.
     pub inhibit_time: u16,
     /// In ms; 0 is none.

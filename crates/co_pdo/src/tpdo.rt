@@ -4,7 +4,7 @@ ghost use Rattle.std.specs.Prelude.{◌≡◌, ◌<◌, ◌&&◌, [], ◌∷◌}
 ghost use Rattle.co_pdo.specs.declared.settings.Settings.{Settings};
 ghost use Rattle.co_pdo.specs.Tpdos.{places_of, settings_of};
 ghost use Rattle.co_pdo.specs.Log.{Log, Started, Happened};
-ghost use Rattle.co_pdo.specs.Due.{is_due, is_event_driven};
+ghost use Rattle.co_pdo.specs.Due.{is_due};
 ghost use Rattle.co_pdo.specs.Countdowns.{IsAfter, IsCurrent};
 ghost use Rattle.co_pdo.specs.Schedules.{is_among, with_event_if};
 ghost use Rattle.co_pdo.specs.Steps.{counts, counted, passes_over, wants, marked};
@@ -12,6 +12,7 @@ ghost use Rattle.co_pdo.specs.Steps.{counts, counted, passes_over, wants, marked
 use crate::places::Places;
 use crate::settings::{Settings, begins_count};
 use co_dict::ObjectStore;
+use co_profile::TransmissionType;
 
 /// What may happen to a TPDO.
 #[derive(Clone, Copy, Debug)]
@@ -39,7 +40,7 @@ pub struct Tpdo {
     /// k of 1800h + k, 0 to 511.
     pub number: u16,
     /// As at the last whole start.
-    pub transmission_type: u8,
+    pub transmission_type: TransmissionType,
     /// The inhibit time in ms, as at the last whole start.
     pub inhibit: u16,
     /// The event timer in ms, as at the last start, whole or of the timer.
@@ -66,7 +67,7 @@ impl Tpdo {
     {
         Tpdo {
             number,
-            transmission_type: 0,
+            transmission_type: TransmissionType(0),
             inhibit: 0,
             timer: 0,
             has_begun: false,
@@ -92,7 +93,7 @@ impl Tpdo {
                     inhibit: settings.inhibit_time.div_ceil(10),
                     timer: settings.event_timer,
                     has_begun: false,
-                    syncs_left: settings.transmission_type,
+                    syncs_left: settings.transmission_type.0,
                     event_since_sync: false,
                     event_waits: false,
                     inhibit_left: 0,
@@ -106,21 +107,13 @@ impl Tpdo {
         }
     }
 
-    /// Whether it is sent at events: types 254 and 255.
-    #[inline(always)]
-    fn is_event_driven(&self) -> bool
-        ensures { result ≡ is_event_driven self.now.transmission_type }
-    {
-        self.transmission_type == 254 || self.transmission_type == 255
-    }
-
     /// Whether it is a SYNC at a transmission type at which none counts.
     #[inline(always)]
     fn passes_over(&self, occasion: Occasion) -> bool
         ensures { result ≡ passes_over occasion self.now }
     {
         match occasion {
-            Occasion::Sync(_, _) => self.transmission_type > 240,
+            Occasion::Sync(_, _) => !self.transmission_type.is_synchronous(),
             Occasion::Event | Occasion::Tick => false,
         }
     }
@@ -153,28 +146,30 @@ impl Tpdo {
                 self.has_begun = counts;
                 if counts {
                     self.syncs_left = if is_last {
-                        self.transmission_type
+                        self.transmission_type.0
                     } else {
                         self.syncs_left - 1
                     };
                 }
                 self.event_since_sync = false;
-                if self.transmission_type == 0 {
+                if self.transmission_type.0 == 0 {
                     event
                 } else {
-                    counts && is_last && self.transmission_type <= 240
+                    counts && is_last && self.transmission_type.is_synchronous()
                 }
             }
             Occasion::Event => {
                 self.event_since_sync = true;
                 self.event_waits = true;
-                self.is_event_driven() && self.inhibit_left == 0
+                self.transmission_type.is_event_driven() && self.inhibit_left == 0
             }
             Occasion::Tick => {
                 self.event_waits = self.event_waits || self.timer_left == 1;
                 self.inhibit_left = self.inhibit_left.saturating_sub(1);
                 self.timer_left = self.timer_left.saturating_sub(1);
-                self.is_event_driven() && self.event_waits && self.inhibit_left == 0
+                self.transmission_type.is_event_driven()
+                    && self.event_waits
+                    && self.inhibit_left == 0
             }
         }
     }

@@ -3,7 +3,8 @@
 ghost use Rattle.std.specs.Prelude.{◌≡◌, ℕ, ◌<◌, ◌≤◌, ◌==◌, ◌&&◌, List, [], length, map, position, IfOk};
 ghost use Rattle.std.specs.List.{filter, slice_index_or};
 ghost use Rattle.co_dict.specs.Rows.{number_at};
-ghost use Rattle.co_pdo.specs.Tpdos.{counter_overflow_key, settings_of, tpdos_of};
+ghost use Rattle.co_profile.specs.Keys.{counter_overflow_key};
+ghost use Rattle.co_pdo.specs.Tpdos.{settings_of, tpdos_of};
 ghost use Rattle.co_pdo.specs.Log.{Log};
 ghost use Rattle.co_pdo.specs.Due.{is_due};
 ghost use Rattle.co_pdo.specs.Schedules.{IsTable, ArePlaces, AllAfter, AllCurrentAfter, is_among, with_occasion, with_whole_start, with_events_among};

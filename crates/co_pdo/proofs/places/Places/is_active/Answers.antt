@@ -5,7 +5,8 @@ use Rattle.co_dict.specs.Rows.{Contents, number_at}
 use Rattle.co_dict.specs.CobIds.{is_valid}
 use Rattle.co_dict.specs.declared.side.Side.TheVariants as side
 use Rattle.co_pdo.specs.Mappings.{count_of}
-use Rattle.co_pdo.specs.Pdos.{cob_id_of, is_supported_type}
+use Rattle.co_profile.specs.TransmissionTypes.{is_supported_type}
+use Rattle.co_pdo.specs.Pdos.{cob_id_of}
 use Rattle.co_pdo.specs.Tpdos.{tpdo_key, is_active}
 use Rattle.co_pdo.proofs.places.Places.is_active.Goals as goal
 
@@ -34,4 +35,4 @@ pub returns : goal.returns
 returns g c = λ k lt at.
     c.is_supported.ensures
     ∙ sym (some_mapped (is_valid c.cob_id.result.0) _ c.mapped.result (sym c.is_valid.ensures ∙ c.if-not-is_valid.false) c.if-mapped-eq0.false)
-    ∙ by_numbers (g.S.ObjectStore.contents c.args.store.now) k c.cob_id.result.0 c.mapped.result c.transmission_type.result (c.cob_id.ensures k lt at) (c.mapped.ensures k lt at) (c.transmission_type.ensures k lt at)
+    ∙ by_numbers (g.S.ObjectStore.contents c.args.store.now) k c.cob_id.result.0 c.mapped.result c.transmission_type.result.0 (c.cob_id.ensures k lt at) (c.mapped.ensures k lt at) (c.transmission_type.ensures k lt at)

@@ -2,7 +2,7 @@ use Rattle.std.proofs.Common.{◌≡◌, ◌<◌, refl, sym, subst, length, arit
 use Rattle.co_pdo.specs.declared.tpdo.Tpdo.{Tpdo}
 use Rattle.std.specs.Prelude.{List}
 use Rattle.co_dict.specs.Rows.{number_at}
-use Rattle.co_pdo.specs.Tpdos.{counter_overflow_key}
+use Rattle.co_profile.specs.Keys.{counter_overflow_key}
 use Rattle.co_pdo.specs.Schedules.{IsTable, OnSync, sync_with}
 use Rattle.co_pdo.proofs.Histories.{timetable_kept, same_timetable, all_due_is, after_occasion, all_written, due_with, after_with, overflow_of}
 use Rattle.co_pdo.proofs.schedule.Schedule.on_sync.Goals as goal
