@@ -6,11 +6,11 @@ use Rattle.co_sheet_rows.specs.FaultTexts.{fault_number as sheet_number}
 use Rattle.co_sheet.specs.Accepted.{IsAnswered, first_fault}
 use Rattle.co_sheet.specs.Content.{SheetContent, IsSheet, IsWhole}
 use Rattle.co_dict.specs.Stores.{IsGreatestCapacity}
-use Rattle.co_dict_list.specs.declared.build_fault.BuildFault.{BuildFault}
-use Rattle.co_dict_list.specs.declared.build_fault.BuildFault.TheVariants.{NodeId, ValueRange, BadCobId, PdoPair, BadMapping, TooMany, Memory}
-use Rattle.co_dict_list.specs.BuildFaultTexts.{fault_number}
-use Rattle.co_dict_list.specs.BuildFaults.{IsBuildFault, build_fault}
-use Rattle.co_dict_list.specs.Built.{Plan, plan_of, built_description}
+use Rattle.co_dict_build.specs.declared.build_fault.BuildFault.{BuildFault}
+use Rattle.co_dict_build.specs.declared.build_fault.BuildFault.TheVariants.{NodeId, ValueRange, BadCobId, PdoPair, BadMapping, TooMany, Memory}
+use Rattle.co_dict_build.specs.BuildFaultTexts.{fault_number}
+use Rattle.co_dict_build.specs.BuildFaults.{IsBuildFault, build_fault}
+use Rattle.co_dict_build.specs.Built.{Plan, plan_of, built_description}
 use Rattle.co_node.specs.Nodes.{Stands, node_constants}
 use Rattle.bafokun.specs.declared.build.Settings.{Settings}
 use Rattle.bafokun.specs.declared.build.Fault.{Fault}

@@ -6,7 +6,7 @@ ghost use Rattle.bafokun.specs.Devices.{IsEmpty};
 
 use crate::handle::Handle;
 use crate::held::Held;
-use co_dict_list::{BuildFault, Limits};
+use co_dict_build::{BuildFault, Limits};
 use co_frame::Outbox;
 use co_node::{Config, Node};
 use co_sheet::{SheetFault, read};

@@ -10,13 +10,13 @@ use Rattle.co_dict.specs.CobIds.{has_bit_31, identifier_of}
 use Rattle.co_dict.specs.FreeIds.{is_good_sync_word, is_good_word}
 use Rattle.co_dict.specs.Rows.{Contents, number_at}
 use Rattle.co_dict.specs.Stores.{Description}
-use Rattle.co_dict_list.specs.declared.build_fault.BuildFault.{BuildFault}
-use Rattle.co_dict_list.specs.declared.build_fault.BuildFault.TheVariants.{BadCobId, NodeId}
-use Rattle.co_dict_list.specs.Built.{Plan, built, built_contents, built_description}
-use Rattle.co_dict_list.specs.BuildFaults.{bad_cob_id, build_fault, fault_if, is_bad_cob_id, is_node}
-use Rattle.co_dict_list.specs.ListedEntries.{ListedEntry, entry_at, keys_in}
-use Rattle.co_dict_list.proofs.Plans.{begins_initially}
-use Rattle.co_node_model.specs.Keys.{emergency_key, sync_key}
+use Rattle.co_dict_build.specs.declared.build_fault.BuildFault.{BuildFault}
+use Rattle.co_dict_build.specs.declared.build_fault.BuildFault.TheVariants.{BadCobId, NodeId}
+use Rattle.co_dict_build.specs.Built.{Plan, built, built_contents, built_description}
+use Rattle.co_dict_build.specs.BuildFaults.{bad_cob_id, build_fault, fault_if, is_bad_cob_id, is_node}
+use Rattle.co_dict_build.specs.ListedEntries.{ListedEntry, entry_at, keys_in}
+use Rattle.co_dict_build.proofs.Plans.{begins_initially}
+use Rattle.co_profile.specs.Keys.{emergency_key, sync_key}
 use Rattle.co_node_model.specs.Moments.{Constants}
 use Rattle.co_node_laws.specs.Apart.{AreApart, BeginsApart}
 use Rattle.co_node.specs.Built.{IsBuilt}

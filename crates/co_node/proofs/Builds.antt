@@ -5,7 +5,7 @@ use Rattle.co_value.specs.declared.key.Key.{Key}
 use Rattle.co_dict.specs.declared.row.Row.{Row}
 use Rattle.co_dict.specs.Rows.{Rows, Contents}
 use Rattle.co_dict.specs.Stores.{Description, IsGreatestCapacity}
-use Rattle.co_dict_list.specs.Built.{Plan, built_description, built_contents}
+use Rattle.co_dict_build.specs.Built.{Plan, built_description, built_contents}
 use Rattle.co_node_model.specs.Moments.{Constants}
 use Rattle.co_node_device.specs.declared.parts.Parts.{Parts}
 use Rattle.co_node_device.specs.Built.{constants_of}

@@ -9,9 +9,9 @@ use Rattle.co_sheet.specs.Limits.{number}
 use Rattle.co_dict.specs.SdoChannels.{is_sdo_id}
 use Rattle.co_dict.specs.Objects.{has_object, subs_present}
 use Rattle.co_dict.proofs.ExampleDevice.{at}
-use Rattle.co_dict_list.specs.declared.build_fault.BuildFault.TheVariants.{BadCobId}
-use Rattle.co_dict_list.specs.Built.{Plan, built_contents, built_description}
-use Rattle.co_dict_list.specs.BuildFaults.{build_fault, is_used_before}
+use Rattle.co_dict_build.specs.declared.build_fault.BuildFault.TheVariants.{BadCobId}
+use Rattle.co_dict_build.specs.Built.{Plan, built_contents, built_description}
+use Rattle.co_dict_build.specs.BuildFaults.{build_fault, is_used_before}
 use Rattle.co_node_model.specs.Moments.{Constants}
 use Rattle.co_node.specs.Built.{IsBuilt}
 

@@ -1,7 +1,7 @@
 -- A device built from a data sheet.
 use Rattle.std.specs.Prelude.{◌≡◌, None}
-use Rattle.co_dict_list.specs.Built.{Plan, built_contents, built_description}
-use Rattle.co_dict_list.specs.BuildFaults.{build_fault}
+use Rattle.co_dict_build.specs.Built.{Plan, built_contents, built_description}
+use Rattle.co_dict_build.specs.BuildFaults.{build_fault}
 use Rattle.co_node_model.specs.Moments.{Constants}
 
 -- a device built from a data sheet that makes a dictionary without a fault: what never changes of it, and its first

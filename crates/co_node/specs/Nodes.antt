@@ -5,9 +5,9 @@ use Rattle.co_dict.specs.Stores.{Description}
 use Rattle.co_sheet.specs.Content.{SheetContent}
 use Rattle.co_dict_image.specs.declared.image_store.ImageStore.{ImageStore}
 use Rattle.co_dict_image.specs.Slots.{entries_in}
-use Rattle.co_dict_list.specs.Built.{Plan, plan_of, built_description, built_contents}
-use Rattle.co_dict_list.specs.Capacities.{limits_view}
-use Rattle.co_dict_list.specs.ListedEntries.{description_in, contents_in}
+use Rattle.co_dict_build.specs.Built.{Plan, plan_of, built_description, built_contents}
+use Rattle.co_dict_build.specs.Capacities.{limits_view}
+use Rattle.co_dict_build.specs.ListedEntries.{description_in, contents_in}
 use Rattle.co_node_model.specs.Inputs.{Inputs}
 use Rattle.co_node_model.specs.Moments.{Constants}
 use Rattle.co_node_device.specs.Built.{constants_of}

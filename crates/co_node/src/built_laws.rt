@@ -3,7 +3,7 @@
 ghost use Rattle.std.specs.Prelude.{◌≡◌, ℕ, true, List, length};
 ghost use Rattle.co_value.specs.declared.key.Key.{Key};
 ghost use Rattle.co_dict.specs.Rows.{written};
-ghost use Rattle.co_dict_list.specs.Built.{Plan};
+ghost use Rattle.co_dict_build.specs.Built.{Plan};
 ghost use Rattle.co_sdo_client.specs.declared.mode.Mode.{Mode};
 ghost use Rattle.co_sdo_client.specs.declared.state.ClientState.TheVariants.{Done};
 ghost use Rattle.co_sdo_client.specs.Calls.{Download};

@@ -1,6 +1,6 @@
 //! What a data sheet leaves open of a device.
 
-use co_dict_list::Limits;
+use co_dict_build::Limits;
 
 /// What a data sheet leaves open of a device, besides its node-ID.
 #[derive(Clone, Copy, Debug, PartialEq, Eq, Hash)]

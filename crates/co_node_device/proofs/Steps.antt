@@ -22,7 +22,7 @@ use Rattle.co_node_parts.specs.Producers.{Producer, ProducerStands, is_heartbeat
 use Rattle.co_node_parts.specs.RpdoSlots.{SlotContent, SlotsStand}
 use Rattle.co_node_parts.specs.declared.rpdo_slots.SlotEvent.{SlotEvent}
 use Rattle.co_node_model.specs.Inputs.{InputView}
-use Rattle.co_node_model.specs.Keys.{emergency_inhibit_key}
+use Rattle.co_profile.specs.Keys.{emergency_inhibit_key}
 use Rattle.co_node_model.specs.Rpdos.{slot_event, slot_log}
 use Rattle.co_node_model.specs.Tpdos.{turn_of, schedule_log, turn_at, due_at, with_turn}
 use Rattle.co_node_model.specs.Heartbeats.{consumers_call, life_of, producer_event, consumers_log, producer_log, loss_errors, loss_event}

@@ -4,7 +4,7 @@ use Rattle.std.specs.Prelude.{ℕ, Option, List, ◌≡◌, ◌<◌, length, IfS
 use Rattle.std.specs.List.{slice_index_or}
 use Rattle.co_dict.specs.Rows.{Contents, number_at}
 use Rattle.co_node_model.specs.Rpdos.{rpdo_with}
-use Rattle.co_node_model.specs.Keys.{sync_key}
+use Rattle.co_profile.specs.Keys.{sync_key}
 
 -- the word of 1005h, and numbers of RPDOs by their identifiers
 pub record TableContent : Type 0 where

@@ -13,12 +13,11 @@ ghost use Rattle.co_sdo_bank.specs.Banks.{BankStands};
 ghost use Rattle.co_node_model.specs.Moments.{Constants, History, channels, contents_at};
 ghost use Rattle.co_node_model.specs.Sdo.{channel_logs};
 
-use crate::keys::SYNC_COB_ID;
 use co_dict::{CobId, ObjectStore, Side, number_u32};
 use co_frame::Frame;
 use co_node_model::{Address, Marks};
 use co_pdo::{cob_id, is_active};
-use co_profile::IndexRange;
+use co_profile::{IndexRange, keys};
 use co_sdo_bank::Bank;
 use co_value::Key;
 use std::alloc::{AllocError, Global};
@@ -41,7 +40,7 @@ fn is_address_set(set: Option<Key>) -> bool
 {
     match set {
         Some(key) => {
-            key == SYNC_COB_ID
+            key == keys::SYNC_COB_ID
                 || IndexRange::RPDO_COMMUNICATION.contains(key.index)
                 || IndexRange::RPDO_MAPPING.contains(key.index)
         }
@@ -129,7 +128,7 @@ impl AddressTable {
         let mut numbers = vec![in alloc; None; IDENTIFIERS]?;
         fill(&mut numbers, store);
         Ok(AddressTable {
-            sync: number_u32(store, SYNC_COB_ID),
+            sync: number_u32(store, keys::SYNC_COB_ID),
             numbers: numbers.into_boxed_slice(),
         })
     }
@@ -143,7 +142,7 @@ impl AddressTable {
             IsTableOf (S.contents store.now) self.new }
     {
         if may_change_addresses(marks) {
-            self.sync = number_u32(store, SYNC_COB_ID);
+            self.sync = number_u32(store, keys::SYNC_COB_ID);
             fill(&mut self.numbers, store);
         } else {
             addresses_by_entries();

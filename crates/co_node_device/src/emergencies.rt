@@ -6,19 +6,19 @@ ghost use Rattle.co_node_model.specs.Emergencies.{cleared, clearing_of, emergenc
 ghost use Rattle.std.specs.List.{cons_option};
 ghost use Rattle.co_frame.specs.Outboxes.{outbox_room};
 ghost use Rattle.co_dict.specs.Rows.{number_at};
-ghost use Rattle.co_node_model.specs.Keys.{emergency_inhibit_key};
+ghost use Rattle.co_profile.specs.Keys.{emergency_inhibit_key};
 
-use crate::keys::{EMERGENCY_COB_ID, EMERGENCY_INHIBIT, ERROR_REGISTER};
 use co_dict::{CobId, ObjectStore, number_u8, number_u16, number_u32, push_error, set_u8};
 use co_frame::{Emergency, Outbox};
 use co_node_model::{DeviceError, Marks};
 use co_node_parts::{Emergencies, EmergencyEvent, NodeState};
+use co_profile::keys;
 
 /// The error register, 0 where there is none.
 fn error_register<S: ObjectStore>(store: &S) -> u8
     ensures { result ≡ error_register (S.contents store.now) }
 {
-    number_u8(store, ERROR_REGISTER)
+    number_u8(store, keys::ERROR_REGISTER)
 }
 
 /// Sets the error register, where there is one.
@@ -27,7 +27,7 @@ fn set_register<S: ObjectStore>(store: &mut S, register: u8)
         ≡ with_register (S.description store.old).rows register (S.contents store.old) }
     ensures description { S.description store.new ≡ S.description store.old }
 {
-    set_u8(store, ERROR_REGISTER, register);
+    set_u8(store, keys::ERROR_REGISTER, register);
 }
 
 /// Raises the error: sets its bits in the error register, puts its code in front of the pre-defined
@@ -122,7 +122,7 @@ fn may_send<S: ObjectStore>(marks: &Marks, store: &S, after: NodeState) -> bool
     ensures { result ≡ may_send marks.now after (S.contents store.now) }
 {
     after != NodeState::Stopped
-        && CobId(number_u32(store, EMERGENCY_COB_ID)).is_valid()
+        && CobId(number_u32(store, keys::EMERGENCY_COB_ID)).is_valid()
         && !marks.timed_out
 }
 
@@ -145,7 +145,7 @@ pub(crate) fn take_emergency<S: ObjectStore>(
         return None;
     }
     let may = may_send(marks, store, after);
-    let inhibit = number_u16(store, EMERGENCY_INHIBIT);
+    let inhibit = number_u16(store, keys::EMERGENCY_INHIBIT_TIME);
     emergencies.send(may, inhibit)
 }
 
@@ -161,7 +161,7 @@ pub(crate) fn send_emergency<S: ObjectStore>(
         outbox.new.items ≡ outbox.old.items ++ emergency_frames (S.contents store.now) emergency }
 {
     if let Some(emergency) = emergency {
-        let id = CobId(number_u32(store, EMERGENCY_COB_ID)).identifier();
+        let id = CobId(number_u32(store, keys::EMERGENCY_COB_ID)).identifier();
         let _ = outbox.try_push(emergency.write(id));
     }
 }

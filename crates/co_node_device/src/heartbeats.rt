@@ -5,7 +5,8 @@ ghost use Rattle.co_dict.specs.Rows.{Contents, number_at};
 ghost use Rattle.co_node_model.specs.Inputs.{InputView};
 ghost use Rattle.co_node_model.specs.Heartbeats.{with_error_control, consumers_event, producer_event, life_of, consumers_call, consumer_words, loss_errors, loss_event, life_frames};
 ghost use Rattle.co_node_model.specs.Moments.{nothing_of, quiet};
-ghost use Rattle.co_node_model.specs.Keys.{is_set, producer_key};
+ghost use Rattle.co_node_model.specs.Keys.{is_set};
+ghost use Rattle.co_profile.specs.Keys.{producer_key};
 ghost use Rattle.co_node_parts.specs.ConsumerTables.{AllBegun, ConsumersLog, ConsumersStand};
 ghost use Rattle.co_node_parts.specs.EmergencyQueues.{EmergencyLog, EmergenciesStand, with_queued};
 ghost use Rattle.co_node_model.specs.Emergencies.{all_raised, emergencies_of};
@@ -15,7 +16,6 @@ ghost use Rattle.co_node_parts.specs.Producers.{ProducerStands};
 ghost use Rattle.co_frame.specs.Outboxes.{outbox_room};
 
 use crate::emergencies::raise_and_queue;
-use crate::keys::{COMMUNICATION_ERROR, PRODUCER_HEARTBEAT_TIME};
 use arrayvec::ArrayVec;
 use co_dict::{ObjectStore, number_u8, number_u16, number_u32};
 use co_frame::{Frame, Heartbeat, Outbox};
@@ -24,7 +24,7 @@ use co_node_parts::{
     ConsumersEvent, Emergencies, HeartbeatConsumers, HeartbeatProducer, LossReaction,
     LostHeartbeats, NodeState, ProducerEvent, StateEvent,
 };
-use co_profile::CONSUMER_HEARTBEAT;
+use co_profile::{CONSUMER_HEARTBEAT, keys};
 use co_value::Key;
 
 /// A heartbeat of another node, which a boot-up isn't, is heard (CiA 301, 7.2.8.3.2).
@@ -146,7 +146,7 @@ pub(crate) fn watch<S: ObjectStore>(
     if lost.is_empty() {
         return StateEvent::Quiet;
     }
-    let reaction = LossReaction::from_code(number_u8(store, COMMUNICATION_ERROR));
+    let reaction = LossReaction::from_code(number_u8(store, keys::COMMUNICATION_ERROR));
     raise_losses(store, emergencies, lost);
     StateEvent::HeartbeatLost(reaction)
 }
@@ -167,8 +167,8 @@ fn is_set(marks: &Marks, key: Key) -> bool
 pub(crate) fn producer_event<S: ObjectStore>(marks: &Marks, store: &S) -> ProducerEvent
     ensures { result ≡ producer_event marks.now (S.contents store.now) }
 {
-    if marks.is_reset() || is_set(marks, PRODUCER_HEARTBEAT_TIME) {
-        ProducerEvent::Begin(number_u16(store, PRODUCER_HEARTBEAT_TIME))
+    if marks.is_reset() || is_set(marks, keys::PRODUCER_HEARTBEAT) {
+        ProducerEvent::Begin(number_u16(store, keys::PRODUCER_HEARTBEAT))
     } else if marks.ticked {
         ProducerEvent::Tick
     } else {
@@ -196,7 +196,7 @@ pub(crate) fn begun_producer<S: ObjectStore>(store: &S) -> HeartbeatProducer
         (ProducerEvent.Begin (number_at (S.contents store.now) producer_key) ∷ []) }
 {
     let mut producer = HeartbeatProducer::new();
-    let time = number_u16(store, PRODUCER_HEARTBEAT_TIME);
+    let time = number_u16(store, keys::PRODUCER_HEARTBEAT);
     producer.note(ProducerEvent::Begin(time));
     producer
 }

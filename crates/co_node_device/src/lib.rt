@@ -8,7 +8,6 @@ mod device;
 mod emergencies;
 mod given;
 mod heartbeats;
-mod keys;
 mod mapping_table;
 mod mappings;
 mod nmt;

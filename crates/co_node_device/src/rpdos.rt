@@ -24,7 +24,7 @@ use co_node_laws::settings_kept;
 use co_node_model::{DeviceError, Marks};
 use co_node_parts::{Emergencies, KeptFrame, NodeState, RpdoSlots, SlotEvent, Transition};
 use co_pdo::PdoFault;
-use co_profile::{IndexRange, PDO_COB_ID, TRANSMISSION_TYPE};
+use co_profile::{IndexRange, PDO_COB_ID, TRANSMISSION_TYPE, TransmissionType};
 use co_value::Key;
 
 /// An RPDO's frame counts in operational (CiA 301, 7.2.2).
@@ -108,7 +108,7 @@ fn kept_by(kind: u8, mapped: usize, rpdo: &Option<KeptFrame>) -> SlotEvent
     let Some(rpdo) = rpdo else {
         return SlotEvent::Quiet;
     };
-    if kind <= 240 && !is_short(mapped, rpdo) {
+    if TransmissionType(kind).is_synchronous() && !is_short(mapped, rpdo) {
         SlotEvent::Keep(rpdo.number, rpdo.frame)
     } else {
         SlotEvent::Quiet
@@ -166,7 +166,7 @@ fn is_immediate(kind: u8, mapped: usize, rpdo: &Option<KeptFrame>) -> bool
     let Some(rpdo) = rpdo else {
         return false;
     };
-    (kind == 254 || kind == 255) && !is_short(mapped, rpdo)
+    TransmissionType(kind).is_event_driven() && !is_short(mapped, rpdo)
 }
 
 /// Raises the error of data that took effect, if they have one, and queues its emergency.

@@ -7,11 +7,11 @@ ghost use Rattle.co_node_model.specs.Sync.{with_sync, counter_in, sync_length, s
 ghost use Rattle.co_node_model.specs.Moments.{nothing_of, quiet};
 ghost use Rattle.std.specs.List.{cons_option};
 
-use crate::keys::COUNTER_OVERFLOW;
 use co_dict::{ObjectStore, number_u8};
 use co_frame::{Frame, Sync};
 use co_node_model::{DeviceError, Marks};
 use co_node_parts::NodeState;
+use co_profile::keys;
 
 /// A SYNC counts unless the device is stopped (CiA 301, 7.2.5).
 #[inline(always)]
@@ -44,7 +44,7 @@ pub(crate) fn counter_in(frame: &Frame) -> Option<u8>
 fn sync_length<S: ObjectStore>(store: &S) -> usize
     ensures { result ≡ sync_length (S.contents store.now) }
 {
-    if number_u8(store, COUNTER_OVERFLOW) == 0 {
+    if number_u8(store, keys::SYNC_COUNTER_OVERFLOW) == 0 {
         0
     } else {
         1

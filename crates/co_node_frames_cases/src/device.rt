@@ -1,7 +1,7 @@
 //! The device of the table of replies, and what it does with frames in text.
 
 use arrayvec::ArrayVec;
-use co_dict_list::Limits;
+use co_dict_build::Limits;
 use co_frame::{Frame, Outbox};
 use co_node::{AppEvent, Config, Input, Node};
 use co_sdo_states::SHEET;

@@ -25,7 +25,7 @@ use Rattle.co_node_parts.specs.declared.nmt_state.NodeState.TheVariants.{Operati
 use Rattle.co_node_model.specs.Sync.{is_sync_id}
 use Rattle.co_node_model.specs.AppEvents.{event_refusal, with_app_event}
 use Rattle.co_node_model.specs.Inputs.{AppView, Applied, ChangedAt, Cleared, EventOn, Framed, InputView, Inputs, Raised, Ticked, Written}
-use Rattle.co_node_model.specs.Keys.{emergency_key, sync_key}
+use Rattle.co_profile.specs.Keys.{emergency_key, sync_key}
 use Rattle.co_node_model.specs.Nmt.{is_reset, state_at, after_service, service_for}
 use Rattle.co_node_model.specs.declared.address.Address.{Address}
 use Rattle.co_node_model.specs.declared.address.Address.TheVariants.{Channel, ErrorControl, Nmt, Nobody, Rpdo, Sync}

@@ -35,7 +35,8 @@ use Rattle.co_node_model.specs.declared.turn.Turn.TheVariants as turn
 use Rattle.co_node_model.specs.Tpdos.{numbers_asked, part_started, start_turn, turn_with, schedule_log, due_at, tpdo_frame, tpdo_count}
 use Rattle.co_node_model.specs.Inputs.{InputView, Inputs, AppView, Framed, Ticked, Applied, Written, EventOn, ChangedAt, Raised, Cleared}
 use Rattle.co_node_model.specs.AppEvents.{event_refusal, with_app_event}
-use Rattle.co_node_model.specs.Keys.{emergency_key, producer_key, is_set}
+use Rattle.co_node_model.specs.Keys.{is_set}
+use Rattle.co_profile.specs.Keys.{emergency_key, producer_key}
 use Rattle.co_node_model.specs.Nmt.{is_reset, state_at}
 use Rattle.co_node_model.specs.Moments.{Constants, Moment, History, channels, contents_at, nothing_of}
 use Rattle.co_node_model.specs.Sdo.{channel_logs}

@@ -19,7 +19,8 @@ use Rattle.co_node_parts.specs.RpdoSlots.{SlotLog, taken_at, all_kept}
 use Rattle.co_node_model.specs.declared.address.Address.{Address}
 use Rattle.co_node_model.specs.declared.address.Address.TheVariants.{Nmt, Sync, Channel, Rpdo, ErrorControl, Nobody}
 use Rattle.co_node_model.specs.Sync.{is_sync_id, sync_errors, with_sync}
-use Rattle.co_node_model.specs.Rpdos.{rpdo_type, rpdo_with, is_synchronous, is_short, slot_event, rpdo_errors, immediate, after_all_data, slot_log, with_rpdo, with_pdos}
+use Rattle.co_node_model.specs.Rpdos.{rpdo_type, rpdo_with, is_short, slot_event, rpdo_errors, immediate, after_all_data, slot_log, with_rpdo, with_pdos}
+use Rattle.co_profile.specs.TransmissionTypes.{is_synchronous}
 use Rattle.co_node_model.specs.Addresses.{is_error_control, address_unless_rpdo, address_unless_channel, address_at}
 use Rattle.co_node_model.specs.AppEvents.{event_refusal}
 use Rattle.co_node_model.specs.Inputs.{InputView, Inputs, AppView, Framed, Ticked, Applied}

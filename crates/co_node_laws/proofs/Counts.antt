@@ -18,7 +18,8 @@ use Rattle.co_node_model.specs.declared.address.Address.TheVariants.{Nmt, Sync, 
 use Rattle.co_node_model.specs.declared.marks.Marks.{Marks}
 use Rattle.co_node_model.specs.declared.turn.Turn.TheVariants.{Quiet, StartAll}
 use Rattle.co_node_model.specs.Inputs.{InputView, Inputs, Framed}
-use Rattle.co_node_model.specs.Keys.{producer_key, is_set}
+use Rattle.co_node_model.specs.Keys.{is_set}
+use Rattle.co_profile.specs.Keys.{producer_key}
 use Rattle.co_node_model.specs.Nmt.{is_reset, state_at}
 use Rattle.co_node_model.specs.Emergencies.{emergency_event, emergency_frames}
 use Rattle.co_node_model.specs.Heartbeats.{producer_event, life_of, producer_log, is_heartbeat, life_frames}

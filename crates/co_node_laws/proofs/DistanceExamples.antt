@@ -3,7 +3,8 @@ use Rattle.std.proofs.Common.{◌≡◌, true, false, [], ◌∷◌, Some, None,
 use Rattle.co_frame.specs.declared.heartbeat.Heartbeat.TheVariants.{PreOperational}
 use Rattle.co_profile.specs.declared.access.Access.TheVariants.{Rw}
 use Rattle.co_pdo.specs.Due.{event_waits}
-use Rattle.co_node_model.specs.Rpdos.{rpdo_type, is_synchronous, is_short}
+use Rattle.co_node_model.specs.Rpdos.{rpdo_type, is_short}
+use Rattle.co_profile.specs.TransmissionTypes.{is_synchronous}
 use Rattle.co_node_model.specs.Inputs.{Ticked}
 use Rattle.co_node_model.specs.declared.address.Address.TheVariants.{Sync, Rpdo}
 use Rattle.co_node_model.specs.declared.turn.Turn.TheVariants as turn

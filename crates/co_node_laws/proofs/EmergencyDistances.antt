@@ -7,7 +7,7 @@ use Rattle.co_dict.specs.Rows.{number_at}
 use Rattle.co_node_parts.specs.declared.emergencies.EmergencyEvent.TheVariants.{Empty, Tick, Quiet}
 use Rattle.co_node_parts.specs.EmergencyQueues.{EmergencyLog, Noted, Sending, older, is_past, queue_of, sendings, with_queued, with_sending}
 use Rattle.co_node_model.specs.Inputs.{InputView, Inputs}
-use Rattle.co_node_model.specs.Keys.{emergency_inhibit_key}
+use Rattle.co_profile.specs.Keys.{emergency_inhibit_key}
 use Rattle.co_node_model.specs.Nmt.{is_reset}
 use Rattle.co_node_model.specs.Emergencies.{may_send, unsent_log, emergency_log}
 use Rattle.co_node_model.specs.Moments.{Constants, Moment}

@@ -3,7 +3,7 @@ use Rattle.std.proofs.Common.{◌≡◌, ℕ, ◌+◌, ◌%◌, Bool, true, fals
 use Rattle.std.specs.Prelude.{◌==◌, ◌&&◌, nat_lt}
 use Rattle.co_frame.specs.declared.heartbeat.Heartbeat.TheVariants.{BootUp}
 use Rattle.co_dict.specs.Rows.{number_at}
-use Rattle.co_node_model.specs.Keys.{producer_key}
+use Rattle.co_profile.specs.Keys.{producer_key}
 use Rattle.co_node_parts.specs.declared.heartbeat_producer.ProducerEvent.TheVariants as producer
 use Rattle.co_node_parts.specs.NmtStates.{heartbeat_of}
 use Rattle.co_node_parts.specs.Producers.{ProducerLog, period_of, ticks, is_heartbeat_due}

@@ -21,7 +21,7 @@ use Rattle.co_sdo_laws.proofs.Turns.{Turns}
 use Rattle.co_node_parts.specs.declared.nmt_state.NodeState.TheVariants.{Stopped}
 use Rattle.co_node_parts.specs.NmtStates.{is_state}
 use Rattle.co_node_model.specs.Inputs.{Inputs, Framed}
-use Rattle.co_node_model.specs.Keys.{emergency_key}
+use Rattle.co_profile.specs.Keys.{emergency_key}
 use Rattle.co_node_model.specs.Sdo.{channel_logs}
 use Rattle.co_node_model.specs.Device.{contents_of, moments, prescribed, state_of}
 use Rattle.co_node_model.specs.Emergencies.{emergency_frames}

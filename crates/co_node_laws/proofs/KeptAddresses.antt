@@ -8,7 +8,7 @@ use Rattle.co_dict.specs.Rows.{Contents}
 use Rattle.co_dict.specs.Stores.{Description}
 use Rattle.co_node_model.specs.Inputs.{InputView, Inputs}
 use Rattle.co_node_model.specs.Addresses.{is_address_set, is_rpdo_key, may_change_addresses}
-use Rattle.co_node_model.specs.Keys.{sync_key}
+use Rattle.co_profile.specs.Keys.{sync_key}
 use Rattle.co_node_model.specs.Nmt.{is_reset}
 use Rattle.co_node_model.specs.Moments.{Constants, contents_at}
 use Rattle.co_node_model.specs.Device.{moment, moments, contents_of}

@@ -24,7 +24,8 @@ use Rattle.co_node_model.specs.declared.marks.Marks.{Marks}
 use Rattle.co_node_model.specs.declared.turn.Turn.TheVariants as turn
 use Rattle.co_node_model.specs.Sync.{is_sync_id}
 use Rattle.co_node_model.specs.Inputs.{Inputs, Framed}
-use Rattle.co_node_model.specs.Keys.{emergency_key, producer_key, is_set}
+use Rattle.co_node_model.specs.Keys.{is_set}
+use Rattle.co_profile.specs.Keys.{emergency_key, producer_key}
 use Rattle.co_node_model.specs.Tpdos.{part_started, start_turn, turn_by_write, turn_of, turn_with, schedule_log, due_at}
 use Rattle.co_node_model.specs.Moments.{quiet, Constants, Moment, History, channels, contents_at, nothing_of}
 use Rattle.co_node_model.specs.Nmt.{is_reset, state_event, state_at, state_log, transition_of}

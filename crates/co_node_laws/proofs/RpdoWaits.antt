@@ -15,7 +15,8 @@ use Rattle.co_node_parts.specs.declared.rpdo_slots.SlotEvent.{SlotEvent}
 use Rattle.co_node_parts.specs.declared.rpdo_slots.SlotEvent.TheVariants as slot
 use Rattle.co_node_parts.specs.NmtStates.{leaves, is_state}
 use Rattle.co_node_parts.specs.RpdoSlots.{SlotLog, kept_of, taken_at, all_kept}
-use Rattle.co_node_model.specs.Rpdos.{rpdo_type, is_synchronous, is_short, empties_slot, emptied_by, kept_by, slot_event, immediate, slot_log, with_rpdo, with_pdos}
+use Rattle.co_node_model.specs.Rpdos.{rpdo_type, is_short, empties_slot, emptied_by, kept_by, slot_event, immediate, slot_log, with_rpdo, with_pdos}
+use Rattle.co_profile.specs.TransmissionTypes.{is_synchronous}
 use Rattle.co_node_model.specs.Inputs.{InputView, Inputs, Framed}
 use Rattle.co_node_model.specs.Nmt.{is_reset, state_at, transition_of}
 use Rattle.co_node_model.specs.Heartbeats.{consumers_call, consumers_log, lost_by, with_lost, with_losses}

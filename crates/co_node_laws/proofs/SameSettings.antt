@@ -8,7 +8,7 @@ use Rattle.co_value.specs.Keys.{same_key}
 use Rattle.co_value.specs.Numbers.{low_bytes}
 use Rattle.co_dict.specs.Rows.{Rows, Contents, written}
 use Rattle.co_dict.specs.ErrorField.{error_key, error_room, moved_bytes, moved_down, pushed}
-use Rattle.co_node_model.specs.Keys.{error_register_key}
+use Rattle.co_profile.specs.Keys.{error_register_key}
 use Rattle.co_node_model.specs.declared.device_error.DeviceError.{DeviceError}
 use Rattle.co_node_model.specs.Emergencies.{with_register, raised, all_raised}
 use Rattle.co_node_model.specs.Mappings.{is_mapping_key, AgreeOnMappings}

@@ -16,7 +16,7 @@ use Rattle.co_node_parts.specs.declared.nmt_state.LossReaction.TheVariants.{Leav
 use Rattle.co_node_parts.specs.NmtStates.{StateLog, state_after, reaction_with, after_loss}
 use Rattle.co_node_model.specs.declared.marks.Marks.{Marks}
 use Rattle.co_node_model.specs.Inputs.{InputView, Inputs}
-use Rattle.co_node_model.specs.Keys.{error_behaviour_key}
+use Rattle.co_profile.specs.Keys.{error_behaviour_key}
 use Rattle.co_node_model.specs.Nmt.{is_reset_by, commanded_event, state_at, state_log}
 use Rattle.co_node_model.specs.Tpdos.{part_started, start_turn, turn_by_write, turn_of, turn_with, schedule_log, turn_at, with_turn}
 use Rattle.co_node_model.specs.Moments.{Constants, contents_at}

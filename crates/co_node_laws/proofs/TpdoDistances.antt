@@ -9,7 +9,8 @@ use Rattle.co_pdo.specs.declared.settings.Settings.{Settings}
 use Rattle.co_pdo.specs.declared.tpdo.Occasion.TheVariants as occasion
 use Rattle.co_pdo.specs.declared.tpdo.Part.{Part}
 use Rattle.co_pdo.specs.declared.tpdo.Part.TheVariants.{Whole, Timer}
-use Rattle.co_pdo.specs.Due.{is_event_driven, is_inhibit_over, event_waits, timer_ticks, is_due}
+use Rattle.co_pdo.specs.Due.{is_inhibit_over, event_waits, timer_ticks, is_due}
+use Rattle.co_profile.specs.TransmissionTypes.{is_event_driven}
 use Rattle.co_pdo.specs.Log.{Log, Started, Happened}
 use Rattle.co_pdo.specs.Schedules.{History as Schedule, log_of, is_among, sync_with, is_tpdo_due}
 use Rattle.co_pdo.specs.Tpdos.{is_active, settings_of, tpdo_numbers}
@@ -139,7 +140,7 @@ timer_is k n (input ∷ inputs) less =
     (λ asked is sent. first_of_both (is_among n (numbers_asked k.description m.contents asked)) _ (sym (at_event k n inputs input asked less is) ∙ sent))
     ∙ ap (λ ticks. timer_after n t (is_among n m.due) ticks) (timer_is k n inputs less)
 
-by_timer : (s : Settings) (log : Log) → s.is_active ≡ true → is_event_driven s.transmission_type ≡ true → event_waits log ≡ false → is_inhibit_over s.inhibit_time (Happened occasion.Tick s false ∷ log) ≡ true
+by_timer : (s : Settings) (log : Log) → s.is_active ≡ true → is_event_driven s.transmission_type.0 ≡ true → event_waits log ≡ false → is_inhibit_over s.inhibit_time (Happened occasion.Tick s false ∷ log) ≡ true
     → is_due s log occasion.Tick ≡ (timer_ticks log + 1 == s.event_timer)
 by_timer s log active kind waits over = rw (active, kind, waits, over) (right_true (timer_ticks log + 1 == s.event_timer))
 

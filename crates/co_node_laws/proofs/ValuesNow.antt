@@ -7,7 +7,8 @@ use Rattle.co_dict.specs.Rows.{Contents, number_at}
 use Rattle.co_dict.specs.Stores.{Description}
 use Rattle.co_node_parts.specs.Consumers.{monitored_by}
 use Rattle.co_node_model.specs.Inputs.{InputView, Inputs}
-use Rattle.co_node_model.specs.Keys.{producer_key, is_set}
+use Rattle.co_node_model.specs.Keys.{is_set}
+use Rattle.co_profile.specs.Keys.{producer_key}
 use Rattle.co_node_model.specs.Nmt.{is_reset}
 use Rattle.co_node_model.specs.Moments.{Constants}
 use Rattle.co_node_model.specs.Device.{moments, contents_of}

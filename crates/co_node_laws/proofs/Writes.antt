@@ -17,7 +17,7 @@ use Rattle.co_pdo.specs.declared.tpdo.Part.{Part}
 use Rattle.co_pdo.specs.declared.tpdo.Part.TheVariants.{Whole, Timer}
 use Rattle.co_pdo.specs.Log.{Log, Started, started_with}
 use Rattle.co_pdo.specs.Countdowns.{IsAsAt, IsAsStarted, IsCurrent}
-use Rattle.co_pdo.specs.Pdos.{is_supported_type}
+use Rattle.co_profile.specs.TransmissionTypes.{is_supported_type}
 use Rattle.co_pdo.specs.Tpdos.{tpdo_key, tpdo_count_key, is_active, settings_of}
 use Rattle.co_pdo.specs.Schedules.{History, log_of, AllCurrent}
 use Rattle.co_node_model.specs.declared.turn.Turn.TheVariants.{Quiet}
@@ -41,14 +41,14 @@ number_same c e key same low high = ap (λ b. unsigned_of (unwrap_or b [])) (sam
 idle : (s t : Settings) (log : Log) → IsCurrent s log → t.is_active ≡ false → t.event_timer ≡ s.event_timer → IsCurrent t log
 idle s t log h off same = record { started = λ on. absurd (cc); timer = same ∙ h.timer }
 
-as_at : (start : Option Settings) (s t : Settings) → t.transmission_type ≡ s.transmission_type → t.inhibit_time ≡ s.inhibit_time → IsAsAt start s → IsAsAt start t
+as_at : (start : Option Settings) (s t : Settings) → t.transmission_type.0 ≡ s.transmission_type.0 → t.inhibit_time ≡ s.inhibit_time → IsAsAt start s → IsAsAt start t
 as_at None s t kind inhibit h = absurd h
 as_at (Some start) s t kind inhibit h = (h.0 ∙ sym kind, h.1 ∙ sym inhibit)
 
-retimed : (s t : Settings) (log : Log) → IsCurrent s log → t.is_active ≡ s.is_active → t.transmission_type ≡ s.transmission_type → t.inhibit_time ≡ s.inhibit_time → IsAsStarted t log
+retimed : (s t : Settings) (log : Log) → IsCurrent s log → t.is_active ≡ s.is_active → t.transmission_type.0 ≡ s.transmission_type.0 → t.inhibit_time ≡ s.inhibit_time → IsAsStarted t log
 retimed s t log h active kind inhibit = λ on. as_at (started_with log) s t kind inhibit (h.started (sym active ∙ on))
 
-alike : (s t : Settings) (log : Log) → IsCurrent s log → t.is_active ≡ s.is_active → t.transmission_type ≡ s.transmission_type → t.inhibit_time ≡ s.inhibit_time → t.event_timer ≡ s.event_timer → IsCurrent t log
+alike : (s t : Settings) (log : Log) → IsCurrent s log → t.is_active ≡ s.is_active → t.transmission_type.0 ≡ s.transmission_type.0 → t.inhibit_time ≡ s.inhibit_time → t.event_timer ≡ s.event_timer → IsCurrent t log
 alike s t log h active kind inhibit timer = record { started = retimed s t log h active kind inhibit; timer = timer ∙ h.timer }
 
 -- whether a TPDO is active, by its three numbers

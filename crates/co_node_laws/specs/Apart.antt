@@ -3,7 +3,7 @@
 use Rattle.std.specs.Prelude.{◌==◌, ◌&&◌, ℕ, Bool, ◌≡◌, ◌+◌, false, ◌≤◌}
 use Rattle.co_dict.specs.CobIds.{identifier_of, is_valid}
 use Rattle.co_dict.specs.Rows.{Contents, number_at}
-use Rattle.co_node_model.specs.Keys.{emergency_key}
+use Rattle.co_profile.specs.Keys.{emergency_key}
 use Rattle.co_node_model.specs.Sync.{is_sync_id}
 use Rattle.co_node_model.specs.Moments.{Constants}
 

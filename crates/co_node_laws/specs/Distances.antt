@@ -11,7 +11,8 @@ use Rattle.co_node_parts.specs.NmtStates.{heartbeat_of}
 use Rattle.co_node_parts.specs.Consumers.{monitored_by, is_monitored, later, is_over_after}
 use Rattle.co_node_parts.specs.EmergencyQueues.{Sending, older, is_past}
 use Rattle.co_node_model.specs.Inputs.{InputView, Inputs, Ticked}
-use Rattle.co_node_model.specs.Keys.{producer_key, emergency_inhibit_key, is_set}
+use Rattle.co_node_model.specs.Keys.{is_set}
+use Rattle.co_profile.specs.Keys.{producer_key, emergency_inhibit_key}
 use Rattle.co_node_model.specs.Nmt.{is_reset}
 use Rattle.co_node_model.specs.Emergencies.{may_send}
 use Rattle.co_node_model.specs.declared.marks.Marks.{Marks}

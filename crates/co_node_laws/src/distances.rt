@@ -7,7 +7,7 @@ ghost use Rattle.co_dict.specs.ConsumerHeartbeats.{consumer_key};
 ghost use Rattle.co_dict.specs.Rows.{number_at};
 ghost use Rattle.co_pdo.specs.Schedules.{is_among};
 ghost use Rattle.co_node_parts.specs.Consumers.{monitored_by};
-ghost use Rattle.co_node_model.specs.Keys.{producer_key};
+ghost use Rattle.co_profile.specs.Keys.{producer_key};
 ghost use Rattle.co_node_model.specs.Inputs.{InputView, Inputs, Ticked};
 ghost use Rattle.co_node_model.specs.Nmt.{is_reset};
 ghost use Rattle.co_node_model.specs.Device.{contents_of};

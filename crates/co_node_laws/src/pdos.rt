@@ -3,13 +3,15 @@
 ghost use Rattle.std.specs.Prelude.{◌≡◌, ◌<◌, ◌+◌, ◌==◌, ◌&&◌, ◌∷◌, ◌++◌, ℕ, Option, [], Some, true, false};
 ghost use Rattle.co_frame.specs.FrameContent.{FrameContent};
 ghost use Rattle.co_pdo.specs.declared.tpdo.Occasion.TheVariants as occasion;
-ghost use Rattle.co_pdo.specs.Due.{is_due, is_event_driven, is_inhibit_over, event_waits};
+ghost use Rattle.co_pdo.specs.Due.{is_due, is_inhibit_over, event_waits};
+ghost use Rattle.co_profile.specs.TransmissionTypes.{is_event_driven};
 ghost use Rattle.co_pdo.specs.Log.{Happened};
 ghost use Rattle.co_pdo.specs.Schedules.{is_among, sync_with};
 ghost use Rattle.co_pdo.specs.Tpdos.{is_active, settings_of};
 ghost use Rattle.co_node_parts.specs.declared.nmt_state.NodeState.TheVariants.{Operational};
 ghost use Rattle.co_node_parts.specs.RpdoSlots.{all_kept};
-ghost use Rattle.co_node_model.specs.Rpdos.{rpdo_type, is_synchronous, is_short, slot_log};
+ghost use Rattle.co_node_model.specs.Rpdos.{rpdo_type, is_short, slot_log};
+ghost use Rattle.co_profile.specs.TransmissionTypes.{is_synchronous};
 ghost use Rattle.co_node_model.specs.Tpdos.{numbers_asked};
 ghost use Rattle.co_node_model.specs.Inputs.{InputView, Inputs, Framed, Ticked};
 ghost use Rattle.co_node_model.specs.declared.address.Address.TheVariants.{Sync, Rpdo};
@@ -52,7 +54,7 @@ pub fn tpdo_due()
         let contents = contents_of k (Ticked ∷ inputs) in
         let settings = settings_of contents n in
         n < 512 → turn_of_input k inputs Ticked ≡ turn.Tick → is_active contents n ≡ true →
-        is_event_driven settings.transmission_type ≡ true →
+        is_event_driven settings.transmission_type.0 ≡ true →
         event_waits (tpdo_log k n inputs) ≡ false →
         is_inhibit_over settings.inhibit_time
         (Happened occasion.Tick settings false ∷ tpdo_log k n inputs) ≡ true →

@@ -5,7 +5,7 @@ ghost use Rattle.std.specs.Prelude.{◌≡◌, ◌≤◌, ◌<◌, ◌∷◌, fa
 ghost use Rattle.co_value.specs.declared.key.Key.{Key};
 ghost use Rattle.co_node_model.specs.Inputs.{InputView, Inputs};
 ghost use Rattle.co_node_model.specs.Addresses.{may_change_addresses};
-ghost use Rattle.co_node_model.specs.Keys.{sync_key};
+ghost use Rattle.co_profile.specs.Keys.{sync_key};
 ghost use Rattle.co_node_model.specs.Moments.{Constants};
 ghost use Rattle.co_node_model.specs.Device.{moment, moments, contents_of};
 ghost use Rattle.co_node_model.specs.Mappings.{may_change_mappings, AgreeOnMappings};

@@ -1,6 +1,6 @@
 //! A device with an RPDO and a TPDO, and frames in text.
 
-use co_dict_list::Limits;
+use co_dict_build::Limits;
 use co_frame::{Frame, Outbox};
 use co_node::{AppEvent, Config, Input, Node};
 use co_sheet::read;

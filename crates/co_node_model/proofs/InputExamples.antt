@@ -10,7 +10,8 @@ use Rattle.co_node_parts.specs.declared.rpdo_slots.SlotEvent.TheVariants.{Empty}
 use Rattle.co_pdo.specs.declared.tpdo.Part.TheVariants.{Whole, Timer}
 use Rattle.co_node_model.specs.Addresses.{is_error_control, address_of}
 use Rattle.co_node_model.specs.Sync.{is_sync_id, counter_in}
-use Rattle.co_node_model.specs.Rpdos.{rpdo_with, is_synchronous, empties_slot, emptied_by}
+use Rattle.co_node_model.specs.Rpdos.{rpdo_with, empties_slot, emptied_by}
+use Rattle.co_profile.specs.TransmissionTypes.{is_synchronous}
 use Rattle.co_node_model.specs.declared.address.Address.TheVariants.{Nmt, Sync, Channel, Rpdo, ErrorControl, Nobody}
 use Rattle.co_node_model.specs.declared.marks.Marks.{Marks}
 use Rattle.co_node_model.specs.declared.turn.Turn.TheVariants as turn

@@ -11,7 +11,7 @@ use Rattle.co_node_model.specs.declared.address.Address.TheVariants.{ErrorContro
 use Rattle.co_node_model.specs.Rpdos.{rpdo_with}
 use Rattle.co_node_model.specs.Sync.{is_sync_id}
 use Rattle.co_node_model.specs.Moments.{Constants, History, channels, contents_at}
-use Rattle.co_node_model.specs.Keys.{sync_key}
+use Rattle.co_profile.specs.Keys.{sync_key}
 use Rattle.co_node_model.specs.Nmt.{is_reset}
 use Rattle.co_node_model.specs.declared.marks.Marks.{Marks}
 

@@ -14,7 +14,7 @@ use Rattle.co_node_parts.specs.NmtStates.{is_state}
 use Rattle.co_node_parts.specs.EmergencyQueues.{EmergencyLog, Noted, with_queued, with_sending, emergency_due}
 use Rattle.co_node_parts.specs.declared.emergencies.EmergencyEvent.TheVariants as emergencies
 use Rattle.co_node_model.specs.declared.device_error.DeviceError.{DeviceError}
-use Rattle.co_node_model.specs.Keys.{error_register_key, emergency_key, emergency_inhibit_key}
+use Rattle.co_profile.specs.Keys.{error_register_key, emergency_key, emergency_inhibit_key}
 use Rattle.co_node_model.specs.Nmt.{is_reset, state_at}
 use Rattle.co_node_model.specs.declared.marks.Marks.{Marks}
 use Rattle.co_node_model.specs.Moments.{Moment, History}

@@ -28,7 +28,8 @@ use Rattle.co_node_model.specs.declared.marks.Marks.{Marks}
 use Rattle.co_node_model.specs.Nmt.{is_reset, state_at}
 use Rattle.co_node_model.specs.declared.device_error.DeviceError.{DeviceError}
 use Rattle.co_node_model.specs.Emergencies.{heartbeat_lost, all_raised, emergencies_of}
-use Rattle.co_node_model.specs.Keys.{error_behaviour_key, producer_key, is_set}
+use Rattle.co_node_model.specs.Keys.{is_set}
+use Rattle.co_profile.specs.Keys.{error_behaviour_key, producer_key}
 
 -- ---- consumers: a heartbeat of another node is received, in every state; a boot-up is none
 

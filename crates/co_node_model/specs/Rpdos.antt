@@ -1,11 +1,12 @@
 -- RPDOs: whose a frame is, what its length does, the frames that wait for a SYNC, and the data that take effect (CiA 301,
 -- 7.2.2, 7.5.2.35 and 7.5.2.36).
-use Rattle.std.specs.Prelude.{ℕ, ◌==◌, ◌&&◌, Bool, Option, find, nat_le, ◌≡◌, IfSome, nat_lt, length, Some, if◌then◌else◌, ◌||◌, ◌-◌, None, not, is_some, [], ◌∷◌, List, ◌++◌}
+use Rattle.std.specs.Prelude.{ℕ, ◌==◌, ◌&&◌, Bool, Option, find, ◌≡◌, IfSome, nat_lt, length, Some, if◌then◌else◌, ◌||◌, ◌-◌, None, not, is_some, [], ◌∷◌, List, ◌++◌}
 use Rattle.std.specs.List.{range_with_len}
 use Rattle.co_value.specs.declared.key.Key.{Key}
 use Rattle.co_frame.specs.FrameContent.{FrameContent}
 use Rattle.co_frame.specs.declared.emergency.Emergency.{Emergency}
 use Rattle.co_profile.specs.Indices.{transmission_type, rpdo_communication, pdo_cob_id, is_within}
+use Rattle.co_profile.specs.TransmissionTypes.{is_synchronous}
 use Rattle.co_dict.specs.Rows.{Contents, number_at}
 use Rattle.co_dict.specs.CobIds.{identifier_of}
 use Rattle.co_dict.specs.declared.side.Side.TheVariants.{Rpdo}
@@ -13,7 +14,7 @@ use Rattle.co_dict.specs.Stores.{Description}
 use Rattle.co_dict.specs.declared.side.Side.TheVariants as side
 use Rattle.co_pdo.specs.Pdos.{communication_key, cob_id_of, is_pdo_active}
 use Rattle.co_pdo.specs.Mappings.{mapping_of, total_of}
-use Rattle.co_pdo.specs.Due.{is_event_driven}
+use Rattle.co_profile.specs.TransmissionTypes.{is_event_driven}
 use Rattle.co_pdo.specs.declared.mapping.Mapped.{Mapped}
 use Rattle.co_pdo.specs.declared.data.PdoFault.{PdoFault}
 use Rattle.co_pdo.specs.declared.data.PdoFault.TheVariants.{OutOfLimits}
@@ -44,10 +45,6 @@ is_rpdo_with contents id k = is_pdo_active side.Rpdo contents k && identifier_of
 -- the first active RPDO with an identifier
 unfoldable pub rpdo_with : Contents → ℕ → Option ℕ
 rpdo_with contents id = find (is_rpdo_with contents id) (range_with_len 0 512)
-
--- a transmission type at which data take effect at a SYNC: 0 to 240
-abbrev pub is_synchronous : ℕ → Bool
-is_synchronous kind = nat_le kind 240
 
 -- how many bytes RPDO k maps
 abbrev pub mapped_length : Description → Contents → ℕ → ℕ

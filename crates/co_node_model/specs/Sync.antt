@@ -4,11 +4,11 @@ use Rattle.co_frame.specs.FrameContent.{FrameContent}
 use Rattle.co_frame.specs.Syncs.{sync_in}
 use Rattle.co_dict.specs.Rows.{Contents, number_at}
 use Rattle.co_dict.specs.CobIds.{identifier_of}
-use Rattle.co_pdo.specs.Tpdos.{counter_overflow_key}
+use Rattle.co_profile.specs.Keys.{counter_overflow_key}
 use Rattle.co_node_parts.specs.declared.nmt_state.NodeState.{NodeState}
 use Rattle.co_node_parts.specs.declared.nmt_state.NodeState.TheVariants.{Stopped}
 use Rattle.co_node_parts.specs.NmtStates.{is_state}
-use Rattle.co_node_model.specs.Keys.{sync_key}
+use Rattle.co_profile.specs.Keys.{sync_key}
 use Rattle.co_node_model.specs.Moments.{quiet, Moment}
 use Rattle.co_node_model.specs.declared.device_error.DeviceError.{DeviceError}
 use Rattle.co_node_model.specs.Emergencies.{unexpected_sync_length}

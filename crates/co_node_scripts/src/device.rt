@@ -1,7 +1,7 @@
 //! A device out of a table, and single inputs of it.
 
 use crate::sheet::{COUNTER, MANUFACTURER, PROFILE, sheet_of};
-use co_dict_list::Limits;
+use co_dict_build::Limits;
 use co_frame::{Frame, Outbox};
 use co_node::{AppEvent, Config, Input, Node};
 use co_sdo_scripts::BadScript;

@@ -2,8 +2,7 @@
 use Rattle.std.specs.Prelude.{ℕ, ◌+◌, ◌%◌, ◌==◌, ◌&&◌, ◌||◌, Bool, true, false, not, nat_lt, Option, List, [], ◌∷◌, length, map, if◌then◌else◌}
 use Rattle.std.specs.List.{list_all, list_any}
 use Rattle.std.specs.Option.{option_map_or}
-use Rattle.co_profile.specs.TransmissionTypes.{is_synchronous}
-pub use Rattle.co_profile.specs.TransmissionTypes.{is_event_driven}
+use Rattle.co_profile.specs.TransmissionTypes.{is_synchronous, is_event_driven}
 use Rattle.co_frame.specs.InhibitTimes.{has_elapsed}
 use Rattle.co_pdo.specs.declared.settings.Settings.{Settings}
 use Rattle.co_pdo.specs.declared.tpdo.Occasion.{Occasion}

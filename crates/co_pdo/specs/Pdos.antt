@@ -2,7 +2,7 @@
 -- (CiA 301, 7.5.2.35 to 7.5.2.38).
 use Rattle.std.specs.Prelude.{ℕ, ◌==◌, ◌&&◌, Bool, not}
 use Rattle.co_value.specs.declared.key.Key.{Key}
-pub use Rattle.co_profile.specs.TransmissionTypes.{is_supported_type}
+use Rattle.co_profile.specs.TransmissionTypes.{is_supported_type}
 use Rattle.co_dict.specs.declared.side.Side.{Side}
 use Rattle.co_dict.specs.Rows.{Contents, number_at}
 use Rattle.co_dict.specs.CobIds.{is_valid}

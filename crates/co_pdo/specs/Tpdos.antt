@@ -3,7 +3,7 @@ use Rattle.std.specs.Prelude.{ℕ, Bool, is_some, List}
 use Rattle.std.specs.List.{filter, range_with_len}
 use Rattle.co_value.specs.declared.key.Key.{Key}
 use Rattle.co_profile.specs.Indices.{nth, tpdo_communication, tpdo_mapping}
-pub use Rattle.co_profile.specs.Keys.{counter_overflow_key}
+use Rattle.co_profile.specs.Keys.{counter_overflow_key}
 use Rattle.co_dict.specs.Rows.{Rows, Contents, number_at}
 use Rattle.co_dict.specs.Stores.{Description}
 use Rattle.co_dict.specs.Places.{place_of}

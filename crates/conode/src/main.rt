@@ -2,7 +2,7 @@
 //! to the device of a data sheet, and lets an SDO client download to it.
 #![tactic(auto)]
 
-use co_dict_list::Limits;
+use co_dict_build::Limits;
 use co_node::Config;
 use conode_check::check_file;
 use conode_decode::decode_files;

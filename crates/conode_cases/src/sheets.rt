@@ -2,7 +2,7 @@
 //! line.
 
 use crate::fakes::{Narrow, expect_lines, lines_of};
-use co_dict_list::Limits;
+use co_dict_build::Limits;
 use conode_check::{check, check_file, check_text};
 use conode_io::{CmdFault, Ending};
 use std::alloc::Global;

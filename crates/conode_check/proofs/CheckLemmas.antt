@@ -12,7 +12,7 @@ use Rattle.conode_io.specs.Written.{WritesFront, WritesFrontOrLines, WritesLines
 use Rattle.conode_io.proofs.WriteLemmas.{line_alone, lines_after}
 use Rattle.conode_check.specs.CheckEndings.{IsCheckEnding, SomeThenMemory, memory_line}
 use Rattle.co_sheet.specs.Content.{IsSheet, SheetContent}
-use Rattle.co_dict_list.specs.Capacities.{Limits}
+use Rattle.co_dict_build.specs.Capacities.{Limits}
 use Rattle.conode_check.specs.SheetTexts.{checked_fault, checked_lines, is_good, own_node, sheet_lines}
 
 -- what is written of a sheet that a text was read as is what is written of the text

@@ -6,11 +6,11 @@ use Rattle.co_sheet_rows.specs.declared.note.Note.{Note}
 use Rattle.co_sheet.specs.Accepted.{first_fault, sections_in}
 use Rattle.co_sheet.specs.Content.{SheetContent, content_of}
 use Rattle.co_sheet_rows.specs.FaultTexts.{fault_text, note_text}
-use Rattle.co_dict_list.specs.declared.build_fault.BuildFault.{BuildFault}
-use Rattle.co_dict_list.specs.BuildFaults.{build_fault}
-use Rattle.co_dict_list.specs.BuildFaultTexts.{fault_text as build_fault_text}
-use Rattle.co_dict_list.specs.Built.{plan_of}
-use Rattle.co_dict_list.specs.Capacities.{Limits}
+use Rattle.co_dict_build.specs.declared.build_fault.BuildFault.{BuildFault}
+use Rattle.co_dict_build.specs.BuildFaults.{build_fault}
+use Rattle.co_dict_build.specs.BuildFaultTexts.{fault_text as build_fault_text}
+use Rattle.co_dict_build.specs.Built.{plan_of}
+use Rattle.co_dict_build.specs.Capacities.{Limits}
 
 -- the line of a sheet that is refused
 unfoldable pub fault_line : SheetFault → List ℕ

@@ -3,14 +3,14 @@
 ghost use Rattle.std.specs.Prelude.{◌≡◌, ◌⊎◌, [], Err, IfOk, IfErr, OnOk};
 ghost use Rattle.std.specs.Io.KnownBytes.{Appends, Keeps};
 ghost use Rattle.std.specs.Process.{exit_status};
-ghost use Rattle.co_dict_list.specs.Capacities.{limits_view};
+ghost use Rattle.co_dict_build.specs.Capacities.{limits_view};
 ghost use Rattle.conode_check.specs.CheckEndings.{IsCheckEnding, SomeThenMemory, checked_status, memory_line};
 ghost use Rattle.conode_check.specs.SheetTexts.{checked_lines, is_good};
 ghost use Rattle.conode_io.specs.Endings.{WritesStopped, stopped_line};
 ghost use Rattle.conode_io.specs.Written.{WritesFrontOrLines, WritesLines};
 
 use crate::sheet_check::check;
-use co_dict_list::Limits;
+use co_dict_build::Limits;
 use co_sheet::{FaultKind, SheetFault};
 use conode_io::{CmdFault, Ending, Message, file_text, flushed, no_text, say, stopped};
 use std::alloc::Global;

@@ -3,7 +3,7 @@
 ghost use Rattle.std.specs.Prelude.{◌≡◌, OnOk, string_bytes};
 ghost use Rattle.conode_check.specs.SheetTexts.{build_fault_line, fault_line, node_line, note_line, summary_line};
 
-use co_dict_list::BuildFault;
+use co_dict_build::BuildFault;
 use co_sheet::{Note, Sheet, SheetFault};
 use std::alloc::AllocError;
 

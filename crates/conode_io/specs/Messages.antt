@@ -4,7 +4,7 @@ use Rattle.co_sheet_rows.specs.FaultTexts.{fault_text}
 use Rattle.conode_io.specs.declared.fault.CmdFault.{CmdFault}
 use Rattle.conode_io.specs.declared.fault.CmdFault.TheVariants.{Read, Write, BadLine, Memory, NeverEnds}
 use Rattle.conode_io.specs.declared.message.Message.{Message}
-use Rattle.co_dict_list.specs.BuildFaultTexts.{fault_text as build_fault_text}
+use Rattle.co_dict_build.specs.BuildFaultTexts.{fault_text as build_fault_text}
 use Rattle.conode_io.specs.declared.message.Message.TheVariants.{Stopped, Fault, BuildFault, CannotRead}
 
 -- the number of a command's fault

@@ -1,7 +1,7 @@
 //! What the program says where a command doesn't come to its end.
 
 use crate::fault::CmdFault;
-use co_dict_list::BuildFault;
+use co_dict_build::BuildFault;
 use co_sheet::SheetFault;
 
 /// A line about a command that didn't come to its end.

@@ -7,7 +7,7 @@ ghost use Rattle.std.specs.Process.{exit_status};
 use crate::fault::CmdFault;
 use crate::message::Message;
 use crate::output::say;
-use co_dict_list::BuildFault;
+use co_dict_build::BuildFault;
 use co_sheet::{FaultKind, SheetFault};
 use std::io::Write;
 use std::process::ExitCode;

@@ -5,7 +5,7 @@ ghost use Rattle.std.specs.Option.{option_or};
 ghost use Rattle.std.specs.Process.{exit_status};
 
 use crate::replayed_trace::replay;
-use co_dict_list::Limits;
+use co_dict_build::Limits;
 use co_node::{Config, Node};
 use co_sheet::{Sheet, read};
 use conode_io::{

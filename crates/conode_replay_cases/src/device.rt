@@ -1,6 +1,6 @@
 //! A device with every kind of service, and what it makes of a trace.
 
-use co_dict_list::Limits;
+use co_dict_build::Limits;
 use co_node::{Config, Node};
 use co_sheet::read;
 use co_value::Key;

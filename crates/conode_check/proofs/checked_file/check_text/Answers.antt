@@ -1,6 +1,6 @@
 use Rattle.std.proofs.Common.{◌≡◌}
 use Rattle.std.proofs.KnownBytes.{Keeps-trans}
-use Rattle.co_dict_list.specs.Capacities.{limits_view}
+use Rattle.co_dict_build.specs.Capacities.{limits_view}
 use Rattle.conode_io.specs.declared.ending.Ending.TheVariants.{Said}
 use Rattle.conode_io.specs.declared.fault.CmdFault.TheVariants.{Memory, Write}
 use Rattle.conode_io.proofs.StoppedLemmas.{memory_is_other, said_on_err, said_own}

@@ -1,5 +1,5 @@
 use Rattle.std.proofs.Common.{subst}
-use Rattle.co_dict_list.specs.Capacities.{limits_view}
+use Rattle.co_dict_build.specs.Capacities.{limits_view}
 use Rattle.conode_io.specs.Written.{WritesSome, WritesFront}
 use Rattle.conode_check.proofs.CheckLemmas.{accepted_text}
 use Rattle.conode_check.proofs.sheet_check.check.Goals as goal

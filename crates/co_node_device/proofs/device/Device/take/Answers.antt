@@ -12,7 +12,7 @@ use Rattle.co_node_parts.specs.declared.nmt_state.Transition.{Transition}
 use Rattle.co_node_parts.specs.EmergencyQueues.{EmergenciesStand, with_queued}
 use Rattle.co_node_model.specs.Inputs.{Inputs}
 use Rattle.co_node_model.specs.Addresses.{may_change_addresses, AgreeOnAddresses}
-use Rattle.co_node_model.specs.Keys.{sync_key}
+use Rattle.co_profile.specs.Keys.{sync_key}
 use Rattle.co_node_device.specs.AddressTables.{IsTableOf}
 use Rattle.co_node_model.specs.Mappings.{may_change_mappings, AgreeOnMappings}
 use Rattle.co_node_device.specs.MappingTables.{AreMappings, IsMappingTable}
