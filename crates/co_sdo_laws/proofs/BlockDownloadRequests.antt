@@ -1,252 +1,239 @@
--- A download in blocks: what its channel does with each request.
-use Rattle.std.proofs.Common.{◌≡◌, ℕ, zero, suc, ◌+◌, ◌-◌, ◌*◌, ◌<◌, ◌≤◌, Bool, true, false, List, [], ◌∷◌, ◌++◌, length, take, map, Some, None, refl, sym, ap, ◌∙◌, arith, eqb, subst, length-take}
-use Rattle.std.specs.List.{range_with_len}
+-- A download in blocks: a request comes to the channel.
+use Rattle.std.proofs.Common.{◌≡◌, ℕ, zero, suc, ◌+◌, ◌-◌, ◌*◌, ◌/◌, ◌<◌, ◌≤◌, Bool, true, false, cond, List, [], ◌∷◌, ◌++◌, length, take, drop, map, Option, Some, None, refl, sym, ap, ◌∙◌, arith, eqb, subst, length-take, inl, inr}
+use Rattle.std.specs.Prelude.{nat_lt, ◌||◌}
 use Rattle.std.proofs.lemmas.Bool.{eqb-true}
 use Rattle.std.proofs.lemmas.Bool.Decides.{nat_tests}
-use Rattle.co_frame.specs.BlockSegments.{block_segment_bytes}
-use Rattle.co_frame.specs.SdoFields.{padded}
-use Rattle.co_frame.specs.declared.sdo_request.SdoRequest.TheVariants.{BlockDownloadInitiate, BlockDownloadEnd}
-use Rattle.co_frame.specs.declared.sdo_response.SdoResponse.TheVariants.{BlockDownloadInitiated, BlockDownloadDone, BlockDownloadAcknowledge}
-use Rattle.co_frame.specs.SdoRequests.{request_bytes}
-use Rattle.co_frame.specs.SdoResponses.{response_bytes}
-use Rattle.co_sdo_client.specs.Calls.{Event as ClientEvent}
-use Rattle.co_sdo_client.specs.Segments.{size_sent, part_after}
+use Rattle.co_value.specs.Keys.{same_key-refl}
+use Rattle.co_value.specs.declared.key.Key.{Key}
+use Rattle.co_frame.specs.declared.sdo_response.SdoResponse.TheVariants.{BlockDownloadDone, BlockDownloadAcknowledge}
+use Rattle.co_sdo_client.specs.Segments.{size_sent}
 use Rattle.co_dict.specs.Rows.{Contents, written}
-use Rattle.co_dict.specs.Stores.{IsDictionary}
-use Rattle.co_sdo.specs.Refused.{capacity_at, completion_refusal}
-use Rattle.co_sdo.specs.Log.{Answer, Response, answer_bytes, Exchanged, Log}
-use Rattle.co_sdo.proofs.Initiations.{exchange}
-use Rattle.co_sdo.specs.Opened.{OpenTransfer}
-use Rattle.co_sdo.specs.Replies.{reply_to, answers_to}
-use Rattle.co_sdo.specs.Completed.{set_by, contents_with}
-use Rattle.co_sdo.specs.Steps.{opened_next, set_next}
-use Rattle.co_sdo_laws.specs.World.{Setup}
-use Rattle.co_sdo_laws.proofs.Frames.{block_end_read}
-use Rattle.co_sdo_laws.proofs.Server.{Serves, served, moved}
-use Rattle.co_sdo_laws.proofs.Segments.{part_small}
-use Rattle.co_sdo_laws.proofs.Scripts.{RequestCame}
-use Rattle.co_sdo_laws.proofs.BlockSegments.{segment_with, full_joined, padded_long, all_held, all_is, in_sub_block, after_last, Makes, takes_inside, takes_full, takes_last}
-use Rattle.co_sdo_laws.proofs.BlockDownloadPlaces.{MayDownload, Position, Beginning, Begun, Sending, Acknowledging, Ending, Ended, Over, bytes, count_of, size_of, segment_at, unused, requests, HasBegun, Took, AtClient, IsIdle, IsAll, IsSending, AtChannel, places}
+use Rattle.co_sdo.specs.Refused.{capacity_at, initiate_refusal, completion_refusal}
+use Rattle.co_sdo.specs.Log.{Response, answer_bytes, Log}
+use Rattle.co_sdo.specs.Replies.{aborted, reply_to}
+use Rattle.co_sdo_laws.specs.World.{Setup, World, Requests, at_channel, without_front, front_arrives}
+use Rattle.co_sdo_laws.proofs.Frames.{block_done_read, acknowledged_read}
+use Rattle.co_sdo_laws.proofs.Server.{moved}
+use Rattle.co_sdo_laws.proofs.Failures.{failed_front}
+use Rattle.co_sdo_laws.proofs.Channel.{IsServing, is_served}
+use Rattle.co_sdo_laws.proofs.Blocks.{live, live_after, Moment, disturbed, replied, no_request}
+use Rattle.co_sdo_laws.proofs.GoneChannels.{awaited, awaited_after, aborted_other, IsGone, gone_answers, gone_goes_on}
+use Rattle.co_sdo_laws.proofs.BlockSegments.{all_held, all_is, total, size_after, blocks, unused, segment_at, segments, data_at, frame_with, frame_is, frame_long, next_joined, last_joined, InTurn, IsWhole}
+use Rattle.co_sdo_laws.proofs.BlockDownloadSegments.{bytes, begin, acknowledgement, client_end, all_done, size_read, initiate_long, inside, at_last, initiate_taken, initiate_refused, inside_next, inside_other, last_next, full_next, full_refused, end_other, end_refused, end_taken, completion_refused}
+use Rattle.co_sdo_laws.proofs.BlockDownloads.{IsDownload, HasBegun, Took, Lawful, dictionary, taking, complete, May, Closed, IsSet, Stands, asking, confirmed, unconfirmed, sending, unheard, acknowledging, finishing, ending, ended, quiet, over, failed}
 
-front_came : (s : Setup) (at : Position) (x frame : List ℕ) (xs later : List (List ℕ)) (events : List ClientEvent)
-    (log : Log) (contents : Contents)
-    → x ∷ xs ≡ frame ∷ later → RequestCame s (places s) at x xs events log contents
-    → RequestCame s (places s) at frame later events log contents
-front_came s at x frame xs later events log contents e came =
-    let head : x ≡ frame = cc in
-    let tail : xs ≡ later = cc in
-    subst (λ (f : List ℕ). RequestCame s (places s) at f later events log contents) head
-    (subst (λ (l : List (List ℕ)). RequestCame s (places s) at x l events log contents) tail came)
+none≢some : {A : Type 0} (x : Option A) (y : A) → x ≡ None → x ≡ Some y → ⊥
+none≢some x y e f = cc
 
--- the channel takes a frame that it makes this of
-record Made (s : Setup) (log : Log) (contents : Contents) (frame : List ℕ) (given : List Answer) (next : OpenTransfer) : Type 0 where
-  replies : map answer_bytes (reply_to s.description contents log frame) ≡ map answer_bytes given
-  serves : Serves s.description.rows (Exchanged (exchange frame contents (reply_to s.description contents log frame)) ∷ log) (Some next)
-  same : contents_with contents (set_by s.description contents log frame) ≡ s.contents
+abbrev size_of : Setup → Option ℕ
+size_of s = size_read (size_sent s.call.job)
 
-made : (s : Setup) → MayDownload s
-    → (log : Log) (contents : Contents) (o : OpenTransfer) (frame : List ℕ) (given : List Answer)
-    (next : OpenTransfer)
-    → Serves s.description.rows log (Some o)
-    → contents ≡ s.contents → length frame ≡ 8 → Makes s.description contents o frame given next
-    → Made s log contents frame given next
-made s m log contents o frame given next h same long makes =
-    let lawful : IsDictionary s.description contents = rw same m.lawful in
-    let step = served s.description contents log (Some o) frame h lawful long in
-    record {
-      replies = ap (map answer_bytes) (step.replies ∙ makes.replies);
-      serves = moved _ _ _ _ makes.opens step.next;
-      same = ap (contents_with contents) step.sets ∙ makes.sets ∙ same;
-    }
+initiate_comes : (s : Setup) (p : Type 0) → IsDownload s p → (w : World) → HasBegun s w.events → Moment p live [] [] 0 0 w → IsServing s (Lawful s) None w.log w.contents
+    → (refusal : Option ℕ) → initiate_refusal s.description s.call.key (size_of s) ≡ refusal → Stands s p (at_channel s (begin s) w)
+initiate_comes s p m w c at h None e =
+    let made = is_served s w.log w.contents None (begin s) _ _ _ h.serves (dictionary s p m w.contents h.lawful) (initiate_long s.call.key (size_sent s.call.job))
+    (initiate_taken s.description w.contents s.call.key (size_sent s.call.job) m.key e) in
+    confirmed c (replied s p live live_after (begin s) w _ _ _ _ 1 _ at made.replies refl (λ x. refl) (λ x. refl))
+    (inl (record { serves = made.serves; lawful = made.sets ∙ h.lawful }))
+initiate_comes s p m w c at h (Some code) e =
+    let made = is_served s w.log w.contents None (begin s) _ _ _ h.serves (dictionary s p m w.contents h.lawful) (initiate_long s.call.key (size_sent s.call.job))
+    (initiate_refused s.description w.contents s.call.key (size_sent s.call.job) code m.key e) in
+    unconfirmed (λ x. none≢some _ code (m.may_begin x) e) c at.requests (live_after w.answers _ _ at.answers (rw made.replies refl))
 
-initiate_came : (s : Setup) → MayDownload s → (events : List ClientEvent) (log : Log) (contents : Contents)
-    → HasBegun s events → IsIdle s log contents
-    → RequestCame s (places s) Beginning (request_bytes (BlockDownloadInitiate s.call.key (size_sent s.call.job))) [] events log contents
-initiate_came s m events log contents c h =
-    let frame = request_bytes (BlockDownloadInitiate s.call.key (size_sent s.call.job)) in
-    let lawful : IsDictionary s.description contents = rw h.same m.lawful in
-    let step = served s.description contents log None frame h.serves lawful m.initiate_long in
-    let replies : answers_to s.description contents None frame ≡ Response (BlockDownloadInitiated s.call.key 127) ∷ [] = rw (m.initiate_read, m.may_begin) refl in
-    let opens : opened_next s.description contents None frame ≡ Some (in_sub_block s.call.key (size_sent s.call.job) 0 []) = rw (m.initiate_read, m.may_begin) refl in
-    let sets : contents_with contents (set_next s.description contents None frame) ≡ contents = rw m.initiate_read refl in
-    record {
-      next = Begun;
-      requests = refl;
-      answers = sym (ap (map answer_bytes) (step.replies ∙ replies));
-      received = refl;
-      answered = refl;
-      client = c;
-      channel = record { serves = moved _ _ _ _ opens step.next; same = ap (contents_with contents) step.sets ∙ sets ∙ h.same };
-    }
+acknowledged_other : (count : ℕ) → awaited (map answer_bytes (Response (BlockDownloadAcknowledge count 127) ∷ [])) ≡ acknowledgement count ∷ []
+acknowledged_other count = rw (acknowledged_read count 127) refl
 
--- the frame of a segment, by whether it is the last
-abbrev frame_at : Setup → ℕ → ℕ → Bool → List ℕ
-frame_at s i taken last =
-    block_segment_bytes (segment_with last (taken + 1) (padded 7 (part_after (127 * i + taken) (bytes s))))
+-- the channel gives up, or is gone: what it answers isn't awaited
+gives_up : (s : Setup) (p : Type 0) (a r q : ℕ) (frame : List ℕ) (w : World) (key : Key) (code : ℕ) → (p → ⊥) → Took s a w.events → Moment p awaited [] [] r q w → reply_to s.description w.contents w.log frame ≡ aborted key code
+    → Stands s p (at_channel s frame w)
+gives_up s p a r q frame w key code never c at e = quiet a never c at.requests (awaited_after w.answers _ _ at.answers (rw e (aborted_other key code)))
 
-frame_is : (s : Setup) (i taken : ℕ) (last : Bool) → eqb (127 * i + (taken + 1)) (count_of s) ≡ last
-    → segment_at s i (taken + 1) ≡ frame_at s i taken last
-frame_is s i taken last l =
-    let position : 127 * i + (taken + 1) - 1 ≡ 127 * i + taken = omega arith in
-    rw (l, position) refl
+not_turn : (n t : ℕ) → eqb n (t + 1) ≡ false → n ≡ t + 1 → ⊥
+not_turn n t e h = absurd (grind (arith, nat_tests))
 
-frame_long : (s : Setup) (i taken : ℕ) (last : Bool) → length (frame_at s i taken last) ≡ 8
-frame_long s i taken last =
-    let n = padded_long (part_after (127 * i + taken) (bytes s)) (part_small (127 * i + taken) (bytes s)) in omega (arith, n)
+-- to a segment that ends nothing the channel answers nothing
+inside_comes : (s : Setup) (p : Type 0) → IsDownload s p → (a t n more : ℕ) (w : World) → Took s a w.events → a + t < total (bytes s) → 1 ≤ n → n + suc more ≡ size_after (bytes s) a → (p → InTurn a t n)
+    → Moment p awaited (segments (bytes s) a (n + 1) (suc more)) [] (1 + a + t) (1 + a / 127) w → IsServing s (Lawful s) (Some (taking s (a + t) t)) w.log w.contents → (next : Bool) → eqb n (t + 1) ≡ next
+    → Stands s p (at_channel s (frame_with (bytes s) a n false) w)
+inside_comes s p m a t n more w c under some size turn at h true e =
+    let next : n ≡ t + 1 = eqb-true _ _ e in
+    let v = bytes s in
+    let other : eqb n 127 ≡ false = grind (arith, nat_tests) in
+    let few : n < 128 = omega arith in
+    let made = is_served s w.log w.contents _ (frame_with v a n false) _ _ _ h.serves (dictionary s p m w.contents h.lawful) (frame_long v a n false)
+    (inside_next v s.description w.contents s.call.key (size_of s) t (take (7 * (a + t)) v) a n some few other e) in
+    sending a (t + 1) (n + 1) more c (omega arith) (omega arith) (omega arith) (λ x. record { whole = (turn x).whole; next = let k = (turn x).next in omega arith })
+    (replied s p awaited awaited_after (frame_with v a n false) w _ _ _ _ _ _ at made.replies refl (λ x. refl) (λ x. omega arith))
+    (record { serves = moved _ _ _ _ (ap (λ (xs : List ℕ). Some (inside s.call.key (size_of s) (t + 1) xs)) (next_joined v a t n next (omega arith))) made.serves; lawful = made.sets ∙ h.lawful })
+inside_comes s p m a t n more w c under some size turn at h false e =
+    let v = bytes s in
+    let other : eqb n 127 ≡ false = grind (arith, nat_tests) in
+    let few : n < 128 = omega arith in
+    let never : p → ⊥ = λ x. not_turn n t e (turn x).next in
+    let made = is_served s w.log w.contents _ (frame_with v a n false) _ _ _ h.serves (dictionary s p m w.contents h.lawful) (frame_long v a n false)
+    (inside_other v s.description w.contents s.call.key (size_of s) t (take (7 * (a + t)) v) a n some few other e) in
+    sending a t (n + 1) more c under (omega arith) (omega arith) (λ x. absurd (never x))
+    (replied s p awaited awaited_after (frame_with v a n false) w _ _ _ _ _ _ at made.replies refl (λ x. refl) (λ x. absurd (never x)))
+    (record { serves = made.serves; lawful = made.sets ∙ h.lawful })
 
-inside_came : (s : Setup) → MayDownload s
-    → (i taken more : ℕ) (events : List ClientEvent) (log : Log) (contents : Contents) → Took s (127 * i) events
-    → IsSending s i taken (suc more) log contents
-    → RequestCame s (places s) (Sending i taken (suc more)) (frame_at s i taken false) (map (segment_at s i) (range_with_len (taken + 1 + 1) (suc more))) events log contents
-inside_came s m i taken more events log contents c h =
-    let size = h.size in
-    let k = 127 * i + taken in
-    let other : suc (127 * i + taken) < count_of s = omega arith in
-    let n = padded_long (part_after (127 * i + taken) (bytes s)) (part_small (127 * i + taken) (bytes s)) in
-    let held = take (7 * (127 * i + taken)) (bytes s) in
-    let makes = takes_inside s.description contents s.call.key (size_sent s.call.job) taken (take (7 * (127 * i + taken)) (bytes s)) (padded 7 (part_after (127 * i + taken) (bytes s))) (omega arith) n in
-    let step = made s m log contents _ (frame_at s i taken false) _ _ h.inside.serves h.inside.same (frame_long s i taken false) makes in
-    let next : suc (127 * i + taken) ≡ 127 * i + (taken + 1) = omega arith in
-    record {
-      next = Sending i (taken + 1) more;
-      requests = refl;
-      answers = sym step.replies;
-      received = omega arith;
-      answered = refl;
-      client = c;
-      channel = record {
-        within = h.within;
-        size = omega arith;
-        inside = record {
-          serves = moved _ _ _ _ (ap (λ (xs : List ℕ). Some (in_sub_block s.call.key (size_sent s.call.job) (taken + 1) xs)) (full_joined (bytes s) (127 * i + taken) other ∙ ap (λ (j : ℕ). take (7 * j) (bytes s)) next)) step.serves;
-          same = step.same;
-        };
-      };
-    }
+-- the last frame of a sub-block
+last_comes : (s : Setup) (p : Type 0) → IsDownload s p → (a t n : ℕ) (w : World) → Took s a w.events → a + t < total (bytes s) → 1 ≤ n → n < 128 → a + n ≡ total (bytes s) → n ≡ size_after (bytes s) a → (p → InTurn a t n)
+    → Moment p awaited [] [] (1 + a + t) (1 + a / 127) w → IsServing s (Lawful s) (Some (taking s (a + t) t)) w.log w.contents → eqb n (t + 1) ≡ true → Stands s p (at_channel s (frame_with (bytes s) a n true) w)
+last_comes s p m a t n w c under some few whole size turn at h e =
+    let next : n ≡ t + 1 = eqb-true _ _ e in
+    let v = bytes s in
+    let made = is_served s w.log w.contents _ (frame_with v a n true) _ _ _ h.serves (dictionary s p m w.contents h.lawful) (frame_long v a n true)
+    (last_next v s.description w.contents s.call.key (size_of s) t (take (7 * (a + t)) v) a n some few e) in
+    finishing a (t + 1) c (omega arith) (omega arith) (λ x. record { whole = (turn x).whole; size = sym next ∙ size; within = omega arith })
+    (replied s p awaited awaited_after (frame_with v a n true) w _ _ _ _ _ _ at made.replies (acknowledged_other (t + 1)) (λ x. refl) (λ x. omega arith))
+    (inl (record { serves = moved _ _ _ _ (ap (λ (xs : List ℕ). Some (at_last s.call.key (size_of s) xs)) (last_joined v a t n next whole)) made.serves; lawful = made.sets ∙ h.lawful }))
 
-full_came : (s : Setup) → MayDownload s → (i taken : ℕ) (events : List ClientEvent) (log : Log) (contents : Contents)
-    → Took s (127 * i) events → IsSending s i taken 0 log contents
-    → suc (127 * i + taken) < count_of s
-    → RequestCame s (places s) (Sending i taken 0) (frame_at s i taken false) [] events log contents
-full_came s m i taken events log contents c h other =
-    let size = h.size in
-    let n = padded_long (part_after (127 * i + taken) (bytes s)) (part_small (127 * i + taken) (bytes s)) in
-    let joined = full_joined (bytes s) (127 * i + taken) other in
-    let long : length (take (7 * suc (127 * i + taken)) (bytes s)) ≤ length (bytes s) = let l = length-take (7 * suc (127 * i + taken)) (bytes s) in omega arith in
-    let room : length (take (7 * (127 * i + taken)) (bytes s) ++ padded 7 (part_after (127 * i + taken) (bytes s))) ≤ capacity_at s.description.rows s.call.key =
-    let r = m.room in rw joined (omega arith) in
-    let makes = takes_full s.description contents s.call.key (size_sent s.call.job) taken (take (7 * (127 * i + taken)) (bytes s)) (padded 7 (part_after (127 * i + taken) (bytes s))) (omega arith) n room in
-    let step = made s m log contents _ (frame_at s i taken false) _ _ h.inside.serves h.inside.same (frame_long s i taken false) makes in
-    let next : suc (127 * i + taken) ≡ 127 * i + size_of s i = omega arith in
-    let whole : taken + 1 ≡ size_of s i = omega arith in
-    record {
-      next = Acknowledging i;
-      requests = refl;
-      answers = sym (step.replies ∙ ap (λ (j : ℕ). response_bytes (BlockDownloadAcknowledge j 127) ∷ []) whole);
-      received = omega arith;
-      answered = refl;
-      client = c;
-      channel = record {
-        within = h.within;
-        inside = λ more. record {
-          serves = moved _ _ _ _ (ap (λ (xs : List ℕ). Some (in_sub_block s.call.key (size_sent s.call.job) 0 xs)) (joined ∙ ap (λ (j : ℕ). take (7 * j) (bytes s)) next)) step.serves;
-          same = step.same;
-        };
-        all = λ e. absurd (omega arith);
-      };
-    }
+full_comes : (s : Setup) (p : Type 0) → IsDownload s p → (a t n : ℕ) (w : World) → Took s a w.events → 1 ≤ n → n < 128 → a + n < total (bytes s) → n ≡ size_after (bytes s) a → eqb n 127 ≡ true → (p → InTurn a t n)
+    → Moment p awaited [] [] (1 + a + t) (1 + a / 127) w → IsServing s (Lawful s) (Some (taking s (a + t) t)) w.log w.contents → eqb n (t + 1) ≡ true
+    → (above : Bool) → nat_lt (capacity_at s.description.rows s.call.key) (length (take (7 * (a + t)) (bytes s) ++ data_at (bytes s) a n)) ≡ above → Stands s p (at_channel s (frame_with (bytes s) a n false) w)
+full_comes s p m a t n w c some few left size full turn at h e true room =
+    let next : n ≡ t + 1 = eqb-true _ _ e in
+    let made = is_served s w.log w.contents _ (frame_with (bytes s) a n false) _ _ _ h.serves (dictionary s p m w.contents h.lawful) (frame_long (bytes s) a n false)
+    (full_refused (bytes s) s.description w.contents s.call.key (size_of s) t (take (7 * (a + t)) (bytes s)) a n some few full e room) in
+    gives_up s p a _ _ (frame_with (bytes s) a n false) w s.call.key 0x06070012 (λ x. fits (m.room x) (ap length (next_joined (bytes s) a t n next left)) room) c at made.replies
+  where
+    fits : {cap k : ℕ} → length (bytes s) ≤ cap → k ≡ length (take (7 * (a + (t + 1))) (bytes s)) → nat_lt cap k ≡ true → ⊥
+    fits f k b = let l = length-take (7 * (a + (t + 1))) (bytes s) in absurd (grind (arith, nat_tests))
+full_comes s p m a t n w c some few left size full turn at h e false room =
+    let next : n ≡ t + 1 = eqb-true _ _ e in
+    let v = bytes s in
+    let made = is_served s w.log w.contents _ (frame_with v a n false) _ _ _ h.serves (dictionary s p m w.contents h.lawful) (frame_long v a n false)
+    (full_next v s.description w.contents s.call.key (size_of s) t (take (7 * (a + t)) v) a n some few full e room) in
+    acknowledging a (t + 1) c (omega arith) (λ x. record { whole = (turn x).whole; size = sym next ∙ size; within = omega arith })
+    (replied s p awaited awaited_after (frame_with v a n false) w _ _ _ _ _ _ at made.replies (acknowledged_other (t + 1)) (λ x. refl) (λ x. omega arith))
+    (inl (record { serves = moved _ _ _ _ (ap (λ (xs : List ℕ). Some (inside s.call.key (size_of s) 0 xs)) (next_joined v a t n next left)) made.serves; lawful = made.sets ∙ h.lawful }))
 
-last_came : (s : Setup) → MayDownload s → (i taken : ℕ) (events : List ClientEvent) (log : Log) (contents : Contents)
-    → Took s (127 * i) events → IsSending s i taken 0 log contents
-    → suc (127 * i + taken) ≡ count_of s
-    → RequestCame s (places s) (Sending i taken 0) (frame_at s i taken true) [] events log contents
-last_came s m i taken events log contents c h end =
-    let size = h.size in
-    let n = padded_long (part_after (127 * i + taken) (bytes s)) (part_small (127 * i + taken) (bytes s)) in
-    let makes = takes_last s.description contents s.call.key (size_sent s.call.job) taken (take (7 * (127 * i + taken)) (bytes s)) (padded 7 (part_after (127 * i + taken) (bytes s))) (omega arith) n in
-    let step = made s m log contents _ (frame_at s i taken true) _ _ h.inside.serves h.inside.same (frame_long s i taken true) makes in
-    let before : 127 * i + taken ≡ count_of s - 1 = omega arith in
-    let whole : taken + 1 ≡ size_of s i = omega arith in
-    record {
-      next = Acknowledging i;
-      requests = refl;
-      answers = sym (step.replies ∙ ap (λ (j : ℕ). response_bytes (BlockDownloadAcknowledge j 127) ∷ []) whole);
-      received = omega arith;
-      answered = refl;
-      client = c;
-      channel = record {
-        within = h.within;
-        inside = λ more. absurd (omega arith);
-        all = λ e. record {
-          serves = moved _ _ _ _ (ap (λ (j : ℕ). Some (after_last s.call.key (size_sent s.call.job) (all_held (bytes s) j))) before) step.serves;
-          same = step.same;
-        };
-      };
-    }
+missed_comes : (s : Setup) (p : Type 0) → IsDownload s p → (a t n : ℕ) (last : Bool) (w : World) → Took s a w.events → a + t < total (bytes s) → 1 ≤ n → n < 128 → last || eqb n 127 ≡ true → (p → InTurn a t n)
+    → Moment p awaited [] [] (1 + a + t) (1 + a / 127) w → IsServing s (Lawful s) (Some (taking s (a + t) t)) w.log w.contents → eqb n (t + 1) ≡ false
+    → (above : Bool) → nat_lt (capacity_at s.description.rows s.call.key) (length (take (7 * (a + t)) (bytes s) ++ [])) ≡ above → Stands s p (at_channel s (frame_with (bytes s) a n last) w)
+missed_comes s p m a t n last w c under some few ends turn at h e true room =
+    let v = bytes s in
+    let made = is_served s w.log w.contents _ (frame_with v a n last) _ _ _ h.serves (dictionary s p m w.contents h.lawful) (frame_long v a n last)
+    (end_refused v s.description w.contents s.call.key (size_of s) t (take (7 * (a + t)) v) a n last some few ends e room) in
+    gives_up s p a _ _ (frame_with v a n last) w s.call.key 0x06070012 (λ x. not_turn n t e (turn x).next) c at made.replies
+missed_comes s p m a t n last w c under some few ends turn at h e false room =
+    let v = bytes s in
+    let never : p → ⊥ = λ x. not_turn n t e (turn x).next in
+    let made = is_served s w.log w.contents _ (frame_with v a n last) _ _ _ h.serves (dictionary s p m w.contents h.lawful) (frame_long v a n last)
+    (end_other v s.description w.contents s.call.key (size_of s) t (take (7 * (a + t)) v) a n last some few ends e room) in
+    acknowledging a t c under (λ x. absurd (never x))
+    (replied s p awaited awaited_after (frame_with v a n last) w _ _ _ _ _ _ at made.replies (acknowledged_other t) (λ x. refl) (λ x. absurd (never x)))
+    (inl (record { serves = made.serves; lawful = made.sets ∙ h.lawful }))
 
-end_came : (s : Setup) → MayDownload s → (events : List ClientEvent) (log : Log) (contents : Contents)
-    → Took s (count_of s) events → IsAll s log contents
-    → RequestCame s (places s) Ending (request_bytes (BlockDownloadEnd (unused s))) [] events log contents
-end_came s m events log contents c h =
-    let frame = request_bytes (BlockDownloadEnd (unused s)) in
-    let o = after_last s.call.key (size_sent s.call.job) (all_held (bytes s) (count_of s - 1)) in
-    let lawful : IsDictionary s.description contents = rw h.same m.lawful in
-    let read = block_end_read (unused s) (omega arith) in
-    let whole = all_is (bytes s) (count_of s - 1) (omega arith) in
-    let free : completion_refusal s.description contents s.call.key (size_sent s.call.job) (bytes s) ≡ None = rw h.same m.may_complete in
-    let step = served s.description contents log (Some o) frame h.serves lawful refl in
-    let replies : answers_to s.description contents (Some o) frame ≡ Response BlockDownloadDone ∷ [] = rw (read, whole, free) refl in
-    let sets : contents_with contents (set_next s.description contents (Some o) frame) ≡ written contents s.call.key (bytes s) = rw (read, whole, free) refl in
-    let opens : opened_next s.description contents (Some o) frame ≡ None = rw read refl in
-    record {
-      next = Ended;
-      requests = refl;
-      answers = sym (ap (map answer_bytes) (step.replies ∙ replies));
-      received = omega arith;
-      answered = refl;
-      client = c;
-      channel = record {
-        serves = moved _ _ _ _ opens step.next;
-        sets = ap (contents_with contents) step.sets ∙ sets ∙ ap (λ (x : Contents). written x s.call.key (bytes s)) h.same;
-      };
-    }
+end_comes : (s : Setup) (p : Type 0) → IsDownload s p → (a t n : ℕ) (w : World) → Took s a w.events → a + t < total (bytes s) → 1 ≤ n → n ≡ size_after (bytes s) a → (p → InTurn a t n)
+    → Moment p awaited [] [] (1 + a + t) (1 + a / 127) w → IsServing s (Lawful s) (Some (taking s (a + t) t)) w.log w.contents → (last next : Bool) → eqb (a + n) (total (bytes s)) ≡ last → eqb n (t + 1) ≡ next
+    → Stands s p (at_channel s (frame_with (bytes s) a n last) w)
+end_comes s p m a t n w c under some size turn at h true true l e = last_comes s p m a t n w c under some (omega arith) (eqb-true _ _ l) size turn at h e
+end_comes s p m a t n w c under some size turn at h true false l e = missed_comes s p m a t n true w c under some (omega arith) refl turn at h e _ refl
+end_comes s p m a t n w c under some size turn at h false true l e =
+    let full : eqb n 127 ≡ true = grind (arith, nat_tests) in
+    let left : a + n < total (bytes s) = grind (arith, nat_tests) in
+    full_comes s p m a t n w c some (omega arith) left size full turn at h e _ refl
+end_comes s p m a t n w c under some size turn at h false false l e =
+    let full : eqb n 127 ≡ true = grind (arith, nat_tests) in
+    missed_comes s p m a t n false w c under some (omega arith) full turn at h e _ refl
 
-sending_came : (s : Setup) → MayDownload s
-    → (i taken more : ℕ) (frame : List ℕ) (later : List (List ℕ)) (events : List ClientEvent) (log : Log)
-    (contents : Contents)
-    → requests s (Sending i taken more) ≡ frame ∷ later → Took s (127 * i) events
-    → IsSending s i taken more log contents
-    → (last : Bool) → eqb (127 * i + (taken + 1)) (count_of s) ≡ last
-    → RequestCame s (places s) (Sending i taken more) frame later events log contents
-sending_came s m i taken (suc more) frame later events log contents q c h true l =
-    let e : 127 * i + (taken + 1) ≡ count_of s = eqb-true _ _ l in let size = h.size in absurd (omega arith)
-sending_came s m i taken (suc more) frame later events log contents q c h false l =
-    front_came s (Sending i taken (suc more)) (frame_at s i taken false) frame (map (segment_at s i) (range_with_len (taken + 1 + 1) (suc more))) later events log contents
-    (ap (λ (f : List ℕ). f ∷ map (segment_at s i) (range_with_len (taken + 1 + 1) (suc more))) (sym (frame_is s i taken false l)) ∙ q)
-    (inside_came s m i taken more events log contents c h)
-sending_came s m i taken zero frame later events log contents q c h true l =
-    let e : 127 * i + (taken + 1) ≡ count_of s = eqb-true _ _ l in
-    front_came s (Sending i taken 0) (frame_at s i taken true) frame [] later events log contents
-    (ap (λ (f : List ℕ). f ∷ []) (sym (frame_is s i taken true l)) ∙ q)
-    (last_came s m i taken events log contents c h (omega arith))
-sending_came s m i taken zero frame later events log contents q c h false l =
-    let size = h.size in
-    front_came s (Sending i taken 0) (frame_at s i taken false) frame [] later events log contents
-    (ap (λ (f : List ℕ). f ∷ []) (sym (frame_is s i taken false l)) ∙ q)
-    (full_came s m i taken events log contents c h (grind (arith, nat_tests)))
+segment_comes : (s : Setup) (p : Type 0) → IsDownload s p → (a t n more : ℕ) (w : World) → Took s a w.events → a + t < total (bytes s) → 1 ≤ n → n + more ≡ size_after (bytes s) a → (p → InTurn a t n)
+    → Moment p awaited (segments (bytes s) a (n + 1) more) [] (1 + a + t) (1 + a / 127) w → IsServing s (Lawful s) (Some (taking s (a + t) t)) w.log w.contents → Stands s p (at_channel s (segment_at (bytes s) a n) w)
+segment_comes s p m a t n zero w c under some size turn at h =
+    subst (λ (x : List ℕ). Stands s p (at_channel s x w)) (sym (frame_is (bytes s) a n _ refl)) (end_comes s p m a t n w c under some (omega arith) turn at h _ _ refl refl)
+segment_comes s p m a t n (suc more) w c under some size turn at h =
+    let other : eqb (a + n) (total (bytes s)) ≡ false = grind (arith, nat_tests) in
+    subst (λ (x : List ℕ). Stands s p (at_channel s x w)) (sym (frame_is (bytes s) a n false other)) (inside_comes s p m a t n more w c under some size turn at h _ refl)
 
-pub request_comes : (s : Setup) → MayDownload s
-    → (at : Position) (frame : List ℕ) (later : List (List ℕ)) (events : List ClientEvent) (log : Log)
-    (contents : Contents)
-    → requests s at ≡ frame ∷ later → AtClient s at events → AtChannel s at log contents
-    → RequestCame s (places s) at frame later events log contents
-request_comes s m Beginning frame later events log contents q c h =
-    front_came s Beginning _ frame [] later events log contents q (initiate_came s m events log contents c h)
-request_comes s m Begun frame later events log contents q c h = cc
-request_comes s m (Sending i taken more) frame later events log contents q c h =
-    sending_came s m i taken more frame later events log contents q c h _ refl
-request_comes s m (Acknowledging i) frame later events log contents q c h = cc
-request_comes s m Ending frame later events log contents q c h =
-    front_came s Ending _ frame [] later events log contents q (end_came s m events log contents c h)
-request_comes s m Ended frame later events log contents q c h = cc
-request_comes s m Over frame later events log contents q c h = cc
+-- ---- a segment comes to a channel that gave up
+
+low_byte : (n : ℕ) → n < 128 → cond false 128 0 + n < 128
+low_byte n h = omega arith
+
+gone_replies : (s : Setup) (frame : List ℕ) (w : World) → awaited w.answers ≡ [] → IsGone w.log → awaited (w.answers ++ map answer_bytes (reply_to s.description w.contents w.log frame)) ≡ []
+gone_replies s frame w none h = awaited_after w.answers _ _ none (gone_answers s.description w.contents w.log frame h)
+
+unheard_comes : (s : Setup) (p : Type 0) (a n more : ℕ) (w : World) → (p → ⊥) → Took s a w.events → a < total (bytes s) → 1 ≤ n → n + more ≡ size_after (bytes s) a → w.requests ≡ segments (bytes s) a (n + 1) more → awaited w.answers ≡ []
+    → IsGone w.log → Stands s p (at_channel s (segment_at (bytes s) a n) w)
+unheard_comes s p a n zero w never c under some size rest none h = quiet a never c rest (gone_replies s (segment_at (bytes s) a n) w none h)
+unheard_comes s p a n (suc more) w never c under some size rest none h =
+    let other : eqb (a + n) (total (bytes s)) ≡ false = grind (arith, nat_tests) in
+    let few : n < 128 = omega arith in
+    let v = bytes s in
+    subst (λ (x : List ℕ). Stands s p (at_channel s x w)) (sym (frame_is v a n false other))
+    (unheard a (n + 1) more never c under (omega arith) (omega arith) rest (gone_replies s (frame_with v a n false) w none h)
+    (gone_goes_on s.description w.contents w.log (frame_with v a n false) h (frame_long v a n false) (low_byte n few)))
+
+-- ---- the end comes
+
+done_awaited : awaited (map answer_bytes (Response BlockDownloadDone ∷ [])) ≡ all_done ∷ []
+done_awaited = rw block_done_read refl
+
+is_set : (contents : Contents) (key : Key) (v : List ℕ) → written contents key v key ≡ Some v
+is_set contents key v = rw (same_key-refl key) refl
+
+finish_comes : (s : Setup) (p : Type 0) → IsDownload s p → (w : World) → Took s (total (bytes s)) w.events → Moment p awaited [] [] (1 + total (bytes s)) (1 + blocks (bytes s)) w → IsServing s (Lawful s) (Some (complete s)) w.log w.contents
+    → (refusal : Option ℕ) → completion_refusal s.description w.contents s.call.key (size_of s) (bytes s) ≡ refusal → Stands s p (at_channel s (client_end s) w)
+finish_comes s p m w c at h None e =
+    let v = bytes s in
+    let whole = all_is v (total v - 1) (omega arith) in
+    let made = is_served s w.log w.contents _ (client_end s) _ _ _ h.serves (dictionary s p m w.contents h.lawful) refl
+    (end_taken s.description w.contents s.call.key (size_of s) (all_held v (total v - 1)) v (unused v) (omega arith) whole e) in
+    ended c (replied s p awaited awaited_after (client_end s) w _ _ _ _ _ _ at made.replies done_awaited (λ x. refl) (λ x. omega arith)) (record {
+      entry = ap (λ (x : Contents). x s.call.key) made.sets ∙ is_set w.contents s.call.key v;
+      closed = λ x. record { serves = made.serves; sets = made.sets ∙ ap (λ (y : Contents). written y s.call.key v) h.lawful };
+    })
+finish_comes s p m w c at h (Some code) e =
+    let v = bytes s in
+    let whole = all_is v (total v - 1) (omega arith) in
+    let made = is_served s w.log w.contents _ (client_end s) _ _ _ h.serves (dictionary s p m w.contents h.lawful) refl
+    (completion_refused s.description w.contents s.call.key (size_of s) (all_held v (total v - 1)) v (unused v) code (omega arith) whole e) in
+    let permitted : p → ⊥ = λ x. none≢some _ code (ap (λ (y : Contents). completion_refusal s.description y s.call.key (size_of s) v) h.lawful ∙ m.may_complete x) e in
+    gives_up s p (total v) _ _ (client_end s) w s.call.key code permitted c at made.replies
+
+-- ---- the oldest request comes or is lost
+
+dropped : (p : Type 0) (kept : List (List ℕ) → List (List ℕ)) (x : List ℕ) (later given : List (List ℕ)) (r q : ℕ) (w : World) → Moment p kept (x ∷ later) given r q w → Moment p kept later given r q (without_front Requests w)
+dropped p kept x later given r q w m = record { requests = ap (drop 1) m.requests; answers = m.answers; exact = m.exact; count = λ y. record { received = (m.count y).received; answered = (m.count y).answered } }
+
+pub loses_request : (s : Setup) (p : Type 0) (w : World) → (p → ⊥) → Stands s p w → Stands s p (without_front Requests w)
+loses_request s p w never (asking b m h) = unconfirmed never b (ap (drop 1) m.requests) m.answers
+loses_request s p w never (confirmed b m h) = subst (Stands s p) (no_request w m.requests) (confirmed b m h)
+loses_request s p w never (unconfirmed n b e f) = unconfirmed never b (ap (drop 1) e) f
+loses_request s p w never (sending a t n zero b under some size turn m h) = quiet a never b (ap (drop 1) m.requests) m.answers
+loses_request s p w never (sending a t n (suc more) b under some size turn m h) =
+    sending a t (n + 1) more b under (omega arith) (omega arith) (λ x. absurd (never x)) (disturbed p awaited _ _ _ _ (without_front Requests w) never (ap (drop 1) m.requests) m.answers) h
+loses_request s p w never (unheard a n zero g b under some size e f h) = quiet a never b (ap (drop 1) e) f
+loses_request s p w never (unheard a n (suc more) g b under some size e f h) = unheard a (n + 1) more never b under (omega arith) (omega arith) (ap (drop 1) e) f h
+loses_request s p w never (acknowledging a t b under whole m h) = subst (Stands s p) (no_request w m.requests) (acknowledging a t b under whole m h)
+loses_request s p w never (finishing a t b under e whole m h) = subst (Stands s p) (no_request w m.requests) (finishing a t b under e whole m h)
+loses_request s p w never (ending b m h) = quiet (total (bytes s)) never b (ap (drop 1) m.requests) m.answers
+loses_request s p w never (ended b m h) = subst (Stands s p) (no_request w m.requests) (ended b m h)
+loses_request s p w never (quiet a n b e f) = quiet a never b (ap (drop 1) e) f
+loses_request s p w never (over b e h last) = subst (Stands s p) (no_request w e) (over b e h last)
+loses_request s p w never (failed n h) = failed never h
+
+front_came : (s : Setup) (p : Type 0) (w : World) (xs : List (List ℕ)) → w.requests ≡ xs → Stands s p (front_arrives s Requests xs (without_front Requests w)) → Stands s p (front_arrives s Requests w.requests (without_front Requests w))
+front_came s p w xs e h = subst (λ (ys : List (List ℕ)). Stands s p (front_arrives s Requests ys (without_front Requests w))) (sym e) h
+
+nothing_came : (s : Setup) (p : Type 0) (w : World) → w.requests ≡ [] → Stands s p w → Stands s p (front_arrives s Requests w.requests (without_front Requests w))
+nothing_came s p w e h = front_came s p w [] e (subst (Stands s p) (no_request w e) h)
+
+pub request_comes : (s : Setup) (p : Type 0) → IsDownload s p → (w : World) → Stands s p w → Stands s p (front_arrives s Requests w.requests (without_front Requests w))
+request_comes s p up w (asking b m h) = front_came s p w _ m.requests (initiate_comes s p up (without_front Requests w) b (dropped p live _ _ _ _ _ w m) h _ refl)
+request_comes s p up w (confirmed b m h) = nothing_came s p w m.requests (confirmed b m h)
+request_comes s p up w (unconfirmed n b e f) = nothing_came s p w e (unconfirmed n b e f)
+request_comes s p up w (sending a t n more b under some size turn m h) =
+    front_came s p w (segment_at (bytes s) a n ∷ segments (bytes s) a (n + 1) more) m.requests
+    (segment_comes s p up a t n more (without_front Requests w) b under some size turn (dropped p awaited (segment_at (bytes s) a n) (segments (bytes s) a (n + 1) more) _ _ _ w m) h)
+request_comes s p up w (unheard a n more never b under some size e f h) =
+    front_came s p w (segment_at (bytes s) a n ∷ segments (bytes s) a (n + 1) more) e (unheard_comes s p a n more (without_front Requests w) never b under some size (ap (drop 1) e) f h)
+request_comes s p up w (acknowledging a t b under whole m h) = nothing_came s p w m.requests (acknowledging a t b under whole m h)
+request_comes s p up w (finishing a t b under e whole m h) = nothing_came s p w m.requests (finishing a t b under e whole m h)
+request_comes s p up w (ending b m (inl h)) = front_came s p w _ m.requests (finish_comes s p up (without_front Requests w) b (dropped p awaited _ _ _ _ _ w m) h _ refl)
+request_comes s p up w (ending b m (inr h)) = front_came s p w _ m.requests (quiet (total (bytes s)) h.0 b (ap (drop 1) m.requests) (gone_replies s (client_end s) (without_front Requests w) m.answers h.1))
+request_comes s p up w (ended b m h) = nothing_came s p w m.requests (ended b m h)
+request_comes s p up w (quiet a n b e f) = nothing_came s p w e (quiet a n b e f)
+request_comes s p up w (over b e h last) = nothing_came s p w e (over b e h last)
+request_comes s p up w (failed n h) = failed n (failed_front s Requests w.requests (without_front Requests w) h)

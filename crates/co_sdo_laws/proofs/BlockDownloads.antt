@@ -1,72 +1,114 @@
--- A download in blocks: ticks, and the whole transfer.
-use Rattle.std.proofs.Common.{ℕ, ◌*◌, [], ◌∷◌, refl, ◌∙◌}
-use Rattle.co_sdo_client.specs.Calls.{Ticked as TickedAtClient}
-use Rattle.co_sdo_client.specs.Verdicts.{GoesOn}
-use Rattle.co_dict.specs.Rows.{Contents}
-use Rattle.co_sdo.specs.Log.{Ticked, Log}
-use Rattle.co_sdo_laws.specs.World.{Setup, World, ClientTicked}
-use Rattle.co_sdo_laws.specs.Undisturbed.{IsCalm}
-use Rattle.co_sdo_laws.proofs.Server.{serves_first, serves_ticked}
-use Rattle.co_sdo_laws.proofs.Client.{follows, stays, tick_verdict}
-use Rattle.co_sdo_laws.proofs.Scripts.{TickCame, Script}
-use Rattle.co_sdo_laws.proofs.BlockDownloadPlaces.{MayDownload, Position, Beginning, Begun, Sending, Acknowledging, Ending, Ended, Over, count_of, HasBegun, Took, AtClient, AtChannel, places}
-use Rattle.co_sdo_laws.proofs.BlockDownloadRequests.{request_comes}
-use Rattle.co_sdo_laws.proofs.BlockDownloadAnswers.{answer_comes}
+-- A download in blocks from which frames may be lost, whatever the dictionary permits: what holds of a world. Frames are lost from the
+-- front of a queue alone. An acknowledgement is answered to the last frame on its way, and the client goes on only with it. Where it is
+-- permitted and undisturbed (`p`), each sub-block is taken whole, and the frames are counted.
+use Rattle.std.proofs.Common.{◌≡◌, ℕ, suc, ◌+◌, ◌-◌, ◌*◌, ◌/◌, ◌<◌, ◌≤◌, true, List, [], ◌∷◌, length, take, Some, None, sym, subst, ◌⊎◌}
+use Rattle.co_sdo_client.specs.declared.mode.Mode.TheVariants.{Block}
+use Rattle.co_sdo_client.specs.declared.state.ClientState.TheVariants.{Waiting, Done}
+use Rattle.co_sdo_client.specs.Calls.{Download as DownloadJob, Event as ClientEvent, answers as answers_of, Answers, since_first}
+use Rattle.co_sdo_client.specs.Segments.{size_sent, transfer_of, transfer_by}
+use Rattle.co_sdo_client.specs.Stages.{acknowledged, block_size_by, newest}
+use Rattle.co_sdo_client.specs.Outcomes.{outcome, result}
+use Rattle.co_frame.specs.SdoResponses.{response_in}
+use Rattle.co_dict.specs.Rows.{Contents, written}
+use Rattle.co_dict.specs.Stores.{IsDictionary}
+use Rattle.co_sdo.specs.OpenTransfers.{open_transfer}
+use Rattle.co_sdo.specs.Refused.{capacity_at, initiate_refusal, completion_refusal}
+use Rattle.co_sdo.specs.Log.{Log}
+use Rattle.co_sdo.specs.Opened.{OpenTransfer}
+use Rattle.co_sdo_laws.specs.World.{Setup, World}
+use Rattle.co_sdo_laws.proofs.Server.{Serves}
+use Rattle.co_sdo_laws.proofs.Failures.{has_failed}
+use Rattle.co_sdo_laws.proofs.Channel.{IsServing}
+use Rattle.co_sdo_laws.proofs.Blocks.{live, Count, Moment}
+use Rattle.co_sdo_laws.proofs.GoneChannels.{awaited, IsGone}
+use Rattle.co_sdo_laws.proofs.BlockSegments.{all_held, total, size_after, blocks, segments, InTurn, IsWhole}
+use Rattle.co_sdo_laws.proofs.BlockDownloadSegments.{bytes, begin, confirmation, acknowledgement, client_end, all_done, size_read, inside, at_last}
 
--- ---- ticks
+pub record IsDownload (s : Setup) (p : Type 0) : Type 0 where
+  pub dictionary : IsDictionary s.description s.contents
+  pub key : s.call.key.index < 65536
+  pub idle : open_transfer s.past ≡ None
+  pub transfer : transfer_of s.call ≡ transfer_by Block (DownloadJob [] true)
+  pub may_begin : p → initiate_refusal s.description s.call.key (size_read (size_sent s.call.job)) ≡ None
+  pub may_complete : p → completion_refusal s.description s.contents s.call.key (size_read (size_sent s.call.job)) (bytes s) ≡ None
+  pub room : p → length (bytes s) ≤ capacity_at s.description.rows s.call.key
 
-begun_ticks : (s : Setup) (at : Position) (w : World) → IsCalm s ClientTicked w → HasBegun s w.events
-    → (HasBegun s (TickedAtClient ∷ w.events) → AtClient s at (TickedAtClient ∷ w.events))
-    → TickCame s (places s) at w.events
-begun_ticks s at w calm c is =
-    let f = follows s.call w.events TickedAtClient (GoesOn []) c.waits (tick_verdict s.call w.events (calm c.waits)) in
-    record { asks = f.messages; client = is (record { waits = f.state; first = c.first }) }
+-- ---- the client
 
-took_ticks : (s : Setup) (at : Position) (sum : ℕ) (w : World) → IsCalm s ClientTicked w → Took s sum w.events
-    → (Took s sum (TickedAtClient ∷ w.events) → AtClient s at (TickedAtClient ∷ w.events))
-    → TickCame s (places s) at w.events
-took_ticks s at sum w calm c is =
-    let f = follows s.call w.events TickedAtClient (GoesOn []) c.waits (tick_verdict s.call w.events (calm c.waits)) in
-    record { asks = f.messages; client = is (record { waits = f.state; taken = c.taken; is = c.is; total = c.total; size = c.size }) }
+-- its begin isn't answered yet
+pub record HasBegun (s : Setup) (events : List ClientEvent) : Type 0 where
+  pub waits : outcome s.call events ≡ Waiting
+  pub first : since_first (answers_of events) ≡ None
 
-pub client_ticks : (s : Setup) (at : Position) (w : World) → IsCalm s ClientTicked w → AtClient s at w.events
-    → TickCame s (places s) at w.events
-client_ticks s Beginning w calm c = begun_ticks s Beginning w calm c (λ h. h)
-client_ticks s Begun w calm c = begun_ticks s Begun w calm c (λ h. h)
-client_ticks s (Sending i taken more) w calm c = took_ticks s (Sending i taken more) (127 * i) w calm c (λ h. h)
-client_ticks s (Acknowledging i) w calm c = took_ticks s (Acknowledging i) (127 * i) w calm c (λ h. h)
-client_ticks s Ending w calm c = took_ticks s Ending (count_of s) w calm c (λ h. h)
-client_ticks s Ended w calm c = took_ticks s Ended (count_of s) w calm c (λ h. h)
-client_ticks s Over w calm c =
-    let f = stays s.call w.events TickedAtClient c.done in record { asks = f.messages; client = record { done = f.state; gives = f.value ∙ c.gives } }
+-- so many segments were acknowledged
+pub record Took (s : Setup) (sum : ℕ) (events : List ClientEvent) : Type 0 where
+  pub waits : outcome s.call events ≡ Waiting
+  pub taken : Answers
+  pub is : since_first (answers_of events) ≡ Some taken
+  pub total : acknowledged taken.later ≡ sum
+  pub size : block_size_by (response_in (newest taken)) ≡ 127
 
-pub channel_ticks : (s : Setup) (at : Position) (log : Log) (contents : Contents) → AtChannel s at log contents
-    → AtChannel s at (Ticked ∷ log) contents
-channel_ticks s Beginning log contents h = record { serves = serves_ticked _ _ _ h.serves; same = h.same }
-channel_ticks s Begun log contents h = record { serves = serves_ticked _ _ _ h.serves; same = h.same }
-channel_ticks s (Sending i taken more) log contents h = record { within = h.within; size = h.size; inside = record { serves = serves_ticked _ _ _ h.inside.serves; same = h.inside.same } }
-channel_ticks s (Acknowledging i) log contents h = record {
-  within = h.within;
-  inside = λ more. record { serves = serves_ticked _ _ _ (h.inside more).serves; same = (h.inside more).same };
-  all = λ e. record { serves = serves_ticked _ _ _ (h.all e).serves; same = (h.all e).same };
-}
-channel_ticks s Ending log contents h = record { serves = serves_ticked _ _ _ h.serves; same = h.same }
-channel_ticks s Ended log contents h = record { serves = serves_ticked _ _ _ h.serves; sets = h.sets }
-channel_ticks s Over log contents h = record { serves = serves_ticked _ _ _ h.serves; sets = h.sets }
+-- a client that is done, and gives no bytes
+pub record IsDone (s : Setup) (events : List ClientEvent) : Type 0 where
+  pub done : outcome s.call events ≡ Done
+  pub gives : result s.call events ≡ []
 
--- ---- the transfer
+-- ---- the channel
 
-unfoldable pub block_download : (s : Setup) → MayDownload s → Script s (places s)
-block_download s m = record {
-  first = Beginning;
-  first_requests = rw m.transfer refl;
-  first_answers = refl;
-  first_received = refl;
-  first_answered = refl;
-  first_client = record { waits = refl; first = refl };
-  first_channel = record { serves = serves_first s.description.rows s.past m.idle; same = refl };
-  request_comes = request_comes s m;
-  answer_comes = answer_comes s m;
-  client_ticks = client_ticks s;
-  channel_ticks = channel_ticks s;
-}
+abbrev pub Lawful : Setup → Contents → Type 0
+Lawful s contents = contents ≡ s.contents
+
+pub dictionary : (s : Setup) (p : Type 0) → IsDownload s p → (contents : Contents) → contents ≡ s.contents → IsDictionary s.description contents
+dictionary s p m contents e = subst (IsDictionary s.description) (sym e) m.dictionary
+
+-- inside a sub-block: so many segments were taken, as many of them in it
+abbrev pub taking : Setup → ℕ → ℕ → OpenTransfer
+taking s sum taken = inside s.call.key (size_read (size_sent s.call.job)) taken (take (7 * sum) (bytes s))
+
+-- all were taken
+abbrev pub complete : Setup → OpenTransfer
+complete s = at_last s.call.key (size_read (size_sent s.call.job)) (all_held (bytes s) (total (bytes s) - 1))
+
+-- this is open, or, of a disturbed transfer, the channel gave it up
+abbrev pub May : Setup → Type 0 → OpenTransfer → Log → Contents → Type 0
+May s p o log contents = IsServing s (Lawful s) (Some o) log contents ⊎ ((p → ⊥) × IsGone log)
+
+-- undisturbed, nothing is open, and no other entry was set
+pub record Closed (s : Setup) (w : World) : Type 0 where
+  pub serves : Serves s.description.rows w.log None
+  pub sets : w.contents ≡ written s.contents s.call.key (bytes s)
+
+-- the entry has the bytes
+pub record IsSet (s : Setup) (p : Type 0) (w : World) : Type 0 where
+  pub entry : w.contents s.call.key ≡ Some (bytes s)
+  pub closed : p → Closed s w
+
+-- undisturbed, all frames have come
+pub record Last (s : Setup) (w : World) : Type 0 where
+  pub answers : w.answers ≡ []
+  pub count : Count (2 + total (bytes s)) (2 + blocks (bytes s)) w
+
+-- ---- what holds of a world
+
+pub data Stands (s : Setup) (p : Type 0) (w : World) : Type 0 where
+  -- the begin is on its way, or its confirmation, or nothing
+  asking : HasBegun s w.events → Moment p live (begin s ∷ []) [] 0 0 w → IsServing s (Lawful s) None w.log w.contents → Stands s p w
+  confirmed : HasBegun s w.events → Moment p live [] (confirmation s ∷ []) 1 0 w → May s p (taking s 0 0) w.log w.contents → Stands s p w
+  unconfirmed : (p → ⊥) → HasBegun s w.events → w.requests ≡ [] → live w.answers ≡ [] → Stands s p w
+  -- segment n of the sub-block after a and more after it are on their way; the channel took t of it, or has given up
+  sending : (a t n more : ℕ) → Took s a w.events → a + t < total (bytes s) → 1 ≤ n → n + more ≡ size_after (bytes s) a → (p → InTurn a t n)
+      → Moment p awaited (segments (bytes s) a n (suc more)) [] (1 + a + t) (1 + a / 127) w → IsServing s (Lawful s) (Some (taking s (a + t) t)) w.log w.contents → Stands s p w
+  unheard : (a n more : ℕ) → (p → ⊥) → Took s a w.events → a < total (bytes s) → 1 ≤ n → n + more ≡ size_after (bytes s) a
+      → w.requests ≡ segments (bytes s) a n (suc more) → awaited w.answers ≡ [] → IsGone w.log → Stands s p w
+  -- t segments are acknowledged; others are left, or none
+  acknowledging : (a t : ℕ) → Took s a w.events → a + t < total (bytes s) → (p → IsWhole (bytes s) a t)
+      → Moment p awaited [] (acknowledgement t ∷ []) (1 + a + t) (1 + a / 127) w → May s p (taking s (a + t) 0) w.log w.contents → Stands s p w
+  finishing : (a t : ℕ) → Took s a w.events → a < total (bytes s) → a + t ≡ total (bytes s) → (p → IsWhole (bytes s) a t)
+      → Moment p awaited [] (acknowledgement t ∷ []) (1 + a + t) (1 + a / 127) w → May s p (complete s) w.log w.contents → Stands s p w
+  -- the end, or its confirmation, is on its way
+  ending : Took s (total (bytes s)) w.events → Moment p awaited (client_end s ∷ []) [] (1 + total (bytes s)) (1 + blocks (bytes s)) w → May s p (complete s) w.log w.contents → Stands s p w
+  ended : Took s (total (bytes s)) w.events → Moment p awaited [] (all_done ∷ []) (2 + total (bytes s)) (1 + blocks (bytes s)) w → IsSet s p w → Stands s p w
+  -- nothing is on its way that the client awaits
+  quiet : (a : ℕ) → (p → ⊥) → Took s a w.events → w.requests ≡ [] → awaited w.answers ≡ [] → Stands s p w
+  over : IsDone s w.events → w.requests ≡ [] → IsSet s p w → (p → Last s w) → Stands s p w
+  failed : (p → ⊥) → has_failed (outcome s.call w.events) ≡ true → Stands s p w

@@ -1,28 +1,18 @@
--- The segments of a transfer in blocks: their bytes, and what a channel makes of them inside a sub-block.
-use Rattle.std.proofs.Common.{◌≡◌, ℕ, suc, ◌+◌, ◌-◌, ◌*◌, ◌<◌, ◌≤◌, Bool, true, false, cond, List, [], ◌∷◌, ◌++◌, length, take, drop, map, Option, Some, None, refl, sym, ap, ◌∙◌, arith, eqb, append_assoc, append-nil, length-take, length-drop, length-append}
-use Rattle.std.specs.Prelude.{nat_lt, min, replicate, unwrap_or}
+-- The segments of a transfer in blocks, whichever end sends them: their bytes, their frames, and what a receiver then holds.
+use Rattle.std.proofs.Common.{◌≡◌, ℕ, zero, suc, ◌+◌, ◌-◌, ◌*◌, ◌/◌, ◌%◌, ◌<◌, ◌≤◌, Bool, true, false, cond, List, [], ◌∷◌, ◌++◌, length, take, drop, map, Some, None, refl, sym, ap, ◌∙◌, arith, eqb, append_assoc, append-nil, length-take, length-drop, length-append}
+use Rattle.std.specs.Prelude.{◌||◌, min, replicate}
+use Rattle.std.specs.List.{range_with_len}
 use Rattle.std.proofs.lemmas.List.{length-replicate, take-append-le, take_all}
 use Rattle.std.proofs.lemmas.Bool.Decides.{nat_tests}
-use Rattle.co_value.specs.declared.key.Key.{Key}
 use Rattle.co_frame.specs.SdoFields.{padded}
-use Rattle.co_frame.specs.BlockSegments.{block_segment_bytes}
+use Rattle.co_frame.specs.BlockSegments.{block_segment_in, block_segment_bytes, is_abort_in_sub_block}
 use Rattle.co_frame.specs.declared.block_segment.BlockSegment.{BlockSegment}
-use Rattle.co_frame.specs.declared.sdo_response.SdoResponse.TheVariants.{BlockDownloadAcknowledge}
-use Rattle.co_sdo_client.specs.Calls.{message_bytes, Segment}
-use Rattle.co_sdo_client.specs.Segments.{part_after, segment_count, block_segment}
-use Rattle.co_dict.specs.Rows.{Contents}
-use Rattle.co_dict.specs.Stores.{Description}
-use Rattle.co_sdo.specs.Refused.{capacity_at}
-use Rattle.co_sdo.specs.Log.{Answer, Response}
+use Rattle.co_sdo_client.specs.Segments.{part_after, segment_count, block_segment, sub_block_length}
+use Rattle.co_sdo_client.specs.SubBlocks.{segment_taken, sub_block, taken_segments, block_bytes, has_last}
 use Rattle.co_sdo.specs.Downloads.{without}
-use Rattle.co_sdo.specs.Opened.{OpenTransfer}
-use Rattle.co_sdo.specs.Replies.{answers_to}
-use Rattle.co_sdo.specs.Completed.{contents_with}
-use Rattle.co_sdo.specs.Steps.{after_frame, stage_after_frame, opened_next, set_next}
-use Rattle.co_sdo.proofs.Initiations.{exchange}
-use Rattle.co_sdo.proofs.Continuations.{segmented}
 use Rattle.co_sdo_laws.proofs.Frames.{block_segment_read}
-use Rattle.co_sdo_laws.proofs.Segments.{joined}
+use Rattle.co_sdo_laws.proofs.Segments.{joined, part_small}
+use Rattle.co_sdo_laws.proofs.Blocks.{live}
 
 -- ---- data
 
@@ -61,74 +51,140 @@ all_is v k h = all_cut v (part_after k v) (take (7 * k) v) (7 * segment_count v)
         let cut : length (v ++ zeros) - (n - length v) ≡ length v = omega arith in
         rw (is, cut) (take_front v zeros)
 
--- the frames of a sub-block
-pub sub_block_bytes : (v : List ℕ) (position : ℕ) (numbers : List ℕ) → map message_bytes (map (λ number. Segment (block_segment v position number)) numbers) ≡ map (λ number. block_segment_bytes (block_segment v position number)) numbers
-sub_block_bytes v position [] = refl
-sub_block_bytes v position (x ∷ xs) = ap (λ (ys : List (List ℕ)). block_segment_bytes (block_segment v position x) ∷ ys) (sub_block_bytes v position xs)
+-- ---- frames
 
--- ---- a channel inside a sub-block
+-- how many segments the bytes have, and how many a sub-block after so many; how many sub-blocks
+abbrev pub total : List ℕ → ℕ
+total v = segment_count v
 
-abbrev pub blank : Key → OpenTransfer
-blank key = segmented key None (record { begin = exchange [] (λ _. None) []; later = [] })
+abbrev pub size_after : List ℕ → ℕ → ℕ
+size_after v a = sub_block_length v a 127
 
--- an open block download, inside a sub-block after so many of its segments
-abbrev pub in_sub_block : Key → Option ℕ → ℕ → List ℕ → OpenTransfer
-in_sub_block key size taken bytes = record (unwrap_or (after_frame (λ _. None) (blank key) size taken []) (blank key)) { bytes = bytes }
+abbrev pub blocks : List ℕ → ℕ
+blocks v = (total v + 126) / 127
 
--- after its last segment
-abbrev pub after_last : Key → Option ℕ → List ℕ → OpenTransfer
-after_last key size bytes = record (blank key) { stage = stage_after_frame size 0 (0x81 ∷ 0 ∷ 0 ∷ 0 ∷ 0 ∷ 0 ∷ 0 ∷ 0 ∷ []); bytes = bytes }
+-- how many bytes of the last segment are unused
+abbrev pub unused : List ℕ → ℕ
+unused v = 7 * total v - length v
+
+-- segment n of the sub-block after so many
+abbrev pub segment_at : List ℕ → ℕ → ℕ → List ℕ
+segment_at v a n = block_segment_bytes (block_segment v a n)
+
+-- so many of them, from segment n on
+abbrev pub segments : List ℕ → ℕ → ℕ → ℕ → List (List ℕ)
+segments v a n more = map (segment_at v a) (range_with_len n more)
 
 abbrev pub segment_with : Bool → ℕ → List ℕ → BlockSegment
 segment_with last number bytes = record { last = last; sequence = number; bytes = bytes }
 
-pub no_abort : (last : Bool) (d : ℕ) → d < 127 → eqb (cond last 128 0 + (d + 1)) 128 ≡ false
-no_abort true d h = grind (arith, nat_tests)
-no_abort false d h = grind (arith, nat_tests)
+-- the bytes of segment n, with c or without
+abbrev pub data_at : List ℕ → ℕ → ℕ → List ℕ
+data_at v a n = padded 7 (part_after (a + n - 1) v)
 
-pub itself : (n : ℕ) → eqb n n ≡ true
-itself n = grind (arith, nat_tests)
+abbrev pub frame_with : List ℕ → ℕ → ℕ → Bool → List ℕ
+frame_with v a n last = block_segment_bytes (segment_with last n (data_at v a n))
 
--- what a channel makes of a frame
-pub record Makes (d : Description) (contents : Contents) (o : OpenTransfer) (frame : List ℕ) (answers : List Answer) (next : OpenTransfer) : Type 0 where
-  pub replies : answers_to d contents (Some o) frame ≡ answers
-  pub opens : opened_next d contents (Some o) frame ≡ Some next
-  pub sets : contents_with contents (set_next d contents (Some o) frame) ≡ contents
+pub data_long : (v : List ℕ) (a n : ℕ) → length (data_at v a n) ≡ 7
+data_long v a n = padded_long (part_after (a + n - 1) v) (part_small (a + n - 1) v)
 
--- the next segment, where it doesn't end the sub-block
-pub takes_inside : (d : Description) (contents : Contents) (key : Key) (size : Option ℕ) (taken : ℕ) (held bytes : List ℕ) → taken + 1 < 127 → length bytes ≡ 7
-    → Makes d contents (in_sub_block key size taken held) (block_segment_bytes (segment_with false (taken + 1) bytes)) [] (in_sub_block key size (taken + 1) (held ++ bytes))
-takes_inside d contents key size taken held bytes h n =
-    let read = block_segment_read (segment_with false (taken + 1) bytes) (omega arith) (omega arith) n in
-    let other : eqb (taken + 1) 127 ≡ false = grind (arith, nat_tests) in
-    let abort = no_abort false taken (omega arith) in
+pub frame_is : (v : List ℕ) (a n : ℕ) (last : Bool) → eqb (a + n) (total v) ≡ last → segment_at v a n ≡ frame_with v a n last
+frame_is v a n last l = rw l refl
+
+pub frame_long : (v : List ℕ) (a n : ℕ) (last : Bool) → length (frame_with v a n last) ≡ 8
+frame_long v a n last = let m = data_long v a n in omega (arith, m)
+
+pub frame_read : (v : List ℕ) (a n : ℕ) (last : Bool) → 1 ≤ n → n < 128 → block_segment_in (frame_with v a n last) ≡ Some (segment_with last n (data_at v a n))
+frame_read v a n last some few = block_segment_read (segment_with last n (data_at v a n)) some few (data_long v a n)
+
+-- its first byte isn't that of an abort
+pub other_byte : (last : Bool) (n : ℕ) → 1 ≤ n → n < 128 → eqb (cond last 128 0 + n) 128 ≡ false
+other_byte true n some few = grind (arith, nat_tests)
+other_byte false n some few = grind (arith, nat_tests)
+
+no_cut : (v : List ℕ) (a n : ℕ) (last : Bool) → eqb (a + n) (total v) ≡ last → 1 ≤ n → n < 128 → is_abort_in_sub_block (segment_at v a n) ≡ false
+no_cut v a n last l some few = rw (l, frame_long v a n last, other_byte last n some few) refl
+
+pub live_segments : (v : List ℕ) (a n more : ℕ) → 1 ≤ n → n + more ≤ 128 → live (segments v a n more) ≡ segments v a n more
+live_segments v a n zero some few = refl
+live_segments v a n (suc more) some few =
+    rw (no_cut v a n _ refl some (omega arith)) (ap (λ (xs : List (List ℕ)). segment_at v a n ∷ xs) (live_segments v a (n + 1) more (omega arith) (omega arith)))
+
+-- the next segment's bytes follow those before it
+pub next_joined : (v : List ℕ) (a t n : ℕ) → n ≡ t + 1 → a + n < total v → take (7 * (a + t)) v ++ data_at v a n ≡ take (7 * (a + (t + 1))) v
+next_joined v a t n turn more =
+    let last : a + n - 1 ≡ a + t = omega arith in
+    let sum : suc (a + t) ≡ a + (t + 1) = omega arith in
+    ap (λ (j : ℕ). take (7 * (a + t)) v ++ padded 7 (part_after j v)) last ∙ full_joined v (a + t) (omega arith) ∙ ap (λ (j : ℕ). take (7 * j) v) sum
+
+pub last_joined : (v : List ℕ) (a t n : ℕ) → n ≡ t + 1 → a + n ≡ total v → take (7 * (a + t)) v ++ data_at v a n ≡ all_held v (total v - 1)
+last_joined v a t n turn whole =
+    let last : a + n - 1 ≡ total v - 1 = omega arith in
+    let before : a + t ≡ total v - 1 = omega arith in
+    ap (λ (j : ℕ). take (7 * (a + t)) v ++ padded 7 (part_after j v)) last ∙ ap (λ (j : ℕ). take (7 * j) v ++ padded 7 (part_after (total v - 1) v)) before
+
+-- ---- undisturbed
+
+-- the next segment of a sub-block comes, after whole ones
+pub record InTurn (a t n : ℕ) : Type 0 where
+  pub whole : a % 127 ≡ 0
+  pub next : n ≡ t + 1
+
+-- a whole sub-block after whole ones was taken
+pub record IsWhole (v : List ℕ) (a t : ℕ) : Type 0 where
+  pub whole : a % 127 ≡ 0
+  pub size : t ≡ size_after v a
+  pub within : a < total v
+
+-- ---- what a receiver has taken
+
+-- what a receiver has with one more frame, the next segment
+pub record Grows (later : List (List ℕ)) (frame : List ℕ) (segment : BlockSegment) (taken : ℕ) : Type 0 where
+  pub last : has_last (frame ∷ later) ≡ segment.last
+  pub bytes : block_bytes (frame ∷ later) ≡ block_bytes later ++ segment.bytes
+  pub inside : segment.last || eqb segment.sequence 127 ≡ false → length (taken_segments (sub_block (frame ∷ later))) ≡ taken + 1
+  pub ended : segment.last || eqb segment.sequence 127 ≡ true → length (taken_segments (sub_block (frame ∷ later))) ≡ 0
+
+pub one_more : (frame : List ℕ) (older : List (List ℕ)) (segment : BlockSegment) → segment_taken (length (taken_segments older)) (block_segment_in frame) ≡ Some segment
+    → length (taken_segments (frame ∷ older)) ≡ length (taken_segments older) + 1
+one_more frame older segment t = rw t (omega arith)
+
+pub no_more : (frame : List ℕ) (older : List (List ℕ)) → segment_taken (length (taken_segments older)) (block_segment_in frame) ≡ None → length (taken_segments (frame ∷ older)) ≡ length (taken_segments older)
+no_more frame older t = rw t refl
+
+pub grows : (later : List (List ℕ)) (frame : List ℕ) (segment : BlockSegment) (taken : ℕ) → block_segment_in frame ≡ Some segment → eqb segment.sequence (taken + 1) ≡ true
+    → has_last later ≡ false → length (taken_segments (sub_block later)) ≡ taken → Grows later frame segment taken
+grows later frame segment taken read number inside n =
+    let t : segment_taken (length (taken_segments (sub_block later))) (block_segment_in frame) ≡ Some segment = rw (read, n, number) refl in
     record {
-      replies = rw (read, other) refl;
-      opens = rw (read, abort, other, itself (taken + 1)) refl;
-      sets = refl;
+      last = rw (inside, t) refl;
+      bytes = rw t refl;
+      inside = λ e.
+          let longer : sub_block (frame ∷ later) ≡ frame ∷ sub_block later = rw (read, e) refl in
+          ap (λ (xs : List (List ℕ)). length (taken_segments xs)) longer ∙ one_more frame (sub_block later) segment t ∙ ap (λ (j : ℕ). j + 1) n;
+      ended = λ e.
+          let none : sub_block (frame ∷ later) ≡ [] = rw (read, e) refl in
+          ap (λ (xs : List (List ℕ)). length (taken_segments xs)) none;
     }
 
--- the last segment of a whole sub-block, where others follow
-pub takes_full : (d : Description) (contents : Contents) (key : Key) (size : Option ℕ) (taken : ℕ) (held bytes : List ℕ) → taken + 1 ≡ 127 → length bytes ≡ 7 → length (held ++ bytes) ≤ capacity_at d.rows key
-    → Makes d contents (in_sub_block key size taken held) (block_segment_bytes (segment_with false (taken + 1) bytes)) (Response (BlockDownloadAcknowledge (taken + 1) 127) ∷ []) (in_sub_block key size 0 (held ++ bytes))
-takes_full d contents key size taken held bytes e n room =
-    let read = block_segment_read (segment_with false (taken + 1) bytes) (omega arith) (omega arith) n in
-    let fits : nat_lt (capacity_at d.rows key) (length (held ++ bytes)) ≡ false = grind (arith, nat_tests) in
-    let abort = no_abort false taken (omega arith) in
-    record {
-      replies = rw (read, e, fits) refl;
-      opens = rw (read, abort, e, fits) refl;
-      sets = refl;
-    }
+-- and with one that isn't the next
+pub record Stays (later : List (List ℕ)) (frame : List ℕ) (segment : BlockSegment) (taken : ℕ) : Type 0 where
+  pub last : has_last (frame ∷ later) ≡ false
+  pub bytes : block_bytes (frame ∷ later) ≡ block_bytes later
+  pub inside : segment.last || eqb segment.sequence 127 ≡ false → length (taken_segments (sub_block (frame ∷ later))) ≡ taken
+  pub ended : segment.last || eqb segment.sequence 127 ≡ true → length (taken_segments (sub_block (frame ∷ later))) ≡ 0
 
--- the last segment of all
-pub takes_last : (d : Description) (contents : Contents) (key : Key) (size : Option ℕ) (taken : ℕ) (held bytes : List ℕ) → taken < 127 → length bytes ≡ 7
-    → Makes d contents (in_sub_block key size taken held) (block_segment_bytes (segment_with true (taken + 1) bytes)) (Response (BlockDownloadAcknowledge (taken + 1) 127) ∷ []) (after_last key size (held ++ bytes))
-takes_last d contents key size taken held bytes h n =
-    let read = block_segment_read (segment_with true (taken + 1) bytes) (omega arith) (omega arith) n in
-    let abort = no_abort true taken h in
+pub passes : (later : List (List ℕ)) (frame : List ℕ) (segment : BlockSegment) (taken : ℕ) → block_segment_in frame ≡ Some segment → eqb segment.sequence (taken + 1) ≡ false
+    → has_last later ≡ false → length (taken_segments (sub_block later)) ≡ taken → Stays later frame segment taken
+passes later frame segment taken read number inside n =
+    let t : segment_taken (length (taken_segments (sub_block later))) (block_segment_in frame) ≡ None = rw (read, n, number) refl in
     record {
-      replies = rw (read, itself (taken + 1)) refl;
-      opens = rw (read, abort, itself (taken + 1)) refl;
-      sets = refl;
+      last = rw (inside, t) refl;
+      bytes = rw t (append-nil (block_bytes later));
+      inside = λ e.
+          let longer : sub_block (frame ∷ later) ≡ frame ∷ sub_block later = rw (read, e) refl in
+          ap (λ (xs : List (List ℕ)). length (taken_segments xs)) longer ∙ no_more frame (sub_block later) t ∙ n;
+      ended = λ e.
+          let none : sub_block (frame ∷ later) ≡ [] = rw (read, e) refl in
+          ap (λ (xs : List (List ℕ)). length (taken_segments xs)) none;
     }

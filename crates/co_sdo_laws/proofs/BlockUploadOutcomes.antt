@@ -1,124 +1,103 @@
--- What the positions of an upload in blocks say of a world.
-use Rattle.std.proofs.Common.{◌≡◌, ℕ, ◌+◌, ◌<◌, ◌≤◌, true, false, length, None, refl, sym, ◌∙◌, arith}
-use Rattle.std.specs.Prelude.{nat_le}
-use Rattle.std.proofs.lemmas.Bool.Decides.{nat_tests}
+-- What the worlds of an upload in blocks say of its client and its channel.
+use Rattle.std.proofs.Common.{◌≡◌, ℕ, suc, ◌+◌, ◌<◌, ◌≤◌, true, false, length, None, refl, sym, ap, ◌∙◌, arith, inl, inr}
+use Rattle.std.proofs.lemmas.Bool.{false≢true}
 use Rattle.co_sdo_client.specs.declared.state.ClientState.TheVariants.{Waiting, Done}
-use Rattle.co_sdo_client.specs.Calls.{answers as answers_of}
 use Rattle.co_sdo_client.specs.Outcomes.{outcome, result}
+use Rattle.co_dict.specs.Rows.{Contents}
+use Rattle.co_sdo.specs.Opened.{OpenTransfer}
+use Rattle.co_sdo.specs.Log.{Log}
 use Rattle.co_sdo_laws.specs.World.{Setup, World}
-use Rattle.co_sdo_laws.specs.Undisturbed.{arrived, on_their_way, GoesInBlocks, HaveSent, block_frames, block_upload_frames, block_upload_requests, block_upload_answers}
+use Rattle.co_sdo_laws.specs.Undisturbed.{on_their_way, GoesInBlocks, HaveSent, block_frames, block_upload_frames, block_upload_requests, block_upload_answers}
 use Rattle.co_sdo_laws.proofs.SentFrames.{AllThere, have_sent}
-use Rattle.co_sdo_laws.proofs.Scripts.{IsAt}
-use Rattle.co_sdo_laws.proofs.SegmentedUploads.{value}
 use Rattle.co_sdo_laws.proofs.Server.{Serves}
-use Rattle.co_sdo_laws.proofs.BlockUploadPlaces.{Position, Beginning, Begun, Starting, Sending, Acknowledging, Ending, Ended, Over, requests, answers, received, answered, AtClient, AtChannel, places}
-
--- how many frames have arrived at a position
-abbrev count : Setup → Position → ℕ
-count s at = received s at + answered s at
-
-goes_on : (s : Setup) (w : World) (at : Position) → w.requests ≡ requests s at → w.answers ≡ answers s at
-    → arrived w ≡ count s at → outcome s.call w.events ≡ Waiting
-    → count s at < block_frames (length (value s)) → 1 ≤ length (requests s at) + length (answers s at)
-    → GoesInBlocks s.call (block_frames (length (value s))) (block_upload_frames (length (value s))) w
-goes_on s w at r a n waits below some =
-    let other : nat_le (block_frames (length (value s))) (arrived w) ≡ false = grind (arith, nat_tests) in
-    record {
-      within = omega arith;
-      state = rw (other, waits) refl;
-      moves = λ less. rw (r, a) some;
-      rests = λ e. absurd (omega arith);
-    }
-
-pub goes_in_blocks : (s : Setup) (w : World) → IsAt s (places s) w
-    → GoesInBlocks s.call (block_frames (length (value s))) (block_upload_frames (length (value s))) w
-goes_in_blocks s w h =
-    by w h.at h.requests h.answers (let n = h.received in let m = h.answered in omega arith) h.client h.channel
-  where
-    by : (w : World) (at : Position) → w.requests ≡ requests s at → w.answers ≡ answers s at → arrived w ≡ count s at
-        → AtClient s at w.events → AtChannel s at w.log w.contents
-        → GoesInBlocks s.call (block_frames (length (value s))) (block_upload_frames (length (value s))) w
-    by w Beginning r a n c h = goes_on s w Beginning r a n c.waits (omega arith) (omega arith)
-    by w Begun r a n c h = goes_on s w Begun r a n c.waits (omega arith) (omega arith)
-    by w Starting r a n c h = goes_on s w Starting r a n c.waits (omega arith) (omega arith)
-    by w (Sending i taken more) r a n c h = let within = h.within in let size = h.size in goes_on s w (Sending i taken more) r a n c.waits (omega arith) (omega arith)
-    by w (Acknowledging i) r a n c h = let within = h.within in goes_on s w (Acknowledging i) r a n c.waits (omega arith) (omega arith)
-    by w Ending r a n c h = goes_on s w Ending r a n c.waits (omega arith) (omega arith)
-    by w Ended r a n c h =
-        let all : nat_le (block_frames (length (value s))) (arrived w) ≡ true = grind (arith, nat_tests) in
-        let done = c.done in
-        record { within = omega arith; state = rw (all, done) refl; moves = λ less. rw (r, a) (omega arith); rests = λ e. absurd (omega arith) }
-    by w Over r a n c h =
-        let all : nat_le (block_frames (length (value s))) (arrived w) ≡ true = grind (arith, nat_tests) in
-        let done = c.done in
-        record { within = omega arith; state = rw (all, done) refl; moves = λ less. absurd (omega arith); rests = λ e. rw (r, a) refl }
-
-waiting≢done : Waiting ≡ Done → ⊥
-waiting≢done e = cc
+use Rattle.co_sdo_laws.proofs.Failures.{has_failed}
+use Rattle.co_sdo_laws.proofs.SegmentedUploads.{value}
+use Rattle.co_sdo_laws.proofs.Blocks.{live, waiting≢done}
+use Rattle.co_sdo_laws.proofs.BlockCounts.{some_on_way, waits_at, done_at}
+use Rattle.co_sdo_laws.proofs.BlockUploads.{May, Last, sent_end, end_came, Stands, asking, confirmed, starting, taking, acknowledging, finishing, ending, quiet, over, failed}
 
 -- a client that is done gives the value
-pub value_is : (s : Setup) (w : World) → IsAt s (places s) w → outcome s.call w.events ≡ Done
-    → result s.call w.events ≡ value s
-value_is s w h done = by w h.at h.client done
+pub value_is : (s : Setup) (p : Type 0) (w : World) → Stands s p w → outcome s.call w.events ≡ Done → result s.call w.events ≡ value s
+value_is s p w (asking b m h) done = absurd (waiting≢done (sym b.waits ∙ done))
+value_is s p w (confirmed b m h) done = absurd (waiting≢done (sym b.waits ∙ done))
+value_is s p w (starting b m h) done = absurd (waiting≢done (sym b.waits ∙ done))
+value_is s p w (taking a t n more b under some size turn m h) done = absurd (waiting≢done (sym b.waits ∙ done))
+value_is s p w (acknowledging a u b under whole m h) done = absurd (waiting≢done (sym b.waits ∙ done))
+value_is s p w (finishing a u b e whole m h) done = absurd (waiting≢done (sym b.waits ∙ done))
+value_is s p w (ending b m h) done = absurd (waiting≢done (sym b.waits ∙ done))
+value_is s p w (quiet n b e f) done = absurd (waiting≢done (sym b ∙ done))
+value_is s p w (over b last) done = b.gives
+value_is s p w (failed n h) done = absurd (false≢true (ap has_failed (sym done) ∙ h))
+
+-- ---- undisturbed
+
+pub goes_in_blocks : (s : Setup) (w : World) → Stands s (Unit {0}) w → GoesInBlocks s.call (block_frames (length (value s))) (block_upload_frames (length (value s))) w
+goes_in_blocks s w (asking b m h) = waits_at s _ _ live _ _ _ _ w m b.waits (omega arith) (omega arith) (omega arith)
+goes_in_blocks s w (confirmed b m h) = waits_at s _ _ live _ _ _ _ w m b.waits (omega arith) (omega arith) (omega arith)
+goes_in_blocks s w (starting b m h) = waits_at s _ _ live _ _ _ _ w m b.waits (omega arith) (omega arith) (omega arith)
+goes_in_blocks s w (taking a t n more b under some size turn m h) = waits_at s _ _ live _ _ _ _ w m b.waits (omega arith) (omega arith) (omega arith)
+goes_in_blocks s w (acknowledging a u b under whole m h) = waits_at s _ _ live _ _ _ _ w m b.waits (omega arith) (omega arith) (omega arith)
+goes_in_blocks s w (finishing a u b e whole m h) = let within = (whole tt).within in waits_at s _ _ live _ _ _ _ w m b.waits (omega arith) (omega arith) (omega arith)
+goes_in_blocks s w (ending b m h) = waits_at s _ _ live _ _ _ _ w m b.waits (omega arith) (omega arith) (omega arith)
+goes_in_blocks s w (quiet n b e f) = absurd (n tt)
+goes_in_blocks s w (over b last) = by (last tt)
   where
-    by : (w : World) (at : Position) → AtClient s at w.events → outcome s.call w.events ≡ Done
-        → result s.call w.events ≡ value s
-    by w Beginning c done = absurd (waiting≢done (sym c.waits ∙ done))
-    by w Begun c done = absurd (waiting≢done (sym c.waits ∙ done))
-    by w Starting c done = absurd (waiting≢done (sym c.waits ∙ done))
-    by w (Sending i taken more) c done = absurd (waiting≢done (sym c.waits ∙ done))
-    by w (Acknowledging i) c done = absurd (waiting≢done (sym c.waits ∙ done))
-    by w Ending c done = absurd (waiting≢done (sym c.waits ∙ done))
-    by w Ended c done = c.gives
-    by w Over c done = c.gives
+    by : Last s w → GoesInBlocks s.call (block_frames (length (value s))) (block_upload_frames (length (value s))) w
+    by (sent_end e f n h) = done_at s _ _ 1 _ _ w n b.done (omega arith) (omega arith) (omega arith) (rw (e, f) refl)
+    by (end_came e f n h) = done_at s _ _ 0 _ _ w n b.done (omega arith) (omega arith) (omega arith) (rw (e, f) refl)
+goes_in_blocks s w (failed n h) = absurd (n tt)
+
+still_same : (s : Setup) (o : OpenTransfer) (log : Log) (contents : Contents) → May s (Unit {0}) o log contents → contents ≡ s.contents
+still_same s o log contents (inl gone) = absurd (gone.0 tt)
+still_same s o log contents (inr h) = h.lawful
 
 -- no entry is changed
-pub contents_same : (s : Setup) (w : World) → IsAt s (places s) w → w.contents ≡ s.contents
-contents_same s w h = by w h.at h.channel
+pub contents_same : (s : Setup) (w : World) → Stands s (Unit {0}) w → w.contents ≡ s.contents
+contents_same s w (asking b m h) = h.lawful
+contents_same s w (confirmed b m h) = still_same s _ _ _ h
+contents_same s w (starting b m h) = still_same s _ _ _ h
+contents_same s w (taking a t n more b under some size turn m h) = still_same s _ _ _ h
+contents_same s w (acknowledging a u b under whole m h) = still_same s _ _ _ h
+contents_same s w (finishing a u b e whole m h) = still_same s _ _ _ h
+contents_same s w (ending b m h) = still_same s _ _ _ h
+contents_same s w (quiet n b e f) = absurd (n tt)
+contents_same s w (over b last) = by (last tt)
   where
-    by : (w : World) (at : Position) → AtChannel s at w.log w.contents → w.contents ≡ s.contents
-    by w Beginning h = h.same
-    by w Begun h = h.same
-    by w Starting h = h.same
-    by w (Sending i taken more) h = h.sent.same
-    by w (Acknowledging i) h = h.sent.same
-    by w Ending h = h.same
-    by w Ended h = h.same
-    by w Over h = h.same
+    by : Last s w → w.contents ≡ s.contents
+    by (sent_end e f n h) = h.lawful
+    by (end_came e f n h) = h.lawful
+contents_same s w (failed n h) = absurd (n tt)
 
 -- nothing is open at the channel when no frame is on its way
-pub closed : (s : Setup) (w : World) → IsAt s (places s) w → on_their_way w ≡ 0 → Serves s.description.rows w.log None
-closed s w h none = by w h.at none h.requests h.answers h.channel
+pub closed : (s : Setup) (w : World) → Stands s (Unit {0}) w → on_their_way w ≡ 0 → Serves s.description.rows w.log None
+closed s w (asking b m h) none = absurd (some_on_way live _ _ _ _ w m (omega arith) none)
+closed s w (confirmed b m h) none = absurd (some_on_way live _ _ _ _ w m (omega arith) none)
+closed s w (starting b m h) none = absurd (some_on_way live _ _ _ _ w m (omega arith) none)
+closed s w (taking a t n more b under some size turn m h) none = absurd (some_on_way live _ _ _ _ w m (omega arith) none)
+closed s w (acknowledging a u b under whole m h) none = absurd (some_on_way live _ _ _ _ w m (omega arith) none)
+closed s w (finishing a u b e whole m h) none = absurd (some_on_way live _ _ _ _ w m (omega arith) none)
+closed s w (ending b m h) none = absurd (some_on_way live _ _ _ _ w m (omega arith) none)
+closed s w (quiet n b e f) none = absurd (n tt)
+closed s w (over b last) none = by (last tt)
   where
-    some : (w : World) (at : Position) → on_their_way w ≡ 0 → w.requests ≡ requests s at → w.answers ≡ answers s at
-        → 1 ≤ length (requests s at) + length (answers s at) → ⊥
-    some w at none r a more = let less : length (requests s at) + length (answers s at) ≡ 0 = rw (← r, ← a) none in omega arith
-
-    by : (w : World) (at : Position) → on_their_way w ≡ 0 → w.requests ≡ requests s at → w.answers ≡ answers s at
-        → AtChannel s at w.log w.contents → Serves s.description.rows w.log None
-    by w Beginning none r a h = absurd (some w Beginning none r a (omega arith))
-    by w Begun none r a h = absurd (some w Begun none r a (omega arith))
-    by w Starting none r a h = absurd (some w Starting none r a (omega arith))
-    by w (Sending i taken more) none r a h = absurd (some w (Sending i taken more) none r a (omega arith))
-    by w (Acknowledging i) none r a h = absurd (some w (Acknowledging i) none r a (omega arith))
-    by w Ending none r a h = absurd (some w Ending none r a (omega arith))
-    by w Ended none r a h = absurd (some w Ended none r a (omega arith))
-    by w Over none r a h = h.serves
+    by : Last s w → Serves s.description.rows w.log None
+    by (sent_end e f n h) = let one : on_their_way w ≡ 1 = rw (e, f) refl in absurd (omega arith)
+    by (end_came e f n h) = h.serves
+closed s w (failed n h) none = absurd (n tt)
 
 -- a client that is done and its channel have sent all frames
-pub all_sent : (s : Setup) (w : World) → AllThere s w → IsAt s (places s) w → outcome s.call w.events ≡ Done
-    → HaveSent s (block_upload_requests (length (value s))) (block_upload_answers (length (value s))) w
-all_sent s w t h done = by w h.at t h.requests h.answers h.received h.answered h.client done
+pub all_sent : (s : Setup) (w : World) → AllThere s w → Stands s (Unit {0}) w → outcome s.call w.events ≡ Done → HaveSent s (block_upload_requests (length (value s))) (block_upload_answers (length (value s))) w
+all_sent s w t (asking b m h) done = absurd (waiting≢done (sym b.waits ∙ done))
+all_sent s w t (confirmed b m h) done = absurd (waiting≢done (sym b.waits ∙ done))
+all_sent s w t (starting b m h) done = absurd (waiting≢done (sym b.waits ∙ done))
+all_sent s w t (taking a k n more b under some size turn m h) done = absurd (waiting≢done (sym b.waits ∙ done))
+all_sent s w t (acknowledging a u b under whole m h) done = absurd (waiting≢done (sym b.waits ∙ done))
+all_sent s w t (finishing a u b e whole m h) done = absurd (waiting≢done (sym b.waits ∙ done))
+all_sent s w t (ending b m h) done = absurd (waiting≢done (sym b.waits ∙ done))
+all_sent s w t (quiet n b e f) done = absurd (n tt)
+all_sent s w t (over b last) done = by (last tt)
   where
-    by : (w : World) (at : Position) → AllThere s w → w.requests ≡ requests s at → w.answers ≡ answers s at
-        → w.received ≡ received s at → length (answers_of w.events) ≡ answered s at → AtClient s at w.events
-        → outcome s.call w.events ≡ Done
-        → HaveSent s (block_upload_requests (length (value s))) (block_upload_answers (length (value s))) w
-    by w Beginning t r a n k c done = absurd (waiting≢done (sym c.waits ∙ done))
-    by w Begun t r a n k c done = absurd (waiting≢done (sym c.waits ∙ done))
-    by w Starting t r a n k c done = absurd (waiting≢done (sym c.waits ∙ done))
-    by w (Sending i taken more) t r a n k c done = absurd (waiting≢done (sym c.waits ∙ done))
-    by w (Acknowledging i) t r a n k c done = absurd (waiting≢done (sym c.waits ∙ done))
-    by w Ending t r a n k c done = absurd (waiting≢done (sym c.waits ∙ done))
-    by w Ended t r a n k c done = have_sent s w _ _ t (rw r (omega arith)) (rw a (omega arith))
-    by w Over t r a n k c done = have_sent s w _ _ t (rw r (omega arith)) (rw a (omega arith))
+    by : Last s w → HaveSent s (block_upload_requests (length (value s))) (block_upload_answers (length (value s))) w
+    by (sent_end e f n h) = let r = n.received in let q = n.answered in have_sent s w _ _ t (rw e (omega arith)) (rw f (omega arith))
+    by (end_came e f n h) = let r = n.received in let q = n.answered in have_sent s w _ _ t (rw e (omega arith)) (rw f (omega arith))
+all_sent s w t (failed n h) done = absurd (n tt)

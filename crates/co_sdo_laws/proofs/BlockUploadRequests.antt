@@ -1,178 +1,126 @@
--- An upload in blocks: what its channel does with each request.
-use Rattle.std.proofs.Common.{◌≡◌, ℕ, suc, ◌+◌, ◌-◌, ◌*◌, ◌<◌, Bool, true, false, List, [], ◌∷◌, length, map, Option, Some, None, refl, sym, ap, ◌∙◌, arith, eqb, subst}
-use Rattle.std.specs.Prelude.{nat_lt}
+-- An upload in blocks: a request comes to the channel.
+use Rattle.std.proofs.Common.{◌≡◌, ℕ, suc, ◌+◌, ◌-◌, ◌*◌, ◌/◌, ◌%◌, ◌<◌, ◌≤◌, Bool, true, false, List, [], ◌∷◌, length, map, Option, Some, None, refl, sym, ap, ◌∙◌, arith, eqb, subst, inl, inr}
+use Rattle.std.specs.Prelude.{nat_lt, min}
 use Rattle.std.specs.List.{range_with_len}
-use Rattle.std.proofs.lemmas.Bool.{eqb-true}
 use Rattle.std.proofs.lemmas.Bool.Decides.{nat_tests}
-use Rattle.co_frame.specs.BlockSegments.{block_segment_bytes}
-use Rattle.co_frame.specs.declared.sdo_request.SdoRequest.TheVariants.{BlockUploadInitiate, BlockUploadStart, BlockUploadAcknowledge, BlockUploadEnd}
-use Rattle.co_frame.specs.declared.sdo_response.SdoResponse.TheVariants.{BlockUploadInitiated, BlockUploadEnd as EndSent}
-use Rattle.co_frame.specs.SdoRequests.{request_bytes}
-use Rattle.co_sdo_client.specs.Calls.{Event as ClientEvent}
+use Rattle.std.proofs.lemmas.Simd.{map-map}
+use Rattle.co_value.specs.declared.key.Key.{Key}
+use Rattle.co_sdo_client.specs.declared.state.ClientState.TheVariants.{Waiting}
 use Rattle.co_sdo_client.specs.Segments.{block_segment}
+use Rattle.co_sdo_client.specs.Outcomes.{outcome}
 use Rattle.co_dict.specs.Rows.{Contents}
-use Rattle.co_dict.specs.Stores.{IsDictionary}
 use Rattle.co_sdo.specs.Refused.{reading_refusal}
-use Rattle.co_sdo.specs.Log.{Answer, Response, Segment, answer_bytes, Exchanged, Log}
+use Rattle.co_sdo.specs.Log.{Segment, answer_bytes}
 use Rattle.co_sdo.specs.Uploads.{value_at, sub_block_sent}
 use Rattle.co_sdo.specs.Opened.{OpenTransfer}
-use Rattle.co_sdo.specs.Replies.{reply_to, answers_to}
-use Rattle.co_sdo.specs.Completed.{set_by, contents_with}
-use Rattle.co_sdo.specs.Steps.{opened_next, set_next}
-use Rattle.co_sdo.proofs.Initiations.{exchange}
-use Rattle.co_sdo_laws.specs.World.{Setup}
-use Rattle.co_sdo_laws.proofs.Frames.{block_upload_read, start_read, acknowledge_read, client_end_read}
-use Rattle.co_sdo_laws.proofs.Server.{served, moved}
-use Rattle.co_sdo_laws.proofs.Scripts.{RequestCame}
+use Rattle.co_sdo.specs.Replies.{aborted}
+use Rattle.co_sdo_laws.specs.World.{Setup, World, at_channel}
+use Rattle.co_sdo_laws.proofs.Frames.{block_upload_read}
+use Rattle.co_sdo_laws.proofs.Channel.{IsServed, is_served, IsServing}
 use Rattle.co_sdo_laws.proofs.SegmentedUploads.{value}
-use Rattle.co_sdo_laws.proofs.BlockSegments.{itself}
-use Rattle.co_sdo_laws.proofs.BlockUploadPlaces.{MayUpload, Position, Beginning, Begun, Starting, Sending, Acknowledging, Ending, Ended, Over, count_of, size_of, segment_at, unused, requests, answers, HasBegun, Took, IsAcknowledging, IsDone, AtClient, begun, sent_after, IsOpen, HasSent, AtChannel, places}
+use Rattle.co_sdo_laws.proofs.Blocks.{live, live_after, Moment, replied}
+use Rattle.co_sdo_laws.proofs.BlockSegments.{total, size_after, blocks, unused, segment_at, segments, live_segments, InTurn, IsWhole}
+use Rattle.co_sdo_laws.proofs.BlockUploads.{IsUpload, begin, start, acknowledgement, client_end, HasBegun, Took, TookAll, IsDone, Idle, begun, sending, at_end, May, dictionary, initiate_taken, initiate_refused, start_taken, start_refused, acknowledged, all_acknowledged, too_many, acknowledge_refused, end_taken, Last, sent_end, end_came, Stands, confirmed, taking, ending, quiet, over}
 
-front_came : (s : Setup) (at : Position) (x frame : List ℕ) (later : List (List ℕ)) (events : List ClientEvent)
-    (log : Log) (contents : Contents)
-    → x ∷ [] ≡ frame ∷ later → RequestCame s (places s) at x [] events log contents
-    → RequestCame s (places s) at frame later events log contents
-front_came s at x frame later events log contents e came =
-    let head : x ≡ frame = cc in
-    let none : List (List ℕ) = [] in
-    let tail : none ≡ later = cc in
-    subst (λ (f : List ℕ). RequestCame s (places s) at f later events log contents) head
-    (subst (λ (l : List (List ℕ)). RequestCame s (places s) at x l events log contents) tail came)
+-- ---- a request comes, and nothing else is on its way
 
--- the channel takes a request that it makes this of
-record Made (s : Setup) (log : Log) (contents : Contents) (frame : List ℕ) (given : List Answer) (next : Option OpenTransfer) : Type 0 where
-  replies : map answer_bytes (reply_to s.description contents log frame) ≡ map answer_bytes given
-  opens : IsOpen s next (Exchanged (exchange frame contents (reply_to s.description contents log frame)) ∷ log)
-      (contents_with contents (set_by s.description contents log frame))
+refused : (s : Setup) (p : Type 0) (w : World) (frame : List ℕ) (r q : ℕ) (key : Key) (code : ℕ) (next : Option OpenTransfer) (after : Contents) → (p → ⊥) → outcome s.call w.events ≡ Waiting → Moment p live [] [] r q w
+    → IsServed s w.log w.contents frame (aborted key code) next after → Stands s p (at_channel s frame w)
+refused s p w frame r q key code next after never waits m h = quiet never waits m.requests (live_after w.answers _ [] m.answers (rw h.replies refl))
 
-made : (s : Setup) → MayUpload s
-    → (log : Log) (contents : Contents) (current : Option OpenTransfer) (frame : List ℕ) (given : List Answer)
-    (next : Option OpenTransfer)
-    → IsOpen s current log contents
-    → length frame ≡ 8 → answers_to s.description contents current frame ≡ given
-    → opened_next s.description contents current frame ≡ next
-    → contents_with contents (set_next s.description contents current frame) ≡ contents
-    → Made s log contents frame given next
-made s m log contents current frame given next h long replies opens sets =
-    let lawful : IsDictionary s.description contents = rw h.same m.lawful in
-    let step = served s.description contents log current frame h.serves lawful long in
-    record {
-      replies = ap (map answer_bytes) (step.replies ∙ replies);
-      opens = record { serves = moved _ _ _ _ opens step.next; same = ap (contents_with contents) step.sets ∙ sets ∙ h.same };
-    }
+none≢some : {A : Type 0} (x : Option A) (y : A) → x ≡ None → x ≡ Some y → ⊥
+none≢some x y e f = cc
 
-initiate_came : (s : Setup) → MayUpload s → (events : List ClientEvent) (log : Log) (contents : Contents)
-    → HasBegun s events → IsOpen s None log contents
-    → RequestCame s (places s) Beginning (request_bytes (BlockUploadInitiate s.call.key 127 0)) [] events log contents
-initiate_came s m events log contents c h =
-    let read = block_upload_read s.call.key 127 0 m.index in
-    let free : reading_refusal s.description contents s.call.key ≡ None = rw h.same m.may_read in
-    let value_same : value_at contents s.call.key ≡ value s = rw h.same refl in
-    let step = made s m log contents None (request_bytes (BlockUploadInitiate s.call.key 127 0)) (Response (BlockUploadInitiated s.call.key (Some (length (value s)))) ∷ []) (Some (begun s)) h refl
-    (rw (read, free, value_same) refl) (rw (read, free, value_same) refl) (rw read refl) in
-    record { next = Begun; requests = refl; answers = sym step.replies; received = refl; answered = refl; client = c; channel = step.opens }
+pub initiate_comes : (s : Setup) (p : Type 0) → IsUpload s p → (w : World) → HasBegun s w.events → Moment p live [] [] 0 0 w → Idle s w.log w.contents
+    → (refusal : Option ℕ) → reading_refusal s.description w.contents s.call.key ≡ refusal → Stands s p (at_channel s (begin s) w)
+initiate_comes s p m w c at h None e =
+    let made = is_served s w.log w.contents None (begin s) _ _ _ h.serves (dictionary s p m w.contents h.lawful) refl
+    (initiate_taken s.description w.contents s.call.key (value s) (begin s) (block_upload_read s.call.key 127 0 m.key) e (ap (λ (x : Contents). value_at x s.call.key) h.lawful)) in
+    confirmed c (replied s p live live_after (begin s) w _ _ _ _ 1 _ at made.replies refl (λ x. refl) (λ x. refl))
+    (inr (record { serves = made.serves; lawful = made.sets ∙ h.lawful }))
+initiate_comes s p m w c at h (Some code) e =
+    refused s p w (begin s) _ _ s.call.key code None w.contents
+    (λ x. none≢some _ code (ap (λ (y : Contents). reading_refusal s.description y s.call.key) h.lawful ∙ m.may_read x) e) c.waits at
+    (is_served s w.log w.contents None (begin s) _ _ _ h.serves (dictionary s p m w.contents h.lawful) refl
+    (initiate_refused s.description w.contents s.call.key (begin s) code (block_upload_read s.call.key 127 0 m.key) e))
 
 -- the frames of a sub-block
-sub_block_answers : (v : List ℕ) (position : ℕ) (numbers : List ℕ)
-    → map answer_bytes (map (λ number. Segment (block_segment v position number)) numbers) ≡ map (λ number. block_segment_bytes (block_segment v position number)) numbers
-sub_block_answers v position [] = refl
-sub_block_answers v position (x ∷ xs) =
-    ap (λ (ys : List (List ℕ)). block_segment_bytes (block_segment v position x) ∷ ys) (sub_block_answers v position xs)
+burst : (v : List ℕ) (a : ℕ) → a < total v → map answer_bytes (sub_block_sent v a 127) ≡ segments v a 1 (suc (size_after v a - 1))
+burst v a h =
+    let some : size_after v a ≡ suc (size_after v a - 1) = omega arith in
+    map-map answer_bytes (λ n. Segment (block_segment v a n)) (range_with_len 1 (size_after v a)) ∙ ap (segments v a 1) some
 
-burst : (s : Setup) (i : ℕ) → 127 * i < count_of s
-    → map answer_bytes (sub_block_sent (value s) (127 * i) 127) ≡ answers s (Sending i 0 (size_of s i - 1))
-burst s i within =
-    let some : size_of s i ≡ suc (size_of s i - 1) = omega arith in
-    sub_block_answers (value s) (127 * i) (range_with_len 1 (size_of s i)) ∙ ap (λ (n : ℕ). map (segment_at s i) (range_with_len 1 n)) some
+sub_block_comes : (s : Setup) (p : Type 0) (w : World) (frame : List ℕ) (a r : ℕ) → a < total (value s) → (p → a % 127 ≡ 0) → (p → suc r ≡ 2 + a / 127) → Took s a 0 w.events → Moment p live [] [] r (1 + a + 0) w
+    → w.contents ≡ s.contents → IsServed s w.log w.contents frame (sub_block_sent (value s) a 127) (Some (sending s a)) w.contents → Stands s p (at_channel s frame w)
+sub_block_comes s p w frame a r h whole count c at same made =
+    let none : a ≡ a + 0 = omega arith in
+    let v = value s in
+    taking a 0 1 (size_after v a - 1) (subst (λ (i : ℕ). Took s i 0 w.events) none c) (omega arith) (omega arith) (omega arith) (λ x. record { whole = whole x; next = refl })
+    (replied s p live live_after frame w _ _ _ _ _ _ at made.replies (ap live (burst v a h) ∙ live_segments v a 1 (suc (size_after v a - 1)) (omega arith) (omega arith)) (λ x. burst v a h) count)
+    (inr (record { serves = made.serves; lawful = made.sets ∙ same }))
 
-start_came : (s : Setup) → MayUpload s → (events : List ClientEvent) (log : Log) (contents : Contents)
-    → Took s 0 0 events → IsOpen s (Some (begun s)) log contents
-    → RequestCame s (places s) Starting (request_bytes BlockUploadStart) [] events log contents
-start_came s m events log contents c h =
-    let more : eqb 0 (count_of s) ≡ false = grind (arith, nat_tests) in
-    let step = made s m log contents (Some (begun s)) (request_bytes BlockUploadStart) (sub_block_sent (value s) 0 127) (sent_after s 0) h refl
-    (rw start_read refl) (rw (start_read, more) refl) (rw start_read refl) in
-    record {
-      next = Sending 0 0 (size_of s 0 - 1);
-      requests = refl;
-      answers = sym (step.replies ∙ burst s 0 (omega arith));
-      received = refl;
-      answered = refl;
-      client = c;
-      channel = record { within = omega arith; size = omega arith; sent = step.opens };
-    }
+pub start_comes : (s : Setup) (p : Type 0) → IsUpload s p → (w : World) → Took s 0 0 w.events → Moment p live [] [] 1 1 w → May s p (begun s) w.log w.contents → Stands s p (at_channel s start w)
+start_comes s p m w c at (inl h) =
+    refused s p w start _ _ (record { index = 0; sub = 0 }) 0x05040001 None w.contents h.0 c.waits at
+    (is_served s w.log w.contents None start _ _ _ h.1.serves (dictionary s p m w.contents h.1.lawful) refl (start_refused s.description w.contents))
+start_comes s p m w c at (inr h) =
+    sub_block_comes s p w start 0 1 (omega arith) (λ x. refl) (λ x. refl) c at h.lawful
+    (is_served s w.log w.contents (Some (begun s)) start _ _ _ h.serves (dictionary s p m w.contents h.lawful) refl (start_taken s.description w.contents s.call.key (value s)))
 
-pub below_itself : (n : ℕ) → nat_lt n n ≡ false
-below_itself n = grind (arith, nat_tests)
+-- a channel that gave up, or to which more is acknowledged than it sent
+unheard : (s : Setup) (p : Type 0) → IsUpload s p → (u r q : ℕ) (w : World) → outcome s.call w.events ≡ Waiting → Moment p live [] [] r q w → (p → ⊥) → Idle s w.log w.contents → Stands s p (at_channel s (acknowledgement u) w)
+unheard s p m u r q w waits at never h =
+    refused s p w (acknowledgement u) _ _ (record { index = 0; sub = 0 }) 0x05040001 None w.contents never waits at
+    (is_served s w.log w.contents None (acknowledgement u) _ _ _ h.serves (dictionary s p m w.contents h.lawful) refl (acknowledge_refused s.description w.contents u))
 
-acknowledge_came : (s : Setup) → MayUpload s → (i : ℕ) (events : List ClientEvent) (log : Log) (contents : Contents)
-    → IsAcknowledging s i events → HasSent s i log contents
-    → (all : Bool) → eqb (127 * i + size_of s i) (count_of s) ≡ all
-    → RequestCame s (places s) (Acknowledging i)
-    (request_bytes (BlockUploadAcknowledge (size_of s i) 127)) [] events log contents
-acknowledge_came s m i events log contents c h true l =
-    let within = h.within in
-    let more : eqb (127 * i) (count_of s) ≡ false = grind (arith, nat_tests) in
-    let e : 127 * i + size_of s i ≡ count_of s = eqb-true _ _ l in
-    let read = acknowledge_read (size_of s i) 127 in
-    let step = made s m log contents (sent_after s (127 * i)) (request_bytes (BlockUploadAcknowledge (size_of s i) 127)) (Response (EndSent (unused s)) ∷ []) (sent_after s (127 * i + size_of s i)) h.sent refl
-    (rw (more, read, below_itself (size_of s i), l) refl) (rw (more, read, below_itself (size_of s i), l) refl) (rw (more, read) refl) in
-    record {
-      next = Ending;
-      requests = refl;
-      answers = sym step.replies;
-      received = omega arith;
-      answered = omega arith;
-      client = c.all e;
-      channel = subst (λ (j : ℕ). IsOpen s (sent_after s j) (Exchanged (exchange (request_bytes (BlockUploadAcknowledge (size_of s i) 127)) contents (reply_to s.description contents log (request_bytes (BlockUploadAcknowledge (size_of s i) 127)))) ∷ log)
-          (contents_with contents (set_by s.description contents log (request_bytes (BlockUploadAcknowledge (size_of s i) 127))))) e step.opens;
-    }
-acknowledge_came s m i events log contents c h false l =
-    let within = h.within in
-    let more : eqb (127 * i) (count_of s) ≡ false = grind (arith, nat_tests) in
-    let under : 127 * i + size_of s i < count_of s = grind (arith, nat_tests) in
-    let next : 127 * i + size_of s i ≡ 127 * suc i = omega arith in
-    let start : 127 * i + size_of s i ≡ 127 * suc i + 0 = omega arith in
-    let read = acknowledge_read (size_of s i) 127 in
-    let step = made s m log contents (sent_after s (127 * i)) (request_bytes (BlockUploadAcknowledge (size_of s i) 127)) (sub_block_sent (value s) (127 * i + size_of s i) 127) (sent_after s (127 * i + size_of s i)) h.sent refl
-    (rw (more, read, below_itself (size_of s i), l) refl) (rw (more, read, below_itself (size_of s i), l) refl) (rw (more, read) refl) in
-    record {
-      next = Sending (suc i) 0 (size_of s (suc i) - 1);
-      requests = refl;
-      answers = sym (step.replies ∙ ap (λ (j : ℕ). map answer_bytes (sub_block_sent (value s) j 127)) next ∙ burst s (suc i) (omega arith));
-      received = omega arith;
-      answered = omega arith;
-      client = subst (λ (j : ℕ). Took s j 0 events) start (c.inside under);
-      channel = record {
-        within = omega arith;
-        size = omega arith;
-        sent = subst (λ (j : ℕ). IsOpen s (sent_after s j) (Exchanged (exchange (request_bytes (BlockUploadAcknowledge (size_of s i) 127)) contents (reply_to s.description contents log (request_bytes (BlockUploadAcknowledge (size_of s i) 127)))) ∷ log)
-            (contents_with contents (set_by s.description contents log (request_bytes (BlockUploadAcknowledge (size_of s i) 127))))) next step.opens;
-      };
-    }
+above : (s : Setup) (p : Type 0) → IsUpload s p → (a u r q : ℕ) (w : World) → outcome s.call w.events ≡ Waiting → Moment p live [] [] r q w → (p → IsWhole (value s) a u) → IsServing s (λ contents. contents ≡ s.contents) (Some (sending s a)) w.log w.contents
+    → nat_lt (size_after (value s) a) u ≡ true → Stands s p (at_channel s (acknowledgement u) w)
+above s p m a u r q w waits at whole h e =
+    refused s p w (acknowledgement u) _ _ s.call.key 0x05040003 None w.contents (λ x. let size = (whole x).size in absurd (grind (arith, nat_tests))) waits at
+    (is_served s w.log w.contents (Some (sending s a)) (acknowledgement u) _ _ _ h.serves (dictionary s p m w.contents h.lawful) refl
+    (too_many s.description w.contents s.call.key (value s) a (size_after (value s) a) u e))
 
-end_came : (s : Setup) → MayUpload s → (events : List ClientEvent) (log : Log) (contents : Contents) → IsDone s events
-    → IsOpen s (sent_after s (count_of s)) log contents
-    → RequestCame s (places s) Ended (request_bytes BlockUploadEnd) [] events log contents
-end_came s m events log contents c h =
-    let all = itself (count_of s) in
-    let step = made s m log contents (sent_after s (count_of s)) (request_bytes BlockUploadEnd) [] None h refl (rw (all, client_end_read) refl) (rw (all, client_end_read) refl) (rw (all, client_end_read) refl) in
-    record { next = Over; requests = refl; answers = sym step.replies; received = omega arith; answered = refl; client = c; channel = step.opens }
+pub acknowledgement_comes : (s : Setup) (p : Type 0) → IsUpload s p → (a u : ℕ) (w : World) → Took s (a + u) 0 w.events → a + u < total (value s) → (p → IsWhole (value s) a u) → Moment p live [] [] (2 + a / 127) (1 + a + u) w
+    → May s p (sending s a) w.log w.contents → (many : Bool) → nat_lt (size_after (value s) a) u ≡ many → Stands s p (at_channel s (acknowledgement u) w)
+acknowledgement_comes s p m a u w c under whole at (inl h) many e = unheard s p m u _ _ w c.waits at h.0 h.1
+acknowledgement_comes s p m a u w c under whole at (inr h) true e = above s p m a u _ _ w c.waits at whole h e
+acknowledgement_comes s p m a u w c under whole at (inr h) false e =
+    let more : eqb (a + u) (total (value s)) ≡ false = grind (arith, nat_tests) in
+    let sum : 1 + a + u ≡ 1 + (a + u) + 0 = omega arith in
+    sub_block_comes s p w (acknowledgement u) (a + u) (2 + a / 127) under (λ x. let g = whole x in full a u (total (value s)) g.whole g.size under)
+    (λ x. let g = whole x in count a u (total (value s)) g.whole g.size under)
+    c (subst (λ (q : ℕ). Moment p live [] [] (2 + a / 127) q w) sum at) h.lawful
+    (is_served s w.log w.contents (Some (sending s a)) (acknowledgement u) _ _ _ h.serves (dictionary s p m w.contents h.lawful) refl
+    (acknowledged s.description w.contents s.call.key (value s) a (size_after (value s) a) u e more))
+  where
+    full : (a u n : ℕ) → a % 127 ≡ 0 → u ≡ min 127 (n - a) → a + u < n → (a + u) % 127 ≡ 0
+    full a u n h e under = let f : u ≡ 127 = omega arith in omega arith
 
-pub request_comes : (s : Setup) → MayUpload s
-    → (at : Position) (frame : List ℕ) (later : List (List ℕ)) (events : List ClientEvent) (log : Log)
-    (contents : Contents)
-    → requests s at ≡ frame ∷ later → AtClient s at events → AtChannel s at log contents
-    → RequestCame s (places s) at frame later events log contents
-request_comes s m Beginning frame later events log contents q c h =
-    front_came s Beginning _ frame later events log contents q (initiate_came s m events log contents c h)
-request_comes s m Begun frame later events log contents q c h = cc
-request_comes s m Starting frame later events log contents q c h =
-    front_came s Starting _ frame later events log contents q (start_came s m events log contents c h)
-request_comes s m (Sending i taken more) frame later events log contents q c h = cc
-request_comes s m (Acknowledging i) frame later events log contents q c h =
-    front_came s (Acknowledging i) _ frame later events log contents q (acknowledge_came s m i events log contents c h _ refl)
-request_comes s m Ending frame later events log contents q c h = cc
-request_comes s m Ended frame later events log contents q c h =
-    front_came s Ended _ frame later events log contents q (end_came s m events log contents c h)
-request_comes s m Over frame later events log contents q c h = cc
+    count : (a u n : ℕ) → a % 127 ≡ 0 → u ≡ min 127 (n - a) → a + u < n → suc (2 + a / 127) ≡ 2 + (a + u) / 127
+    count a u n h e under = let f : u ≡ 127 = omega arith in omega arith
+
+end_byte : (n : ℕ) → n ≤ 7 → eqb (32 * 6 + (4 * n + 1)) 128 ≡ false
+end_byte n h = grind (arith, nat_tests)
+
+pub last_acknowledgement_comes : (s : Setup) (p : Type 0) → IsUpload s p → (a u : ℕ) (w : World) → TookAll s w.events → a + u ≡ total (value s) → (p → IsWhole (value s) a u) → Moment p live [] [] (2 + a / 127) (1 + a + u) w
+    → May s p (sending s a) w.log w.contents → (many : Bool) → nat_lt (size_after (value s) a) u ≡ many → Stands s p (at_channel s (acknowledgement u) w)
+last_acknowledgement_comes s p m a u w c all whole at (inl h) many e = unheard s p m u _ _ w c.waits at h.0 h.1
+last_acknowledgement_comes s p m a u w c all whole at (inr h) true e = above s p m a u _ _ w c.waits at whole h e
+last_acknowledgement_comes s p m a u w c all whole at (inr h) false e =
+    let same : eqb (a + u) (total (value s)) ≡ true = grind (arith, nat_tests) in
+    let made = is_served s w.log w.contents (Some (sending s a)) (acknowledgement u) _ _ _ h.serves (dictionary s p m w.contents h.lawful) refl
+    (all_acknowledged s.description w.contents s.call.key (value s) a (size_after (value s) a) u e same) in
+    let sum : 1 + a + u ≡ 1 + total (value s) = omega arith in
+    ending c
+    (replied s p live live_after (acknowledgement u) w _ _ _ _ _ _ (subst (λ (q : ℕ). Moment p live [] [] (2 + a / 127) q w) sum at) made.replies (rw (end_byte (unused (value s)) (omega arith)) refl) (λ x. refl)
+    (λ x. let g = whole x in count a u (total (value s)) g.whole g.size g.within all))
+    (inr (record { serves = made.serves; lawful = made.sets ∙ h.lawful }))
+  where
+    count : (a u n : ℕ) → a % 127 ≡ 0 → u ≡ min 127 (n - a) → a < n → a + u ≡ n → suc (2 + a / 127) ≡ 2 + (n + 126) / 127
+    count a u n h e under all = omega arith
+
+-- the client's end comes to a channel that waits for it
+pub end_comes : (s : Setup) (p : Type 0) → IsUpload s p → (w : World) → w.answers ≡ [] → IsServing s (λ contents. contents ≡ s.contents) (Some (at_end s)) w.log w.contents
+    → IsServed s w.log w.contents client_end [] None w.contents
+end_comes s p m w none h =
+    is_served s w.log w.contents (Some (at_end s)) client_end _ _ _ h.serves (dictionary s p m w.contents h.lawful) refl (end_taken s.description w.contents s.call.key (value s))

@@ -31,6 +31,7 @@ use Rattle.co_sdo_laws.proofs.Frames.{segment_read, done_read, segment_done_read
 use Rattle.co_sdo_laws.proofs.Server.{Serves, serves_first, served, serves_ticked, moved}
 use Rattle.co_sdo_laws.proofs.Segments.{last_is, not_last, needs_none, needs_more, same, joined, taken_all, part_small, some_exchanges}
 use Rattle.co_sdo_laws.proofs.Turns.{Turns, Takes, GoesOnWith}
+use Rattle.co_sdo_laws.proofs.Unawaited.{later_count}
 
 -- ---- a permitted segmented download
 
@@ -55,43 +56,36 @@ answer s (suc k) = response_bytes (DownloadSegmentDone (is_odd k))
 
 -- ---- the client
 
-later_count : (x : List ℕ) (xs : List (List ℕ)) → length (with_answer x (since_first xs)).later ≡ length xs
-later_count x [] = refl
-later_count x (y ∷ ys) = ap suc (later_count y ys)
-
--- the answer to the begin is awaited
-initiate_confirmed : (s : Setup) → MayDownload s → (held : List ℕ) → answer_verdict s.call (stage_since s.call None) held (answer s 0) ≡ GoesOn (segment_after 0 (bytes_of s.call.job) ∷ [])
-initiate_confirmed s m held = rw (done_read s.call.key m.index, m.transfer, same_key-refl s.call.key) refl
-
--- the answer to a segment is awaited
-segment_confirmed : (s : Setup) → MayDownload s → (a : Answers) (k : ℕ) (held : List ℕ) (last : Bool) → length a.later ≡ k → is_last_after k (bytes_of s.call.job) ≡ last
-    → answer_verdict s.call (stage_since s.call (Some a)) held (answer s (suc k)) ≡ cond last (Ends [] []) (GoesOn (segment_after (k + 1) (bytes_of s.call.job) ∷ []))
-segment_confirmed s m a k held last n l = rw (m.transfer, segment_done_read (is_odd k), n, same (is_odd k), l) refl
-
 abbrev pub AtClient : ℕ → List ClientEvent → Type 0
 AtClient k events = length (answers_of events) ≡ k
 
-initiate_answered : (s : Setup) → MayDownload s → (xs : List (List ℕ)) (held : List ℕ) → length xs ≡ 0
+-- the answer to the begin is awaited
+pub initiate_answered : (s : Setup) → s.call.key.index < 65536 → transfer_of s.call ≡ transfer_by Segmented (DownloadJob [] true) → (xs : List (List ℕ)) (held : List ℕ) → length xs ≡ 0
     → answer_verdict s.call (stage_since s.call (since_first xs)) held (answer s 0) ≡ GoesOn (segment_after 0 (bytes_of s.call.job) ∷ [])
-initiate_answered s m [] held h = initiate_confirmed s m held
-initiate_answered s m (x ∷ xs) held h = absurd (omega arith)
+initiate_answered s index transfer [] held h = rw (done_read s.call.key index, transfer, same_key-refl s.call.key) refl
+initiate_answered s index transfer (x ∷ xs) held h = absurd (omega arith)
 
-segment_answered : (s : Setup) → MayDownload s → (xs : List (List ℕ)) (k : ℕ) (held : List ℕ) (last : Bool) → length xs ≡ suc k → is_last_after k (bytes_of s.call.job) ≡ last
+-- the answer to a segment is awaited
+segment_confirmed : (s : Setup) → transfer_of s.call ≡ transfer_by Segmented (DownloadJob [] true) → (a : Answers) (k : ℕ) (held : List ℕ) (last : Bool) → length a.later ≡ k → is_last_after k (bytes_of s.call.job) ≡ last
+    → answer_verdict s.call (stage_since s.call (Some a)) held (answer s (suc k)) ≡ cond last (Ends [] []) (GoesOn (segment_after (k + 1) (bytes_of s.call.job) ∷ []))
+segment_confirmed s transfer a k held last n l = rw (transfer, segment_done_read (is_odd k), n, same (is_odd k), l) refl
+
+pub segment_answered : (s : Setup) → transfer_of s.call ≡ transfer_by Segmented (DownloadJob [] true) → (xs : List (List ℕ)) (k : ℕ) (held : List ℕ) (last : Bool) → length xs ≡ suc k → is_last_after k (bytes_of s.call.job) ≡ last
     → answer_verdict s.call (stage_since s.call (since_first xs)) held (answer s (suc k)) ≡ cond last (Ends [] []) (GoesOn (segment_after (k + 1) (bytes_of s.call.job) ∷ []))
-segment_answered s m [] k held last h l = absurd (omega arith)
-segment_answered s m (x ∷ xs) k held last h l = segment_confirmed s m (with_answer x (since_first xs)) k held last (let n = later_count x xs in omega arith) l
+segment_answered s transfer [] k held last h l = absurd (omega arith)
+segment_answered s transfer (x ∷ xs) k held last h l = segment_confirmed s transfer (with_answer x (since_first xs)) k held last (let n = later_count x xs in omega arith) l
 
 pub client_goes_on : (s : Setup) → MayDownload s → (k : ℕ) (events : List ClientEvent) → k + 1 < requests_needed (length (bytes_of s.call.job)) → AtClient k events
     → GoesOnWith s events (answer s k) (request s (k + 1)) (AtClient (k + 1))
 client_goes_on s m zero events more h = record {
   message = segment_after 0 (bytes_of s.call.job);
-  goes_on = initiate_answered s m (answers_of events) (held_after s.call events) h;
+  goes_on = initiate_answered s m.index m.transfer (answers_of events) (held_after s.call events) h;
   asks = refl;
   next = omega arith;
 }
 client_goes_on s m (suc k) events more h = record {
   message = segment_after (k + 1) (bytes_of s.call.job);
-  goes_on = segment_answered s m (answers_of events) k (held_after s.call events) false h (not_last k (length (bytes_of s.call.job)) more);
+  goes_on = segment_answered s m.transfer (answers_of events) k (held_after s.call events) false h (not_last k (length (bytes_of s.call.job)) more);
   asks = rw (add-one (suc k), add-one k) refl;
   next = omega arith;
 }
@@ -99,7 +93,7 @@ client_goes_on s m (suc k) events more h = record {
 pub client_ends : (s : Setup) → MayDownload s → (k : ℕ) (events : List ClientEvent) → k + 1 ≡ requests_needed (length (bytes_of s.call.job)) → AtClient k events
     → verdict s.call events (Answered (answer s k)) ≡ Ends [] []
 client_ends s m zero events last h = absurd (omega arith)
-client_ends s m (suc k) events last h = segment_answered s m (answers_of events) k (held_after s.call events) true h (last_is k (length (bytes_of s.call.job)) last)
+client_ends s m (suc k) events last h = segment_answered s m.transfer (answers_of events) k (held_after s.call events) true h (last_is k (length (bytes_of s.call.job)) last)
 
 -- ---- the channel
 

@@ -49,7 +49,7 @@ abbrev pub request : Setup → ℕ → List ℕ
 request s zero = request_bytes (UploadRequest s.call.key)
 request s (suc k) = request_bytes (NextSegment (is_odd k))
 
-abbrev is_last : Setup → ℕ → Bool
+abbrev pub is_last : Setup → ℕ → Bool
 is_last s k = nat_le (length (value s)) (7 * k + 7)
 
 abbrev pub answer : Setup → ℕ → List ℕ
@@ -59,41 +59,44 @@ answer s (suc k) = response_bytes (UploadSegment (is_odd k) (record { items = pa
 -- ---- the client
 
 -- the first k answers to segments, newest first
-abbrev later_answers : Setup → ℕ → List (List ℕ)
+abbrev pub later_answers : Setup → ℕ → List (List ℕ)
 later_answers s zero = []
 later_answers s (suc k) = answer s (suc k) ∷ later_answers s k
 
 -- the first k answers
-abbrev first_answers : Setup → ℕ → List (List ℕ)
+abbrev pub first_answers : Setup → ℕ → List (List ℕ)
 first_answers s zero = []
 first_answers s (suc k) = answer s k ∷ first_answers s k
 
 abbrev pub AtClient : Setup → ℕ → List ClientEvent → Type 0
 AtClient s k events = answers_of events ≡ first_answers s k
 
-first_and_later : (s : Setup) (k : ℕ) → since_first (first_answers s (suc k)) ≡ Some (record { first = answer s 0; later = later_answers s k })
+pub first_and_later : (s : Setup) (k : ℕ) → since_first (first_answers s (suc k)) ≡ Some (record { first = answer s 0; later = later_answers s k })
 first_and_later s zero = refl
 first_and_later s (suc k) = ap (λ (a : Option Answers). Some (with_answer (answer s (suc k)) a)) (first_and_later s k)
 
-later_count : (s : Setup) (k : ℕ) → length (later_answers s k) ≡ k
+pub later_count : (s : Setup) (k : ℕ) → length (later_answers s k) ≡ k
 later_count s zero = refl
 later_count s (suc k) = ap suc (later_count s k)
 
-segment_is_read : (s : Setup) (k : ℕ) → response_in (answer s (suc k)) ≡ Some (UploadSegment (is_odd k) (record { items = part_after k (value s) }) (is_last s k))
+pub segment_is_read : (s : Setup) (k : ℕ) → response_in (answer s (suc k)) ≡ Some (UploadSegment (is_odd k) (record { items = part_after k (value s) }) (is_last s k))
 segment_is_read s k = segment_sent_read (is_odd k) (part_after k (value s)) (is_last s k) (part_small k (value s))
 
-later_joined : (s : Setup) (k : ℕ) → segments_joined (later_answers s k) ≡ take (7 * k) (value s)
+pub later_joined : (s : Setup) (k : ℕ) → segments_joined (later_answers s k) ≡ take (7 * k) (value s)
 later_joined s zero = refl
 later_joined s (suc k) = rw (later_joined s k, segment_is_read s k) (joined (value s) k)
 
 in_room : (s : Setup) → MayUpload s → (n : ℕ) → n ≤ length (value s) → nat_lt (cap_of s.call.job) n ≡ false
 in_room s m n h = let fits = m.fits in grind (arith, nat_tests)
 
-initiate_is_read : (s : Setup) → MayUpload s → response_in (answer s 0) ≡ Some (UploadInitiated s.call.key (Some (length (value s))))
-initiate_is_read s m = let fits = m.fits in let cap = m.cap in upload_initiated_read s.call.key (length (value s)) m.index (omega arith)
+pub initiate_is_read : (s : Setup) → s.call.key.index < 65536 → length (value s) ≤ 65535 → response_in (answer s 0) ≡ Some (UploadInitiated s.call.key (Some (length (value s))))
+initiate_is_read s index small = upload_initiated_read s.call.key (length (value s)) index (omega arith)
+
+small : (s : Setup) → MayUpload s → length (value s) ≤ 65535
+small s m = let fits = m.fits in let cap = m.cap in omega arith
 
 initiate_verdict : (s : Setup) → MayUpload s → answer_verdict s.call (stage_since s.call None) (held_since s.call None) (answer s 0) ≡ GoesOn (Request (NextSegment false) ∷ [])
-initiate_verdict s m = rw (initiate_is_read s m, m.transfer, same_key-refl s.call.key, in_room s m (length (value s)) (omega arith)) refl
+initiate_verdict s m = rw (initiate_is_read s m.index (small s m), m.transfer, same_key-refl s.call.key, in_room s m (length (value s)) (omega arith)) refl
 
 below_itself : (n : ℕ) → nat_lt n n ≡ false
 below_itself n = grind (arith, nat_tests)
@@ -102,19 +105,21 @@ some_in_room : (s : Setup) → MayUpload s → (k : ℕ) → nat_lt (cap_of s.ca
 some_in_room s m k = in_room s m (length (take (7 * suc k) (value s))) (let n = length-take (7 * suc k) (value s) in omega arith)
 
 -- the first answer, and the k segments after it
-abbrev since_initiate : Setup → ℕ → Answers
+abbrev pub since_initiate : Setup → ℕ → Answers
 since_initiate s k = record { first = answer s 0; later = later_answers s k }
 
-segment_verdict : (s : Setup) → MayUpload s → (k : ℕ) (last : Bool) → is_last s k ≡ last
+-- there is room for what is held with a segment
+pub segment_verdict : (s : Setup) → s.call.key.index < 65536 → length (value s) ≤ 65535 → transfer_of s.call ≡ transfer_by Segmented (UploadJob 0) → (k : ℕ) (last : Bool) → is_last s k ≡ last
+    → nat_lt (cap_of s.call.job) (length (take (7 * suc k) (value s))) ≡ false
     → answer_verdict s.call (stage_since s.call (Some (since_initiate s k))) (held_since s.call (Some (since_initiate s k))) (answer s (suc k))
     ≡ cond last (Ends [] (value s)) (GoesOn (Request (NextSegment (is_odd (suc k))) ∷ []))
-segment_verdict s m k true l =
-    rw (m.transfer, initiate_is_read s m, segment_is_read s k, later_joined s k, later_count s k, same (is_odd k), joined (value s) k, some_in_room s m k, l, taken_all (value s) k l, below_itself (length (value s))) refl
-segment_verdict s m k false l =
-    rw (m.transfer, initiate_is_read s m, segment_is_read s k, later_joined s k, later_count s k, same (is_odd k), joined (value s) k, some_in_room s m k, l, not_odd k) refl
+segment_verdict s index few transfer k true l room =
+    rw (transfer, initiate_is_read s index few, segment_is_read s k, later_joined s k, later_count s k, same (is_odd k), joined (value s) k, room, l, taken_all (value s) k l, below_itself (length (value s))) refl
+segment_verdict s index few transfer k false l room =
+    rw (transfer, initiate_is_read s index few, segment_is_read s k, later_joined s k, later_count s k, same (is_odd k), joined (value s) k, room, l, not_odd k) refl
 
 -- what an answer makes of a client, by what it has taken
-verdict_since : (s : Setup) (events : List ClientEvent) (frame : List ℕ) (a : Option Answers) → since_first (answers_of events) ≡ a
+pub verdict_since : (s : Setup) (events : List ClientEvent) (frame : List ℕ) (a : Option Answers) → since_first (answers_of events) ≡ a
     → verdict s.call events (Answered frame) ≡ answer_verdict s.call (stage_since s.call a) (held_since s.call a) frame
 verdict_since s events frame a h = ap (λ (x : Option Answers). answer_verdict s.call (stage_since s.call x) (held_since s.call x) frame) h
 
@@ -128,7 +133,7 @@ client_goes_on s m zero events more h = record {
 }
 client_goes_on s m (suc k) events more h = record {
   message = Request (NextSegment (is_odd (suc k)));
-  goes_on = verdict_since s events (answer s (suc k)) (Some (since_initiate s k)) (ap since_first h ∙ first_and_later s k) ∙ segment_verdict s m k false (not_last k (length (value s)) more);
+  goes_on = verdict_since s events (answer s (suc k)) (Some (since_initiate s k)) (ap since_first h ∙ first_and_later s k) ∙ segment_verdict s m.index (small s m) m.transfer k false (not_last k (length (value s)) more) (some_in_room s m k);
   asks = rw (add-one (suc k)) refl;
   next = rw (add-one (suc k)) (ap (λ (xs : List (List ℕ)). answer s (suc k) ∷ xs) h);
 }
@@ -137,7 +142,7 @@ pub client_ends : (s : Setup) → MayUpload s → (k : ℕ) (events : List Clien
     → verdict s.call events (Answered (answer s k)) ≡ Ends [] (value s)
 client_ends s m zero events last h = absurd (omega arith)
 client_ends s m (suc k) events last h =
-    verdict_since s events (answer s (suc k)) (Some (since_initiate s k)) (ap since_first h ∙ first_and_later s k) ∙ segment_verdict s m k true (last_is k (length (value s)) last)
+    verdict_since s events (answer s (suc k)) (Some (since_initiate s k)) (ap since_first h ∙ first_and_later s k) ∙ segment_verdict s m.index (small s m) m.transfer k true (last_is k (length (value s)) last) (some_in_room s m k)
 
 -- ---- the channel
 

@@ -1,9 +1,11 @@
 -- What an undisturbed transfer is permitted, and where it ends.
-use Rattle.std.proofs.Common.{◌≡◌, ℕ, ◌<◌, ◌≤◌, Bool, true, false, List, [], length, None, refl, arith}
+use Rattle.std.proofs.Common.{◌≡◌, ℕ, ◌<◌, ◌≤◌, Bool, true, false, List, [], ◌∷◌, length, Option, Some, None, refl, ap, ◌∙◌, arith}
 use Rattle.std.specs.Prelude.{nat_le}
+use Rattle.std.specs.List.{list_any}
 use Rattle.std.proofs.lemmas.Bool.{and_parts, not-true}
 use Rattle.std.proofs.lemmas.Bool.Decides.{nat_tests}
 use Rattle.co_value.specs.declared.key.Key.{Key}
+use Rattle.co_value.specs.Numbers.{unsigned_of, low_bytes}
 use Rattle.co_sdo_client.specs.declared.mode.Mode.{Mode}
 use Rattle.co_sdo_client.specs.declared.mode.Mode.TheVariants.{Plain, Segmented, Block}
 use Rattle.co_sdo_client.specs.declared.state.ClientState.TheVariants.{Done}
@@ -14,11 +16,11 @@ use Rattle.co_dict.specs.Rows.{Contents, written}
 use Rattle.co_dict.specs.Stores.{Description, IsDictionary}
 use Rattle.co_sdo.specs.Log.{Log}
 use Rattle.co_sdo.specs.OpenTransfers.{open_transfer}
-use Rattle.co_sdo.specs.Refused.{reading_refusal}
+use Rattle.co_sdo.specs.Refused.{reading_refusal, initiate_refusal, completion_refusal}
 use Rattle.co_sdo.specs.Uploads.{value_at}
-use Rattle.co_sdo_laws.specs.World.{Setup, World, WorldEvent, world_after}
-use Rattle.co_sdo_laws.specs.Undisturbed.{IsUndisturbed, on_their_way, IsJob, IsPermitted, GoesInTurns, is_short, is_expedited_download, is_segmented_download, is_plain_upload, is_block_download, is_block_upload, GoesInBlocks, HaveSent, block_frames, block_upload_frames, upload_requests, block_download_requests, block_download_answers, block_upload_requests, block_upload_answers}
-use Rattle.co_sdo_laws.proofs.Frames.{initiate_read, bare_initiate_read, block_initiate_read, bare_block_initiate_read}
+use Rattle.co_sdo_laws.specs.World.{Setup, World, WorldEvent, Delivered, Lost, Repeated, ClientTicked, ChannelTicked, is_repeat, world_after}
+use Rattle.co_sdo_laws.specs.Undisturbed.{IsCalm, AreCalm, IsUndisturbed, on_their_way, IsJob, IsPermitted, GoesInTurns, is_short, is_expedited_download, is_segmented_download, is_plain_upload, is_block_download, is_block_upload, GoesInBlocks, HaveSent, block_frames, block_upload_frames, upload_requests, block_download_requests, block_download_answers, block_upload_requests, block_upload_answers}
+use Rattle.co_sdo_laws.proofs.Frames.{initiate_read, bare_initiate_read}
 use Rattle.co_sdo_laws.proofs.Permits.{may_begin}
 use Rattle.co_sdo_laws.proofs.Pasts.{unopened}
 use Rattle.co_sdo_laws.proofs.Turns.{always, goes_in_turns, when_done, channel_at}
@@ -26,13 +28,13 @@ use Rattle.co_sdo_laws.proofs.SegmentedDownloads.{MayDownload, segmented_downloa
 use Rattle.co_sdo_laws.proofs.SegmentedUploads.{MayUpload, segmented_upload}
 use Rattle.co_sdo_laws.proofs.ExpeditedDownloads as expedited
 use Rattle.co_sdo_laws.proofs.ExpeditedUploads as at_once
-use Rattle.co_sdo_laws.proofs.Scripts as scripts
 use Rattle.co_sdo_laws.proofs.SentFrames.{all_there}
-use Rattle.co_sdo_laws.proofs.BlockDownloadPlaces as blocks
-use Rattle.co_sdo_laws.proofs.BlockDownloads.{block_download}
+use Rattle.co_sdo_laws.proofs.BlockDownloadSegments.{size_read}
+use Rattle.co_sdo_laws.proofs.BlockDownloads as sent
+use Rattle.co_sdo_laws.proofs.BlockDownloadEvents.{always as sent_blocks}
 use Rattle.co_sdo_laws.proofs.BlockDownloadOutcomes as blocks_outcome
-use Rattle.co_sdo_laws.proofs.BlockUploadPlaces as fetched
-use Rattle.co_sdo_laws.proofs.BlockUploads.{block_upload}
+use Rattle.co_sdo_laws.proofs.BlockUploads as fetched
+use Rattle.co_sdo_laws.proofs.BlockUploadEvents.{always as fetched_blocks}
 use Rattle.co_sdo_laws.proofs.BlockUploadOutcomes as fetched_outcome
 
 abbrev pub setup : Key → Mode → ℕ → Job → ℕ → Description → Contents → Log → Setup
@@ -235,48 +237,54 @@ pub upload_sets_nothing : (s : Setup) (events : List WorldEvent) → IsUndisturb
     → (world_after s events).contents ≡ s.contents
 upload_sets_nothing s events u t room = (uploads s events u t room _ refl).same
 
+-- ---- transfers in blocks
+
+not_repeated : (s : Setup) (event : WorldEvent) (w : World) → IsCalm s event w → is_repeat event ≡ false
+not_repeated s (Delivered queue) w calm = refl
+not_repeated s (Lost queue) w calm = refl
+not_repeated s (Repeated queue) w calm = absurd calm
+not_repeated s ClientTicked w calm = refl
+not_repeated s ChannelTicked w calm = refl
+
+once : (s : Setup) (events : List WorldEvent) → AreCalm s events → list_any is_repeat events ≡ false
+once s [] calm = refl
+once s (event ∷ older) calm =
+    let a = not_repeated s event (world_after s older) calm.0 in
+    let b = once s older calm.1 in
+    rw (a, b) refl
+
 -- ---- downloads in blocks
+
+small_size : (size : ℕ) → size ≤ 65535 → size_read (Some size) ≡ Some size
+small_size size h = let e : unsigned_of (low_bytes 4 size) ≡ size = omega arith in ap (λ (n : ℕ). Some n) e
 
 permitted_blocks : (key : Key) (mode : Mode) (client_time : ℕ) (job : Job) (time : ℕ) (d : Description) (contents : Contents) (past : Log)
     → is_block_download mode job ≡ true → IsDictionary d contents → open_transfer past ≡ None → key.index < 65536 → IsJob job → IsPermitted d contents key job
-    → blocks.MayDownload (setup key mode client_time job time d contents past)
+    → sent.IsDownload (setup key mode client_time job time d contents past) (Unit {0})
 permitted_blocks key Block client_time (Download bytes true) time d contents past t lawful idle index small free =
     let may = may_begin d contents key bytes free in
+    let size = small_size (length bytes) small in
     record {
-      transfer = refl;
-      lawful = lawful;
+      dictionary = lawful;
+      key = index;
       idle = idle;
-      index = index;
-      may_begin = may.initiate_indicated;
-      may_complete = may.complete_indicated;
-      room = may.room;
-      initiate_read = block_initiate_read key (length bytes) index (omega arith);
-      initiate_long = refl;
+      transfer = refl;
+      may_begin = λ x. ap (initiate_refusal d key) size ∙ may.initiate_indicated;
+      may_complete = λ x. ap (λ (n : Option ℕ). completion_refusal d contents key n bytes) size ∙ may.complete_indicated;
+      room = λ x. may.room;
     }
 permitted_blocks key Block client_time (Download bytes false) time d contents past t lawful idle index small free =
     let may = may_begin d contents key bytes free in
-    record {
-      transfer = refl;
-      lawful = lawful;
-      idle = idle;
-      index = index;
-      may_begin = may.begin;
-      may_complete = free;
-      room = may.room;
-      initiate_read = bare_block_initiate_read key index;
-      initiate_long = refl;
-    }
+    record { dictionary = lawful; key = index; idle = idle; transfer = refl; may_begin = λ x. may.begin; may_complete = λ x. free; room = λ x. may.room }
 permitted_blocks key Plain client_time (Download bytes tells) time d contents past t lawful idle index small free = cc
 permitted_blocks key Segmented client_time (Download bytes tells) time d contents past t lawful idle index small free = cc
 permitted_blocks key Plain client_time (Upload cap) time d contents past t lawful idle index small free = cc
 permitted_blocks key Segmented client_time (Upload cap) time d contents past t lawful idle index small free = cc
 permitted_blocks key Block client_time (Upload cap) time d contents past t lawful idle index small free = cc
 
-may_send_blocks : (s : Setup) (events : List WorldEvent) → IsUndisturbed s events → is_block_download s.call.mode s.call.job ≡ true → blocks.MayDownload s
-may_send_blocks s events u t = permitted_blocks s.call.key s.call.mode s.call.time s.call.job s.time s.description s.contents s.past t u.dictionary u.idle u.key u.job u.permitted
-
-blocks_at : (s : Setup) (events : List WorldEvent) → IsUndisturbed s events → is_block_download s.call.mode s.call.job ≡ true → scripts.IsAt s (blocks.places s) (world_after s events)
-blocks_at s events u t = scripts.always s (blocks.places s) (block_download s (may_send_blocks s events u t)) events u.calm
+blocks_at : (s : Setup) (events : List WorldEvent) → IsUndisturbed s events → is_block_download s.call.mode s.call.job ≡ true → sent.Stands s (Unit {0}) (world_after s events)
+blocks_at s events u t =
+    sent_blocks s (Unit {0}) (permitted_blocks s.call.key s.call.mode s.call.time s.call.job s.time s.description s.contents s.past t u.dictionary u.idle u.key u.job u.permitted) events (once s events u.calm) (λ x. u.calm)
 
 pub block_download_goes : (s : Setup) (events : List WorldEvent) → IsUndisturbed s events → is_block_download s.call.mode s.call.job ≡ true
     → GoesInBlocks s.call (block_frames (length (bytes_of s.call.job))) (block_frames (length (bytes_of s.call.job))) (world_after s events)
@@ -298,28 +306,21 @@ block_download_closes s events u t done =
 
 -- ---- uploads in blocks
 
-record IsBlockUpload (s : Setup) : Type 0 where
-  transfer : transfer_of s.call ≡ transfer_by Block (Upload 0)
-  may_read : reading_refusal s.description s.contents s.call.key ≡ None
-  cap : cap_of s.call.job ≤ 65535
-
 permitted_block_upload : (key : Key) (mode : Mode) (client_time : ℕ) (job : Job) (time : ℕ) (d : Description) (contents : Contents) (past : Log)
-    → is_block_upload mode job ≡ true → IsJob job → IsPermitted d contents key job → IsBlockUpload (setup key mode client_time job time d contents past)
-permitted_block_upload key Block client_time (Upload cap) time d contents past t small free = record { transfer = refl; may_read = free; cap = small }
-permitted_block_upload key Plain client_time (Upload cap) time d contents past t small free = cc
-permitted_block_upload key Segmented client_time (Upload cap) time d contents past t small free = cc
-permitted_block_upload key Plain client_time (Download bytes tells) time d contents past t small free = cc
-permitted_block_upload key Segmented client_time (Download bytes tells) time d contents past t small free = cc
-permitted_block_upload key Block client_time (Download bytes tells) time d contents past t small free = cc
-
-may_fetch_blocks : (s : Setup) (events : List WorldEvent) → IsUndisturbed s events → is_block_upload s.call.mode s.call.job ≡ true → length (value_at s.contents s.call.key) ≤ cap_of s.call.job → fetched.MayUpload s
-may_fetch_blocks s events u t room =
-    let job = permitted_block_upload s.call.key s.call.mode s.call.time s.call.job s.time s.description s.contents s.past t u.job u.permitted in
-    record { transfer = job.transfer; lawful = u.dictionary; idle = u.idle; index = u.key; may_read = job.may_read; fits = room; cap = job.cap }
+    → is_block_upload mode job ≡ true → IsDictionary d contents → open_transfer past ≡ None → key.index < 65536 → IsPermitted d contents key job → length (value_at contents key) ≤ cap_of job
+    → fetched.IsUpload (setup key mode client_time job time d contents past) (Unit {0})
+permitted_block_upload key Block client_time (Upload cap) time d contents past t lawful idle index free room =
+    record { dictionary = lawful; key = index; idle = idle; transfer = refl; may_read = λ x. free; fits = λ x. room }
+permitted_block_upload key Plain client_time (Upload cap) time d contents past t lawful idle index free room = cc
+permitted_block_upload key Segmented client_time (Upload cap) time d contents past t lawful idle index free room = cc
+permitted_block_upload key Block client_time (Download bytes tells) time d contents past t lawful idle index free room = cc
+permitted_block_upload key Plain client_time (Download bytes tells) time d contents past t lawful idle index free room = cc
+permitted_block_upload key Segmented client_time (Download bytes tells) time d contents past t lawful idle index free room = cc
 
 fetched_at : (s : Setup) (events : List WorldEvent) → IsUndisturbed s events → is_block_upload s.call.mode s.call.job ≡ true → length (value_at s.contents s.call.key) ≤ cap_of s.call.job
-    → scripts.IsAt s (fetched.places s) (world_after s events)
-fetched_at s events u t room = scripts.always s (fetched.places s) (block_upload s (may_fetch_blocks s events u t room)) events u.calm
+    → fetched.Stands s (Unit {0}) (world_after s events)
+fetched_at s events u t room =
+    fetched_blocks s (Unit {0}) (permitted_block_upload s.call.key s.call.mode s.call.time s.call.job s.time s.description s.contents s.past t u.dictionary u.idle u.key u.permitted room) events (once s events u.calm) (λ x. u.calm)
 
 pub block_upload_goes : (s : Setup) (events : List WorldEvent) → IsUndisturbed s events → is_block_upload s.call.mode s.call.job ≡ true → length (value_at s.contents s.call.key) ≤ cap_of s.call.job
     → GoesInBlocks s.call (block_frames (length (value_at s.contents s.call.key))) (block_upload_frames (length (value_at s.contents s.call.key))) (world_after s events)
@@ -332,7 +333,7 @@ block_upload_sends s events u t room done = fetched_outcome.all_sent s (world_af
 
 pub block_upload_gives : (s : Setup) (events : List WorldEvent) → IsUndisturbed s events → is_block_upload s.call.mode s.call.job ≡ true → length (value_at s.contents s.call.key) ≤ cap_of s.call.job
     → outcome s.call (world_after s events).events ≡ Done → result s.call (world_after s events).events ≡ value_at s.contents s.call.key
-block_upload_gives s events u t room done = fetched_outcome.value_is s (world_after s events) (fetched_at s events u t room) done
+block_upload_gives s events u t room done = fetched_outcome.value_is s (Unit {0}) (world_after s events) (fetched_at s events u t room) done
 
 pub block_upload_sets_nothing : (s : Setup) (events : List WorldEvent) → IsUndisturbed s events → is_block_upload s.call.mode s.call.job ≡ true → length (value_at s.contents s.call.key) ≤ cap_of s.call.job
     → (world_after s events).contents ≡ s.contents

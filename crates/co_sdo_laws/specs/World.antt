@@ -1,6 +1,6 @@
 -- A client and a channel with a queue of frames each way (CiA 301, 7.2.4.2): what is on its way, and what each end has
 -- received. All frames have eight bytes.
-use Rattle.std.specs.Prelude.{ℕ, ◌+◌, List, [], ◌∷◌, ◌++◌, drop, map, if◌then◌else◌}
+use Rattle.std.specs.Prelude.{ℕ, ◌+◌, Bool, true, false, List, [], ◌∷◌, ◌++◌, drop, map, if◌then◌else◌}
 use Rattle.co_sdo_client.specs.Calls.{Call, message_bytes, Event as ClientEvent, Answered, Ticked as TickedAtClient}
 use Rattle.co_sdo_client.specs.Outcomes.{asked}
 use Rattle.co_dict.specs.Rows.{Contents}
@@ -51,6 +51,11 @@ pub data WorldEvent : Type 0 where
   ClientTicked : WorldEvent
   -- a millisecond passes at the channel
   ChannelTicked : WorldEvent
+
+-- a frame comes, and will come again
+abbrev pub is_repeat : WorldEvent → Bool
+is_repeat (Repeated queue) = true
+is_repeat event = false
 
 -- the client has begun, and nothing has happened since
 abbrev pub first_world : Setup → World

@@ -31,13 +31,13 @@ use Rattle.co_sdo_laws.specs.World.{Setup}
 use Rattle.co_sdo_laws.proofs.Frames.{segment_read, bare_initiate_read, done_read, segment_done_read, segment_long}
 use Rattle.co_sdo_laws.proofs.Segments.{same, joined, taken_all, part_small}
 use Rattle.co_sdo_laws.proofs.Server.{serves_first}
-use Rattle.co_sdo_laws.proofs.SegmentedDownloads.{request, answer}
+use Rattle.co_sdo_laws.proofs.SegmentedDownloads.{request, answer, AtClient, initiate_answered, segment_answered}
 use Rattle.co_sdo_laws.proofs.Turns.{Takes, GoesOnWith}
 use Rattle.co_sdo_loss_laws.specs.Disturbed.{IsAlone}
-use Rattle.co_sdo_loss_laws.proofs.Failures.{Refuses, Fails, IsAbort, has_failed}
+use Rattle.co_sdo_laws.proofs.Failures.{Refuses, Fails, IsAbort, has_failed}
 use Rattle.co_sdo_loss_laws.proofs.StopAndWait.{StopAndWait, Reached, still, over}
-use Rattle.co_sdo_loss_laws.proofs.Channel.{IsServing, serving_ticks, serving_ends, Steps, is_served, takes_it, refuses_it, stays_lawful}
-use Rattle.co_sdo_loss_laws.proofs.Client.{aborted_fails, toggles_differ, later_count}
+use Rattle.co_sdo_laws.proofs.Channel.{IsServing, serving_ticks, serving_ends, Steps, is_served, takes_it, refuses_it, stays_lawful}
+use Rattle.co_sdo_laws.proofs.Unawaited.{aborted_fails, toggles_differ, later_count}
 
 pub record IsDownload (s : Setup) : Type 0 where
   pub alone : IsAlone s
@@ -224,34 +224,17 @@ goes_on s m k log contents h = goes_on_with s m k log contents h _ refl _ refl
 
 -- ---- the client
 
-abbrev AtClient : ℕ → List ClientEvent → Type 0
-AtClient k events = length (answers_of events) ≡ k
-
-initiate_confirmed : (s : Setup) → IsDownload s → (xs : List (List ℕ)) (held : List ℕ) → length xs ≡ 0
-    → answer_verdict s.call (stage_since s.call (since_first xs)) held (answer s 0) ≡ GoesOn (segment_after 0 (bytes s) ∷ [])
-initiate_confirmed s m [] held h = rw (done_read s.call.key m.alone.key, m.transfer, same_key-refl s.call.key) refl
-initiate_confirmed s m (x ∷ xs) held h = absurd (omega arith)
-
-confirmed : (s : Setup) → IsDownload s → (a : Answers) (k : ℕ) (held : List ℕ) (end : Bool) → length a.later ≡ k → is_last_after k (bytes s) ≡ end
-    → answer_verdict s.call (stage_since s.call (Some a)) held (answer s (suc k)) ≡ cond end (Ends [] []) (GoesOn (segment_after (k + 1) (bytes s) ∷ []))
-confirmed s m a k held end n l = rw (m.transfer, segment_done_read (is_odd k), n, same (is_odd k), l) refl
-
-segment_confirmed : (s : Setup) → IsDownload s → (xs : List (List ℕ)) (k : ℕ) (held : List ℕ) (end : Bool) → length xs ≡ suc k → is_last_after k (bytes s) ≡ end
-    → answer_verdict s.call (stage_since s.call (since_first xs)) held (answer s (suc k)) ≡ cond end (Ends [] []) (GoesOn (segment_after (k + 1) (bytes s) ∷ []))
-segment_confirmed s m [] k held end h l = absurd (omega arith)
-segment_confirmed s m (x ∷ xs) k held end h l = confirmed s m (with_answer x (since_first xs)) k held end (let n = later_count x xs in omega arith) l
-
 pub client_goes_on : (s : Setup) → IsDownload s → (k : ℕ) (events : List ClientEvent) → k < last s → AtClient k events
     → GoesOnWith s events (answer s k) (request s (suc k)) (AtClient (suc k)) ⊎ Fails s events (answer s k)
 client_goes_on s m zero events more h = inl (record {
   message = segment_after 0 (bytes s);
-  goes_on = initiate_confirmed s m (answers_of events) (held_after s.call events) h;
+  goes_on = initiate_answered s m.alone.key m.transfer (answers_of events) (held_after s.call events) h;
   asks = refl;
   next = ap suc h;
 })
 client_goes_on s m (suc k) events more h = inl (record {
   message = segment_after (k + 1) (bytes s);
-  goes_on = segment_confirmed s m (answers_of events) k (held_after s.call events) false h (not_end k (length (bytes s)) more);
+  goes_on = segment_answered s m.transfer (answers_of events) k (held_after s.call events) false h (not_end k (length (bytes s)) more);
   asks = let one : k + 1 ≡ suc k = omega arith in rw one refl;
   next = ap suc h;
 })
@@ -261,7 +244,7 @@ client_goes_on s m (suc k) events more h = inl (record {
 
 pub client_ends : (s : Setup) → IsDownload s → (k : ℕ) (events : List ClientEvent) → k ≡ last s → AtClient k events → (verdict s.call events (Answered (answer s k)) ≡ Ends [] []) ⊎ Fails s events (answer s k)
 client_ends s m zero events e h = absurd (omega arith)
-client_ends s m (suc k) events e h = inl (segment_confirmed s m (answers_of events) k (held_after s.call events) true h (is_end k (length (bytes s)) e))
+client_ends s m (suc k) events e h = inl (segment_answered s m.transfer (answers_of events) k (held_after s.call events) true h (is_end k (length (bytes s)) e))
   where
     is_end : (k n : ℕ) → suc k ≡ segments_for n → nat_le n (7 * k + 7) ≡ true
     is_end k n h = grind (arith, nat_tests)

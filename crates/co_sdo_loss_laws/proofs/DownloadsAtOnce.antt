@@ -26,10 +26,10 @@ use Rattle.co_sdo_laws.proofs.Server.{serves_first}
 use Rattle.co_sdo_laws.proofs.ExpeditedDownloads.{request, answer}
 use Rattle.co_sdo_laws.proofs.Turns.{Takes}
 use Rattle.co_sdo_loss_laws.specs.Disturbed.{IsAlone}
-use Rattle.co_sdo_loss_laws.proofs.Failures.{Refuses, IsAbort, has_failed}
+use Rattle.co_sdo_laws.proofs.Failures.{Refuses, IsAbort, has_failed}
 use Rattle.co_sdo_loss_laws.proofs.StopAndWait.{StopAndWait, Reached, over}
-use Rattle.co_sdo_loss_laws.proofs.Channel.{IsServing, serving_ticks, serving_ends, Steps, is_served, takes_it, refuses_it, stays_lawful}
-use Rattle.co_sdo_loss_laws.proofs.Client.{aborted_fails}
+use Rattle.co_sdo_laws.proofs.Channel.{IsServing, serving_ticks, serving_ends, Steps, is_served, takes_it, refuses_it, stays_lawful}
+use Rattle.co_sdo_laws.proofs.Unawaited.{aborted_fails}
 
 pub record IsDownload (s : Setup) : Type 0 where
   pub alone : IsAlone s

@@ -19,8 +19,10 @@ use Rattle.co_sdo_loss_laws.proofs.Downloads as in_segments
 use Rattle.co_sdo_loss_laws.proofs.DownloadsAtOnce as at_once
 use Rattle.co_sdo_loss_laws.proofs.Uploads as read_in_segments
 use Rattle.co_sdo_loss_laws.proofs.UploadsAtOnce as read_at_once
-use Rattle.co_sdo_loss_laws.proofs.BlockUploadEvents as read_in_blocks
-use Rattle.co_sdo_loss_laws.proofs.BlockDownloadEvents as written_in_blocks
+use Rattle.co_sdo_laws.proofs.BlockUploadEvents as read_in_blocks
+use Rattle.co_sdo_laws.proofs.BlockUploadOutcomes.{value_is}
+use Rattle.co_sdo_laws.proofs.BlockDownloadEvents as written_in_blocks
+use Rattle.co_sdo_laws.proofs.BlockDownloadOutcomes.{set_is}
 
 short_bytes : (n : ℕ) → is_short n ≡ true → (1 ≤ n) × (n ≤ 4)
 short_bytes n h = let both = and_parts (nat_le 1 n) (nat_le n 4) h in let low = both.0 in let high = both.1 in (grind (arith, nat_tests), grind (arith, nat_tests))
@@ -90,7 +92,10 @@ in_blocks Block (Download bytes tells) h = cc
 
 pub block_upload_gives : (s : Setup) (events : List WorldEvent) → IsAlone s → is_block_upload s.call.mode s.call.job ≡ true → list_any is_repeat events ≡ false
     → outcome s.call (world_after s events).events ≡ Done → result s.call (world_after s events).events ≡ value_at s.contents s.call.key
-block_upload_gives s events alone t once done = read_in_blocks.upload_gives s (record { alone = alone; transfer = in_blocks s.call.mode s.call.job t }) events once done
+block_upload_gives s events alone t once done =
+    value_is s ⊥ (world_after s events)
+    (read_in_blocks.always s ⊥ (record { dictionary = alone.dictionary; key = alone.key; idle = alone.idle; transfer = in_blocks s.call.mode s.call.job t; may_read = λ x. absurd x; fits = λ x. absurd x }) events once (λ x. absurd x))
+    done
 
 -- ---- downloads in blocks
 
@@ -104,4 +109,8 @@ sent_in_blocks Block (Upload cap) h = cc
 
 pub block_download_sets : (s : Setup) (events : List WorldEvent) → IsAlone s → is_block_download s.call.mode s.call.job ≡ true → list_any is_repeat events ≡ false
     → outcome s.call (world_after s events).events ≡ Done → (world_after s events).contents s.call.key ≡ Some (bytes_of s.call.job)
-block_download_sets s events alone t once done = written_in_blocks.download_sets s (record { alone = alone; transfer = sent_in_blocks s.call.mode s.call.job t }) events once done
+block_download_sets s events alone t once done =
+    set_is s ⊥ (world_after s events)
+    (written_in_blocks.always s ⊥
+    (record { dictionary = alone.dictionary; key = alone.key; idle = alone.idle; transfer = sent_in_blocks s.call.mode s.call.job t; may_begin = λ x. absurd x; may_complete = λ x. absurd x; room = λ x. absurd x }) events once (λ x. absurd x))
+    done

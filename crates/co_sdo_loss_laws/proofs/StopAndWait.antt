@@ -18,7 +18,7 @@ use Rattle.co_sdo.specs.Replies.{open_key, time_out_reply}
 use Rattle.co_sdo_laws.specs.World.{Setup, World, Queue, Requests, Answers, WorldEvent, Delivered, Lost, Repeated, ClientTicked, ChannelTicked, first_world, at_client, at_channel, timed_out, ticked, without_front, front_arrives, after_event, world_after}
 use Rattle.co_sdo_laws.proofs.Client.{follows, stays, tick_verdict}
 use Rattle.co_sdo_laws.proofs.Turns.{Takes, GoesOnWith}
-use Rattle.co_sdo_loss_laws.proofs.Failures.{IsAbort, has_failed, Fails, Refuses, abort_read, failed_event}
+use Rattle.co_sdo_laws.proofs.Failures.{IsAbort, has_failed, Fails, Refuses, abort_read, failed_event}
 
 -- ---- the channel
 

@@ -2,7 +2,6 @@
 -- each frame that may come.
 use Rattle.std.proofs.Common.{◌≡◌, ℕ, zero, suc, ◌+◌, ◌*◌, ◌<◌, ◌≤◌, Bool, true, false, cond, not, List, [], ◌∷◌, length, take, Option, Some, None, refl, sym, ap, ◌∙◌, arith, subst, ◌⊎◌, inl, inr}
 use Rattle.std.specs.Prelude.{nat_le, nat_lt, ◌&&◌}
-use Rattle.std.specs.Option.{option_map_or}
 use Rattle.std.proofs.lemmas.Bool.Decides.{nat_tests}
 use Rattle.co_value.specs.declared.key.Key.{Key}
 use Rattle.co_value.specs.Keys.{same_key-refl}
@@ -18,9 +17,8 @@ use Rattle.co_sdo_client.specs.Segments.{is_odd, cap_of, transfer_of, transfer_b
 use Rattle.co_sdo_client.specs.Stages.{stage_since, held_since, size_by, segments_joined}
 use Rattle.co_sdo_client.specs.Verdicts.{GoesOn, Ends, verdict, answer_verdict}
 use Rattle.co_sdo_client.specs.Outcomes.{state_by}
-use Rattle.co_dict.specs.declared.row.Row.{Row}
-use Rattle.co_dict.specs.Rows.{Contents, capacity_at}
-use Rattle.co_dict.specs.Stores.{Description, IsDescription, IsDictionary}
+use Rattle.co_dict.specs.Rows.{Contents}
+use Rattle.co_dict.specs.Stores.{Description, IsDictionary}
 use Rattle.co_sdo.specs.declared.stage.Stage.TheVariants.{Upload as Uploading}
 use Rattle.co_sdo.specs.Refused.{reading_refusal}
 use Rattle.co_sdo.specs.Log.{Response, Log}
@@ -28,18 +26,18 @@ use Rattle.co_sdo.specs.Opened.{OpenTransfer}
 use Rattle.co_sdo.specs.Uploads.{value_at}
 use Rattle.co_sdo.specs.Replies.{aborted, is_in_sub_block, toggle_refusal}
 use Rattle.co_sdo.proofs.Continuations.{not_odd}
-use Rattle.co_sdo.proofs.StoreLemmas.{value_fits}
 use Rattle.co_sdo_laws.specs.World.{Setup}
 use Rattle.co_sdo_laws.proofs.Frames.{upload_read, next_read, upload_initiated_read, segment_sent_read}
 use Rattle.co_sdo_laws.proofs.Segments.{same, joined, taken_all, part_small}
 use Rattle.co_sdo_laws.proofs.Server.{Serves, serves_first}
-use Rattle.co_sdo_laws.proofs.SegmentedUploads.{value, request, answer}
+use Rattle.co_sdo_laws.proofs.SegmentedUploads.{value, request, answer, AtClient, since_initiate, first_and_later, later_count, segment_is_read, later_joined, initiate_is_read, segment_verdict, verdict_since}
+use Rattle.co_sdo_laws.proofs.BlockUploads.{small_value}
 use Rattle.co_sdo_laws.proofs.Turns.{Takes, GoesOnWith}
 use Rattle.co_sdo_loss_laws.specs.Disturbed.{IsAlone}
-use Rattle.co_sdo_loss_laws.proofs.Failures.{Refuses, Fails, IsAbort, has_failed}
+use Rattle.co_sdo_laws.proofs.Failures.{Refuses, Fails, IsAbort, has_failed}
 use Rattle.co_sdo_loss_laws.proofs.StopAndWait.{StopAndWait, Reached, still, over}
-use Rattle.co_sdo_loss_laws.proofs.Channel.{IsServing, serving_ticks, serving_ends, Steps, is_served, takes_it, refuses_it}
-use Rattle.co_sdo_loss_laws.proofs.Client.{aborted_fails, toggles_differ}
+use Rattle.co_sdo_laws.proofs.Channel.{IsServing, serving_ticks, serving_ends, Steps, is_served, takes_it, refuses_it}
+use Rattle.co_sdo_laws.proofs.Unawaited.{aborted_fails, toggles_differ}
 
 -- of a value that isn't sent at once
 pub record IsUpload (s : Setup) : Type 0 where
@@ -50,18 +48,6 @@ pub record IsUpload (s : Setup) : Type 0 where
 -- how many segments the value has
 abbrev last : Setup → ℕ
 last s = segments_for (length (value s))
-
--- ---- an entry's size
-
-small_row : (d : Description) (key : Key) (row : Option Row) → IsDescription d → d.rows key ≡ row → option_map_or (λ (r : Row). r.capacity) row 0 ≤ 65535
-small_row d key None h e = omega arith
-small_row d key (Some row) h e = h.capacity key row e
-
-pub small_value : (s : Setup) → IsAlone s → length (value s) ≤ 65535
-small_value s alone =
-    let fits : length (value s) ≤ capacity_at s.description.rows s.call.key = value_fits s.description s.contents s.call.key alone.dictionary in
-    let small : capacity_at s.description.rows s.call.key ≤ 65535 = small_row s.description s.call.key (s.description.rows s.call.key) alone.dictionary.description refl in
-    omega arith
 
 -- ---- what is open
 
@@ -169,40 +155,8 @@ goes_on_with s m k log contents h end l =
 
 -- ---- the client
 
--- the first k answers to segments, newest first
-abbrev later_answers : Setup → ℕ → List (List ℕ)
-later_answers s zero = []
-later_answers s (suc k) = answer s (suc k) ∷ later_answers s k
-
--- the first k answers
-abbrev first_answers : Setup → ℕ → List (List ℕ)
-first_answers s zero = []
-first_answers s (suc k) = answer s k ∷ first_answers s k
-
-abbrev AtClient : Setup → ℕ → List ClientEvent → Type 0
-AtClient s k events = answers_of events ≡ first_answers s k
-
--- the first answer, and the k segments after it
-abbrev since_initiate : Setup → ℕ → Answers
-since_initiate s k = record { first = answer s 0; later = later_answers s k }
-
-first_and_later : (s : Setup) (k : ℕ) → since_first (first_answers s (suc k)) ≡ Some (since_initiate s k)
-first_and_later s zero = refl
-first_and_later s (suc k) = ap (λ (a : Option Answers). Some (with_answer (answer s (suc k)) a)) (first_and_later s k)
-
-later_count : (s : Setup) (k : ℕ) → length (later_answers s k) ≡ k
-later_count s zero = refl
-later_count s (suc k) = ap suc (later_count s k)
-
-is_read : (s : Setup) (k : ℕ) → response_in (answer s (suc k)) ≡ Some (UploadSegment (is_odd k) (record { items = part_after k (value s) }) (nat_le (length (value s)) (7 * k + 7)))
-is_read s k = segment_sent_read (is_odd k) (part_after k (value s)) (nat_le (length (value s)) (7 * k + 7)) (part_small k (value s))
-
-later_joined : (s : Setup) (k : ℕ) → segments_joined (later_answers s k) ≡ take (7 * k) (value s)
-later_joined s zero = refl
-later_joined s (suc k) = rw (later_joined s k, is_read s k) (joined (value s) k)
-
-initiate_is_read : (s : Setup) → IsUpload s → response_in (answer s 0) ≡ Some (UploadInitiated s.call.key (Some (length (value s))))
-initiate_is_read s m = let small = small_value s m.alone in upload_initiated_read s.call.key (length (value s)) m.alone.key (omega arith)
+initiate_read : (s : Setup) → IsUpload s → response_in (answer s 0) ≡ Some (UploadInitiated s.call.key (Some (length (value s))))
+initiate_read s m = initiate_is_read s m.alone.key (small_value s m.alone.dictionary)
 
 -- what an answer makes of a client, by what it has taken
 abbrev given : Setup → Option Answers → List ℕ → Type 0
@@ -210,28 +164,13 @@ given s a frame = has_failed (state_by (answer_verdict s.call (stage_since s.cal
 
 initiate_goes_on : (s : Setup) → IsUpload s → nat_lt (cap_of s.call.job) (length (value s)) ≡ false
     → answer_verdict s.call (stage_since s.call None) (held_since s.call None) (answer s 0) ≡ GoesOn (Request (NextSegment false) ∷ [])
-initiate_goes_on s m room = rw (initiate_is_read s m, m.transfer, same_key-refl s.call.key, room) refl
+initiate_goes_on s m room = rw (initiate_read s m, m.transfer, same_key-refl s.call.key, room) refl
 
 initiate_fails : (s : Setup) → IsUpload s → nat_lt (cap_of s.call.job) (length (value s)) ≡ true → given s None (answer s 0)
-initiate_fails s m room = rw (initiate_is_read s m, m.transfer, same_key-refl s.call.key, room) refl
-
-below_itself : (n : ℕ) → nat_lt n n ≡ false
-below_itself n = grind (arith, nat_tests)
-
-segment_verdict : (s : Setup) → IsUpload s → (k : ℕ) (end : Bool) → nat_le (length (value s)) (7 * k + 7) ≡ end → nat_lt (cap_of s.call.job) (length (take (7 * suc k) (value s))) ≡ false
-    → answer_verdict s.call (stage_since s.call (Some (since_initiate s k))) (held_since s.call (Some (since_initiate s k))) (answer s (suc k))
-    ≡ cond end (Ends [] (value s)) (GoesOn (Request (NextSegment (is_odd (suc k))) ∷ []))
-segment_verdict s m k true l room =
-    rw (m.transfer, initiate_is_read s m, is_read s k, later_joined s k, later_count s k, same (is_odd k), joined (value s) k, room, l, taken_all (value s) k l, below_itself (length (value s))) refl
-segment_verdict s m k false l room =
-    rw (m.transfer, initiate_is_read s m, is_read s k, later_joined s k, later_count s k, same (is_odd k), joined (value s) k, room, l, not_odd k) refl
+initiate_fails s m room = rw (initiate_read s m, m.transfer, same_key-refl s.call.key, room) refl
 
 segment_fails : (s : Setup) → IsUpload s → (k : ℕ) → nat_lt (cap_of s.call.job) (length (take (7 * suc k) (value s))) ≡ true → given s (Some (since_initiate s k)) (answer s (suc k))
-segment_fails s m k room = rw (m.transfer, initiate_is_read s m, is_read s k, later_joined s k, later_count s k, same (is_odd k), joined (value s) k, room) refl
-
-verdict_since : (s : Setup) (events : List ClientEvent) (frame : List ℕ) (a : Option Answers) → since_first (answers_of events) ≡ a
-    → verdict s.call events (Answered frame) ≡ answer_verdict s.call (stage_since s.call a) (held_since s.call a) frame
-verdict_since s events frame a h = ap (λ (x : Option Answers). answer_verdict s.call (stage_since s.call x) (held_since s.call x) frame) h
+segment_fails s m k room = rw (m.transfer, initiate_read s m, segment_is_read s k, later_joined s k, later_count s k, same (is_odd k), joined (value s) k, room) refl
 
 fails_since : (s : Setup) (events : List ClientEvent) (frame : List ℕ) (a : Option Answers) → since_first (answers_of events) ≡ a → given s a frame → Fails s events frame
 fails_since s events frame a h g = ap (λ (x : Option Answers). has_failed (state_by (answer_verdict s.call (stage_since s.call x) (held_since s.call x) frame))) h ∙ g
@@ -256,7 +195,7 @@ segment_comes : (s : Setup) → IsUpload s → (k : ℕ) (events : List ClientEv
 segment_comes s m k events h l true e = inr (fails_since s events (answer s (suc k)) (Some (since_initiate s k)) (taken s k events h) (segment_fails s m k e))
 segment_comes s m k events h l false e = inl (record {
   message = Request (NextSegment (is_odd (suc k)));
-  goes_on = verdict_since s events (answer s (suc k)) (Some (since_initiate s k)) (taken s k events h) ∙ segment_verdict s m k false l e;
+  goes_on = verdict_since s events (answer s (suc k)) (Some (since_initiate s k)) (taken s k events h) ∙ segment_verdict s m.alone.key (small_value s m.alone.dictionary) m.transfer k false l e;
   asks = refl;
   next = ap (λ (xs : List (List ℕ)). answer s (suc k) ∷ xs) h;
 })
@@ -273,7 +212,7 @@ last_comes : (s : Setup) → IsUpload s → (k : ℕ) (events : List ClientEvent
     → (over : Bool) → nat_lt (cap_of s.call.job) (length (take (7 * suc k) (value s))) ≡ over
     → (verdict s.call events (Answered (answer s (suc k))) ≡ Ends [] (value s)) ⊎ Fails s events (answer s (suc k))
 last_comes s m k events h l true e = inr (fails_since s events (answer s (suc k)) (Some (since_initiate s k)) (taken s k events h) (segment_fails s m k e))
-last_comes s m k events h l false e = inl (verdict_since s events (answer s (suc k)) (Some (since_initiate s k)) (taken s k events h) ∙ segment_verdict s m k true l e)
+last_comes s m k events h l false e = inl (verdict_since s events (answer s (suc k)) (Some (since_initiate s k)) (taken s k events h) ∙ segment_verdict s m.alone.key (small_value s m.alone.dictionary) m.transfer k true l e)
 
 pub client_ends : (s : Setup) → IsUpload s → (k : ℕ) (events : List ClientEvent) → k ≡ last s → AtClient s k events
     → (verdict s.call events (Answered (answer s k)) ≡ Ends [] (value s)) ⊎ Fails s events (answer s k)
@@ -285,10 +224,10 @@ client_ends s m (suc k) events e h = last_comes s m k events h (is_end k (length
 
 -- the answer before the one that is awaited
 initiate_again : (s : Setup) → IsUpload s → given s (Some (since_initiate s 0)) (answer s 0)
-initiate_again s m = rw (m.transfer, initiate_is_read s m) refl
+initiate_again s m = rw (m.transfer, initiate_read s m) refl
 
 segment_again : (s : Setup) → IsUpload s → (k : ℕ) → given s (Some (since_initiate s (suc k))) (answer s (suc k))
-segment_again s m k = rw (m.transfer, initiate_is_read s m, later_count s k, is_read s k, toggles_differ k) refl
+segment_again s m k = rw (m.transfer, initiate_read s m, later_count s k, segment_is_read s k, toggles_differ k) refl
 
 pub client_stale : (s : Setup) → IsUpload s → (k : ℕ) (events : List ClientEvent) → k < last s → AtClient s (suc k) events → Fails s events (answer s k)
 client_stale s m zero events more h = fails_since s events (answer s 0) (Some (since_initiate s 0)) (taken s 0 events h) (initiate_again s m)

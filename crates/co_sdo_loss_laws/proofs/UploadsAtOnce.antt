@@ -28,9 +28,9 @@ use Rattle.co_sdo_laws.proofs.SegmentedUploads.{value}
 use Rattle.co_sdo_laws.proofs.ExpeditedUploads.{request, answer}
 use Rattle.co_sdo_laws.proofs.Turns.{Takes}
 use Rattle.co_sdo_loss_laws.specs.Disturbed.{IsAlone}
-use Rattle.co_sdo_loss_laws.proofs.Failures.{Refuses, has_failed}
+use Rattle.co_sdo_laws.proofs.Failures.{Refuses, has_failed}
 use Rattle.co_sdo_loss_laws.proofs.StopAndWait.{StopAndWait, Reached, over}
-use Rattle.co_sdo_loss_laws.proofs.Channel.{IsServing, serving_ticks, serving_ends, Steps, is_served, takes_it, refuses_it}
+use Rattle.co_sdo_laws.proofs.Channel.{IsServing, serving_ticks, serving_ends, Steps, is_served, takes_it, refuses_it}
 use Rattle.co_sdo_loss_laws.proofs.Uploads.{abort_comes}
 
 -- of 1 to 4 bytes

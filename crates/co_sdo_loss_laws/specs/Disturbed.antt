@@ -7,7 +7,8 @@ use Rattle.co_sdo_client.specs.Calls.{Job, Download}
 use Rattle.co_sdo_client.specs.Segments.{bytes_of}
 use Rattle.co_dict.specs.Stores.{IsDictionary}
 use Rattle.co_sdo.specs.OpenTransfers.{open_transfer}
-use Rattle.co_sdo_laws.specs.World.{Setup, WorldEvent, Repeated}
+use Rattle.co_sdo_laws.specs.World.{Setup}
+pub use Rattle.co_sdo_laws.specs.World.{is_repeat}
 
 -- one transfer alone: the channel has no other open when the client begins, and no frame of another is on its way, since the
 -- first world has none; nothing else writes to the dictionary. Nothing is said of rights: what is refused is given up.
@@ -22,8 +23,3 @@ abbrev pub is_plain_download : Mode → Job → Bool
 is_plain_download Block (Download bytes tells) = false
 is_plain_download mode (Download bytes tells) = true
 is_plain_download mode job = false
-
--- a frame comes, and will come again
-abbrev pub is_repeat : WorldEvent → Bool
-is_repeat (Repeated queue) = true
-is_repeat event = false

@@ -26,7 +26,7 @@ use Rattle.co_sdo_laws.specs.World.{Setup}
 use Rattle.co_sdo_laws.proofs.Pasts.{is_filled}
 use Rattle.co_sdo_laws.proofs.Server.{Serves, serves_first, served, serves_ticked}
 use Rattle.co_sdo_laws.proofs.Turns.{Takes}
-use Rattle.co_sdo_loss_laws.proofs.Failures.{Refuses, abort_read}
+use Rattle.co_sdo_laws.proofs.Failures.{Refuses, abort_read}
 
 -- ---- nothing is open, or this
 

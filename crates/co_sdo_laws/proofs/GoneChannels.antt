@@ -33,7 +33,7 @@ use Rattle.co_sdo.specs.Standing.{is_under_way, is_transfer_after}
 use Rattle.co_sdo.proofs.Initiations.{exchange}
 use Rattle.co_sdo.proofs.Logs.{after_initiates, after_open, after_nothing}
 use Rattle.co_sdo_laws.proofs.Server.{Serves, tick_opens}
-use Rattle.co_sdo_loss_laws.proofs.Channel.{ended}
+use Rattle.co_sdo_laws.proofs.Channel.{ended}
 
 -- ---- answers that the client of a block download awaits after its begin
 

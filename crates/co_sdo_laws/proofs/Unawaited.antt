@@ -9,7 +9,7 @@ use Rattle.co_sdo_client.specs.Segments.{is_odd}
 use Rattle.co_sdo_client.specs.Verdicts.{same_bool, response_verdict}
 use Rattle.co_sdo_client.specs.Outcomes.{state_by}
 use Rattle.co_sdo.proofs.Continuations.{not_odd}
-use Rattle.co_sdo_loss_laws.proofs.Failures.{is_aborted, has_failed}
+use Rattle.co_sdo_laws.proofs.Failures.{is_aborted, has_failed}
 
 -- an abort, outside a sub-block
 pub aborted_fails : (call : Call) (stage : Stage) (held : List ℕ) (r : Option SdoResponse) → is_aborted r ≡ true → has_failed (state_by (response_verdict call stage held r)) ≡ true
