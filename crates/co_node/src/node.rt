@@ -17,8 +17,8 @@ ghost use Rattle.co_node.specs.Runs.{all_ends, most_frames, recorded_after};
 
 use crate::config::Config;
 use crate::record::Record;
-use co_dict_image::ImageStore;
 use co_dict_build::BuildFault;
+use co_dict_image::ImageStore;
 use co_frame::{Frame, Outbox};
 use co_node_device::Device;
 use co_node_model::{AppAnswer, AppEvent, Input};
