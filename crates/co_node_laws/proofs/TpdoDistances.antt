@@ -146,7 +146,7 @@ by_timer s log active kind waits over = rw (active, kind, waits, over) (right_tr
 
 pub at_timer : (k : Constants) (n : ℕ) (inputs : Inputs) → n < 512 → turn_of_input k inputs Ticked ≡ Tick
     → is_active (contents_of k (Ticked ∷ inputs)) n ≡ true
-    → is_event_driven (settings_of (contents_of k (Ticked ∷ inputs)) n).transmission_type ≡ true
+    → is_event_driven (settings_of (contents_of k (Ticked ∷ inputs)) n).transmission_type.0 ≡ true
     → event_waits (tpdo_log k n inputs) ≡ false
     → is_inhibit_over (settings_of (contents_of k (Ticked ∷ inputs)) n).inhibit_time (Happened occasion.Tick (settings_of (contents_of k (Ticked ∷ inputs)) n) false ∷ tpdo_log k n inputs) ≡ true
     → is_sent k n inputs Ticked ≡ (ticks_of_timer k n inputs + 1 == (settings_of (contents_of k (Ticked ∷ inputs)) n).event_timer)
