@@ -156,6 +156,7 @@ def write_measured(crate, seconds, megabytes):
     """Notes what a crate took here."""
     said = read_measured(MEASURED_HERE)
     said[crate.name] = seconds * speed() / SPEED, round(megabytes)
+    os.makedirs(os.path.dirname(MEASURED_HERE), exist_ok=True)
     with open(f"{MEASURED_HERE}.new", "w", encoding="utf-8") as new:
         new.writelines(f"{name} {took:.0f} {held}\n" for name, (took, held) in sorted(said.items()))
     os.replace(f"{MEASURED_HERE}.new", MEASURED_HERE)
