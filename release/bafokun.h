@@ -1,0 +1,171 @@
+/*
+ * Bafokun: a CANopen device node (CiA 301 v4.2) from an EDS (CiA 306), for C programs.
+ *
+ * The program owns the bus, the clock and the values. It gives the node each CAN frame that is received, a tick for each
+ * millisecond, and what the application does; the node gives the frames that are to be sent, in order.
+ *
+ *     bafokun_node node = BAFOKUN_EMPTY;
+ *     if (!bafokun_build(&node, eds, sizeof eds - 1, 5, &config, &fault)) ...
+ *     count = bafokun_boot(&node, frames, BAFOKUN_MOST_FRAMES);     send frames[0] to frames[count - 1]
+ *     count = bafokun_tick(&node, frames, BAFOKUN_MOST_FRAMES);     each ms
+ *     count = bafokun_take(&node, &frame, frames, BAFOKUN_MOST_FRAMES);
+ *
+ * For Linux on x86-64, on every such processor, with glibc. Link with libbafokun.a or libbafokun.so alone; it calls malloc,
+ * realloc and free of the program.
+ *
+ * What holds of every call:
+ * - No pointer is NULL, also where the count beside it is 0. An array has as many elements as its count says.
+ * - What a call writes (node, frames, bytes, length, fault, abort_code) is apart from all else that the call is given.
+ * - A node is in one call at a time, and no call comes from a signal handler.
+ * - A node begins as BAFOKUN_EMPTY and only the calls below write it. It may be moved, not copied. While it is empty, calls
+ *   do nothing and give 0.
+ * - What is passed stays the caller's; nothing that is passed is kept after the call, the text of the EDS included.
+ * - bafokun_build asks for memory, bafokun_free gives it back, and no other call does either.
+ * - malloc aligns blocks to 16 bytes, and malloc, realloc and free belong together.
+ * Numbers are in the byte order of the machine; the bytes of an entry and of a frame are in that of CANopen, least
+ * significant byte first.
+ */
+#ifndef BAFOKUN_H
+#define BAFOKUN_H
+
+#include <stdbool.h>
+#include <stddef.h>
+#include <stdint.h>
+
+#ifdef __cplusplus
+extern "C" {
+#endif
+
+#define BAFOKUN_VERSION "0.2.0"
+#define BAFOKUN_VERSION_MAJOR 0
+#define BAFOKUN_VERSION_MINOR 2
+#define BAFOKUN_VERSION_PATCH 0
+
+/* No input gives more frames: an array of so many has room for all. */
+#define BAFOKUN_MOST_FRAMES 514
+
+/* The place of a device. 16 bytes on a machine of 64 bits; only the calls below look into it. */
+typedef struct bafokun_node {
+    size_t built;
+    void *device;
+} bafokun_node;
+
+#define BAFOKUN_EMPTY { 0, NULL }
+
+/* A CAN data frame with an identifier of 11 bits. 12 bytes, no padding. */
+typedef struct bafokun_frame {
+    uint16_t id;      /* 0 to 7FFh */
+    uint16_t length;  /* how many data bytes there are, 0 to 8 */
+    uint8_t bytes[8]; /* those past length are 0 in a frame that is sent, and not looked at in one that is received */
+} bafokun_frame;
+
+/* What an EDS leaves open. 6 bytes, no padding. */
+typedef struct bafokun_config {
+    uint16_t strings; /* bytes that each string has room for that may be written; a longer default makes more room */
+    uint16_t domains; /* bytes that each domain has room for */
+    uint16_t time;    /* SDO timeout in ms; 0: none */
+} bafokun_config;
+
+/* Why there is no device. 16 bytes, no padding. */
+typedef struct bafokun_fault {
+    uint64_t line;      /* of the EDS, from 1; 0 where no line is to blame, and for a fault of the device */
+    uint16_t stage;     /* BAFOKUN_FAULT_NONE, _SHEET or _DEVICE */
+    uint16_t number;    /* 1 to 20 of an EDS, 1 to 7 of a device; docs/SHEETS.md has each, and how to fix it */
+    uint16_t index;     /* the entry that a fault of the device names, else 0 */
+    uint16_t sub_index;
+} bafokun_fault;
+
+#define BAFOKUN_FAULT_NONE 0
+#define BAFOKUN_FAULT_SHEET 1
+#define BAFOKUN_FAULT_DEVICE 2
+
+/* The number of the fault "out of memory", of an EDS and of a device. */
+#define BAFOKUN_SHEET_MEMORY 20
+#define BAFOKUN_DEVICE_MEMORY 7
+
+/* NMT states, as the byte of a heartbeat (CiA 301, 7.2.8.3.2). */
+#define BAFOKUN_STOPPED 4
+#define BAFOKUN_OPERATIONAL 5
+#define BAFOKUN_PRE_OPERATIONAL 127
+
+/* Answers to an event of the application. */
+#define BAFOKUN_NO_EVENT 0
+#define BAFOKUN_DONE 1
+#define BAFOKUN_REFUSED 2
+
+/*
+ * Builds the device of an EDS, a text of so many bytes, at a node-ID, 1 to 127. It begins in state pre-operational. A
+ * device that the place had is given back first. True: there is a device. False: there is none, and fault says why.
+ */
+bool bafokun_build(bafokun_node *node, const char *text, size_t text_length, uint8_t node_id,
+                   const bafokun_config *config, bafokun_fault *fault);
+
+/* Gives the device back, with its memory. The place is empty then and can be filled again. */
+void bafokun_free(bafokun_node *node);
+
+/*
+ * Inputs. Each puts the frames that the device then sends into frames, as many as there is room for, in the order in which
+ * they are to be sent, and gives how many they are: at most BAFOKUN_MOST_FRAMES. Where there was no room for all,
+ * bafokun_sent gives the others, until the next input.
+ */
+
+/* The boot-up: one frame, to be sent once after the build. */
+size_t bafokun_boot(bafokun_node *node, bafokun_frame *frames, size_t room);
+
+/* A frame was received. One with an identifier above 7FFh or more than 8 bytes is passed over. */
+size_t bafokun_take(bafokun_node *node, const bafokun_frame *frame, bafokun_frame *frames, size_t room);
+
+/* 1 ms elapsed. */
+size_t bafokun_tick(bafokun_node *node, bafokun_frame *frames, size_t room);
+
+/* The application writes an entry, also one that a client may only read: all its bytes, as many as its type has. */
+size_t bafokun_write(bafokun_node *node, uint16_t index, uint8_t sub_index, const uint8_t *bytes, size_t length,
+                     bafokun_frame *frames, size_t room);
+
+/* An event on a TPDO: 0 is the one of 1800h. */
+size_t bafokun_event(bafokun_node *node, uint16_t tpdo, bafokun_frame *frames, size_t room);
+
+/* The value of an entry changed: an event on each active TPDO that maps it. */
+size_t bafokun_changed(bafokun_node *node, uint16_t index, uint8_t sub_index, bafokun_frame *frames, size_t room);
+
+/*
+ * An error: its emergency error code, other than 0, the bits that it sets in the error register (1001h) besides bit 0,
+ * and five bytes of the manufacturer's (CiA 301, 7.2.7).
+ */
+size_t bafokun_raise(bafokun_node *node, uint16_t code, uint8_t bits, const uint8_t manufacturer[5],
+                     bafokun_frame *frames, size_t room);
+
+/* Errors have ended: these bits of the error register are cleared. */
+size_t bafokun_clear(bafokun_node *node, uint8_t bits, bafokun_frame *frames, size_t room);
+
+/* The frames that the last input gave, from number from on, 0 the first: put and counted as by an input. */
+size_t bafokun_sent(bafokun_node *node, size_t from, bafokun_frame *frames, size_t room);
+
+/* Questions: none changes the device. */
+
+/*
+ * Whether there is an entry. If so its bytes are put into bytes, as many as there is room for, and length is how many they
+ * are. If not, nothing is written.
+ */
+bool bafokun_value(bafokun_node *node, uint16_t index, uint8_t sub_index, uint8_t *bytes, size_t room, size_t *length);
+
+/* The node-ID, 1 to 127. */
+uint8_t bafokun_node_id(bafokun_node *node);
+
+/* The NMT state: BAFOKUN_STOPPED, _OPERATIONAL or _PRE_OPERATIONAL. */
+uint8_t bafokun_state(bafokun_node *node);
+
+/*
+ * The answer to the last input: BAFOKUN_NO_EVENT where it was none of bafokun_write, _event, _changed, _raise and _clear,
+ * else BAFOKUN_DONE, or BAFOKUN_REFUSED and the SDO abort code. A refused event changes nothing. abort_code is 0 otherwise.
+ */
+uint8_t bafokun_answer(bafokun_node *node, uint32_t *abort_code);
+
+/* How many bytes are held for the transfer of an SDO channel: at most 889 more than the entry has room for. */
+size_t bafokun_held(bafokun_node *node, uint8_t channel);
+
+#ifdef __cplusplus
+}
+#endif
+
+#endif
