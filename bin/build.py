@@ -30,7 +30,7 @@ SPEED = 16000
 # Of a crate that wasn't measured: the seconds, those for each line of code, and the memory.
 SECONDS, SECONDS_A_LINE, MEGABYTES = 10, 0.08, 1500
 # How much faster a crate is proved by each further job.
-GAIN = 0.5
+GAIN = 0.8
 
 
 class Crate:
@@ -121,11 +121,12 @@ def read_crates(wanted):
 
 
 def speed():
-    """How many turns of a small loop this machine makes in a second of a processor: the best of three short tries."""
+    """How many turns of a small loop this machine makes in a second of a processor: the best of twenty short tries, as a processor
+    that shares its core with others is often slower for a moment."""
     best = 0.0
-    for _ in range(3):
+    for _ in range(20):
         begun, count = time.process_time(), 0
-        while time.process_time() - begun < 0.1:
+        while time.process_time() - begun < 0.05:
             sum(it & 7 for it in range(1000))
             count += 1
         best = max(best, count / (time.process_time() - begun))
