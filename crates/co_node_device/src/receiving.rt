@@ -29,9 +29,9 @@ use co_node_model::{Address, AppAnswer, Marks};
 use co_node_parts::{Emergencies, NodeState};
 use co_sdo_bank::Bank;
 
-/// A frame goes to the one with this address.
+/// A frame goes to the one that takes it, which has this address.
 #[inline(always)]
-fn take_at<S: ObjectStore>(
+fn take_frame<S: ObjectStore>(
     store: &mut S,
     bank: &mut Bank,
     state: NodeState,
@@ -60,33 +60,6 @@ fn take_at<S: ObjectStore>(
         Address::ErrorControl(node) => take_error_control(node, frame),
         Address::Nobody => Marks::quiet(),
     }
-}
-
-/// A frame goes to the one that takes it.
-#[inline(always)]
-fn take_frame<S: ObjectStore>(
-    store: &mut S,
-    bank: &mut Bank,
-    state: NodeState,
-    address: Address,
-    frame: &Frame,
-    outbox: &mut Outbox,
-) -> Marks
-    requires number { HasNumber address }
-    requires outbox { HasRoomFor segments_per_sub_block outbox.old }
-    requires room { HaveRoom (S.description store.old).rows (all_settings bank.old) }
-    ensures few { array_vec_len outbox.new ≤ array_vec_len outbox.old + segments_per_sub_block }
-    ensures number { IfSome result.rpdo (λ rpdo. rpdo.number < 512) }
-    ensures settings { all_settings bank.new ≡ all_settings bank.old }
-    ensures description { S.description store.new ≡ S.description store.old }
-    ensures received { (k : Constants) (history : History) →
-        IsBefore k history (S.description store.old) (S.contents store.old) bank.old state →
-        address ≡ address_at k history frame.now.id →
-        IsFrameReceived (S.description store.old) k history
-        (frame_moment k history (address_at k history frame.now.id) frame.now) result
-        (S.contents store.new) outbox.old.items outbox.new.items bank.new }
-{
-    take_at(store, bank, state, address, frame, outbox)
 }
 
 /// What an input was, and what it is answered where it is an application event.

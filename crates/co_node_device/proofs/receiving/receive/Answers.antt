@@ -1,7 +1,8 @@
 use Rattle.co_node_model.specs.Moments.{channels}
+use Rattle.co_node_model.specs.Addresses.{address_at}
 use Rattle.co_node_model.specs.Sdo.{channel_logs}
 use Rattle.co_node_model.specs.Inputs.{Written, ChangedAt}
-use Rattle.co_node_device.proofs.Receptions.{event_frames, event_channels, write_queues}
+use Rattle.co_node_device.proofs.Receptions.{at_address, event_frames, event_channels, write_queues}
 use Rattle.co_node_device.proofs.receiving.receive.Goals as goal
 
 pub returns-in-Tick-clause-marks : goal.returns-in-Tick-clause-marks
@@ -31,3 +32,15 @@ returns-in-Write-clause-emergencies g c = λ k history log before addressed stan
 pub returns-in-Changed-clause-channels : goal.returns-in-Changed-clause-channels
 returns-in-Changed-clause-channels g c = λ k history before addressed.
     rw c.in-Changed.is (event_channels k history _ c.args.bank.now (ChangedAt c.in-Changed.key) before.channels)
+
+pub returns-in-Frame-clause-marks : goal.returns-in-Frame-clause-marks
+returns-in-Frame-clause-marks g c = rw c.in-Frame.is (λ k history before addressed.
+    (at_address c.args.frame.now c.in-Frame.address (address_at k history c.args.frame.now.id) addressed (c.take_frame.ensures.received k history before)).marks)
+
+pub returns-in-Frame-clause-contents : goal.returns-in-Frame-clause-contents
+returns-in-Frame-clause-contents g c = rw c.in-Frame.is (λ k history before addressed.
+    (at_address c.args.frame.now c.in-Frame.address (address_at k history c.args.frame.now.id) addressed (c.take_frame.ensures.received k history before)).contents)
+
+pub returns-in-Frame-clause-channels : goal.returns-in-Frame-clause-channels
+returns-in-Frame-clause-channels g c = rw c.in-Frame.is (λ k history before addressed.
+    (at_address c.args.frame.now c.in-Frame.address (address_at k history c.args.frame.now.id) addressed (c.take_frame.ensures.received k history before)).channels)
