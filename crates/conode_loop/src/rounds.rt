@@ -1,11 +1,8 @@
 //! The rounds of a client and a node.
 
-ghost use Rattle.std.specs.Prelude.{◌≡◌, ◌⊎◌, ◌<◌, ◌∷◌, [], length, OnOk, IfErr, Err};
+ghost use Rattle.std.specs.Prelude.{◌≡◌, ◌⊎◌, ◌<◌, [], length, OnOk, IfErr, Err};
 ghost use Rattle.co_sdo_client.specs.Calls as client;
 ghost use Rattle.co_sdo_client.specs.Standing.{ClientStands};
-ghost use Rattle.co_node_model.specs.Inputs.{Inputs, Framed, Ticked};
-ghost use Rattle.co_node_model.specs.Device.{prescribed};
-ghost use Rattle.co_node_model.specs.Moments.{Constants};
 ghost use Rattle.co_node.specs.Nodes.{Stands};
 ghost use Rattle.conode_io.specs.Written.{WritesFront, WritesLines};
 ghost use Rattle.co_node_model.specs.Loop.{Loop, BothEnds, after_round, frames_of, frames_in, rounds, goes_on};
@@ -14,7 +11,7 @@ ghost use Rattle.conode_loop.specs.Standing.{EndsStand, StandsAfterSome};
 
 use crate::frames::{take_frames, take_tick, write_frames};
 use co_frame::{Frame, Outbox};
-use co_node::{AppEvent, Input, Node};
+use co_node::Node;
 use co_node_model::most_rounds;
 use co_sdo_client::{Client, ClientState};
 use conode_io::CmdFault;
@@ -29,28 +26,6 @@ fn goes_on(client: &Client<'_>, waiting: &[Frame]) -> bool
         ClientState::Waiting => true,
         _ => !waiting.is_empty(),
     }
-}
-
-// The node takes a frame: the outbox then holds what it sends.
-fn give_frame(node: &mut Node, frame: Frame, sent: &mut Outbox)
-    ensures frames { (k : Constants) (before : Inputs) → Stands k node.old before →
-        sent.new.items ≡ prescribed k before (Framed frame) }
-    ensures stands { (k : Constants) (before : Inputs) → Stands k node.old before →
-        Stands k node.new (Framed frame ∷ before) }
-{
-    let _event: Option<AppEvent<'_>> = None;
-    node.step(Input::Frame(frame), sent);
-}
-
-// The same of a tick.
-fn give_tick(node: &mut Node, sent: &mut Outbox)
-    ensures frames { (k : Constants) (before : Inputs) → Stands k node.old before →
-        sent.new.items ≡ prescribed k before Ticked }
-    ensures stands { (k : Constants) (before : Inputs) → Stands k node.old before →
-        Stands k node.new (Ticked ∷ before) }
-{
-    let _event: Option<AppEvent<'_>> = None;
-    node.step(Input::Tick, sent);
 }
 
 // A round in which no request waits: a tick at both.
@@ -80,7 +55,7 @@ fn tick<W: Write>(
     ensures err { IfErr result (λ fault. (fault ≡ CmdFault.Write) ⊎ (fault ≡ CmdFault.Memory)) }
 {
     let mut sent = Outbox::new();
-    give_tick(node, &mut sent);
+    node.tick(&mut sent);
     write_frames(&sent, writer)?;
     take_tick(client, waiting)?;
     take_frames(client, &sent, waiting)?;
@@ -115,7 +90,7 @@ fn exchange<W: Write>(
 {
     let request = waiting.remove(0);
     let mut sent = Outbox::new();
-    give_frame(node, request, &mut sent);
+    node.take_frame(&request, &mut sent);
     write_frames(&[request], writer)?;
     write_frames(&sent, writer)?;
     take_frames(client, &sent, waiting)?;

@@ -1,8 +1,7 @@
 //! One input of a trace: the device takes it, and what comes of it is printed.
 
-ghost use Rattle.std.specs.Prelude.{◌≡◌, ◌⊎◌, ◌∷◌, IfErr, OnOk, Err, Some, None};
-ghost use Rattle.std.specs.Option.{option_map};
-ghost use Rattle.co_node_model.specs.Inputs.{Inputs, Framed, Ticked, Applied, app_view};
+ghost use Rattle.std.specs.Prelude.{◌≡◌, ◌⊎◌, ◌∷◌, IfErr, OnOk, Err};
+ghost use Rattle.co_node_model.specs.Inputs.{Inputs, Framed, Ticked, Applied};
 ghost use Rattle.co_node_model.specs.Moments.{Constants};
 ghost use Rattle.co_node_model.specs.Device.{prescribed};
 ghost use Rattle.co_node.specs.Nodes.{Stands};
@@ -10,29 +9,14 @@ ghost use Rattle.conode_trace.specs.declared.event_line.EventLine.TheVariants.{A
 ghost use Rattle.conode_trace.specs.Events.{HasFewBytes};
 ghost use Rattle.conode_trace.specs.Traces.{tick};
 ghost use Rattle.conode_io.specs.Written.{WritesFront, WritesLines, WritesSome};
-ghost use Rattle.conode_replay.specs.Lines.{app_of, given_of, input_lines};
+ghost use Rattle.conode_replay.specs.Lines.{app_of, input_lines};
 
 use crate::lines::print_input;
 use co_frame::{Frame, Outbox};
-use co_node::{AppEvent, Input, Node};
+use co_node::{AppEvent, Node};
 use conode_io::CmdFault;
 use conode_trace::AppLine;
 use std::io::Write;
-
-// The device takes a frame; else an event of its application; else a tick.
-#[inline(always)]
-fn step(node: &mut Node, frame: Option<Frame>, event: Option<AppEvent<'_>>, sent: &mut Outbox)
-    ensures frames { (k : Constants) (before : Inputs) → Stands k node.old before →
-        sent.new.items ≡ prescribed k before (given_of frame (option_map app_view event.entry)) }
-    ensures stands { (k : Constants) (before : Inputs) → Stands k node.old before →
-        Stands k node.new (given_of frame (option_map app_view event.entry) ∷ before) }
-{
-    match (frame, event) {
-        (Some(frame), _) => node.step(Input::Frame(frame), sent),
-        (None, Some(event)) => node.step(Input::App(event), sent),
-        (None, None) => node.step(Input::Tick, sent),
-    }
-}
 
 /// The device takes a frame. The outbox then holds the frames that it sends, and no others.
 #[inline(always)]
@@ -42,18 +26,7 @@ pub(crate) fn take(node: &mut Node, frame: Frame, sent: &mut Outbox)
     ensures stands { (k : Constants) (before : Inputs) → Stands k node.old before →
         Stands k node.new (Framed frame ∷ before) }
 {
-    step(node, Some(frame), None, sent);
-}
-
-// the same of a tick
-#[inline(always)]
-fn elapse(node: &mut Node, sent: &mut Outbox)
-    ensures frames { (k : Constants) (before : Inputs) → Stands k node.old before →
-        sent.new.items ≡ prescribed k before Ticked }
-    ensures stands { (k : Constants) (before : Inputs) → Stands k node.old before →
-        Stands k node.new (Ticked ∷ before) }
-{
-    step(node, None, None, sent);
+    node.take_frame(&frame, sent);
 }
 
 /// The same of what an event line says.
@@ -67,24 +40,14 @@ pub(crate) fn apply(node: &mut Node, event: &AppLine<'_>, sent: &mut Outbox)
     match event {
         AppLine::Write(key, bytes) => {
             let bytes = bytes.bytes();
-            step(
-                node,
-                None,
-                Some(AppEvent::Write(*key, bytes.as_slice())),
-                sent,
-            );
+            node.take_event(AppEvent::Write(*key, bytes.as_slice()), sent);
         }
-        AppLine::Event(number) => step(node, None, Some(AppEvent::Event(*number)), sent),
-        AppLine::Changed(key) => step(node, None, Some(AppEvent::Changed(*key)), sent),
+        AppLine::Event(number) => node.take_event(AppEvent::Event(*number), sent),
+        AppLine::Changed(key) => node.take_event(AppEvent::Changed(*key), sent),
         AppLine::Raise(code, bits, extra) => {
-            step(
-                node,
-                None,
-                Some(AppEvent::Raise(*code, *bits, *extra)),
-                sent,
-            );
+            node.take_event(AppEvent::Raise(*code, *bits, *extra), sent);
         }
-        AppLine::Clear(bits) => step(node, None, Some(AppEvent::Clear(*bits)), sent),
+        AppLine::Clear(bits) => node.take_event(AppEvent::Clear(*bits), sent),
     }
 }
 
@@ -115,6 +78,6 @@ pub(crate) fn tick<W: Write>(
         (input_lines k before (record { line = number; ms = ms; input = tick })) }
     ensures err { IfErr result (λ fault. (fault ≡ CmdFault.Write) ⊎ (fault ≡ CmdFault.Memory)) }
 {
-    elapse(node, sent);
+    node.tick(sent);
     print_input(text, number, ms, node.last_app(), sent.as_slice(), writer)
 }
