@@ -32,12 +32,6 @@ view_of (frame content) = Framed content
 view_of tick = Ticked
 view_of (app event) = Applied (app_of event)
 
--- a frame; else an event of the application; else a tick
-abbrev pub given_of : Option FrameContent → Option AppView → InputView
-given_of (Some content) event = Framed content
-given_of None (Some event) = Applied event
-given_of None None = Ticked
-
 -- the own input of a line, if it has one
 abbrev pub own_inputs : TimedLine → List TimedInput
 own_inputs t = option_map_or (λ input. record { line = t.number; ms = t.ms; input = input } ∷ []) (own_input t.said) []
