@@ -108,8 +108,8 @@ pub fn check_count<S: ObjectStore>(
     Ok(())
 }
 
-// sub-indices 1 to 64 of a mapping parameter: they don't change while the PDO is valid or any of them counts, and a word
-// other than 0 has to be one that the side may map
+// sub-indices 1 to 64 of a mapping parameter: they don't change while the PDO is valid or any of them counts, and a
+// word other than 0 has to be one that the side may map
 pub(crate) fn check_mapping_entry<S: ObjectStore>(
     store: &S,
     side: Side,

@@ -126,8 +126,8 @@ fn may_send<S: ObjectStore>(marks: &Marks, store: &S, after: NodeState) -> bool
         && !marks.timed_out
 }
 
-/// Takes the emergency that is sent at the end of an input, if one is, by the NMT state after it. The dictionary is read where
-/// one waits and the inhibit time is over.
+/// Takes the emergency that is sent at the end of an input, if one is, by the NMT state after it. The dictionary is
+/// read where one waits and the inhibit time is over.
 #[inline(always)]
 pub(crate) fn take_emergency<S: ObjectStore>(
     store: &S,

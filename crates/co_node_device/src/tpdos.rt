@@ -122,8 +122,8 @@ pub(crate) fn turn_of(marks: &Marks, transition: Transition) -> Turn
     }
 }
 
-/// Leaves in `sent` the numbers of the TPDOs that are due where the application gave an event, increasing; they count as
-/// sent.
+/// Leaves in `sent` the numbers of the TPDOs that are due where the application gave an event, increasing; they count
+/// as sent.
 #[cold]
 #[inline(never)]
 fn take_asked<S: ObjectStore>(schedule: &mut Schedule, store: &S, asked: Asked, sent: &mut Due)
@@ -144,8 +144,8 @@ fn take_asked<S: ObjectStore>(schedule: &mut Schedule, store: &S, asked: Asked, 
     schedule.on_events(store, &numbers_asked(store, asked), sent);
 }
 
-/// Leaves in `sent` the numbers of the TPDOs that are due at a turn, increasing; they count as sent. What the dictionary
-/// says of each TPDO is current where the schedule is asked.
+/// Leaves in `sent` the numbers of the TPDOs that are due at a turn, increasing; they count as sent. What the
+/// dictionary says of each TPDO is current where the schedule is asked.
 #[inline(always)]
 pub(crate) fn take_turn<S: ObjectStore>(
     schedule: &mut Schedule,
@@ -202,8 +202,8 @@ fn tpdo_frame<S: ObjectStore>(
     Frame::packed(schedule.cob_id(store, number).identifier(), &image)
 }
 
-/// Puts the frames of TPDOs into the outbox, where it has room for all of them. `schedule` is the schedule of the TPDOs of the
-/// dictionary, `mappings` are their compiled mappings, as the dictionary is now.
+/// Puts the frames of TPDOs into the outbox, where it has room for all of them. `schedule` is the schedule of the TPDOs
+/// of the dictionary, `mappings` are their compiled mappings, as the dictionary is now.
 #[inline(always)]
 pub(crate) fn send_tpdos<S: ObjectStore>(
     store: &S,

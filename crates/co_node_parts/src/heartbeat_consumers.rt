@@ -44,8 +44,8 @@ impl ConsumersEvent {
     }
 }
 
-/// Notes an event for each of some entries, and leaves in `lost` which of them lose their heartbeat. Those from `used` on
-/// are passed over by it.
+/// Notes an event for each of some entries, and leaves in `lost` which of them lose their heartbeat. Those from `used`
+/// on are passed over by it.
 #[inline(always)]
 fn note_all(
     entries: &mut [HeartbeatConsumer],

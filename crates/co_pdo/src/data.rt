@@ -112,7 +112,7 @@ fn write_parts<S: ObjectStore>(store: &mut S, entries: &[Mapped], bytes: &[u8])
     }
 }
 
-/// The parts of data, joined, are as many of their first bytes as are mapped. A law, which does nothing when it is called.
+/// The parts of data, joined, are as many of their first bytes as are mapped. A law, which does nothing when called.
 pub fn parts_joined()
     ensures { (mapping : List Mapped) (bytes : List ℕ) →
         concat (parts_of mapping bytes) ≡ take (total_of mapping) bytes }

@@ -158,8 +158,8 @@ impl Channel {
         }
     }
 
-    // A segment of a download: download SDO segment, ccs = 0. What is said of it holds where the room that the channel knows
-    // is that of the entry.
+    // A segment of a download: download SDO segment, ccs = 0. What is said of it holds where the room that the channel
+    // knows is that of the entry.
     pub(crate) fn take_segment<S: ObjectStore>(
         &mut self,
         store: &mut S,

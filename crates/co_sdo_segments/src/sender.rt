@@ -93,8 +93,8 @@ pub fn block_segment(bytes: &[u8], position: usize, number: u8) -> BlockSegment
     }
 }
 
-/// Sends the sub-block that begins after so many segments, on an identifier, and gives the number of its segments: as many
-/// as it may have, or as are left (CiA 301, 7.2.4.3.10 and 7.2.4.3.14).
+/// Sends the sub-block that begins after so many segments, on an identifier, and gives the number of its segments: as
+/// many as it may have, or as are left (CiA 301, 7.2.4.3.10 and 7.2.4.3.14).
 pub fn send_sub_block(
     id: u16,
     bytes: &[u8],

@@ -45,8 +45,8 @@ pub fn all_digits(text: &[u8], base: u32) -> bool
     text.iter().all(|byte| is_digit(*byte, base))
 }
 
-/// The number that digits of the base, 2 to 36, write; `None` where the text is empty or has another byte, and where the
-/// number is 2^64 or more.
+/// The number that digits of the base, 2 to 36, write; `None` where the text is empty or has another byte, and where
+/// the number is 2^64 or more.
 pub fn number_in(base: u32, text: &[u8]) -> Option<u64>
     requires low { 2 ≤ base }
     requires high { base ≤ 36 }

@@ -28,9 +28,9 @@ pub enum SectionKind {
 }
 
 impl SectionKind {
-    /// What a section of this name is about: a list, DummyUsage, DeviceInfo, device commissioning in either spelling, an
-    /// object as `1018`, a sub-index as `1018sub1`, or nothing that is read (CiA 306, object lists, object description,
-    /// device commissioning).
+    /// What a section of this name is about: a list, DummyUsage, DeviceInfo, device commissioning in either spelling,
+    /// an object as `1018`, a sub-index as `1018sub1`, or nothing that is read (CiA 306, object lists, object
+    /// description, device commissioning).
     pub fn of_name(name: &[u8]) -> SectionKind
         ensures { result ≡ kind_of name.now }
     {

@@ -1,5 +1,5 @@
-//! The texts of SDO requests and answers (CiA 301, 7.2.4.3). Each function appends a text; on an `Err` memory ran out, and
-//! a part of it may be there.
+//! The texts of SDO requests and answers (CiA 301, 7.2.4.3). Each function appends a text; on an `Err` memory ran out,
+//! and a part of it may be there.
 
 ghost use Rattle.std.specs.Prelude.{◌≡◌, ◌++◌, OnOk, Some, string_bytes};
 ghost use Rattle.co_value.specs.KeyTexts.{key_text};
