@@ -1,7 +1,17 @@
 //! What comes to a device.
 
 ghost use Rattle.std.specs.Prelude.{◌≡◌};
-ghost use Rattle.co_node_model.specs.Inputs.{Inputs, Framed, Ticked, Applied, Written, EventOn, ChangedAt, Raised, Cleared};
+ghost use Rattle.co_node_model.specs.Inputs.{
+  Inputs,
+  Framed,
+  Ticked,
+  Applied,
+  Written,
+  EventOn,
+  ChangedAt,
+  Raised,
+  Cleared,
+};
 ghost use Rattle.co_node_model.specs.Moments.{Constants};
 ghost use Rattle.bafokun.specs.Devices.{Gives, GivesBootUp, IsDevice, IsEmpty, IsQuiet};
 ghost use Rattle.bafokun.specs.Frames.{IsCan, content_of};

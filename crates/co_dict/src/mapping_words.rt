@@ -2,7 +2,20 @@
 
 ghost use Rattle.std.specs.Prelude.{◌≡◌, ◌≤◌, IfSome};
 ghost use Rattle.co_dict.specs.Refusals.{refusal_in};
-ghost use Rattle.co_dict.specs.MappingWords.{mapped_key, mapped_bits, dummy_width, usable_dummy, is_mapped_access, is_mapped_index, may_be_mapped, entry_width, mapping_width, word_width, missing_mapped, word_refusal};
+ghost use Rattle.co_dict.specs.MappingWords.{
+  mapped_key,
+  mapped_bits,
+  dummy_width,
+  usable_dummy,
+  is_mapped_access,
+  is_mapped_index,
+  may_be_mapped,
+  entry_width,
+  mapping_width,
+  word_width,
+  missing_mapped,
+  word_refusal,
+};
 
 use crate::objects::entry_row;
 use crate::row::Row;

@@ -4,7 +4,16 @@ ghost use Rattle.std.specs.Prelude.{◌≡◌, ◌||◌, Some, None, true, lengt
 ghost use Rattle.co_dict.specs.Rows.{takes};
 ghost use Rattle.co_dict.specs.Refusals.{refused_if, refusal_in};
 ghost use Rattle.co_frame.specs.AbortCodes.{read_only};
-ghost use Rattle.co_dict.specs.WriteRefusals.{is_read_only, is_constant, is_sdo_parameter, total_refusal, value_refusal, initiate_refusal, writing_refusal, app_refusal};
+ghost use Rattle.co_dict.specs.WriteRefusals.{
+  is_read_only,
+  is_constant,
+  is_sdo_parameter,
+  total_refusal,
+  value_refusal,
+  initiate_refusal,
+  writing_refusal,
+  app_refusal,
+};
 
 use crate::fitting::check_size;
 use crate::objects::entry_row;

@@ -10,7 +10,15 @@ ghost use Rattle.co_dict.specs.Objects.{has_object, has_sub};
 ghost use Rattle.co_dict_build.specs.SheetRows.{IsReady};
 ghost use Rattle.co_dict_build.specs.Capacities.{limits_view};
 ghost use Rattle.co_dict_build.specs.Built.{Plan, dummies_of, plan_of, plan_in, built_description, built_contents};
-ghost use Rattle.co_dict_build.specs.BuildFaults.{is_communication, bad_cob_id, unpaired, bad_mapping, parameter_fault, build_fault, IsBuildFault};
+ghost use Rattle.co_dict_build.specs.BuildFaults.{
+  is_communication,
+  bad_cob_id,
+  unpaired,
+  bad_mapping,
+  parameter_fault,
+  build_fault,
+  IsBuildFault,
+};
 
 mod cob_ids;
 mod entries;

@@ -3,7 +3,16 @@
 ghost use Rattle.std.specs.Prelude.{◌≡◌, ℕ, ◌<◌, Option, None, false, length, IfOk, IfSome};
 ghost use Rattle.co_dict.specs.Rows.{Contents};
 ghost use Rattle.co_node_model.specs.Rpdos.{rpdo_with, is_rpdo_with};
-ghost use Rattle.co_node_model.specs.Addresses.{AgreeOnAddresses, AgreeOnRpdos, may_change_addresses, is_address_set, address_of, address_unless_rpdo, HasNumber, address_at};
+ghost use Rattle.co_node_model.specs.Addresses.{
+  AgreeOnAddresses,
+  AgreeOnRpdos,
+  may_change_addresses,
+  is_address_set,
+  address_of,
+  address_unless_rpdo,
+  HasNumber,
+  address_at,
+};
 ghost use Rattle.co_node_device.specs.AddressTables.{IsTableOf, TableContent, AreRpdosOf, IsRpdoTable, number_if};
 ghost use Rattle.std.specs.List.{slice_index_or};
 ghost use Rattle.std.specs.Option.{option_or};

@@ -4,7 +4,24 @@ ghost use Rattle.std.specs.Prelude.{◌≡◌, ◌<◌, None, IfSome, [], if◌t
 ghost use Rattle.co_dict.specs.Rows.{Contents};
 ghost use Rattle.co_dict.specs.Stores.{Description};
 ghost use Rattle.co_node_model.specs.Inputs.{InputView};
-ghost use Rattle.co_node_model.specs.Rpdos.{with_rpdo, rpdo_type, IsMappedLength, IsTypeOf, emptied_by, is_short, kept_by, mapped_length, slot_event, rpdo_errors, after_data, data_emergencies, immediate, value_errors, after_all_data, all_data_emergencies};
+ghost use Rattle.co_node_model.specs.Rpdos.{
+  with_rpdo,
+  rpdo_type,
+  IsMappedLength,
+  IsTypeOf,
+  emptied_by,
+  is_short,
+  kept_by,
+  mapped_length,
+  slot_event,
+  rpdo_errors,
+  after_data,
+  data_emergencies,
+  immediate,
+  value_errors,
+  after_all_data,
+  all_data_emergencies,
+};
 ghost use Rattle.co_node_model.specs.Moments.{nothing_of};
 ghost use Rattle.std.specs.List.{cons_option, All};
 ghost use Rattle.co_dict.specs.declared.side.Side.TheVariants.{Rpdo};

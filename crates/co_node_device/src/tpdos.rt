@@ -2,7 +2,17 @@
 
 ghost use Rattle.std.specs.Prelude.{◌≡◌, ◌<◌, ℕ, ◌≤◌, length, true, ◌+◌, ◌++◌, map};
 ghost use Rattle.std.specs.List.{list_any, slice_index_or};
-ghost use Rattle.co_node_model.specs.Tpdos.{is_entry, is_mapped_into, numbers_asked, turn_of, turn_by_write, HasTpdoNumber, due_at, with_turn, tpdo_frame};
+ghost use Rattle.co_node_model.specs.Tpdos.{
+  is_entry,
+  is_mapped_into,
+  numbers_asked,
+  turn_of,
+  turn_by_write,
+  HasTpdoNumber,
+  due_at,
+  with_turn,
+  tpdo_frame,
+};
 ghost use Rattle.co_node_model.specs.Sync.{counter_in};
 ghost use Rattle.co_pdo.specs.Schedules.{History, IsScheduleAfter, AllCurrent};
 ghost use Rattle.co_node_laws.specs.Calls.{is_asked};

@@ -5,7 +5,17 @@ ghost use Rattle.co_value.specs.Numbers.{number_of};
 ghost use Rattle.co_value.specs.declared.data_type.DataType.TheVariants.{Integer16, Unsigned8};
 ghost use Rattle.co_dict.specs.WriteRefusals.{limit_refusal};
 ghost use Rattle.co_pdo.specs.Mappings.{width_in, total_of};
-ghost use Rattle.co_pdo.specs.Images.{bytes_in, image_of, with_parts, is_outside, any_outside, written_in_order, fault_of, contents_after, answered};
+ghost use Rattle.co_pdo.specs.Images.{
+  bytes_in,
+  image_of,
+  with_parts,
+  is_outside,
+  any_outside,
+  written_in_order,
+  fault_of,
+  contents_after,
+  answered,
+};
 ghost use Rattle.co_pdo_compiled.specs.CompiledMappings.{mapped_in, mapping_in, HasEntry, HasPart, HasParts};
 
 use crate::compiled::Compiled;

@@ -12,7 +12,17 @@ ghost use Rattle.co_sdo.specs.Completed.{contents_with, key_set};
 ghost use Rattle.co_sdo.specs.Standing.{room_after};
 ghost use Rattle.co_sdo_bank.specs.Channels.{ChannelSettings, HaveRoom, channels_of};
 ghost use Rattle.co_sdo_bank.specs.Banks.{BankStands, all_settings};
-ghost use Rattle.co_sdo_bank.specs.Events.{exchange_of, frames_at, held_on, logs_after, number_for, number_in, set_of, time_out_of, with_each};
+ghost use Rattle.co_sdo_bank.specs.Events.{
+  exchange_of,
+  frames_at,
+  held_on,
+  logs_after,
+  number_for,
+  number_in,
+  set_of,
+  time_out_of,
+  with_each,
+};
 
 use crate::channels::{
     NumberedChannel, drop_each, existing_channels, expired_place, place_of, places_by_id, tick_each,

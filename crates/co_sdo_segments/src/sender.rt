@@ -4,7 +4,15 @@ ghost use Rattle.std.specs.Prelude.{◌≡◌, ◌+◌, ◌*◌, ◌^◌, ◌<�
 ghost use Rattle.arrayvec.specs.ArrayVec.{array_vec_len};
 ghost use Rattle.co_frame.specs.SegmentSizes.{segments_per_sub_block, bytes_per_segment};
 ghost use Rattle.co_frame.specs.Outboxes.{HasRoomFor};
-ghost use Rattle.co_sdo_segments.specs.Sent.{part_after, is_last_after, segment_count, unused_after, block_segment, sub_block_length, sub_block_frames};
+ghost use Rattle.co_sdo_segments.specs.Sent.{
+  part_after,
+  is_last_after,
+  segment_count,
+  unused_after,
+  block_segment,
+  sub_block_length,
+  sub_block_frames,
+};
 
 use arrayvec::ArrayVec;
 use co_frame::{BYTES_PER_SEGMENT, BlockSegment, Outbox};

@@ -1,6 +1,21 @@
 //! A data sheet, read.
 
-ghost use Rattle.std.specs.Prelude.{◌≡◌, ◌<◌, ◌≤◌, ℕ, nat_eq, map, filter_map, true, All, AllPairs, IfOk, IfErr, IfSome, None};
+ghost use Rattle.std.specs.Prelude.{
+  ◌≡◌,
+  ◌<◌,
+  ◌≤◌,
+  ℕ,
+  nat_eq,
+  map,
+  filter_map,
+  true,
+  All,
+  AllPairs,
+  IfOk,
+  IfErr,
+  IfSome,
+  None,
+};
 ghost use Rattle.indexmap.specs.IndexSet.{contains};
 ghost use Rattle.co_sheet.specs.ObjectLists.{is_listed};
 ghost use Rattle.co_sheet.specs.Entries.{listed_objects, entries_of};

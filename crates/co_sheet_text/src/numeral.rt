@@ -4,7 +4,16 @@ ghost use Rattle.std.specs.Prelude.{◌≡◌, ◌^◌, ◌<◌, ◌≤◌, ◌*
 ghost use Rattle.std.specs.List.{list_all};
 ghost use Rattle.std.specs.Char.{is_digit};
 ghost use Rattle.co_sheet_text.specs.Names.{number_in};
-ghost use Rattle.co_sheet_text.specs.Numerals.{is_number_in, decimal_number, hexadecimal_number, unsigned_numeral, signed_numeral, unsigned_number, hexadecimal_value, value_at};
+ghost use Rattle.co_sheet_text.specs.Numerals.{
+  is_number_in,
+  decimal_number,
+  hexadecimal_number,
+  unsigned_numeral,
+  signed_numeral,
+  unsigned_number,
+  hexadecimal_value,
+  value_at,
+};
 
 use crate::text::same_name;
 use co_value::DataType;

@@ -1,6 +1,22 @@
 //! Lines one at a time.
 
-ghost use Rattle.std.specs.Prelude.{◌≡◌, ◌≢◌, ℕ, ◌≤◌, List, Option, IfOk, IfErr, IfSome, IsNone, None, Err, length, true, false};
+ghost use Rattle.std.specs.Prelude.{
+  ◌≡◌,
+  ◌≢◌,
+  ℕ,
+  ◌≤◌,
+  List,
+  Option,
+  IfOk,
+  IfErr,
+  IfSome,
+  IsNone,
+  None,
+  Err,
+  length,
+  true,
+  false,
+};
 ghost use Rattle.std.specs.Borrow.{sem};
 ghost use Rattle.std.specs.Io.BufRead.{Rests};
 ghost use Rattle.co_stream.specs.Lines.{has_line_feed, IsTooLong};
