@@ -109,7 +109,7 @@ for sheet in "$root/examples/device/sensor.eds" "$root/examples/io-module.eds" "
     "$folder/memory" < "$sheet"
 done
 
-new_crate million co_node 'co_node co_dict_list co_sheet co_frame anyhow'
+new_crate million co_node 'co_node co_dict_build co_sheet co_frame anyhow'
 add_device million
 add_repeat million
 cat > "$folder/crates/million/src/main.rt" << 'END'

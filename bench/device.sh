@@ -9,7 +9,7 @@ add_device() {
 //! A device of a data sheet, and one input to it.
 
 use anyhow::{Context, Result};
-use co_dict_list::Limits;
+use co_dict_build::Limits;
 use co_frame::{Frame, Outbox};
 use co_node::{Config, Node};
 use co_node::{AppEvent, Input};

@@ -47,7 +47,7 @@ best_in_turn() {
     for size in half whole; do smallest < "$folder/$size.runs" > "$folder/$size"; done
 }
 
-new_crate dict_time co_dict_image 'co_value co_sheet co_dict co_dict_list co_dict_image anyhow'
+new_crate dict_time 'co_dict_image co_dict_list' 'co_value co_sheet co_dict co_dict_list co_dict_image anyhow'
 cat > "$folder/in_rust.rs" << 'END'
 //! The same calls on Rust's ordered map, and on a plain vector, of numbers of four bytes with the keys of the sheet.
 use std::collections::BTreeMap;

@@ -75,7 +75,7 @@ greatest_sheet() {
 }
 
 new_crate node_time 'co_node conode_trace' \
-    'co_node co_dict_list co_sheet conode_trace co_frame co_text arrayvec anyhow'
+    'co_node co_dict_build co_sheet conode_trace co_frame co_text arrayvec anyhow'
 add_device node_time
 add_repeat node_time
 cat > "$folder/crates/node_time/src/main.rt" << 'END'

@@ -54,7 +54,8 @@ best() {
     done | smallest
 }
 
-new_crate pdo_time 'co_pdo_compiled co_dict_image' 'co_sheet co_dict co_dict_list co_dict_image co_pdo co_pdo_compiled anyhow'
+new_crate pdo_time 'co_pdo_compiled co_dict_image' \
+    'co_sheet co_dict co_dict_build co_dict_image co_pdo co_pdo_compiled anyhow'
 cat > "$folder/in_rust.rs" << 'END'
 //! Copies of eight bytes from and to eight places of a list.
 use std::hint::black_box;
@@ -112,8 +113,8 @@ ghost use Rattle.co_pdo_compiled.specs.CompiledMappings.{HasParts};
 
 use anyhow::{Context, Result, bail};
 use co_dict::ObjectStore;
+use co_dict_build::Limits;
 use co_dict_image::ImageStore;
-use co_dict_list::Limits;
 use co_pdo::{Due, Schedule, Side};
 use co_pdo_compiled::{Compiled, apply_at, image_at};
 use co_sheet::read;

@@ -10,7 +10,7 @@ seed=${2:-1}
 # shellcheck source=bench/device.sh
 . "$(dirname "$(readlink -f "$0")")/device.sh"
 
-new_crate soak co_node 'co_node co_dict_list co_sheet co_frame co_value arrayvec anyhow'
+new_crate soak co_node 'co_node co_dict_build co_sheet co_frame co_value arrayvec anyhow'
 add_device soak
 cat > "$folder/crates/soak/src/main.rt" << 'END'
 //! Gives the device of the data sheet on standard input random inputs. The sheet's last line, a comment, is

@@ -118,10 +118,10 @@ fn build(alloc: Global, text: &[u8], node_id: u8, settings: &Settings) -> Result
     }
 }
 
-/// Builds the device of a data sheet (CiA 306) at a node-ID, in NMT state pre-operational, and puts it into a place, whose
-/// device, if it has one, is given back first. The result is whether there is a device; else `fault` says why not. This
-/// call alone asks for memory. C owes a place, empty or filled by this call, as many bytes of text as it says, settings and
-/// a fault, all apart. The text isn't needed any more after the call.
+/// Builds the device of a data sheet (CiA 306) at a node-ID, in NMT state pre-operational, and puts it into a place,
+/// whose device, if it has one, is given back first. The result is whether there is a device; else `fault` says why
+/// not. This call alone asks for memory. C owes a place, empty or filled by this call, as many bytes of text as it
+/// says, settings and a fault, all apart. The text isn't needed any more after the call.
 #[unsafe(no_mangle)]
 pub extern "C" fn bafokun_build(
     alloc: Global,

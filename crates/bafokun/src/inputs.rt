@@ -1,7 +1,17 @@
 //! What comes to a device.
 
 ghost use Rattle.std.specs.Prelude.{◌≡◌};
-ghost use Rattle.co_node_model.specs.Inputs.{Inputs, Framed, Ticked, Applied, Written, EventOn, ChangedAt, Raised, Cleared};
+ghost use Rattle.co_node_model.specs.Inputs.{
+  Inputs,
+  Framed,
+  Ticked,
+  Applied,
+  Written,
+  EventOn,
+  ChangedAt,
+  Raised,
+  Cleared,
+};
 ghost use Rattle.co_node_model.specs.Moments.{Constants};
 ghost use Rattle.bafokun.specs.Devices.{Gives, GivesBootUp, IsDevice, IsEmpty, IsQuiet};
 ghost use Rattle.bafokun.specs.Frames.{IsCan, content_of};
@@ -31,8 +41,8 @@ pub extern "C" fn bafokun_boot(alloc: Global, node: &mut Handle, frames: &mut [C
     }
 }
 
-/// A frame is received. Nothing happens where it is no CAN frame: an identifier above 7FFh, or more than 8 bytes. C owes
-/// what `bafokun_tick` says, and a frame, which isn't part of the array.
+/// A frame is received. Nothing happens where it is no CAN frame: an identifier above 7FFh, or more than 8 bytes. C
+/// owes what `bafokun_tick` says, and a frame, which isn't part of the array.
 #[unsafe(no_mangle)]
 pub extern "C" fn bafokun_take(
     alloc: Global,
@@ -53,8 +63,8 @@ pub extern "C" fn bafokun_take(
     }
 }
 
-/// 1 ms elapsed. The frames that the device then sends are put into the array, as many as it has room for; the result is
-/// how many there are, and `bafokun_sent` gives the others. C owes the place of a device, empty or filled by
+/// 1 ms elapsed. The frames that the device then sends are put into the array, as many as it has room for; the result
+/// is how many there are, and `bafokun_sent` gives the others. C owes the place of a device, empty or filled by
 /// `bafokun_build`, an array of as many frames as it says, and no other call for this place at the same time.
 #[unsafe(no_mangle)]
 pub extern "C" fn bafokun_tick(alloc: Global, node: &mut Handle, frames: &mut [CanFrame]) -> usize
@@ -124,8 +134,8 @@ pub extern "C" fn bafokun_changed(
     node.step(alloc, None, Some(AppEvent::Changed(key)), frames)
 }
 
-/// An error: its emergency error code, the bits that it sets in the error register besides bit 0, and the manufacturer's
-/// five bytes (CiA 301, 7.2.7). C owes what `bafokun_tick` says, and the five bytes, which aren't part of the array.
+/// An error: its emergency error code, the bits that it sets in the error register besides bit 0, and the
+/// manufacturer's five bytes (CiA 301, 7.2.7). C owes what `bafokun_tick` says, and the five bytes, outside the array.
 #[unsafe(no_mangle)]
 pub extern "C" fn bafokun_raise(
     alloc: Global,

@@ -15,8 +15,8 @@ use co_value::Key;
 use std::alloc::Global;
 
 /// The frames that the last input gave, from one of them on: for an array that had no room for all. They are put into
-/// the array, as many as it has room for; the result is how many there are from that one on, 0 where there is no device.
-/// C owes what `bafokun_tick` says.
+/// the array, as many as it has room for; the result is how many there are from that one on, 0 where there is no
+/// device. C owes what `bafokun_tick` says.
 #[unsafe(no_mangle)]
 pub extern "C" fn bafokun_sent(
     alloc: Global,
@@ -44,8 +44,8 @@ pub extern "C" fn bafokun_sent(
     }
 }
 
-/// Whether there is an entry. Its bytes are put into the array, as many as it has room for, and `length` is how many they
-/// are. C owes what `bafokun_tick` says, and that the array and `length` are apart.
+/// Whether there is an entry. Its bytes are put into the array, as many as it has room for, and `length` is how many
+/// they are. C owes what `bafokun_tick` says, and that the array and `length` are apart.
 #[unsafe(no_mangle)]
 pub extern "C" fn bafokun_value(
     alloc: Global,
@@ -132,8 +132,8 @@ pub extern "C" fn bafokun_state(alloc: Global, node: &mut Handle) -> u8
     }
 }
 
-/// The answer to the last input, where that was an event of the application: 0 none, 1 done, 2 refused, and then `abort`
-/// is the abort code, else 0. C owes what `bafokun_tick` says.
+/// The answer to the last input, where that was an event of the application: 0 none, 1 done, 2 refused, and then
+/// `abort` is the abort code, else 0. C owes what `bafokun_tick` says.
 #[unsafe(no_mangle)]
 pub extern "C" fn bafokun_answer(alloc: Global, node: &mut Handle, abort: &mut u32) -> u8
     ensures same { node.new.seal.value ≡ node.old.seal.value }
@@ -161,8 +161,8 @@ pub extern "C" fn bafokun_answer(alloc: Global, node: &mut Handle, abort: &mut u
     }
 }
 
-/// How many bytes are held for the transfer of an SDO channel; 0 where there is no such channel or no device. They are at
-/// most 889 more than the entry that is transferred has room for. C owes what `bafokun_tick` says.
+/// How many bytes are held for the transfer of an SDO channel; 0 where there is no such channel or no device. They are
+/// at most 889 more than the entry that is transferred has room for. C owes what `bafokun_tick` says.
 #[unsafe(no_mangle)]
 pub extern "C" fn bafokun_held(alloc: Global, node: &mut Handle, channel: u8) -> usize
     ensures same { node.new.seal.value ≡ node.old.seal.value }

@@ -1,7 +1,15 @@
 //! COB-ID words.
 
 ghost use Rattle.std.specs.Prelude.{◌≡◌, ◌<◌};
-ghost use Rattle.co_dict.specs.CobIds.{identifier_of, has_bit_31, is_valid, has_11_bits, is_sync_consumer, is_restricted, is_default_sdo};
+ghost use Rattle.co_dict.specs.CobIds.{
+  identifier_of,
+  has_bit_31,
+  is_valid,
+  has_11_bits,
+  is_sync_consumer,
+  is_restricted,
+  is_default_sdo,
+};
 
 /// A COB-ID word: bit 31 says that the PDO, the emergency or the SDO channel does not exist, bits 10 to 0 are the
 /// identifier (CiA 301, 7.5.2).

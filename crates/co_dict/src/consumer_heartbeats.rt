@@ -3,7 +3,15 @@
 ghost use Rattle.std.specs.Prelude.{◌≡◌, ◌≤◌, ◌<◌};
 ghost use Rattle.co_dict.specs.Rows.{number_at};
 ghost use Rattle.co_dict.specs.Refusals.{refusal_in};
-ghost use Rattle.co_dict.specs.ConsumerHeartbeats.{consumer_key, consumer_time, consumer_node, is_consumer, is_consumer_of, is_consumed_elsewhere, consumer_refusal};
+ghost use Rattle.co_dict.specs.ConsumerHeartbeats.{
+  consumer_key,
+  consumer_time,
+  consumer_node,
+  is_consumer,
+  is_consumer_of,
+  is_consumed_elsewhere,
+  consumer_refusal,
+};
 
 use crate::numbers::number_u32;
 use crate::store::ObjectStore;

@@ -2,7 +2,20 @@
 
 ghost use Rattle.std.specs.Prelude.{◌≡◌, ◌≤◌, IfSome};
 ghost use Rattle.co_dict.specs.Refusals.{refusal_in};
-ghost use Rattle.co_dict.specs.MappingWords.{mapped_key, mapped_bits, dummy_width, usable_dummy, is_mapped_access, is_mapped_index, may_be_mapped, entry_width, mapping_width, word_width, missing_mapped, word_refusal};
+ghost use Rattle.co_dict.specs.MappingWords.{
+  mapped_key,
+  mapped_bits,
+  dummy_width,
+  usable_dummy,
+  is_mapped_access,
+  is_mapped_index,
+  may_be_mapped,
+  entry_width,
+  mapping_width,
+  word_width,
+  missing_mapped,
+  word_refusal,
+};
 
 use crate::objects::entry_row;
 use crate::row::Row;
@@ -12,8 +25,8 @@ use co_frame::AbortCode;
 use co_profile::Access;
 use co_value::Key;
 
-/// A mapping word of a PDO: the index in bits 31 to 16, the sub-index in bits 15 to 8, the length in bits in bits 7 to 0
-/// (CiA 301, 7.5.2.36, 7.5.2.38).
+/// A mapping word of a PDO: the index in bits 31 to 16, the sub-index in bits 15 to 8, the length in bits in bits 7
+/// to 0 (CiA 301, 7.5.2.36, 7.5.2.38).
 #[derive(Clone, Copy, Debug, PartialEq, Eq, Hash)]
 pub struct MappingWord(pub u32);
 
@@ -114,8 +127,8 @@ pub fn mapping_width<S: ObjectStore>(store: &S, side: Side, key: Key) -> Option<
     }
 }
 
-/// The width in bytes that a mapping word maps on a side; `None` where its key may not be mapped there, or its length is
-/// not 8 times the width.
+/// The width in bytes that a mapping word maps on a side; `None` where its key may not be mapped there, or its length
+/// is not 8 times the width.
 pub fn word_width<S: ObjectStore>(store: &S, side: Side, word: MappingWord) -> Option<u8>
     ensures value { result ≡ word_width side (S.description store.now) word.0 }
     ensures small { IfSome result (λ width. width ≤ 8) }

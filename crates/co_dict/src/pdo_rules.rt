@@ -6,7 +6,14 @@ ghost use Rattle.co_profile.specs.FixedTypes.{fixed_type_of};
 ghost use Rattle.co_dict.specs.Rows.{number_at};
 ghost use Rattle.co_dict.specs.Refusals.{refusal_in};
 ghost use Rattle.co_dict.specs.MappingCounts.{is_mapping_index, count_refusal};
-ghost use Rattle.co_dict.specs.PdoRules.{is_pdo_valid, transmission_type_refusal, inhibit_time_refusal, sync_start_refusal, mapping_entry_refusal, mapping_count_refusal};
+ghost use Rattle.co_dict.specs.PdoRules.{
+  is_pdo_valid,
+  transmission_type_refusal,
+  inhibit_time_refusal,
+  sync_start_refusal,
+  mapping_entry_refusal,
+  mapping_count_refusal,
+};
 
 use crate::cob_id::CobId;
 use crate::mapping_words::{MappingWord, check_word, word_width};
@@ -108,8 +115,8 @@ pub fn check_count<S: ObjectStore>(
     Ok(())
 }
 
-// sub-indices 1 to 64 of a mapping parameter: they don't change while the PDO is valid or any of them counts, and a word
-// other than 0 has to be one that the side may map
+// sub-indices 1 to 64 of a mapping parameter: they don't change while the PDO is valid or any of them counts, and a
+// word other than 0 has to be one that the side may map
 pub(crate) fn check_mapping_entry<S: ObjectStore>(
     store: &S,
     side: Side,

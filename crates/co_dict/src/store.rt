@@ -14,7 +14,7 @@ use co_value::Key;
 /// The entries of an object dictionary with their bytes: a finite map, in which a call changes the bytes of the
 /// entries that it names and nothing else (CiA 301, 7.4).
 pub trait ObjectStore {
-    /// The node-ID, the rows, the initial bytes, the dummy entries that may be mapped, and the keys: no call changes them.
+    /// The node-ID, the rows, the initial bytes, the dummy entries that may be mapped, the keys: no call changes them.
     ghost description: { Self → Description };
 
     /// The bytes of each entry.
@@ -75,8 +75,8 @@ pub trait ObjectStore {
     ghost lawful: { (store : Self) → IsDictionary (description store) (contents store) };
 }
 
-/// What holds of each store: its keys are finitely many, none has an index below 1000h, each entry has bytes that fit it,
-/// the room of a number is its width, and fixed types are as they must be. This is a law: a call of it changes nothing.
+/// What holds of each store: its keys are finitely many, none has an index below 1000h, each entry has bytes that fit
+/// it, the room of a number is its width, and fixed types are as they must be. A law: a call of it changes nothing.
 pub fn store_laws<S: ObjectStore>(store: &S)
     ensures { IsDictionary (S.description store.now) (S.contents store.now) }
 {}
@@ -89,8 +89,8 @@ pub fn capacity_law<S: ObjectStore>(store: &S)
     store_laws(store);
 }
 
-/// What holds of the places of each store: exactly the entries have places, different entries different ones; and by its
-/// place an entry is what it is by its key, for `row`, `bytes` and `set`. This is a law: a call of it changes nothing.
+/// What holds of the places of each store: exactly the entries have places, different entries different ones; and by
+/// its place an entry is what it is by its key, for `row`, `bytes` and `set`. A law: a call of it changes nothing.
 pub fn place_laws<S: ObjectStore>(store: &S)
     ensures present { (key : Key) → is_some (place_of (S.description store.now) key)
         ≡ is_some ((S.description store.now).rows key) }

@@ -19,8 +19,8 @@ pub fn own_rule_law()
         → app_refusal d contents key bytes ≡ None → own_refusal d contents key bytes ≡ None }
 {}
 
-/// A TPDO whose inhibit time or number of mapped objects may be written is not valid. This is a law: a call of it changes
-/// nothing.
+/// A TPDO whose inhibit time or number of mapped objects may be written is not valid. This is a law: a call of it
+/// changes nothing.
 pub fn invalid_pdo_law()
     ensures inhibit_time { (d : Description) (contents : Contents) (k : ℕ) (bytes : List ℕ)
         → k < 512

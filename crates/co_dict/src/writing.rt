@@ -4,7 +4,16 @@ ghost use Rattle.std.specs.Prelude.{◌≡◌, ◌||◌, Some, None, true, lengt
 ghost use Rattle.co_dict.specs.Rows.{takes};
 ghost use Rattle.co_dict.specs.Refusals.{refused_if, refusal_in};
 ghost use Rattle.co_frame.specs.AbortCodes.{read_only};
-ghost use Rattle.co_dict.specs.WriteRefusals.{is_read_only, is_constant, is_sdo_parameter, total_refusal, value_refusal, initiate_refusal, writing_refusal, app_refusal};
+ghost use Rattle.co_dict.specs.WriteRefusals.{
+  is_read_only,
+  is_constant,
+  is_sdo_parameter,
+  total_refusal,
+  value_refusal,
+  initiate_refusal,
+  writing_refusal,
+  app_refusal,
+};
 
 use crate::fitting::check_size;
 use crate::objects::entry_row;
@@ -118,8 +127,8 @@ pub fn may_complete<S: ObjectStore>(
     check_value(store, key, &row, bytes)
 }
 
-/// Whether a write by SDO without an indicated size may set these bytes, as `may_complete` answers it. After Ok the entry
-/// takes the bytes.
+/// Whether a write by SDO without an indicated size may set these bytes, as `may_complete` answers it. After Ok the
+/// entry takes the bytes.
 pub fn may_store<S: ObjectStore>(store: &S, key: Key, bytes: &[u8]) -> Result<(), AbortCode>
     ensures refusal { refusal_in result
         ≡ writing_refusal (S.description store.now) (S.contents store.now) key None bytes.now }
@@ -130,8 +139,8 @@ pub fn may_store<S: ObjectStore>(store: &S, key: Key, bytes: &[u8]) -> Result<()
 }
 
 /// Whether the application may set these bytes. The first of these refuses it: there is no object of the index
-/// (06020000h), there is no such sub-index (06090011h), the access is const or the index 1200h to 127Fh (06010002h), the
-/// length, the limits and the own rule as for a write by SDO. After Ok the entry takes the bytes.
+/// (06020000h), there is no such sub-index (06090011h), the access is const or the index 1200h to 127Fh (06010002h),
+/// the length, the limits and the own rule as for a write by SDO. After Ok the entry takes the bytes.
 pub fn app_store<S: ObjectStore>(store: &S, key: Key, bytes: &[u8]) -> Result<(), AbortCode>
     ensures refusal { refusal_in result
         ≡ app_refusal (S.description store.now) (S.contents store.now) key bytes.now }

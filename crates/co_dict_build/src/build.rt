@@ -10,7 +10,15 @@ ghost use Rattle.co_dict.specs.Objects.{has_object, has_sub};
 ghost use Rattle.co_dict_build.specs.SheetRows.{IsReady};
 ghost use Rattle.co_dict_build.specs.Capacities.{limits_view};
 ghost use Rattle.co_dict_build.specs.Built.{Plan, dummies_of, plan_of, plan_in, built_description, built_contents};
-ghost use Rattle.co_dict_build.specs.BuildFaults.{is_communication, bad_cob_id, unpaired, bad_mapping, parameter_fault, build_fault, IsBuildFault};
+ghost use Rattle.co_dict_build.specs.BuildFaults.{
+  is_communication,
+  bad_cob_id,
+  unpaired,
+  bad_mapping,
+  parameter_fault,
+  build_fault,
+  IsBuildFault,
+};
 
 mod cob_ids;
 mod entries;
@@ -68,7 +76,7 @@ fn parameter_fault<S: ObjectStore>(store: &S, rows: &[EntryRow<'_>]) -> Option<B
 
 /// A store that can be made of the rows of a data sheet: `build_store` makes any of them.
 pub trait FromRows: ObjectStore {
-    /// The dictionary of these rows, in increasing key, with their initial bytes. `AllocError` where there is no memory.
+    /// The dictionary of these rows, in increasing key, with their initial bytes. `AllocError` where memory runs out.
     fn from_rows(
         alloc: Global,
         node_id: u8,
@@ -113,8 +121,8 @@ fn parameter_fault_of<S: FromRows + Drop>(
     Ok(parameter_fault(&store, rows))
 }
 
-// The dictionary of rows of a sheet, or its first fault. Nothing asks for memory before a node-ID or a sum was at fault,
-// nor for the room of strings and domains before it is known that there is not too much of it.
+// The dictionary of rows of a sheet, or its first fault. Nothing asks for memory before a node-ID or a sum was at
+// fault, nor for the room of strings and domains before it is known that there is not too much of it.
 fn build_rows<S: FromRows + Drop>(
     alloc: Global,
     node_id: u8,
@@ -169,8 +177,8 @@ fn usable_dummies(sheet: &Sheet<'_>) -> [bool; 6]
     ]
 }
 
-/// The dictionary that a data sheet makes for a node-ID and limits, with its initial bytes (CiA 301, 7.4; CiA 306), as a
-/// store of any kind: each row of the sheet becomes an entry, `$NODEID` the node-ID.
+/// The dictionary that a data sheet makes for a node-ID and limits, with its initial bytes (CiA 301, 7.4; CiA 306), as
+/// a store of any kind: each row of the sheet becomes an entry, `$NODEID` the node-ID.
 ///
 /// Of the faults that apply the one with the smallest number is answered, and of those with one number the one with the
 /// smallest key. `Memory` may come in place of those from `BadCobId` on: nothing asks for memory before the node-ID and
@@ -200,8 +208,8 @@ pub fn build_store<S: FromRows + Drop>(
     )
 }
 
-/// In a dictionary that was built each PDO communication parameter has its COB-ID, sub-index 1. This is a law: a call of
-/// it changes nothing.
+/// In a dictionary that was built each PDO communication parameter has its COB-ID, sub-index 1. This is a law: a call
+/// of it changes nothing.
 pub fn communication_law()
     ensures { (plan : Plan) → build_fault plan ≡ None →
         (index : ℕ) → is_communication index ≡ true

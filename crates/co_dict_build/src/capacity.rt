@@ -3,7 +3,14 @@
 ghost use Rattle.std.specs.Prelude.{◌≡◌, ◌≤◌, length};
 ghost use Rattle.co_sheet.specs.Views.{default_view};
 ghost use Rattle.co_sheet.specs.SheetViews.{row_view};
-ghost use Rattle.co_dict_build.specs.Capacities.{limits_view, configured, default_bytes, is_read_only, string_capacity, capacity_of};
+ghost use Rattle.co_dict_build.specs.Capacities.{
+  limits_view,
+  configured,
+  default_bytes,
+  is_read_only,
+  string_capacity,
+  capacity_of,
+};
 ghost use Rattle.co_sheet.specs.SheetLaws.{limit_or};
 ghost use Rattle.co_dict_build.specs.EntryLimits.{row_in};
 

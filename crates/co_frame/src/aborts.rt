@@ -4,7 +4,12 @@ ghost use Rattle.std.specs.Prelude.{◌≡◌, ◌≢◌, ◌↔◌, ℕ, true, 
 ghost use Rattle.co_frame.specs.declared.block_segment.BlockSegment.{BlockSegment};
 ghost use Rattle.co_frame.specs.declared.sdo_request.SdoRequest.{SdoRequest};
 ghost use Rattle.co_frame.specs.declared.sdo_response.SdoResponse.{SdoResponse};
-ghost use Rattle.co_frame.specs.BlockSegments.{IsBlockSegment, SpellsBlockSegment, block_segment_bytes, is_abort_in_sub_block};
+ghost use Rattle.co_frame.specs.BlockSegments.{
+  IsBlockSegment,
+  SpellsBlockSegment,
+  block_segment_bytes,
+  is_abort_in_sub_block,
+};
 ghost use Rattle.co_frame.specs.SdoFields.{key_in};
 ghost use Rattle.co_frame.specs.SdoParts.{code_in};
 ghost use Rattle.co_frame.specs.SdoRequests.{request_in, request_bytes, IsAbortRequest};

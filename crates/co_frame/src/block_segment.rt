@@ -1,7 +1,12 @@
 //! The segments of a block transfer.
 
 ghost use Rattle.std.specs.Prelude.{◌≡◌, ◌↔◌, ◌<◌, Some, IsTrue, IfSome};
-ghost use Rattle.co_frame.specs.BlockSegments.{IsBlockSegment, SpellsBlockSegment, block_segment_bytes, block_segment_in};
+ghost use Rattle.co_frame.specs.BlockSegments.{
+  IsBlockSegment,
+  SpellsBlockSegment,
+  block_segment_bytes,
+  block_segment_in,
+};
 
 use crate::frame::Frame;
 

@@ -1,7 +1,14 @@
 //! Network management commands.
 
 ghost use Rattle.std.specs.Prelude.{◌≡◌, ◌↔◌, ◌<◌, Some, IsTrue, IfSome};
-ghost use Rattle.co_frame.specs.Nmt.{IsNmtCommand, SpellsNmtCommand, nmt_command_bytes, nmt_command_in, specifier_of, service_with};
+ghost use Rattle.co_frame.specs.Nmt.{
+  IsNmtCommand,
+  SpellsNmtCommand,
+  nmt_command_bytes,
+  nmt_command_in,
+  specifier_of,
+  service_with,
+};
 
 use crate::frame::Frame;
 

@@ -4,7 +4,24 @@ ghost use Rattle.std.specs.Prelude.{◌≡◌, ℕ, ◌<◌, ◌≤◌};
 ghost use Rattle.co_value.specs.declared.key.Key.{Key};
 ghost use Rattle.co_value.specs.Numbers.{low_bytes};
 ghost use Rattle.co_frame.specs.SdoFields.{command_with, weight, padded, key_in, number_in, specifier as specifier_of};
-ghost use Rattle.co_frame.specs.SdoParts.{SpellsExpedited, SpellsInitiate, SpellsSegment, SpellsAbort, SpellsBlockInitiate, SpellsBlockEnd, IsExpeditedData, keyed_bytes, bare_bytes, expedited_bytes, initiate_bytes, segment_bytes, abort_bytes, block_initiate_bytes, block_end_bytes, acknowledge_bytes};
+ghost use Rattle.co_frame.specs.SdoParts.{
+  SpellsExpedited,
+  SpellsInitiate,
+  SpellsSegment,
+  SpellsAbort,
+  SpellsBlockInitiate,
+  SpellsBlockEnd,
+  IsExpeditedData,
+  keyed_bytes,
+  bare_bytes,
+  expedited_bytes,
+  initiate_bytes,
+  segment_bytes,
+  abort_bytes,
+  block_initiate_bytes,
+  block_end_bytes,
+  acknowledge_bytes,
+};
 
 use crate::abort_code::AbortCode;
 use crate::sdo_request::ExpeditedData;

@@ -2,7 +2,17 @@
 
 ghost use Rattle.std.specs.Prelude.{◌≡◌, ◌↔◌, ◌<◌, length, Some, None, IfSome, IsTrue};
 ghost use Rattle.co_frame.specs.declared.sdo_request.SdoRequest.{SdoRequest};
-ghost use Rattle.co_frame.specs.SdoRequests.{request_in, request_row_in, download_in, block_upload_in, block_download_in, SpellsRequestRow, SpellsSdoRequest, IsSdoRequest, request_bytes};
+ghost use Rattle.co_frame.specs.SdoRequests.{
+  request_in,
+  request_row_in,
+  download_in,
+  block_upload_in,
+  block_download_in,
+  SpellsRequestRow,
+  SpellsSdoRequest,
+  IsSdoRequest,
+  request_bytes,
+};
 ghost use Rattle.co_frame.specs.SdoParts.{IsExpeditedData};
 
 use crate::abort_code::AbortCode;

@@ -2,7 +2,17 @@
 
 ghost use Rattle.std.specs.Prelude.{◌≡◌, ◌↔◌, ◌<◌, length, Some, None, IfSome, IsTrue};
 ghost use Rattle.co_frame.specs.declared.sdo_response.SdoResponse.{SdoResponse};
-ghost use Rattle.co_frame.specs.SdoResponses.{response_in, response_row_in, upload_in, block_upload_in, block_download_in, SpellsResponseRow, SpellsSdoResponse, IsSdoResponse, response_bytes};
+ghost use Rattle.co_frame.specs.SdoResponses.{
+  response_in,
+  response_row_in,
+  upload_in,
+  block_upload_in,
+  block_download_in,
+  SpellsResponseRow,
+  SpellsSdoResponse,
+  IsSdoResponse,
+  response_bytes,
+};
 
 use crate::abort_code::AbortCode;
 use crate::frame::Frame;

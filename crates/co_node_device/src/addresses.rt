@@ -3,7 +3,16 @@
 ghost use Rattle.std.specs.Prelude.{◌≡◌, ℕ, ◌<◌, Option, None, false, length, IfOk, IfSome};
 ghost use Rattle.co_dict.specs.Rows.{Contents};
 ghost use Rattle.co_node_model.specs.Rpdos.{rpdo_with, is_rpdo_with};
-ghost use Rattle.co_node_model.specs.Addresses.{AgreeOnAddresses, AgreeOnRpdos, may_change_addresses, is_address_set, address_of, address_unless_rpdo, HasNumber, address_at};
+ghost use Rattle.co_node_model.specs.Addresses.{
+  AgreeOnAddresses,
+  AgreeOnRpdos,
+  may_change_addresses,
+  is_address_set,
+  address_of,
+  address_unless_rpdo,
+  HasNumber,
+  address_at,
+};
 ghost use Rattle.co_node_device.specs.AddressTables.{IsTableOf, TableContent, AreRpdosOf, IsRpdoTable, number_if};
 ghost use Rattle.std.specs.List.{slice_index_or};
 ghost use Rattle.std.specs.Option.{option_or};
@@ -24,8 +33,9 @@ use std::alloc::{AllocError, Global};
 use std::boxed::BoxedSlice;
 use std::marker::Model;
 
-/// The first active RPDO with an identifier depends on the parameters of RPDOs alone, 1400h to 17FFh, and the identifier of
-/// SYNC on 1005h. So a table is one of the contents of the dictionary as long as none of these entries was written.
+/// The first active RPDO with an identifier depends on the parameters of RPDOs alone, 1400h to 17FFh, and the
+/// identifier of SYNC on 1005h. So a table is one of the contents of the dictionary as long as none of these entries
+/// was written.
 fn addresses_by_entries()
     ensures rpdos { (contents others : Contents) (id : ℕ) → AgreeOnRpdos contents others →
         rpdo_with contents id ≡ rpdo_with others id }
@@ -100,8 +110,8 @@ fn fill<S: ObjectStore>(numbers: &mut [Option<u16>], store: &S)
     }
 }
 
-/// The identifier of SYNC, and for each identifier the first active RPDO with it. It asks for no memory after `new`. Contracts
-/// see the word of 1005h, and the numbers of the RPDOs by identifier.
+/// The identifier of SYNC, and for each identifier the first active RPDO with it. It asks for no memory after `new`.
+/// Contracts see the word of 1005h, and the numbers of the RPDOs by identifier.
 #[derive(Drop)]
 pub struct AddressTable {
     // of 1005h; 0 where there is none
@@ -133,8 +143,8 @@ impl AddressTable {
         })
     }
 
-    /// Follows the dictionary over an input: the table is filled anew where that may have changed the identifier of SYNC or
-    /// which RPDO has an identifier, at a reset and where 1005h or a parameter of an RPDO was written.
+    /// Follows the dictionary over an input: the table is filled anew where that may have changed the identifier of
+    /// SYNC or which RPDO has an identifier, at a reset and where 1005h or a parameter of an RPDO was written.
     #[inline(always)]
     pub fn note<S: ObjectStore>(&mut self, marks: &Marks, store: &S)
         ensures { (before : Contents) → IsTableOf before self.old →
@@ -187,8 +197,8 @@ fn from_rpdos_on(rpdo: Option<u16>, id: u16) -> Address
     }
 }
 
-/// Who takes a frame with this identifier, where `is_sync` says whether it is that of SYNC, `channel` is the SDO channel
-/// whose requests have it, if one has, and `rpdo` the first active RPDO with it, if one has it.
+/// Who takes a frame with this identifier, where `is_sync` says whether it is that of SYNC, `channel` is the SDO
+/// channel whose requests have it, if one has, and `rpdo` the first active RPDO with it, if one has it.
 #[inline(always)]
 fn address_of(id: u16, is_sync: bool, channel: Option<u8>, rpdo: Option<u16>) -> Address
     requires channel { IfSome channel (λ number. number < 128) }

@@ -126,8 +126,8 @@ impl<S: ObjectStore> Device<S> {
         self.parts.last_app
     }
 
-    /// The compiled mapping of PDO `number` of a side, of what it maps as the dictionary is now; `None` where there is no such
-    /// PDO (CiA 301, 7.5.2.36, 7.5.2.38).
+    /// The compiled mapping of PDO `number` of a side, of what it maps as the dictionary is now; `None` where there is
+    /// no such PDO (CiA 301, 7.5.2.36, 7.5.2.38).
     pub fn compiled(&self, side: Side, number: u16) -> Option<&Compiled>
         ensures there { (k : Constants) (inputs : Inputs) →
             NodeStands k (S.description self.now.store) (S.contents self.now.store) self.now.parts
@@ -144,8 +144,7 @@ impl<S: ObjectStore> Device<S> {
         }
     }
 
-    /// How many frames one input gives at most: 127, or as many as there are TPDOs where those are more, and 2; so at most
-    /// 514.
+    /// How many frames one input gives at most: 127, or the number of TPDOs where that is more, and 2; so at most 514.
     pub fn most_frames(&self) -> usize
         ensures most { (k : Constants) (inputs : Inputs) →
             NodeStands k (S.description self.now.store) (S.contents self.now.store) self.now.parts

@@ -1,8 +1,27 @@
 //! EMCY: errors that are raised and cleared, and the emergencies that are sent (CiA 301, 7.2.7).
 
 ghost use Rattle.std.specs.Prelude.{◌≡◌, ◌∷◌, ◌<◌, [], ◌+◌, ◌≤◌, ◌++◌, length};
-ghost use Rattle.co_node_parts.specs.EmergencyQueues.{EmergencyLog, EmergenciesStand, Noted, with_queued, emergency_due, with_sending};
-ghost use Rattle.co_node_model.specs.Emergencies.{cleared, clearing_of, emergency_of, error_register, raised, with_register, all_raised, emergencies_of, emergency_event, may_send, emergency_frames};
+ghost use Rattle.co_node_parts.specs.EmergencyQueues.{
+  EmergencyLog,
+  EmergenciesStand,
+  Noted,
+  with_queued,
+  emergency_due,
+  with_sending,
+};
+ghost use Rattle.co_node_model.specs.Emergencies.{
+  cleared,
+  clearing_of,
+  emergency_of,
+  error_register,
+  raised,
+  with_register,
+  all_raised,
+  emergencies_of,
+  emergency_event,
+  may_send,
+  emergency_frames,
+};
 ghost use Rattle.std.specs.List.{cons_option};
 ghost use Rattle.co_frame.specs.Outboxes.{outbox_room};
 ghost use Rattle.co_dict.specs.Rows.{number_at};
@@ -126,8 +145,8 @@ fn may_send<S: ObjectStore>(marks: &Marks, store: &S, after: NodeState) -> bool
         && !marks.timed_out
 }
 
-/// Takes the emergency that is sent at the end of an input, if one is, by the NMT state after it. The dictionary is read where
-/// one waits and the inhibit time is over.
+/// Takes the emergency that is sent at the end of an input, if one is, by the NMT state after it. The dictionary is
+/// read where one waits and the inhibit time is over.
 #[inline(always)]
 pub(crate) fn take_emergency<S: ObjectStore>(
     store: &S,

@@ -3,7 +3,17 @@
 ghost use Rattle.std.specs.Prelude.{◌≡◌, ◌+◌, ◌<◌, ◌≤◌, ◌++◌, None, ◌∷◌, ◌&&◌, [], length};
 ghost use Rattle.co_dict.specs.Rows.{Contents, number_at};
 ghost use Rattle.co_node_model.specs.Inputs.{InputView};
-ghost use Rattle.co_node_model.specs.Heartbeats.{with_error_control, consumers_event, producer_event, life_of, consumers_call, consumer_words, loss_errors, loss_event, life_frames};
+ghost use Rattle.co_node_model.specs.Heartbeats.{
+  with_error_control,
+  consumers_event,
+  producer_event,
+  life_of,
+  consumers_call,
+  consumer_words,
+  loss_errors,
+  loss_event,
+  life_frames,
+};
 ghost use Rattle.co_node_model.specs.Moments.{nothing_of, quiet};
 ghost use Rattle.co_node_model.specs.Keys.{is_set};
 ghost use Rattle.co_profile.specs.Keys.{producer_key};

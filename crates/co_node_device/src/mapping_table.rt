@@ -21,8 +21,8 @@ use std::alloc::{AllocError, Global};
 use std::boxed::BoxedSlice;
 use std::marker::Model;
 
-/// A table of compiled mappings is one of the contents of the dictionary as long as no mapping parameter was written, 1600h
-/// to 17FFh and 1A00h to 1BFFh.
+/// A table of compiled mappings is one of the contents of the dictionary as long as no mapping parameter was written,
+/// 1600h to 17FFh and 1A00h to 1BFFh.
 pub(crate) fn mappings_stay()
     ensures { (side : Side) (d : Description) (before now : Contents) (table : List (List Part)) →
         AgreeOnMappings before now →
@@ -119,8 +119,8 @@ impl MappingTable {
         })
     }
 
-    /// Follows the dictionary over an input: the mappings are compiled anew where that may have changed what a PDO maps, at a
-    /// reset and where a mapping parameter was written.
+    /// Follows the dictionary over an input: the mappings are compiled anew where that may have changed what a PDO
+    /// maps, at a reset and where a mapping parameter was written.
     #[inline(always)]
     pub fn note<S: ObjectStore>(&mut self, marks: &Marks, store: &S, side: Side)
         ensures table { (before : Contents) →

@@ -36,8 +36,8 @@ impl CompiledMappings {
         Ok(CompiledMappings { rpdos, tpdos })
     }
 
-    /// Follows the dictionary over an input: the mappings are compiled anew at a reset and where a mapping parameter was
-    /// written.
+    /// Follows the dictionary over an input: the mappings are compiled anew at a reset and where a mapping parameter
+    /// was written.
     #[inline(always)]
     pub fn note<S: ObjectStore>(&mut self, marks: &Marks, store: &S)
         ensures mappings { (before : Contents) → AreMappings (S.description store.now) before self.old →

@@ -73,8 +73,8 @@ pub(crate) struct Received {
 
 /// Receives an input in an NMT state: a frame goes to the one that takes it, a tick to all SDO
 /// channels, an application event to the entries, the register of errors or nobody. The frames of SDO
-/// channels are put into the outbox, at most 127, and at a tick at most 1; the emergencies that the application raises are
-/// queued.
+/// channels are put into the outbox, at most 127, and at a tick at most 1; the emergencies that the application raises
+/// are queued.
 #[inline(always)]
 pub(crate) fn receive<S: ObjectStore>(
     store: &mut S,

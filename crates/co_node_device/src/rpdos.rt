@@ -4,7 +4,24 @@ ghost use Rattle.std.specs.Prelude.{◌≡◌, ◌<◌, None, IfSome, [], if◌t
 ghost use Rattle.co_dict.specs.Rows.{Contents};
 ghost use Rattle.co_dict.specs.Stores.{Description};
 ghost use Rattle.co_node_model.specs.Inputs.{InputView};
-ghost use Rattle.co_node_model.specs.Rpdos.{with_rpdo, rpdo_type, IsMappedLength, IsTypeOf, emptied_by, is_short, kept_by, mapped_length, slot_event, rpdo_errors, after_data, data_emergencies, immediate, value_errors, after_all_data, all_data_emergencies};
+ghost use Rattle.co_node_model.specs.Rpdos.{
+  with_rpdo,
+  rpdo_type,
+  IsMappedLength,
+  IsTypeOf,
+  emptied_by,
+  is_short,
+  kept_by,
+  mapped_length,
+  slot_event,
+  rpdo_errors,
+  after_data,
+  data_emergencies,
+  immediate,
+  value_errors,
+  after_all_data,
+  all_data_emergencies,
+};
 ghost use Rattle.co_node_model.specs.Moments.{nothing_of};
 ghost use Rattle.std.specs.List.{cons_option, All};
 ghost use Rattle.co_dict.specs.declared.side.Side.TheVariants.{Rpdo};
@@ -135,8 +152,8 @@ fn slot_event(marks: &Marks, kind: u8, mapped: usize, transition: Transition) ->
     kept_by(kind, mapped, &marks.rpdo)
 }
 
-/// The error of the length of an RPDO's frame, if one came and has it, where the RPDO maps so many bytes: 8210h where it
-/// has fewer than are mapped, 8220h where it has more; whatever the transmission type (CiA 301, 7.2.2.5).
+/// The error of the length of an RPDO's frame, if one came and has it, where the RPDO maps so many bytes: 8210h where
+/// it has fewer than are mapped, 8220h where it has more; whatever the transmission type (CiA 301, 7.2.2.5).
 #[inline(always)]
 fn rpdo_error(mapped: usize, rpdo: &Option<KeptFrame>) -> Option<DeviceError>
     ensures { (d : Description) (contents : Contents) → IsMappedLength d contents rpdo.now mapped →
@@ -155,8 +172,8 @@ fn rpdo_error(mapped: usize, rpdo: &Option<KeptFrame>) -> Option<DeviceError>
     }
 }
 
-/// Whether the data of the frame of an RPDO that came take effect at once, if one came, where its RPDO has this type and
-/// maps so many bytes: the type is 254 or 255, and it isn't short (CiA 301, 7.2.2.2 and 7.5.2.35).
+/// Whether the data of the frame of an RPDO that came take effect at once, if one came, where its RPDO has this type
+/// and maps so many bytes: the type is 254 or 255, and it isn't short (CiA 301, 7.2.2.2 and 7.5.2.35).
 #[inline(always)]
 fn is_immediate(kind: u8, mapped: usize, rpdo: &Option<KeptFrame>) -> bool
     ensures { (d : Description) (contents : Contents) → IsTypeOf contents rpdo.now kind →
@@ -188,8 +205,8 @@ fn raise_outcome<S: ObjectStore>(
     }
 }
 
-/// The data of an RPDO's frame take effect, by the compiled mappings of the RPDOs: all values are written, or none where one
-/// is outside its limits; that is an error, 8200h, whose emergency is queued. Lengths were looked at as the frame came.
+/// The data of an RPDO's frame take effect, by the compiled mappings of the RPDOs: all values are written, or none
+/// where one is outside its limits; that is an error, 8200h, whose emergency is queued. Lengths were checked before.
 fn take_data<S: ObjectStore>(
     store: &mut S,
     mappings: &MappingTable,
@@ -313,9 +330,10 @@ fn mapped_length(mappings: &MappingTable, rpdo: &Option<KeptFrame>) -> usize
     }
 }
 
-/// SYNC and RPDO frames at an input, by the NMT states before and after it: errors of their lengths first, then the data
-/// of those that take effect, by number: those that wait, at a SYNC; the one that came, where its transmission type is
-/// 254 or 255. Each error's emergency is queued. `mappings` are the compiled mappings of the RPDOs, as the dictionary is now.
+/// SYNC and RPDO frames at an input, by the NMT states before and after it: errors of their lengths first, then the
+/// data of those that take effect, by number: those that wait, at a SYNC; the one that came, where its transmission
+/// type is 254 or 255. Each error's emergency is queued. `mappings` are the compiled mappings of the RPDOs, as the
+/// dictionary is now.
 #[inline(always)]
 pub(crate) fn take_pdos<S: ObjectStore>(
     store: &mut S,

@@ -2,7 +2,17 @@
 
 ghost use Rattle.std.specs.Prelude.{◌≡◌, ◌<◌, ℕ, ◌≤◌, length, true, ◌+◌, ◌++◌, map};
 ghost use Rattle.std.specs.List.{list_any, slice_index_or};
-ghost use Rattle.co_node_model.specs.Tpdos.{is_entry, is_mapped_into, numbers_asked, turn_of, turn_by_write, HasTpdoNumber, due_at, with_turn, tpdo_frame};
+ghost use Rattle.co_node_model.specs.Tpdos.{
+  is_entry,
+  is_mapped_into,
+  numbers_asked,
+  turn_of,
+  turn_by_write,
+  HasTpdoNumber,
+  due_at,
+  with_turn,
+  tpdo_frame,
+};
 ghost use Rattle.co_node_model.specs.Sync.{counter_in};
 ghost use Rattle.co_pdo.specs.Schedules.{History, IsScheduleAfter, AllCurrent};
 ghost use Rattle.co_node_laws.specs.Calls.{is_asked};
@@ -122,8 +132,8 @@ pub(crate) fn turn_of(marks: &Marks, transition: Transition) -> Turn
     }
 }
 
-/// Leaves in `sent` the numbers of the TPDOs that are due where the application gave an event, increasing; they count as
-/// sent.
+/// Leaves in `sent` the numbers of the TPDOs that are due where the application gave an event, increasing; they count
+/// as sent.
 #[cold]
 #[inline(never)]
 fn take_asked<S: ObjectStore>(schedule: &mut Schedule, store: &S, asked: Asked, sent: &mut Due)
@@ -144,8 +154,8 @@ fn take_asked<S: ObjectStore>(schedule: &mut Schedule, store: &S, asked: Asked, 
     schedule.on_events(store, &numbers_asked(store, asked), sent);
 }
 
-/// Leaves in `sent` the numbers of the TPDOs that are due at a turn, increasing; they count as sent. What the dictionary
-/// says of each TPDO is current where the schedule is asked.
+/// Leaves in `sent` the numbers of the TPDOs that are due at a turn, increasing; they count as sent. What the
+/// dictionary says of each TPDO is current where the schedule is asked.
 #[inline(always)]
 pub(crate) fn take_turn<S: ObjectStore>(
     schedule: &mut Schedule,
@@ -202,8 +212,8 @@ fn tpdo_frame<S: ObjectStore>(
     Frame::packed(schedule.cob_id(store, number).identifier(), &image)
 }
 
-/// Puts the frames of TPDOs into the outbox, where it has room for all of them. `schedule` is the schedule of the TPDOs of the
-/// dictionary, `mappings` are their compiled mappings, as the dictionary is now.
+/// Puts the frames of TPDOs into the outbox, where it has room for all of them. `schedule` is the schedule of the TPDOs
+/// of the dictionary, `mappings` are their compiled mappings, as the dictionary is now.
 #[inline(always)]
 pub(crate) fn send_tpdos<S: ObjectStore>(
     store: &S,

@@ -13,7 +13,14 @@ ghost use Rattle.co_node_model.specs.Nmt.{is_reset};
 ghost use Rattle.co_node_model.specs.Device.{contents_of};
 ghost use Rattle.co_node_model.specs.Moments.{Constants};
 ghost use Rattle.co_node_laws.specs.Kinds.{is_tick};
-ghost use Rattle.co_node_laws.specs.Distances.{moment_at, heartbeat_at_tick, heartbeat_period, is_time_passed, monitored, emergency_by};
+ghost use Rattle.co_node_laws.specs.Distances.{
+  moment_at,
+  heartbeat_at_tick,
+  heartbeat_period,
+  is_time_passed,
+  monitored,
+  emergency_by,
+};
 
 use co_dict::{invalid_pdo_law, own_rule_law};
 use co_pdo::written_from_2000;

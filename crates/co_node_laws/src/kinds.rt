@@ -1,5 +1,5 @@
-//! What each kind of input changes of the entries, and that it changes nothing else. Each is a law: a call of it changes
-//! nothing.
+//! What each kind of input changes of the entries, and that it changes nothing else. Each is a law: a call of it
+//! changes nothing.
 
 ghost use Rattle.std.specs.Prelude.{◌≡◌, ◌≢◌, ◌<◌, ◌∷◌, ℕ, [], Some, None, length, true, false};
 ghost use Rattle.co_frame.specs.FrameContent.{FrameContent};
@@ -22,11 +22,11 @@ ghost use Rattle.co_node_model.specs.Addresses.{address_at};
 ghost use Rattle.co_node_model.specs.Device.{contents_of, moments, prescribed, state_of};
 ghost use Rattle.co_node_laws.specs.Changes.{changed_by, reset_to, is_for};
 
-/// The entries after one more input, whatever it is: `changed_by` says it by the kind of input, and of a frame by who takes
-/// it. A reset restores its area; a SYNC and the frame of an RPDO raise the errors of their lengths, then the data that
-/// they let take effect are written; a frame to an SDO channel sets the entry whose permitted download it completes; a tick
-/// raises the heartbeats lost at it; an application event changes what it says, unless it is refused. Nothing else changes
-/// an entry.
+/// The entries after one more input, whatever it is: `changed_by` says it by the kind of input, and of a frame by who
+/// takes it. A reset restores its area; a SYNC and the frame of an RPDO raise the errors of their lengths, then the
+/// data that they let take effect are written; a frame to an SDO channel sets the entry whose permitted download it
+/// completes; a tick raises the heartbeats lost at it; an application event changes what it says, unless it is refused.
+/// Nothing else changes an entry.
 #[tactic(auto, using(crate::proofs::Changed::changed))]
 pub fn changes_by_kind()
     ensures { (k : Constants) (inputs : Inputs) (input : InputView) →

@@ -28,9 +28,9 @@ pub fn few_responses()
         length (frames_at (moment k (moments k inputs) input).exchange) ≤ 127 }
 {}
 
-/// No input gives more frames than its bound: an NMT command 1, a request to an SDO channel 128, SYNC and an application
-/// event one more than there are TPDOs, a tick two more, all others 1. What has to be known of the device: its entries are
-/// those of a dictionary, which each store gives.
+/// No input gives more frames than its bound: an NMT command 1, a request to an SDO channel 128, SYNC and an
+/// application event one more than there are TPDOs, a tick two more, all others 1. What has to be known of the device:
+/// its entries are those of a dictionary, which each store gives.
 #[tactic(auto, using(crate::proofs::Bounds::few))]
 pub fn few()
     ensures { (k : Constants) (inputs : Inputs) (input : InputView) → HasParts k inputs input →

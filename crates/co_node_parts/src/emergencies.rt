@@ -1,7 +1,14 @@
 //! The emergencies that wait to be sent.
 
 ghost use Rattle.std.specs.Prelude.{◌≡◌, ◌++◌, List, [], ◌∷◌, Bool, false, None, IfOk};
-ghost use Rattle.co_node_parts.specs.EmergencyQueues.{EmergencyLog, Noted, EmergenciesStand, emergency_due, with_sending, with_queued};
+ghost use Rattle.co_node_parts.specs.EmergencyQueues.{
+  EmergencyLog,
+  Noted,
+  EmergenciesStand,
+  emergency_due,
+  with_sending,
+  with_queued,
+};
 
 use circular_buffer::HeapCircularBuffer;
 use co_frame::Emergency;

@@ -4,7 +4,17 @@ ghost use Rattle.std.specs.Prelude.{◌≡◌, ℕ, ◌≤◌, [], ◌∷◌, le
 ghost use Rattle.std.specs.List.{filter, range_with_len, slice_index_or};
 ghost use Rattle.co_node_parts.specs.declared.heartbeat_consumer.HeartbeatConsumer.{HeartbeatConsumer};
 ghost use Rattle.co_node_parts.specs.Consumers.{ConsumerLog, is_lost};
-ghost use Rattle.co_node_parts.specs.ConsumerTables.{AreIdleFrom, ArePassedFrom, ConsumersLog, Noted, AllBegun, ConsumersStand, AllStand, event_of, lost_at};
+ghost use Rattle.co_node_parts.specs.ConsumerTables.{
+  AreIdleFrom,
+  ArePassedFrom,
+  ConsumersLog,
+  Noted,
+  AllBegun,
+  ConsumersStand,
+  AllStand,
+  event_of,
+  lost_at,
+};
 
 use crate::heartbeat_consumer::{ConsumerEvent, HeartbeatConsumer};
 use arrayvec::ArrayVec;
@@ -44,8 +54,8 @@ impl ConsumersEvent {
     }
 }
 
-/// Notes an event for each of some entries, and leaves in `lost` which of them lose their heartbeat. Those from `used` on
-/// are passed over by it.
+/// Notes an event for each of some entries, and leaves in `lost` which of them lose their heartbeat. Those from `used`
+/// on are passed over by it.
 #[inline(always)]
 fn note_all(
     entries: &mut [HeartbeatConsumer],

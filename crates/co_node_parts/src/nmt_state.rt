@@ -1,7 +1,15 @@
 //! The NMT state of the device.
 
 ghost use Rattle.std.specs.Prelude.{◌≡◌, [], ◌∷◌};
-ghost use Rattle.co_node_parts.specs.NmtStates.{StateLog, state_after, transition_by, reaction_with, heartbeat_of, enters, leaves};
+ghost use Rattle.co_node_parts.specs.NmtStates.{
+  StateLog,
+  state_after,
+  transition_by,
+  reaction_with,
+  heartbeat_of,
+  enters,
+  leaves,
+};
 
 use co_frame::{Heartbeat, NmtService};
 use std::marker::Model;

@@ -4,7 +4,18 @@ ghost use Rattle.std.specs.Prelude.{◌≡◌, ◌≤◌, ◌+◌, ◌++◌, ℕ
 ghost use Rattle.std.specs.List.{concat};
 ghost use Rattle.co_pdo.specs.declared.mapping.Mapped.{Mapped};
 ghost use Rattle.co_pdo.specs.Mappings.{width_in, total_of, is_there, all_there};
-ghost use Rattle.co_pdo.specs.Images.{bytes_in, image_of, parts_of, with_parts, is_outside, any_outside, written_in_order, fault_of, contents_after, answered};
+ghost use Rattle.co_pdo.specs.Images.{
+  bytes_in,
+  image_of,
+  parts_of,
+  with_parts,
+  is_outside,
+  any_outside,
+  written_in_order,
+  fault_of,
+  contents_after,
+  answered,
+};
 
 use crate::mapping::{Mapped, Mapping};
 use arrayvec::ArrayVec;
@@ -112,7 +123,7 @@ fn write_parts<S: ObjectStore>(store: &mut S, entries: &[Mapped], bytes: &[u8])
     }
 }
 
-/// The parts of data, joined, are as many of their first bytes as are mapped. A law, which does nothing when it is called.
+/// The parts of data, joined, are as many of their first bytes as are mapped. A law, which does nothing when called.
 pub fn parts_joined()
     ensures { (mapping : List Mapped) (bytes : List ℕ) →
         concat (parts_of mapping bytes) ≡ take (total_of mapping) bytes }

@@ -54,8 +54,8 @@ pub fn cob_id<S: ObjectStore>(store: &S, side: Side, k: u16) -> CobId
     CobId(number_u32(store, Key { index, sub: 1 }))
 }
 
-/// Whether PDO k, 0 to 511, of a side is active: its COB-ID word is valid, something is mapped, and its transmission type
-/// is 0 to 240, 254 or 255 (CiA 301, 7.5.2.35 to 7.5.2.38).
+/// Whether PDO k, 0 to 511, of a side is active: its COB-ID word is valid, something is mapped, and its transmission
+/// type is 0 to 240, 254 or 255 (CiA 301, 7.5.2.35 to 7.5.2.38).
 pub fn is_active<S: ObjectStore>(store: &S, side: Side, k: u16) -> bool
     requires { k < 512 }
     ensures { result ≡ is_pdo_active side (S.contents store.now) k }

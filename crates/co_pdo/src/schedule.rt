@@ -7,7 +7,23 @@ ghost use Rattle.co_pdo.specs.declared.settings.Settings.{Settings};
 ghost use Rattle.co_pdo.specs.Pdos.{cob_id_of};
 ghost use Rattle.co_pdo.specs.Tpdos.{settings_of};
 ghost use Rattle.co_pdo.specs.Countdowns.{IsCurrent, IsAsStarted};
-ghost use Rattle.co_pdo.specs.Schedules.{History, log_of, sync_with, with_start, with_all_started, with_sync, with_event, with_events, with_tick, is_tpdo_due, all_due, all_due_among, IsScheduleAfter, IsCurrentOn, AllCurrent};
+ghost use Rattle.co_pdo.specs.Schedules.{
+  History,
+  log_of,
+  sync_with,
+  with_start,
+  with_all_started,
+  with_sync,
+  with_event,
+  with_events,
+  with_tick,
+  is_tpdo_due,
+  all_due,
+  all_due_among,
+  IsScheduleAfter,
+  IsCurrentOn,
+  AllCurrent,
+};
 
 use crate::pdos::cob_id;
 use crate::places::Places;

@@ -26,8 +26,8 @@ fn waits_for_none(start_value: u8) -> bool
     start_value == 0 || start_value > 240
 }
 
-/// Whether a SYNC begins the count of a TPDO with this SYNC start value, where none before it did, by the counter overflow
-/// value and its counter.
+/// Whether a SYNC begins the count of a TPDO with this SYNC start value, where none before it did, by the counter
+/// overflow value and its counter.
 pub(crate) fn begins_count(start_value: u8, overflow: u8, counter: Option<u8>) -> bool
     ensures { result ≡ begins_count start_value overflow counter }
 {

@@ -7,7 +7,16 @@ ghost use Rattle.co_profile.specs.Keys.{counter_overflow_key};
 ghost use Rattle.co_pdo.specs.Tpdos.{settings_of, tpdos_of};
 ghost use Rattle.co_pdo.specs.Log.{Log};
 ghost use Rattle.co_pdo.specs.Due.{is_due};
-ghost use Rattle.co_pdo.specs.Schedules.{IsTable, ArePlaces, AllAfter, AllCurrentAfter, is_among, with_occasion, with_whole_start, with_events_among};
+ghost use Rattle.co_pdo.specs.Schedules.{
+  IsTable,
+  ArePlaces,
+  AllAfter,
+  AllCurrentAfter,
+  is_among,
+  with_occasion,
+  with_whole_start,
+  with_events_among,
+};
 
 use crate::pdos::has_pdo;
 use crate::places::Places;

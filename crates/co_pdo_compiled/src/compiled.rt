@@ -12,7 +12,7 @@ use co_pdo::{Mapped, Mapping};
 use std::marker::Model;
 
 /// What a PDO maps, in the order of its data, with the places and the rows of the entries (CiA 301, 7.5.2.36,
-/// 7.5.2.38). It is of use as long as the mapping parameter isn't written: no call of a dictionary changes places or rows.
+/// 7.5.2.38). It holds as long as the mapping parameter isn't written: no call of a dictionary changes places or rows.
 #[derive(Drop)]
 pub struct Compiled {
     parts: ArrayVec<Part, 8>,

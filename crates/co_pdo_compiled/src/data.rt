@@ -5,7 +5,17 @@ ghost use Rattle.co_value.specs.Numbers.{number_of};
 ghost use Rattle.co_value.specs.declared.data_type.DataType.TheVariants.{Integer16, Unsigned8};
 ghost use Rattle.co_dict.specs.WriteRefusals.{limit_refusal};
 ghost use Rattle.co_pdo.specs.Mappings.{width_in, total_of};
-ghost use Rattle.co_pdo.specs.Images.{bytes_in, image_of, with_parts, is_outside, any_outside, written_in_order, fault_of, contents_after, answered};
+ghost use Rattle.co_pdo.specs.Images.{
+  bytes_in,
+  image_of,
+  with_parts,
+  is_outside,
+  any_outside,
+  written_in_order,
+  fault_of,
+  contents_after,
+  answered,
+};
 ghost use Rattle.co_pdo_compiled.specs.CompiledMappings.{mapped_in, mapping_in, HasEntry, HasPart, HasParts};
 
 use crate::compiled::Compiled;
@@ -90,8 +100,8 @@ fn number_of_two(bytes: &[u8]) -> i128
     }
 }
 
-/// Whether one byte is outside the limits of an entry of UNSIGNED8. It is here because most mapped entries have that type,
-/// and for `check_limits` to look up the width and the sign of a type takes longer than to compare.
+/// Whether one byte is outside the limits of an entry of UNSIGNED8. It is here because most mapped entries have that
+/// type, and for `check_limits` to look up the width and the sign of a type takes longer than to compare.
 #[inline(always)]
 fn is_byte_outside(row: &Row, bytes: &[u8]) -> bool
     requires kind { row.now.data_type ≡ Unsigned8 }
@@ -194,11 +204,11 @@ fn write_parts<S: ObjectStore>(store: &mut S, parts: &[Part], bytes: &[u8])
     }
 }
 
-/// Takes the data of an RPDO as `apply` does with the mapping that was compiled: writes each part into the entry that it
-/// is mapped to, in the mapping's order, and passes over those of dummy entries. `Short` where there are fewer bytes than
-/// are mapped and `OutOfLimits` where a value is outside the limits of its entry: nothing is written then. `Long` where
-/// there are more: the first ones are written. The dictionary has to have the mapped entries, with the rows and at the
-/// places that they were compiled with, as it has after every call of its own.
+/// Takes the data of an RPDO as `apply` does with the mapping that was compiled: writes each part into the entry that
+/// it is mapped to, in the mapping's order, and passes over those of dummy entries. `Short` where there are fewer bytes
+/// than are mapped and `OutOfLimits` where a value is outside the limits of its entry: nothing is written then. `Long`
+/// where there are more: the first ones are written. The dictionary has to have the mapped entries, with the rows and
+/// at the places that they were compiled with, as it has after every call of its own.
 pub fn apply_at<S: ObjectStore>(
     store: &mut S,
     compiled: &Compiled,

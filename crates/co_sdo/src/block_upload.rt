@@ -9,7 +9,13 @@ ghost use Rattle.co_frame.specs.declared.sdo_request.SdoRequest.TheVariants.{Blo
 ghost use Rattle.co_sdo.specs.Log.{frames_on};
 ghost use Rattle.co_sdo.specs.Refused.{capacity_at};
 ghost use Rattle.co_sdo.specs.Uploads.{segment_count, block_segment, sub_block_length, sub_block_sent};
-ghost use Rattle.co_sdo.specs.Replies.{on_open, start_answers, acknowledge_answers, upload_end_answers, initiate_answers};
+ghost use Rattle.co_sdo.specs.Replies.{
+  on_open,
+  start_answers,
+  acknowledge_answers,
+  upload_end_answers,
+  initiate_answers,
+};
 ghost use Rattle.co_sdo.specs.Steps.{next_on, after_start, after_acknowledge, after_initiate};
 
 use crate::channel::Channel;

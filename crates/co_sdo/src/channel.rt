@@ -63,9 +63,9 @@ impl Model for Channel {
 }
 
 impl Channel {
-    /// A channel that has received nothing. It asks for a buffer of `greatest` + 889 bytes, where `greatest` is the greatest
-    /// capacity of an entry: 889 is a sub-block of 127 segments of 7 bytes. `time` is how long the client may take for its
-    /// next request, in ms; 0 is for ever. `AllocError` where there is no memory for the buffer.
+    /// A channel that has received nothing. It asks for a buffer of `greatest` + 889 bytes, where `greatest` is the
+    /// greatest capacity of an entry: 889 is a sub-block of 127 segments of 7 bytes. `time` is how long the client may
+    /// take for its next request, in ms; 0 is for ever. `AllocError` where there is no memory for the buffer.
     pub fn new(alloc: Global, ids: Ids, greatest: u32, time: u16) -> Result<Channel, AllocError>
         requires request { ids.request < 2048 }
         requires answer { ids.answer < 2048 }
@@ -113,9 +113,9 @@ impl Channel {
             completion_refusal d contents download.key download.indicated download.bytes ≡ None }
     {}
 
-    /// Takes a frame. One that hasn't eight bytes, or has another identifier than the channel's requests, is passed over.
-    /// Else the answers are put into the outbox, at most 127 frames. Where the frame completes a download that the
-    /// dictionary permits, its entry is set, and its key is given; nothing else in the store changes.
+    /// Takes a frame. One that hasn't eight bytes, or has another identifier than the channel's requests, is passed
+    /// over. Else the answers are put into the outbox, at most 127 frames. Where the frame completes a download that
+    /// the dictionary permits, its entry is set, and its key is given; nothing else in the store changes.
     pub fn take<S: ObjectStore>(
         &mut self,
         store: &mut S,

@@ -13,7 +13,15 @@ ghost use Rattle.co_sdo.specs.Downloads.{expedited_part, expedited_within};
 ghost use Rattle.co_sdo.specs.Replies.{on_open, segment_answers, initiate_answers, unless_refused};
 ghost use Rattle.co_sdo.specs.Completed.{unless, contents_with, key_set};
 ghost use Rattle.co_sdo.specs.Standing.{is_room_for};
-ghost use Rattle.co_sdo.specs.Steps.{next_on, after_segment, after_initiate, whole, set_expedited, set_on_open, set_by_segment};
+ghost use Rattle.co_sdo.specs.Steps.{
+  next_on,
+  after_segment,
+  after_initiate,
+  whole,
+  set_expedited,
+  set_on_open,
+  set_by_segment,
+};
 
 use crate::channel::Channel;
 use crate::refusals::{completion_refusal, initiate_refusal};
@@ -158,8 +166,8 @@ impl Channel {
         }
     }
 
-    // A segment of a download: download SDO segment, ccs = 0. What is said of it holds where the room that the channel knows
-    // is that of the entry.
+    // A segment of a download: download SDO segment, ccs = 0. What is said of it holds where the room that the channel
+    // knows is that of the entry.
     pub(crate) fn take_segment<S: ObjectStore>(
         &mut self,
         store: &mut S,

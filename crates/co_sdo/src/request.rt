@@ -1,5 +1,5 @@
-//! One request, or one frame inside a sub-block, against what is open. What comes once a transfer is kept out of line, so
-//! that the way of a segment is short.
+//! One request, or one frame inside a sub-block, against what is open. What comes once a transfer is kept out of line,
+//! so that the way of a segment is short.
 
 ghost use Rattle.std.specs.Prelude.{◌≡◌, ◌+◌, ◌<◌, ◌≤◌, ◌++◌, Some, None, true, false, length, drop};
 ghost use Rattle.arrayvec.specs.ArrayVec.{array_vec_len};

@@ -12,7 +12,17 @@ ghost use Rattle.co_sdo.specs.Completed.{contents_with, key_set};
 ghost use Rattle.co_sdo.specs.Standing.{room_after};
 ghost use Rattle.co_sdo_bank.specs.Channels.{ChannelSettings, HaveRoom, channels_of};
 ghost use Rattle.co_sdo_bank.specs.Banks.{BankStands, all_settings};
-ghost use Rattle.co_sdo_bank.specs.Events.{exchange_of, frames_at, held_on, logs_after, number_for, number_in, set_of, time_out_of, with_each};
+ghost use Rattle.co_sdo_bank.specs.Events.{
+  exchange_of,
+  frames_at,
+  held_on,
+  logs_after,
+  number_for,
+  number_in,
+  set_of,
+  time_out_of,
+  with_each,
+};
 
 use crate::channels::{
     NumberedChannel, drop_each, existing_channels, expired_place, place_of, places_by_id, tick_each,
@@ -51,8 +61,8 @@ impl Model for Bank {
 impl Bank {
     /// The channels that exist in a dictionary: channel 0, and channel j where the COB-ID words 1200h + j, sub-index 1
     /// and 2, are valid (CiA 301, 7.5.2.33). None of them has received anything. Each asks for a buffer of `greatest` +
-    /// 889 bytes, where `greatest` is the greatest capacity of an entry. `time` is the SDO timeout between two requests,
-    /// in ms; 0 disables it. `AllocError` where there is no memory.
+    /// 889 bytes, where `greatest` is the greatest capacity of an entry. `time` is the SDO timeout between two
+    /// requests, in ms; 0 disables it. `AllocError` where there is no memory.
     pub fn new<S: ObjectStore>(
         alloc: Global,
         store: &S,

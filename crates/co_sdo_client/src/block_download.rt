@@ -4,10 +4,20 @@ ghost use Rattle.std.specs.Prelude.{◌≡◌, ◌+◌, ◌*◌, ◌<◌, ◌≤
 ghost use Rattle.arrayvec.specs.ArrayVec.{array_vec_len};
 ghost use Rattle.co_frame.specs.SegmentSizes.{segments_per_sub_block, bytes_per_segment};
 ghost use Rattle.co_frame.specs.Outboxes.{HasRoomFor};
-ghost use Rattle.co_frame.specs.declared.sdo_response.SdoResponse.TheVariants.{BlockDownloadInitiated, BlockDownloadDone, BlockDownloadAcknowledge};
+ghost use Rattle.co_frame.specs.declared.sdo_response.SdoResponse.TheVariants.{
+  BlockDownloadInitiated,
+  BlockDownloadDone,
+  BlockDownloadAcknowledge,
+};
 ghost use Rattle.co_sdo_client.specs.declared.stage.Stage.TheVariants.{BlockDownload};
 ghost use Rattle.co_sdo_client.specs.Calls.{frames_on};
-ghost use Rattle.co_sdo_client.specs.Segments.{bytes_of, segment_count, block_segment, sub_block_length, sub_block_sent};
+ghost use Rattle.co_sdo_client.specs.Segments.{
+  bytes_of,
+  segment_count,
+  block_segment,
+  sub_block_length,
+  sub_block_sent,
+};
 ghost use Rattle.co_sdo_client.specs.Steps.{messages_to, after_response, after_sub_block};
 
 use crate::client::Client;

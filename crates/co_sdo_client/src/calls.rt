@@ -102,8 +102,8 @@ impl<'a> Client<'a> {
     }
 
     /// Takes a frame. Before the begin, when the transfer is done or has failed, and where it hasn't eight bytes or has
-    /// another identifier than the client's answers, it is passed over. Else what is asked next is put into the outbox, at
-    /// most 127 frames; for an answer that isn't the awaited one that is an abort.
+    /// another identifier than the client's answers, it is passed over. Else what is asked next is put into the outbox,
+    /// at most 127 frames; for an answer that isn't the awaited one that is an abort.
     pub fn take(&mut self, frame: &Frame, outbox: &mut Outbox)
         requires room { HasRoomFor segments_per_sub_block outbox.old }
         ensures few { array_vec_len outbox.new ≤ array_vec_len outbox.old + segments_per_sub_block }
@@ -125,8 +125,8 @@ impl<'a> Client<'a> {
         self.take_answer(frame, outbox);
     }
 
-    /// A tick of 1 ms. Where the time for an answer is over, the transfer is given up with an abort (05040000h, SDO protocol
-    /// timed out). Before the begin, and when the transfer is done or has failed, it does nothing.
+    /// A tick of 1 ms. Where the time for an answer is over, the transfer is given up with an abort (05040000h, SDO
+    /// protocol timed out). Before the begin, and when the transfer is done or has failed, it does nothing.
     pub fn tick(&mut self, outbox: &mut Outbox)
         requires room { HasRoomFor segments_per_sub_block outbox.old }
         ensures few { array_vec_len outbox.new ≤ array_vec_len outbox.old + segments_per_sub_block }

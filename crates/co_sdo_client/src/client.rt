@@ -60,8 +60,8 @@ impl<'a> Model for Client<'a> {
 }
 
 impl<'a> Client<'a> {
-    /// A client that downloads bytes, at most 65,535, to an entry. Their number is indicated at initiate if `tell_size`.
-    /// `time` is how long the server may take for an answer, in ms; 0 is for ever. It asks for no memory.
+    /// A client that downloads bytes, at most 65,535, to an entry. Their number is indicated at initiate if
+    /// `tell_size`. `time` is how long the server may take for an answer, in ms; 0 is for ever. It asks for no memory.
     pub fn download(
         ids: Ids,
         key: Key,
@@ -97,9 +97,9 @@ impl<'a> Client<'a> {
         }
     }
 
-    /// A client that uploads the value of an entry, of at most `cap` bytes. Room for them is asked for here; by blocks for
-    /// 889 bytes more, a sub-block of 127 segments of 7 bytes. `AllocError` where there is no memory for it.
-    /// `time` is how long the server may take for an answer, in ms; 0 is for ever.
+    /// A client that uploads the value of an entry, of at most `cap` bytes. Room for them is asked for here; by blocks
+    /// for 889 bytes more, a sub-block of 127 segments of 7 bytes. `AllocError` where there is no memory for it. `time`
+    /// is how long the server may take for an answer, in ms; 0 is for ever.
     pub fn upload(
         alloc: Global,
         ids: Ids,

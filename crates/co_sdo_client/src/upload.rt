@@ -4,7 +4,11 @@ ghost use Rattle.std.specs.Prelude.{◌≡◌, ◌+◌, ◌<◌, ◌≤◌, ◌+
 ghost use Rattle.arrayvec.specs.ArrayVec.{array_vec_len};
 ghost use Rattle.co_frame.specs.SegmentSizes.{segments_per_sub_block};
 ghost use Rattle.co_frame.specs.Outboxes.{HasRoomFor};
-ghost use Rattle.co_frame.specs.declared.sdo_response.SdoResponse.TheVariants.{UploadExpedited, UploadInitiated, UploadSegment};
+ghost use Rattle.co_frame.specs.declared.sdo_response.SdoResponse.TheVariants.{
+  UploadExpedited,
+  UploadInitiated,
+  UploadSegment,
+};
 ghost use Rattle.co_sdo_client.specs.Calls.{frames_on};
 ghost use Rattle.co_sdo_client.specs.Segments.{cap_of};
 ghost use Rattle.co_sdo_client.specs.Verdicts.{expedited_value, is_above_size, is_below_size};

@@ -4,7 +4,20 @@
 ghost use Rattle.std.specs.Prelude.{◌≡◌, List, map};
 ghost use Rattle.co_sdo_client.specs.Calls.{Call};
 ghost use Rattle.co_sdo_client.specs.declared.state.ClientState.TheVariants.{Done};
-ghost use Rattle.co_sdo_laws.specs.Chains.{Server, Transfer, IsReady, MayCallAll, IsChain, calls, outcomes, results, server_after_all, contents_after_all, all_bytes_given, all_in_rounds};
+ghost use Rattle.co_sdo_laws.specs.Chains.{
+  Server,
+  Transfer,
+  IsReady,
+  MayCallAll,
+  IsChain,
+  calls,
+  outcomes,
+  results,
+  server_after_all,
+  contents_after_all,
+  all_bytes_given,
+  all_in_rounds,
+};
 
 /// Permitted transfers, any mix of downloads and uploads, one after the other over one channel (CiA
 /// 301, 7.2.4.2). Nothing disturbs them, and each goes on until no frame is on its way. Then every

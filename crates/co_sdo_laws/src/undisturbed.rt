@@ -13,7 +13,27 @@ ghost use Rattle.co_sdo_client.specs.Segments.{bytes_of, cap_of, requests_needed
 ghost use Rattle.co_sdo_client.specs.Outcomes.{outcome, result as given};
 ghost use Rattle.co_sdo.specs.Uploads.{value_at};
 ghost use Rattle.co_sdo_laws.specs.World.{Setup, WorldEvent, world_after};
-ghost use Rattle.co_sdo_laws.specs.Undisturbed.{IsUndisturbed, GoesInTurns, rounds_after, is_expedited_download, is_segmented_download, is_plain_upload, is_block_download, is_block_upload, upload_requests, on_their_way, IsOver, GoesInBlocks, block_frames, block_upload_frames, HaveSent, block_download_requests, block_download_answers, block_upload_requests, block_upload_answers};
+ghost use Rattle.co_sdo_laws.specs.Undisturbed.{
+  IsUndisturbed,
+  GoesInTurns,
+  rounds_after,
+  is_expedited_download,
+  is_segmented_download,
+  is_plain_upload,
+  is_block_download,
+  is_block_upload,
+  upload_requests,
+  on_their_way,
+  IsOver,
+  GoesInBlocks,
+  block_frames,
+  block_upload_frames,
+  HaveSent,
+  block_download_requests,
+  block_download_answers,
+  block_upload_requests,
+  block_upload_answers,
+};
 
 /// A permitted expedited download that nothing disturbs (CiA 301, 7.2.4.3.3): 1 to 4 bytes in one
 /// request. The client is done exactly when the request and its answer have arrived, and it never

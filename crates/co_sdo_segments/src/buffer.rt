@@ -10,8 +10,8 @@ use std::alloc::{AllocError, Global};
 use std::boxed::BoxedSlice;
 use std::marker::Model;
 
-/// Bytes in memory that is asked for once, when the buffer is made: it never grows. Contracts see the bytes, and how many
-/// it has room for, which no method changes.
+/// Bytes in memory that is asked for once, when the buffer is made: it never grows. Contracts see the bytes, and how
+/// many it has room for, which no method changes.
 #[derive(Drop)]
 pub struct Buffer {
     // as many as there is room for, none where no room was asked for; the first `len` are the bytes
@@ -124,8 +124,8 @@ impl Buffer {
         self.len += bytes.len();
     }
 
-    /// Takes the data of a segment of a block transfer, which are `bytes`, if it is the next of its sub-block, and gives how
-    /// many are then taken in it (CiA 301, 7.2.4.3.10 and 7.2.4.3.14).
+    /// Takes the data of a segment of a block transfer, which are `bytes`, if it is the next of its sub-block, and
+    /// gives how many are then taken in it (CiA 301, 7.2.4.3.10 and 7.2.4.3.14).
     pub fn append_next(&mut self, taken: u8, segment: &BlockSegment, bytes: &[u8]) -> u8
         requires bytes { bytes.now ≡ segment.now.bytes }
         requires seven { length bytes.now ≡ bytes_per_segment }

@@ -4,7 +4,15 @@ ghost use Rattle.std.specs.Prelude.{◌≡◌, ◌+◌, ◌*◌, ◌^◌, ◌<�
 ghost use Rattle.arrayvec.specs.ArrayVec.{array_vec_len};
 ghost use Rattle.co_frame.specs.SegmentSizes.{segments_per_sub_block, bytes_per_segment};
 ghost use Rattle.co_frame.specs.Outboxes.{HasRoomFor};
-ghost use Rattle.co_sdo_segments.specs.Sent.{part_after, is_last_after, segment_count, unused_after, block_segment, sub_block_length, sub_block_frames};
+ghost use Rattle.co_sdo_segments.specs.Sent.{
+  part_after,
+  is_last_after,
+  segment_count,
+  unused_after,
+  block_segment,
+  sub_block_length,
+  sub_block_frames,
+};
 
 use arrayvec::ArrayVec;
 use co_frame::{BYTES_PER_SEGMENT, BlockSegment, Outbox};
@@ -93,8 +101,8 @@ pub fn block_segment(bytes: &[u8], position: usize, number: u8) -> BlockSegment
     }
 }
 
-/// Sends the sub-block that begins after so many segments, on an identifier, and gives the number of its segments: as many
-/// as it may have, or as are left (CiA 301, 7.2.4.3.10 and 7.2.4.3.14).
+/// Sends the sub-block that begins after so many segments, on an identifier, and gives the number of its segments: as
+/// many as it may have, or as are left (CiA 301, 7.2.4.3.10 and 7.2.4.3.14).
 pub fn send_sub_block(
     id: u16,
     bytes: &[u8],

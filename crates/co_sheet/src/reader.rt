@@ -40,8 +40,8 @@ pub fn read(alloc: Global, text: &[u8]) -> Result<Sheet<'_>, SheetFault>
     sheet_of(alloc, sections.as_slice())
 }
 
-/// A text is accepted exactly where it is not too large, no line has a fault, and no check finds anything. This is a law:
-/// a call of it changes nothing.
+/// A text is accepted exactly where it is not too large, no line has a fault, and no check finds anything. This is a
+/// law: a call of it changes nothing.
 pub fn accepted_texts()
     ensures faultless { (text : List ℕ) → IsAccepted text → IsFaultless text }
     ensures accepted { (text : List ℕ) → IsFaultless text → IsAccepted text }

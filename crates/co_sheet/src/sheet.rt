@@ -1,6 +1,21 @@
 //! A data sheet, read.
 
-ghost use Rattle.std.specs.Prelude.{◌≡◌, ◌<◌, ◌≤◌, ℕ, nat_eq, map, filter_map, true, All, AllPairs, IfOk, IfErr, IfSome, None};
+ghost use Rattle.std.specs.Prelude.{
+  ◌≡◌,
+  ◌<◌,
+  ◌≤◌,
+  ℕ,
+  nat_eq,
+  map,
+  filter_map,
+  true,
+  All,
+  AllPairs,
+  IfOk,
+  IfErr,
+  IfSome,
+  None,
+};
 ghost use Rattle.indexmap.specs.IndexSet.{contains};
 ghost use Rattle.co_sheet.specs.ObjectLists.{is_listed};
 ghost use Rattle.co_sheet.specs.Entries.{listed_objects, entries_of};
@@ -63,8 +78,8 @@ impl<'a> Sheet<'a> {
     }
 
     /// The entries of these objects, in increasing key. Limits are numbers of the entry's type, in order. A default, by
-    /// ParameterValue or else DefaultValue, is of its type's form, a number within the limits, and of at most 512 bytes of
-    /// text. A type that is fixed is that one (CiA 301, object dictionary).
+    /// ParameterValue or else DefaultValue, is of its type's form, a number within the limits, and of at most 512 bytes
+    /// of text. A type that is fixed is that one (CiA 301, object dictionary).
     pub fn entries(&self) -> &[EntryRow<'a>]
         ensures view { map row_view result.now ≡ self.now.rows }
         ensures each { All (λ e. IsSheetRow (row_view e)) result.now }
@@ -101,8 +116,8 @@ impl<'a> Sheet<'a> {
                 .unwrap_or(false)
     }
 
-    /// The node-ID that a device configuration file has for its node: NodeID of DeviceComissioning, where it is 1 to 127
-    /// (CiA 306, device commissioning).
+    /// The node-ID that a device configuration file has for its node: NodeID of DeviceComissioning, where it is
+    /// 1 to 127 (CiA 306, device commissioning).
     pub fn node_id(&self) -> Option<u8>
         ensures value { result ≡ self.now.node_id }
         ensures range { IfSome result (λ id. (1 ≤ id) × (id ≤ 127)) }

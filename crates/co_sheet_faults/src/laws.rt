@@ -22,8 +22,8 @@ pub fn all_faults()
 {}
 
 /// Where the lines whose own fault is of one kind are emptied (`TooLarge`, `BadLine`, `KeyOutsideSection`,
-/// `DuplicateSection`, `DuplicateKey`), exactly the faults of that kind are gone. A section line is emptied to `[]`, which
-/// begins a section that nothing reads. This is a law: a call of it changes nothing.
+/// `DuplicateSection`, `DuplicateKey`), exactly the faults of that kind are gone. A section line is emptied to `[]`,
+/// which begins a section that nothing reads. This is a law: a call of it changes nothing.
 pub fn emptied_lines()
     ensures gone { (kind : Kind) (lines : List Line) → fault_number kind ≤ 5 →
         faults_in (emptied_of kind [] lines) ≡ without kind (faults_in lines) }

@@ -1,7 +1,13 @@
 //! The words of a fault for people.
 
 ghost use Rattle.std.specs.Prelude.{◌≡◌};
-ghost use Rattle.co_sheet_faults.specs.FaultWords.{meaning_at_line, meaning_without_line, meaning_of, fix_of, subject_of};
+ghost use Rattle.co_sheet_faults.specs.FaultWords.{
+  meaning_at_line,
+  meaning_without_line,
+  meaning_of,
+  fix_of,
+  subject_of,
+};
 
 use co_sheet::{FaultKind, SheetFault};
 

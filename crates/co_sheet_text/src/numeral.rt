@@ -4,7 +4,16 @@ ghost use Rattle.std.specs.Prelude.{◌≡◌, ◌^◌, ◌<◌, ◌≤◌, ◌*
 ghost use Rattle.std.specs.List.{list_all};
 ghost use Rattle.std.specs.Char.{is_digit};
 ghost use Rattle.co_sheet_text.specs.Names.{number_in};
-ghost use Rattle.co_sheet_text.specs.Numerals.{is_number_in, decimal_number, hexadecimal_number, unsigned_numeral, signed_numeral, unsigned_number, hexadecimal_value, value_at};
+ghost use Rattle.co_sheet_text.specs.Numerals.{
+  is_number_in,
+  decimal_number,
+  hexadecimal_number,
+  unsigned_numeral,
+  signed_numeral,
+  unsigned_number,
+  hexadecimal_value,
+  value_at,
+};
 
 use crate::text::same_name;
 use co_value::DataType;
@@ -45,8 +54,8 @@ pub fn all_digits(text: &[u8], base: u32) -> bool
     text.iter().all(|byte| is_digit(*byte, base))
 }
 
-/// The number that digits of the base, 2 to 36, write; `None` where the text is empty or has another byte, and where the
-/// number is 2^64 or more.
+/// The number that digits of the base, 2 to 36, write; `None` where the text is empty or has another byte, and where
+/// the number is 2^64 or more.
 pub fn number_in(base: u32, text: &[u8]) -> Option<u64>
     requires low { 2 ≤ base }
     requires high { base ≤ 36 }

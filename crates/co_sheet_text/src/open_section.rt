@@ -1,6 +1,25 @@
 //! The section that is being read.
 
-ghost use Rattle.std.specs.Prelude.{◌≡◌, ◌≤◌, ◌+◌, ◌⊎◌, ◌++◌, [], length, map, filter, drop, is_some, option_map, false, Some, None, OnOk, OnErr, IfErr};
+ghost use Rattle.std.specs.Prelude.{
+  ◌≡◌,
+  ◌≤◌,
+  ◌+◌,
+  ◌⊎◌,
+  ◌++◌,
+  [],
+  length,
+  map,
+  filter,
+  drop,
+  is_some,
+  option_map,
+  false,
+  Some,
+  None,
+  OnOk,
+  OnErr,
+  IfErr,
+};
 ghost use Rattle.std.specs.List.{list_any};
 ghost use Rattle.co_sheet_text.specs.Text.{same_name};
 ghost use Rattle.co_sheet_text.specs.Sections.{property_at, name_value, property_given, fault_at};

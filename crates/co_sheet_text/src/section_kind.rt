@@ -3,7 +3,19 @@
 ghost use Rattle.std.specs.Prelude.{◌≡◌, ◌≤◌, ◌<◌, ◌^◌, Some, None, IfSome, take_while, drop, length, if◌then◌else◌};
 ghost use Rattle.std.specs.List.{list_any, prefix_len};
 ghost use Rattle.co_sheet_text.specs.Text.{same_name};
-ghost use Rattle.co_sheet_text.specs.Names.{is_hexadecimal_digit, is_hexadecimal_up_to, number_in, sub_index_kind, is_commissioning, kind_of, is_read, is_list, is_position, object_names, is_read_name};
+ghost use Rattle.co_sheet_text.specs.Names.{
+  is_hexadecimal_digit,
+  is_hexadecimal_up_to,
+  number_in,
+  sub_index_kind,
+  is_commissioning,
+  kind_of,
+  is_read,
+  is_list,
+  is_position,
+  object_names,
+  is_read_name,
+};
 
 use crate::numeral::{all_digits, is_digit, number_in};
 use crate::text::same_name;
@@ -28,9 +40,9 @@ pub enum SectionKind {
 }
 
 impl SectionKind {
-    /// What a section of this name is about: a list, DummyUsage, DeviceInfo, device commissioning in either spelling, an
-    /// object as `1018`, a sub-index as `1018sub1`, or nothing that is read (CiA 306, object lists, object description,
-    /// device commissioning).
+    /// What a section of this name is about: a list, DummyUsage, DeviceInfo, device commissioning in either spelling,
+    /// an object as `1018`, a sub-index as `1018sub1`, or nothing that is read (CiA 306, object lists, object
+    /// description, device commissioning).
     pub fn of_name(name: &[u8]) -> SectionKind
         ensures { result ≡ kind_of name.now }
     {

@@ -109,8 +109,8 @@ impl LineCutter {
         Ok(true)
     }
 
-    // What came before the reader's end is a line, if it isn't empty. A carriage return at its end belongs to it, as another one
-    // would have to come before a line feed.
+    // What came before the reader's end is a line, if it isn't empty. A carriage return at its end belongs to it, as
+    // another one would have to come before a line feed.
     fn last_line(&mut self) -> Result<bool, LineFault>
         ensures line { result ≡ Ok true → (strip_carriage_return self.new.line ≡ self.old.line)
             × (0 < length self.old.line) }

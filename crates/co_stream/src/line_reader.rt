@@ -1,6 +1,22 @@
 //! Lines one at a time.
 
-ghost use Rattle.std.specs.Prelude.{◌≡◌, ◌≢◌, ℕ, ◌≤◌, List, Option, IfOk, IfErr, IfSome, IsNone, None, Err, length, true, false};
+ghost use Rattle.std.specs.Prelude.{
+  ◌≡◌,
+  ◌≢◌,
+  ℕ,
+  ◌≤◌,
+  List,
+  Option,
+  IfOk,
+  IfErr,
+  IfSome,
+  IsNone,
+  None,
+  Err,
+  length,
+  true,
+  false,
+};
 ghost use Rattle.std.specs.Borrow.{sem};
 ghost use Rattle.std.specs.Io.BufRead.{Rests};
 ghost use Rattle.co_stream.specs.Lines.{has_line_feed, IsTooLong};
@@ -13,8 +29,8 @@ use crate::line_cutter::LineCutter;
 use std::io::Read;
 use std::marker::Model;
 
-/// Reads a text line by line, in constant memory: it holds a line of at most 512 bytes, and a piece of at most 8,192. In
-/// its life it asks 16,777,216 times at most, each time for at most 8,192 bytes.
+/// Reads a text line by line, in constant memory: it holds a line of at most 512 bytes, and a piece of at most 8,192.
+/// In its life it asks 16,777,216 times at most, each time for at most 8,192 bytes.
 #[derive(Drop)]
 pub struct LineReader {
     cutter: LineCutter,
@@ -53,9 +69,9 @@ impl LineReader {
         self.cutter.has_line()
     }
 
-    /// The next line of what the reader gives, without its end; `None` at the reader's end. A line feed ends a line, with one
-    /// carriage return before it; the last line may lack its line feed, and then keeps a carriage return. All calls have to
-    /// have the same reader.
+    /// The next line of what the reader gives, without its end; `None` at the reader's end. A line feed ends a line,
+    /// with one carriage return before it; the last line may lack its line feed, and then keeps a carriage return. All
+    /// calls have to have the same reader.
     ///
     /// The reader is asked only while no whole line is held, and not again once it has come to its end. A read that a
     /// signal interrupted is tried again. Each line before a fault is given first:

@@ -15,8 +15,8 @@ use std::marker::Model;
 
 const LINE_FEED: u8 = b'\n';
 
-/// What a reader gave at once, at most 8,192 bytes, without what is taken of it already. Contracts see the bytes that are
-/// left.
+/// What a reader gave at once, at most 8,192 bytes, without what is taken of it already. Contracts see the bytes that
+/// are left.
 #[derive(Drop)]
 pub(crate) struct Piece {
     bytes: [u8; 8192],
@@ -100,8 +100,8 @@ impl Piece {
         Ok(count > 0)
     }
 
-    /// Moves the bytes before the first line feed to the line, and passes over the line feed; all bytes where there is none.
-    /// Whether there is one.
+    /// Moves the bytes before the first line feed to the line, and passes over the line feed; all bytes where there is
+    /// none. Whether there is one.
     pub(crate) fn move_line(&mut self, line: &mut LineBuffer) -> Result<bool, LineFault>
         ensures whole { result ≡ Ok true → (front : List ℕ) × (self.old ≡ front ++ 10 ∷ self.new)
             × (has_line_feed front ≡ false) × (line.new ≡ line.old ++ front) }

@@ -14,7 +14,7 @@ pub fn is_digit(byte: u8) -> bool
     b'0' <= byte && byte <= b'9'
 }
 
-/// The number from `least` to `most` that a word of decimal digits is, leading zeros allowed; `None` for every other word.
+/// The number from `least` to `most` that a word of decimal digits is, leading zeros allowed; `None` for other words.
 pub fn decimal_in(word: &[u8], least: u32, most: u32) -> Option<u32>
     ensures { result ≡ decimal_in least most word.now }
 {

@@ -2,7 +2,16 @@
 
 ghost use Rattle.std.specs.Prelude.{◌≡◌, ◌↔◌, ◌≤◌, pos, ◌^◌, ◌*◌, ◌-◌, IsTrue, IfSome};
 ghost use Rattle.co_value.specs.declared.data_type.DataType.{DataType};
-ghost use Rattle.co_value.specs.Types.{code_of, width_of, is_signed, least_of, greatest_of, least_at, greatest_at, InRange};
+ghost use Rattle.co_value.specs.Types.{
+  code_of,
+  width_of,
+  is_signed,
+  least_of,
+  greatest_of,
+  least_at,
+  greatest_at,
+  InRange,
+};
 
 /// A data type that an entry of the object dictionary may have (CiA 301, 7.4.7.1).
 #[derive(Clone, Copy, Debug, PartialEq, Eq, Hash)]

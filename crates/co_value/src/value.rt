@@ -3,7 +3,16 @@
 ghost use Rattle.std.specs.Prelude.{◌≡◌, ◌↔◌, ◌-◌, ◌^◌, ◌<◌, ◌≤◌, ◌≤ℤ◌, pos, neg_ℤ, Some, length, IsOk, IfOk, IfErr};
 ghost use Rattle.co_value.specs.declared.data_type.DataType.{DataType};
 ghost use Rattle.co_value.specs.Types.{width_of, FitsWidth, InRange};
-ghost use Rattle.co_value.specs.Numbers.{number_of, signed_of, bits_of, bytes_of, HasOneSpelling, HasWayBack, HasBytes, IsNumber};
+ghost use Rattle.co_value.specs.Numbers.{
+  number_of,
+  signed_of,
+  bits_of,
+  bytes_of,
+  HasOneSpelling,
+  HasWayBack,
+  HasBytes,
+  IsNumber,
+};
 
 use crate::data_type::{DataType, power_of_two};
 use crate::packed_bytes::unsigned_of;

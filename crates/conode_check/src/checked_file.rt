@@ -51,9 +51,9 @@ fn say_why<O: Write, E: Write>(fault: CmdFault, out: &mut O, err: &mut E) -> End
     }
 }
 
-/// Checks a text: what it has and its build fault, or its fault, goes to `out`. Whether it has neither fault; or how the
-/// check ended where not all of it could be written: then `out` has why after what was written before, or where `out`
-/// can't be written `err`.
+/// Checks a text: what it has and its build fault, or its fault, goes to `out`. Whether it has neither fault; or how
+/// the check ended where not all of it could be written: then `out` has why after what was written before, or where
+/// `out` can't be written `err`.
 pub fn check_text<O: Write, E: Write>(
     alloc: Global,
     text: &[u8],
@@ -100,8 +100,8 @@ fn status_of(outcome: Result<bool, Ending>) -> ExitCode
     }
 }
 
-/// Checks the data sheet of a path, as `check_text` does. A file that can't be read is named on `err`. The status is 0 where
-/// there is neither fault and all was written, else 1.
+/// Checks the data sheet of a path, as `check_text` does. A file that can't be read is named on `err`. The status is 0
+/// where there is neither fault and all was written, else 1.
 pub fn check_file<R: Files + AllocGlobal, O: Write, E: Write>(
     rt: &R,
     path: &str,

@@ -3,7 +3,18 @@
 ghost use Rattle.std.specs.Prelude.{◌≡◌, ◌⊎◌, ◌++◌, map, OnOk, IfOk, IfErr, Err, is_none};
 ghost use Rattle.std.specs.Io.KnownBytes.{Appends, Keeps};
 ghost use Rattle.co_dict_build.specs.Capacities.{limits_view};
-ghost use Rattle.conode_check.specs.SheetTexts.{build_lines, checked_fault, checked_lines, fault_line, is_good, node_lines, note_line, own_node, sheet_build_fault, sheet_lines};
+ghost use Rattle.conode_check.specs.SheetTexts.{
+  build_lines,
+  checked_fault,
+  checked_lines,
+  fault_line,
+  is_good,
+  node_lines,
+  note_line,
+  own_node,
+  sheet_build_fault,
+  sheet_lines,
+};
 ghost use Rattle.conode_io.specs.Written.{AppendsFront, WritesFront, WritesLines, WritesSome};
 
 use crate::sheet_text::{

@@ -40,8 +40,8 @@ pub(crate) fn set_note_line(text: &mut String, note: Note) -> Result<(), AllocEr
     text.push('\n')
 }
 
-/// Makes the text the line of the node-ID that the sheet itself has, as `node 5`. On an `Err` memory ran out, and the text
-/// holds a part of the line.
+/// Makes the text the line of the node-ID that the sheet itself has, as `node 5`. On an `Err` memory ran out, and the
+/// text holds a part of the line.
 #[tactic(auto, unfolding(crate::specs::SheetTexts::node_line))]
 pub(crate) fn set_node_line(text: &mut String, node: u8) -> Result<(), AllocError>
     ensures { OnOk result (string_bytes text.new ≡ node_line node) }

@@ -22,8 +22,8 @@ use std::rt::Files;
 /// The path that stands for standard input.
 const STANDARD_INPUT: &str = "-";
 
-/// Decodes an input, a trace, on `out`, and says why it stopped where it did: on `out`, after what was decoded before, or
-/// where that can't be written on `err`.
+/// Decodes an input, a trace, on `out`, and says why it stopped where it did: on `out`, after what was decoded before,
+/// or where that can't be written on `err`.
 pub fn decode_input<R: Read, O: Write, E: Write>(
     alloc: Global,
     input: &mut R,
@@ -112,8 +112,9 @@ fn decode_named<R: Files + AllocGlobal + Input, O: Write, E: Write>(
     }
 }
 
-/// Decodes the trace of a path, or of standard input where that is `-`, with the names of the data sheet of another path, as
-/// `decode_input` does. The sheet is read first: its fault goes to `out`. A file that can't be read is named on `err`. The status is then 1.
+/// Decodes the trace of a path, or of standard input where that is `-`, with the names of the data sheet of another
+/// path, as `decode_input` does. The sheet is read first: its fault goes to `out`. A file that can't be read is named
+/// on `err`. The status is then 1.
 pub fn decode_files<R: Files + AllocGlobal + Input, O: Write, E: Write>(
     rt: &R,
     trace: &str,

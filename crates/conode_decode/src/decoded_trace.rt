@@ -75,13 +75,13 @@ fn decode_lines<R: Read, W: Write>(
 /// ParameterName of an entry follows; with a node-ID too, for this node alone. Event lines and frames that
 /// are passed over are checked and write nothing.
 ///
-/// The writer is flushed before each read that could wait, and not while a whole line is held: so a writer with a buffer
-/// passes on what was decoded of a piece in one go, and never later than the next read.
+/// The writer is flushed before each read that could wait, and not while a whole line is held: so a writer with a
+/// buffer passes on what was decoded of a piece in one go, and never later than the next read.
 ///
 /// `BadLine` is the first line that is no line of a trace, that has more than 512 bytes, or whose stamp is more than a
-/// day past the clock. Before `BadLine`, `Read` and `NeverEnds` all lines before it have been written; what the reader gave
-/// after them before `Read` or `NeverEnds` is a part of a line. After `Write` a part of the text has been written, or all
-/// of it where the flush failed; after `Memory` some of its lines, never all.
+/// day past the clock. Before `BadLine`, `Read` and `NeverEnds` all lines before it have been written; what the reader
+/// gave after them before `Read` or `NeverEnds` is a part of a line. After `Write` a part of the text has been written,
+/// or all of it where the flush failed; after `Memory` some of its lines, never all.
 pub fn decode<R: Read, W: Write>(
     alloc: Global,
     reader: &mut R,

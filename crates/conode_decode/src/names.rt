@@ -61,8 +61,8 @@ impl<'s, 'a> Names<'s, 'a> {
         name_at(self.sheet?.entries(), key)
     }
 
-    /// Appends what follows a text with a key: a space and the name in double quotes, if there is one. On an `Err` memory
-    /// ran out, and a part of it may be there.
+    /// Appends what follows a text with a key: a space and the name in double quotes, if there is one. On an `Err`
+    /// memory ran out, and a part of it may be there.
     #[tactic(auto, unfolding(crate::specs::Names::name_text))]
     pub(crate) fn push(
         self,

@@ -3,7 +3,22 @@
 
 ghost use Rattle.std.specs.Prelude.{◌≡◌, ◌<◌, ◌++◌, OnOk, string_bytes};
 ghost use Rattle.conode_decode.specs.Names.{names_view};
-ghost use Rattle.conode_decode.specs.Texts.{emergency_text, heartbeat_text, named_answer, named_request, nmt_service_text, nmt_text, of_node, pdo_text, sdo_answer_text, sdo_request_text, service_text, sync_text, text_of_frame, unknown_text};
+ghost use Rattle.conode_decode.specs.Texts.{
+  emergency_text,
+  heartbeat_text,
+  named_answer,
+  named_request,
+  nmt_service_text,
+  nmt_text,
+  of_node,
+  pdo_text,
+  sdo_answer_text,
+  sdo_request_text,
+  service_text,
+  sync_text,
+  text_of_frame,
+  unknown_text,
+};
 
 use crate::names::Names;
 use crate::numbers::push_words;

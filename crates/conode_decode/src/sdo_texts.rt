@@ -1,10 +1,22 @@
-//! The texts of SDO requests and answers (CiA 301, 7.2.4.3). Each function appends a text; on an `Err` memory ran out, and
-//! a part of it may be there.
+//! The texts of SDO requests and answers (CiA 301, 7.2.4.3). Each function appends a text; on an `Err` memory ran out,
+//! and a part of it may be there.
 
 ghost use Rattle.std.specs.Prelude.{◌≡◌, ◌++◌, OnOk, Some, string_bytes};
 ghost use Rattle.co_value.specs.KeyTexts.{key_text};
 ghost use Rattle.conode_decode.specs.Numbers.{toggle_text};
-ghost use Rattle.conode_decode.specs.SdoTexts.{expedited_part, expedited_text, initiate_text, segment_text, abort_text, acknowledge_text, block_end_text, request_text, request_key, answer_text, answer_key};
+ghost use Rattle.conode_decode.specs.SdoTexts.{
+  expedited_part,
+  expedited_text,
+  initiate_text,
+  segment_text,
+  abort_text,
+  acknowledge_text,
+  block_end_text,
+  request_text,
+  request_key,
+  answer_text,
+  answer_key,
+};
 
 use crate::numbers::{push_hex, push_key, push_size, push_toggle, push_words};
 use co_frame::{AbortCode, ExpeditedData, SdoRequest, SdoResponse};

@@ -9,8 +9,8 @@ use conode_io::{CmdFault, flushed};
 use conode_trace::{BadLine, TraceProgress};
 use std::io::Write;
 
-/// Why a command doesn't come to the end of a trace, where its line reader gives no line: `Read`, `NeverEnds`, or that the
-/// next line is bad, as it has more than 512 bytes.
+/// Why a command doesn't come to the end of a trace, where its line reader gives no line: `Read`, `NeverEnds`, or that
+/// the next line is bad, as it has more than 512 bytes.
 pub fn line_fault(fault: LineFault, progress: &TraceProgress) -> CmdFault
     requires { progress.now.number + 1 < 2 ^ 64 }
     ensures read { fault ≡ LineFault.Read → result ≡ CmdFault.Read }

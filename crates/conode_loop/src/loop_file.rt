@@ -36,7 +36,7 @@ fn collected(alloc: Global, pairs: HexPairs<'_>) -> Result<Vec<u8>, AllocError>
     Ok(bytes)
 }
 
-// The bytes that a word spells in pairs of hexadecimal digits, at most 65,535, or `-` for none; `None` for every other word.
+// The bytes that a word spells in pairs of hexadecimal digits, at most 65,535, or `-` for none; `None` for other words.
 #[tactic(auto, unfolding(crate::specs::Words::bytes_in))]
 fn bytes_in(alloc: Global, word: &str) -> Result<Option<Vec<u8>>, AllocError>
     ensures spelled { IfOk result (λ bytes. option_map (λ b. b.items) bytes ≡ bytes_in word.now) }
@@ -161,12 +161,12 @@ fn loop_path<R: Files + AllocGlobal, O: Write, E: Write>(
 }
 
 /// Loops a download against the node of the data sheet of a path, as `loop_back` does, on `out`. Its node-ID is the one
-/// that is given, or else the sheet's own, that of a device configuration file. `key` is a key as `2001:00`; `hex` are the
-/// bytes in pairs of hexadecimal digits, or `-` for none.
+/// that is given, or else the sheet's own, that of a device configuration file. `key` is a key as `2001:00`; `hex` are
+/// the bytes in pairs of hexadecimal digits, or `-` for none.
 ///
-/// `bad key` and then `bad bytes`, also for more than 65,535 bytes, go to `err` before the file is opened, and `no node-ID`
-/// after the sheet was read; the status is then 2. A file that can't be read is named on `err`; a fault of the sheet and one
-/// of its build go to `out`. The status is 0 where the client is done, else 1.
+/// `bad key` and then `bad bytes`, also for more than 65,535 bytes, go to `err` before the file is opened, and
+/// `no node-ID` after the sheet was read; the status is then 2. A file that can't be read is named on `err`; a fault of
+/// the sheet and one of its build go to `out`. The status is 0 where the client is done, else 1.
 pub fn loop_files<R: Files + AllocGlobal, O: Write, E: Write>(
     rt: &R,
     sheet: &str,

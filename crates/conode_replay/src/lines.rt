@@ -60,7 +60,7 @@ pub(crate) fn print_totals<W: Write>(
     hand_over(text.as_bytes(), writer)
 }
 
-/// Prints frames that are sent at a time in ms. It isn't compiled into its callers, so that a tick without frames is short.
+/// Prints frames that are sent at a time in ms. It isn't inlined, so that a tick without frames is short.
 #[inline(never)]
 pub(crate) fn print_frames<W: Write>(
     ms: u128,

@@ -138,11 +138,11 @@ fn replay_text<R: Files + AllocGlobal + Input, O: Write, E: Write>(
 
 /// Replays the trace of a path, or of standard input where that is `-`, against the device of the data sheet of
 /// another path, as `replay` does. Its node-ID is the one that is given, or else the sheet's own, that of a device
-/// configuration file. What it prints, a fault of the sheet and one of its build go to `out`, as does the line that says
-/// why it stopped; a file that can't be read is named on `err`, which has `no node-ID` where there is none.
+/// configuration file. What it prints, a fault of the sheet and one of its build go to `out`, as does the line that
+/// says why it stopped; a file that can't be read is named on `err`, which has `no node-ID` where there is none.
 ///
-/// Mistakes are looked for in this order: the sheet's file, the sheet, the node-ID, the build, the trace's file, the trace.
-/// The status is 2 without a node-ID, 1 after another fault, also of the trace, else 0; an event that is refused is none.
+/// Mistakes are looked for in this order: the sheet's file, the sheet, node-ID, build, the trace's file, the trace. The
+/// status is 2 without a node-ID, 1 after another fault, also of the trace, else 0; an event that is refused is none.
 pub fn replay_files<R: Files + AllocGlobal + Input, O: Write, E: Write>(
     rt: &R,
     sheet: &str,

@@ -8,7 +8,16 @@ ghost use Rattle.co_node_model.specs.Inputs.{Inputs};
 ghost use Rattle.co_node_model.specs.Moments.{Constants};
 ghost use Rattle.co_node.specs.Nodes.{Stands};
 ghost use Rattle.conode_replay.specs.Lines.{boot_line};
-ghost use Rattle.conode_replay.specs.Runs.{AfterAny, BreaksOff, FailsToWrite, HasCounted, HasEnded, HasRun, Replayed, WritesWhole};
+ghost use Rattle.conode_replay.specs.Runs.{
+  AfterAny,
+  BreaksOff,
+  FailsToWrite,
+  HasCounted,
+  HasEnded,
+  HasRun,
+  Replayed,
+  WritesWhole,
+};
 
 use crate::lines::{print_frames, print_totals};
 use crate::replayed_line::replay_line;

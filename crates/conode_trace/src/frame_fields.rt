@@ -4,7 +4,21 @@ ghost use Rattle.std.specs.Prelude.{◌≡◌, ◌+◌, ◌*◌, ◌^◌, ◌<�
 ghost use Rattle.std.specs.Option.{option_map, option_copied};
 ghost use Rattle.std.specs.List.{prefix_len, list_all};
 ghost use Rattle.co_text.specs.Texts.{is_blank, is_digit, is_hex_digit};
-ghost use Rattle.conode_trace.specs.FrameLines.{past_byte, past_run, number_at, stamp_at, is_name_byte, three_digits, identifier_at, few_pairs_at, IsIdentifier, is_ending, is_mark, past_digit, body_in};
+ghost use Rattle.conode_trace.specs.FrameLines.{
+  past_byte,
+  past_run,
+  number_at,
+  stamp_at,
+  is_name_byte,
+  three_digits,
+  identifier_at,
+  few_pairs_at,
+  IsIdentifier,
+  is_ending,
+  is_mark,
+  past_digit,
+  body_in,
+};
 
 use co_text::{hex_digit, is_blank, is_digit, pair_at};
 use co_value::PackedBytes;

@@ -21,8 +21,8 @@ static DIGITS: [u8; 16] = *b"0123456789ABCDEF";
 /// From this time on, in ms, the seconds have more than ten digits.
 const LONG_TIME: u128 = 10_000_000_000_000;
 
-/// Appends a frame, as `605#2B17`: its identifier in three hexadecimal digits, a number sign, and two digits a byte. On an
-/// `Err` memory ran out, and the text may have a part of it.
+/// Appends a frame, as `605#2B17`: its identifier in three hexadecimal digits, a number sign, and two digits a byte. On
+/// an `Err` memory ran out, and the text may have a part of it.
 #[tactic(auto, unfolding(crate::specs::Printed::frame_text, co_text::specs::Printed::digits_text))]
 pub fn push_frame(text: &mut String, frame: &Frame) -> Result<(), AllocError>
     ensures { OnOk result (string_bytes text.new ≡ string_bytes text.old ++ frame_text frame.now) }

@@ -3,7 +3,15 @@
 ghost use Rattle.std.specs.Prelude.{◌≡◌, ◌<◌, Option, Some, IfSome};
 ghost use Rattle.conode_trace.specs.declared.trace_line.TraceLine.{TraceLine};
 ghost use Rattle.conode_trace.specs.Grammar.{SpellsLine};
-ghost use Rattle.conode_trace.specs.FrameLines.{frame_at, frame_line_in, is_skipped, line_in, line_of, IsIdentifier, WritesFewBytes};
+ghost use Rattle.conode_trace.specs.FrameLines.{
+  frame_at,
+  frame_line_in,
+  is_skipped,
+  line_in,
+  line_of,
+  IsIdentifier,
+  WritesFewBytes,
+};
 
 use crate::event_line::{EventLine, event_line};
 use crate::frame_fields::{

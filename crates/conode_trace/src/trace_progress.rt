@@ -12,8 +12,8 @@ use std::marker::Model;
 #[derive(Clone, Copy, Debug, PartialEq, Eq)]
 pub struct BadLine(pub usize);
 
-/// How far a trace is read: the number of its lines so far, and the clock after them. It takes one line at a time, wherever
-/// the lines come from. Contracts see both.
+/// How far a trace is read: the number of its lines so far, and the clock after them. It takes one line at a time,
+/// wherever the lines come from. Contracts see both.
 #[derive(Debug, Drop)]
 pub struct TraceProgress {
     number: usize,

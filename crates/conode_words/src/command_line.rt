@@ -3,7 +3,37 @@
 ghost use Rattle.std.specs.Prelude.{◌≡◌, map, IfOk, option_map, false, [], codes};
 ghost use Rattle.clap.specs.Words.{FailsBy, app_of, found_of, rows_of, rule_of, subcommand_of, subcommand_rows_of};
 ghost use Rattle.clap.specs.declared.builder.command.Command.TheViews.{out-Command};
-ghost use Rattle.conode_words.specs.Tasks.{asked_by, asked_check, asked_decode, asked_device, asked_dictionary, asked_in, asked_loop, asked_of, asked_replay, check_command, conode_command, decode_command, domains_option, has_other_mode, loop_command, mode_fault, mode_for, mode_of, mode_option, node_option, number_for, numbered, replay_command, sheet_option, strings_option, task_fault, time_option, wanted, with_rooms};
+ghost use Rattle.conode_words.specs.Tasks.{
+  asked_by,
+  asked_check,
+  asked_decode,
+  asked_device,
+  asked_dictionary,
+  asked_in,
+  asked_loop,
+  asked_of,
+  asked_replay,
+  check_command,
+  conode_command,
+  decode_command,
+  domains_option,
+  has_other_mode,
+  loop_command,
+  mode_fault,
+  mode_for,
+  mode_of,
+  mode_option,
+  node_option,
+  number_for,
+  numbered,
+  replay_command,
+  sheet_option,
+  strings_option,
+  task_fault,
+  time_option,
+  wanted,
+  with_rooms,
+};
 
 use crate::help;
 use crate::tasks::{DeviceWords, DictionaryWords, Task};

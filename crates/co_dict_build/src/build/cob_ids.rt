@@ -1,7 +1,18 @@
 //! The COB-ID words that a dictionary begins with (CiA 301, 7.5.2).
 
 ghost use Rattle.std.specs.Prelude.{◌≡◌, ◌≤◌, false, map};
-ghost use Rattle.co_dict_build.specs.BuildFaults.{is_sync_key, is_word_key, is_channel_key, is_used_by_channel, is_used_before, is_bad_channel_word, is_bad_sync_word, is_bad_word, is_bad_cob_id, smallest_key};
+ghost use Rattle.co_dict_build.specs.BuildFaults.{
+  is_sync_key,
+  is_word_key,
+  is_channel_key,
+  is_used_by_channel,
+  is_used_before,
+  is_bad_channel_word,
+  is_bad_sync_word,
+  is_bad_word,
+  is_bad_cob_id,
+  smallest_key,
+};
 
 use super::pdo_pairs::is_communication;
 use co_dict::{

@@ -1,7 +1,13 @@
 //! Whether each PDO has its two objects and the entries that it needs (CiA 301, 7.5.2.35 to 7.5.2.38).
 
 ghost use Rattle.std.specs.Prelude.{◌≡◌, find, map};
-ghost use Rattle.co_dict_build.specs.BuildFaults.{is_communication, is_mapping, is_lone_communication, is_lone_mapping, is_unpaired};
+ghost use Rattle.co_dict_build.specs.BuildFaults.{
+  is_communication,
+  is_mapping,
+  is_lone_communication,
+  is_lone_mapping,
+  is_unpaired,
+};
 
 use co_dict::{ObjectStore, has_object, has_sub};
 use co_profile::IndexRange;

@@ -1,13 +1,62 @@
 //! An entry, read from its section.
 
-ghost use Rattle.std.specs.Prelude.{◌≡◌, ◌==◌, ◌++◌, true, false, codes, map, option_map, Some, None, IfOk, OnOk, IfErr, []};
+ghost use Rattle.std.specs.Prelude.{
+  ◌≡◌,
+  ◌==◌,
+  ◌++◌,
+  true,
+  false,
+  codes,
+  map,
+  option_map,
+  Some,
+  None,
+  IfOk,
+  OnOk,
+  IfErr,
+  [],
+};
 ghost use Rattle.std.specs.Option.{option_map_or, option_or};
 ghost use Rattle.std.specs.Result.{result_err};
 ghost use Rattle.co_sheet.specs.Entries.{is_domain, type_code, data_type_of, access_of, is_mappable};
 ghost use Rattle.co_sheet.specs.Limits.{at_most, is_in_type, is_numeric};
-ghost use Rattle.co_sheet.specs.Checks.{at_key, missing_key, unread_number, unread_limit, unread_default, unread_defaults, unread_entry_numbers, type_line, is_bad_type, in_numeric, unread_limits, bad_access};
+ghost use Rattle.co_sheet.specs.Checks.{
+  at_key,
+  missing_key,
+  unread_number,
+  unread_limit,
+  unread_default,
+  unread_defaults,
+  unread_entry_numbers,
+  type_line,
+  is_bad_type,
+  in_numeric,
+  unread_limits,
+  bad_access,
+};
 ghost use Rattle.co_sheet.specs.Accepted.{least_fault, IsAnswered};
-ghost use Rattle.co_sheet.specs.private.EntryReadings.{IsGiven, fault_in, HaveRows, entry_finding, first_in, type_finding, value_finding, IsNumberAt, IsLimitAt, IsDefaultAt, IsStatedAt, AreValues, value_of, outside, crossed, limits_found, preset_of, is_other_default, default_found, defaults_found};
+ghost use Rattle.co_sheet.specs.private.EntryReadings.{
+  IsGiven,
+  fault_in,
+  HaveRows,
+  entry_finding,
+  first_in,
+  type_finding,
+  value_finding,
+  IsNumberAt,
+  IsLimitAt,
+  IsDefaultAt,
+  IsStatedAt,
+  AreValues,
+  value_of,
+  outside,
+  crossed,
+  limits_found,
+  preset_of,
+  is_other_default,
+  default_found,
+  defaults_found,
+};
 ghost use Rattle.co_sheet.specs.Content.{row_of};
 ghost use Rattle.co_sheet_text.specs.Sections.{property_at};
 ghost use Rattle.co_sheet_text.specs.Views.{property_view};

@@ -1,12 +1,41 @@
 //! The object lists: what they name, and what is checked of them.
 
-ghost use Rattle.std.specs.Prelude.{◌≡◌, ◌++◌, ℕ, nat_eq, map, flat_map, filter_map, option_and_then, IfOk, IfErr, OnOk, None};
+ghost use Rattle.std.specs.Prelude.{
+  ◌≡◌,
+  ◌++◌,
+  ℕ,
+  nat_eq,
+  map,
+  flat_map,
+  filter_map,
+  option_and_then,
+  IfOk,
+  IfErr,
+  OnOk,
+  None,
+};
 ghost use Rattle.indexmap.specs.IndexSet.{contains};
 ghost use Rattle.co_sheet_text.specs.Views.{property_view, section_view};
 ghost use Rattle.co_sheet.specs.ObjectLists.{listings};
 ghost use Rattle.co_sheet.specs.Checks.{unread_number, has_numbers, is_bad_list};
 ghost use Rattle.co_sheet.specs.Accepted.{least_fault, first_found, IsAnswered};
-ghost use Rattle.co_sheet.specs.private.ListReadings.{listing_view, listed, listing_at, listing_with, is_key_to, is_large, is_bad_section, named_in, list_finding, named_by, own_checks, is_listed_at, twice_in, LinesRise, unlisted_mandatory};
+ghost use Rattle.co_sheet.specs.private.ListReadings.{
+  listing_view,
+  listed,
+  listing_at,
+  listing_with,
+  is_key_to,
+  is_large,
+  is_bad_section,
+  named_in,
+  list_finding,
+  named_by,
+  own_checks,
+  is_listed_at,
+  twice_in,
+  LinesRise,
+  unlisted_mandatory,
+};
 
 use crate::checks::faults::{fault_if, least_over, number_of};
 use crate::checks::findings::{Finding, found, sooner};

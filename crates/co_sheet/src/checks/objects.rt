@@ -13,7 +13,23 @@ ghost use Rattle.co_sheet.specs.SectionViews.{object_view, entry_view};
 ghost use Rattle.co_sheet.specs.SheetViews.{object_row_view};
 ghost use Rattle.co_sheet.specs.private.Findings.{soonest};
 ghost use Rattle.co_sheet.specs.private.ListReadings.{listing_view};
-ghost use Rattle.co_sheet.specs.private.ObjectReadings.{type_of, type_finding, object_codes, part_finding, sub_0_finding, form_finding, parts_finding, compact_pdo, object_finding, listing_finding, rows_so_far, entries_so_far, row_at, entries_at, HaveObjects};
+ghost use Rattle.co_sheet.specs.private.ObjectReadings.{
+  type_of,
+  type_finding,
+  object_codes,
+  part_finding,
+  sub_0_finding,
+  form_finding,
+  parts_finding,
+  compact_pdo,
+  object_finding,
+  listing_finding,
+  rows_so_far,
+  entries_so_far,
+  row_at,
+  entries_at,
+  HaveObjects,
+};
 
 use crate::checks::faults::{fault_if, number_of};
 use crate::checks::findings::{Finding, checked, found, sooner, unless};
