@@ -1,4 +1,4 @@
--- What one more moment of a device is, phase by phase, and how each part is carried on by it.
+-- What one more moment of a device is, service by service, and how each part is carried on by it.
 use Rattle.std.proofs.Common.{◌≡◌, Bool, List, ◌∷◌, refl, sym, ap, ◌∙◌, subst}
 use Rattle.std.specs.Prelude.{ℕ, ◌||◌, Option}
 use Rattle.co_frame.specs.declared.emergency.Emergency.{Emergency}
@@ -37,7 +37,7 @@ use Rattle.co_node_device.specs.Losses.{lost_now}
 use Rattle.co_node_device.specs.Effects.{after_effects, effect_emergencies}
 use Rattle.co_node_device.specs.Befores.{logs_received}
 
--- each phase of a moment, by those before it
+-- each service at a moment, by those before it
 pub record IsMoment (k : Constants) (h : History) (m : Moment) : Type 0 where
   pub raised_by_loss : m.raised_by_loss ≡ emergencies_of k.description.rows (loss_errors (lost_now m.marks m.received (consumers_log k h))) m.received
   pub watched : m.watched ≡ all_raised k.description.rows (loss_errors (lost_now m.marks m.received (consumers_log k h))) m.received
