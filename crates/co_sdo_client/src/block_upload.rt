@@ -39,12 +39,8 @@ impl<'a> Client<'a> {
             self.give_up(AbortCode::UNKNOWN_COMMAND, outbox);
             return;
         };
-        if !self.has_key(key) {
-            self.give_up(AbortCode::UNKNOWN_COMMAND, outbox);
-            return;
-        }
-        if self.cap() < size.unwrap_or(0) as usize {
-            self.give_up(AbortCode::OUT_OF_MEMORY, outbox);
+        if let Some(fault) = self.upload_fault(key, size.unwrap_or(0) as usize) {
+            self.give_up(fault, outbox);
             return;
         }
         self.stage = Stage::SubBlock {

@@ -1,6 +1,8 @@
 //! Uploads: expedited and segmented.
 
-ghost use Rattle.std.specs.Prelude.{◌≡◌, ◌+◌, ◌<◌, ◌≤◌, ◌++◌, [], Some};
+ghost use Rattle.std.specs.Prelude.{◌≡◌, ◌+◌, ◌<◌, ◌≤◌, ◌++◌, [], None, Some, if◌then◌else◌, nat_lt, not};
+ghost use Rattle.co_value.specs.Keys.{same_key};
+ghost use Rattle.co_frame.specs.AbortCodes.{out_of_memory, unknown_command};
 ghost use Rattle.arrayvec.specs.ArrayVec.{array_vec_len};
 ghost use Rattle.co_frame.specs.SegmentSizes.{segments_per_sub_block};
 ghost use Rattle.co_frame.specs.Outboxes.{HasRoomFor};
@@ -64,6 +66,20 @@ impl<'a> Client<'a> {
         }
     }
 
+    // Why an upload of this key, with this many bytes, isn't taken: another key than the call's, or more than it has room for.
+    pub(crate) fn upload_fault(&self, key: Key, size: usize) -> Option<AbortCode>
+        ensures { result ≡ if not (same_key key self.now.call.key) then Some (record { 0 = unknown_command })
+            else if nat_lt (cap_of self.now.call.job) size then Some (record { 0 = out_of_memory }) else None }
+    {
+        if !self.has_key(key) {
+            return Some(AbortCode::UNKNOWN_COMMAND);
+        }
+        if self.cap() < size {
+            return Some(AbortCode::OUT_OF_MEMORY);
+        }
+        None
+    }
+
     // A whole upload: initiate SDO upload, scs = 2, e = 1.
     pub(crate) fn take_expedited(&mut self, key: Key, value: &ExpeditedData, outbox: &mut Outbox)
         requires room { HasRoomFor 1 outbox.old }
@@ -80,13 +96,9 @@ impl<'a> Client<'a> {
             self.give_up(AbortCode::UNKNOWN_COMMAND, outbox);
             return;
         };
-        if !self.has_key(key) {
-            self.give_up(AbortCode::UNKNOWN_COMMAND, outbox);
-            return;
-        }
         let bytes = expedited_value(value);
-        if self.cap() < bytes.len() {
-            self.give_up(AbortCode::OUT_OF_MEMORY, outbox);
+        if let Some(fault) = self.upload_fault(key, bytes.len()) {
+            self.give_up(fault, outbox);
             return;
         }
         self.buffer.fill(bytes);
@@ -109,12 +121,8 @@ impl<'a> Client<'a> {
             self.give_up(AbortCode::UNKNOWN_COMMAND, outbox);
             return;
         };
-        if !self.has_key(key) {
-            self.give_up(AbortCode::UNKNOWN_COMMAND, outbox);
-            return;
-        }
-        if self.cap() < size.unwrap_or(0) as usize {
-            self.give_up(AbortCode::OUT_OF_MEMORY, outbox);
+        if let Some(fault) = self.upload_fault(key, size.unwrap_or(0) as usize) {
+            self.give_up(fault, outbox);
             return;
         }
         self.buffer.fill(&[]);
