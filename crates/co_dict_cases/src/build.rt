@@ -17,8 +17,10 @@ const BUILDS: &str = "\
 0|build fault 1 NodeId|HighLimit=1000/>HighLimit=1000/DefaultValue=$NODEID+999/
 128|build fault 1 NodeId|
 5|build fault 2 ValueRange 2003:00|HighLimit=1000/>HighLimit=1000/DefaultValue=$NODEID+999/;$NODEID+0x180>0x101
-5|build fault 2 ValueRange 1800:01|$NODEID+0x180>$NODEID+0xFFFFFFFF;HighLimit=1000/>HighLimit=1000/DefaultValue=$NODEID+999/
-5|build fault 3 BadCobId 1800:01|$NODEID+0x180>0x101;14=0x1A01/15=0x1010/16=0x1011/17=0x1019/>14=0x1010/15=0x1011/16=0x1019/;Objects=17>Objects=16
+5|build fault 2 ValueRange 1800:01|$NODEID+0x180>$NODEID+0xFFFFFFFF;HighLimit=1000/>HighLimit=1000/\
+    DefaultValue=$NODEID+999/
+5|build fault 3 BadCobId 1800:01|$NODEID+0x180>0x101;14=0x1A01/15=0x1010/16=0x1011/17=0x1019/>14=0x1010/\
+    15=0x1011/16=0x1019/;Objects=17>Objects=16
 5|ok|HighLimit=1000/>HighLimit=1000/DefaultValue=$NODEID+999/ParameterValue=17/
 1|ok|HighLimit=1000/>HighLimit=1000/DefaultValue=17/ParameterValue=$NODEID+999/
 5|build fault 2 ValueRange 2003:00|HighLimit=1000/>HighLimit=1000/DefaultValue=17/ParameterValue=$NODEID+999/
@@ -27,9 +29,13 @@ const BUILDS: &str = "\
 5|build fault 3 BadCobId 1201:01|0x680>0x605
 6|ok|0x680>0x605
 5|build fault 3 BadCobId 1005:00|=0x80/>=0x40000080/
-5|build fault 4 PdoPair 1801|14=0x1A01/15=0x1010/16=0x1011/17=0x1019/>14=0x1010/15=0x1011/16=0x1019/;Objects=17>Objects=16
-5|build fault 5 BadMapping 1A00:00|[1A00sub0]/DataType=5/AccessType=rw/DefaultValue=1/>[1A00sub0]/DataType=5/AccessType=rw/DefaultValue=2/
-5|build fault 5 BadMapping 1600:00|[1A00sub0]/DataType=5/AccessType=rw/DefaultValue=1/>[1A00sub0]/DataType=5/AccessType=rw/DefaultValue=2/;[1600sub0]/DataType=5/AccessType=rw/DefaultValue=1/>[1600sub0]/DataType=5/AccessType=rw/DefaultValue=3/";
+5|build fault 4 PdoPair 1801|14=0x1A01/15=0x1010/16=0x1011/17=0x1019/>14=0x1010/15=0x1011/16=0x1019/;\
+    Objects=17>Objects=16
+5|build fault 5 BadMapping 1A00:00|[1A00sub0]/DataType=5/AccessType=rw/DefaultValue=1/>[1A00sub0]/DataType=5/\
+    AccessType=rw/DefaultValue=2/
+5|build fault 5 BadMapping 1600:00|[1A00sub0]/DataType=5/AccessType=rw/DefaultValue=1/>[1A00sub0]/DataType=5/\
+    AccessType=rw/DefaultValue=2/;[1600sub0]/DataType=5/AccessType=rw/DefaultValue=1/>[1600sub0]/DataType=5/\
+    AccessType=rw/DefaultValue=3/";
 
 /// The first line that a store answers otherwise.
 fn other_build<S: SheetStore>(alloc: Global) -> Result<Option<&'static str>, Fail> {

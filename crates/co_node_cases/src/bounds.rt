@@ -1,9 +1,10 @@
 //! How many frames an input gives at most, and records of many inputs.
 
 use crate::scripts::shows;
+use co_fixtures::sheet_of;
 use co_frame::Outbox;
 use co_node::{AppEvent, Input, Node, Record};
-use co_node_scripts::{devices_of, node_of, sheet_of, write};
+use co_node_scripts::{devices_of, node_of, write};
 use co_sdo_scripts::{BadScript, are_frames, frame_of};
 use co_value::Key;
 use std::alloc::{AllocError, Global};
@@ -19,7 +20,7 @@ fn boots(node: &Node) -> bool {
 
 #[test]
 fn mandatory_objects_alone(rt: HostRuntime) -> Result<(), Fail> {
-    let text = sheet_of(rt.alloc(), "", "", "")?;
+    let text = sheet_of(rt.alloc(), &[], &[], "")?;
     let node = node_of(rt.alloc(), text.as_str(), 1000)?;
     assert!(rt; boots(&node));
     Ok(())

@@ -1,8 +1,9 @@
 //! Devices with as many TPDOs, and as many SDO channels, as there may be.
 
 use crate::scripts::shows;
+use co_fixtures::sheet_of;
 use co_node::Node;
-use co_node_scripts::{node_of, sheet_of};
+use co_node_scripts::node_of;
 use co_text::word_digits;
 use std::alloc::{AllocError, Global};
 use std::string::String;
@@ -31,7 +32,7 @@ fn with_tpdos(alloc: Global) -> Result<Node, Fail> {
             "{name} 9\n{name}sub0 5 rw 1\n{name}sub1 7 rw 0x20020020\n"
         )?;
     }
-    let text = sheet_of(alloc, table.as_str(), WITH_NUMBER, "")?;
+    let text = sheet_of(alloc, &[table.as_str()], &[WITH_NUMBER], "")?;
     Ok(node_of(alloc, text.as_str(), 1)?)
 }
 
@@ -67,7 +68,7 @@ fn with_channels(alloc: Global) -> Result<Node, Fail> {
             "{name}sub1 7 ro {request}\n{name}sub2 7 ro {answer}\n"
         )?;
     }
-    let text = sheet_of(alloc, table.as_str(), "2100 2", "")?;
+    let text = sheet_of(alloc, &[table.as_str()], &["2100 2"], "")?;
     Ok(node_of(alloc, text.as_str(), 1)?)
 }
 

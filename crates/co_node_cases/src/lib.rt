@@ -6,6 +6,8 @@ mod bounds;
 #[cfg(test)]
 mod large;
 #[cfg(test)]
+mod mappings;
+#[cfg(test)]
 mod resets;
 #[cfg(test)]
 mod scripts;

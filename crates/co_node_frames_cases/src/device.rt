@@ -1,10 +1,9 @@
 //! The device of the table of replies, and what it does with frames in text.
 
-use arrayvec::ArrayVec;
 use co_dict_build::Limits;
 use co_frame::{Frame, Outbox};
 use co_node::{AppEvent, Config, Input, Node};
-use co_sdo_states::SHEET;
+use co_sdo_scripts::{SHEET, frame_of};
 use co_sheet::read;
 use co_value::Key;
 use std::alloc::Global;
@@ -32,26 +31,6 @@ pub(crate) fn device(alloc: Global) -> Result<Node, Fail> {
         time: 65535,
     };
     Ok(Node::build(alloc, &sheet, 5, &config)?)
-}
-
-/// The frame that a text spells: its identifier, `#`, and eight data bytes, all in hexadecimal digits.
-pub(crate) fn frame_of(text: &str) -> Result<Frame, Fail> {
-    let (id, digits) = text.split_once('#').ok_or("no data")?;
-    let id = u16::from_str_radix(id, 16)?;
-    let number = u64::from_str_radix(digits, 16)?;
-    Ok(Frame::new(id, &number.to_be_bytes())?)
-}
-
-/// The requests of a dialogue.
-pub(crate) fn requests_of(dialogue: &str) -> Result<ArrayVec<Frame, 4>, Fail> {
-    let mut requests = ArrayVec::new();
-    for text in dialogue.split_whitespace() {
-        let frame = frame_of(text)?;
-        if frame.id() == 0x605 && !requests.is_full() {
-            requests.push(frame);
-        }
-    }
-    Ok(requests)
 }
 
 // Puts what an input gives into the place of what was sent: a frame; else an event of the application; else a tick.

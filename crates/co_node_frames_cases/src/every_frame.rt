@@ -1,9 +1,9 @@
 //! A device in each state of its first SDO channel: what it sends to every value of a frame's first two bytes.
 
-use crate::device::{INITIAL, STRING, device, frame_of, requests_of, shows, take, write};
+use crate::device::{INITIAL, STRING, device, shows, take, write};
 use co_frame::{Frame, Outbox};
 use co_node::Node;
-use co_sdo_states::{Outcome, STATES, State};
+use co_sdo_scripts::{Outcome, STATES, State, frame_of};
 use co_value::Key;
 use std::process::Abort;
 use std::test::Fail;
@@ -84,7 +84,7 @@ fn check_all(rt: &impl Abort, node: &mut Node, state: State) -> Result<(), Fail>
     shows(rt, node, state.opening())?;
     let mut sent = Outbox::new();
     take(node, &frame_of(ABORT)?, &mut sent);
-    let requests = requests_of(state.opening())?;
+    let requests = state.requests()?;
     for number in 0..=0xFFFFu16 {
         open(node, requests.as_slice(), &mut sent);
         check(rt, node, state, number.to_be_bytes(), &mut sent)?;

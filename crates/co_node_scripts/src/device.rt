@@ -1,7 +1,7 @@
 //! A device out of a table, and single inputs of it.
 
-use crate::sheet::{COUNTER, MANUFACTURER, PROFILE, sheet_of};
 use co_dict_build::Limits;
+use co_fixtures::{COUNTER, MANUFACTURER, PDOS, PROFILE, sheet_of};
 use co_frame::{Frame, Outbox};
 use co_node::{AppEvent, Config, Input, Node};
 use co_sdo_scripts::BadScript;
@@ -26,11 +26,11 @@ pub fn node_of(alloc: Global, text: &str, time: u16) -> Result<Node, BadScript> 
 
 /// The sheet that most scripts are of, by the words of a line `new`.
 pub fn sheet_by(alloc: Global, words: &str) -> Result<String, AllocError> {
-    let mut optional = format!(in alloc; "{PROFILE}")?;
     if words.contains('+') {
-        optional.push_str(COUNTER)?;
+        sheet_of(alloc, &[PROFILE, PDOS, COUNTER], &[MANUFACTURER], words)
+    } else {
+        sheet_of(alloc, &[PROFILE, PDOS], &[MANUFACTURER], words)
     }
-    sheet_of(alloc, optional.as_str(), MANUFACTURER, words)
 }
 
 /// The device that a line `new` makes.

@@ -9,7 +9,6 @@ mod pdo;
 mod questions;
 mod script;
 mod sdo;
-mod sheet;
 mod states;
 
 pub use device::{elapse, node_by, node_of, sheet_by, take, write};
@@ -17,5 +16,4 @@ pub use dialogue::node_follows;
 pub use pdo::{RPDOS, TPDOS};
 pub use script::{devices_of, first_wrong};
 pub use sdo::{BLOCKS, SEGMENTED};
-pub use sheet::sheet_of;
 pub use states::{APPLICATION, EMERGENCIES};

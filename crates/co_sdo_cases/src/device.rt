@@ -1,8 +1,7 @@
 //! A channel over the dictionary of a data sheet.
 
 use co_dict_list::{Limits, ListStore};
-use co_sdo_scripts::{Served, server_follows};
-use co_sdo_states::SHEET;
+use co_sdo_scripts::{SHEET, Served, server_follows};
 use co_sheet::read;
 use std::alloc::Global;
 use std::process::Abort;

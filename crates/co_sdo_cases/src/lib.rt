@@ -1,11 +1,16 @@
-//! Tests of an SDO channel through the public calls of its crate, so that that is proved once.
+//! Tests of an SDO channel, and of all channels of a device, through the public calls of their crates, so that these are proved
+//! once.
 #![tactic(auto)]
 
 #[cfg(test)]
 mod block_upload;
+#[cfg(test)]
+mod channels;
 #[cfg(test)]
 mod device;
 #[cfg(test)]
 mod dialogues;
 #[cfg(test)]
 mod states;
+#[cfg(test)]
+mod two_channels;

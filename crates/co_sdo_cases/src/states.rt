@@ -2,10 +2,8 @@
 //! transfer.
 
 use crate::device::{Device, device_of, shows};
-use arrayvec::ArrayVec;
 use co_frame::{Frame, Outbox};
-use co_sdo_scripts::frame_of;
-use co_sdo_states::{Outcome, STATES, State};
+use co_sdo_scripts::{Outcome, STATES, State};
 use co_value::Key;
 use std::process::Abort;
 use std::test::Fail;
@@ -33,18 +31,6 @@ fn is_shown(device: &Device, sent: &[Frame], set: Option<Key>, outcome: &Outcome
         && device.held() == outcome.held
         && device.has(0x2001, bytes)
         && device.has(0x2002, &[0xEF, 0xBE, 0xAD, 0xDE])
-}
-
-// The requests of a dialogue.
-fn requests_of(dialogue: &str) -> Result<ArrayVec<Frame, 4>, Fail> {
-    let mut requests = ArrayVec::new();
-    for text in dialogue.split_whitespace() {
-        let frame = frame_of(text)?;
-        if frame.id() == 0x605 && !requests.is_full() {
-            requests.push(frame);
-        }
-    }
-    Ok(requests)
 }
 
 // Sends the requests that lead to a state.
@@ -82,7 +68,7 @@ fn check(
 fn check_all(rt: &impl Abort, device: &mut Device, state: State) -> Result<(), Fail> {
     shows(rt, device, state.opening());
     device.drop_transfer();
-    let requests = requests_of(state.opening())?;
+    let requests = state.requests()?;
     let mut sent = Outbox::new();
     for number in 0..=0xFFFFu16 {
         open(device, requests.as_slice(), &mut sent);

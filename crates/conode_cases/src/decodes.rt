@@ -13,9 +13,12 @@ use std::test::Fail;
 const ROWS: &str = "\
 (0.0) can0 000#8000| => stopped: BadLine 1|
  => 
-(0000000000.000000) can0 605#2B171000E8030000| => 1 605#2B171000E8030000 SDO request node 5 download 1017:00 expedited E803|
-(0000000000.000000) can0 585#8001200000000305 T|!tick 5|x|(0.000000) can0 080#| => 1 585#8001200000000305 SDO answer node 5 abort 2001:00 05030000|stopped: BadLine 3|
-(0.000000) can0 080#07\r|!tick 1000|!write 2001:00 -|(86401.000000) can0 080#|(172801.001000) can0 080# => 1 080#07 SYNC 7|4 080# SYNC|stopped: BadLine 5|
+(0000000000.000000) can0 605#2B171000E8030000| => \
+    1 605#2B171000E8030000 SDO request node 5 download 1017:00 expedited E803|
+(0000000000.000000) can0 585#8001200000000305 T|!tick 5|x|(0.000000) can0 080#| => \
+    1 585#8001200000000305 SDO answer node 5 abort 2001:00 05030000|stopped: BadLine 3|
+(0.000000) can0 080#07\r|!tick 1000|!write 2001:00 -|(86401.000000) can0 080#|(172801.001000) can0 080# => \
+    1 080#07 SYNC 7|4 080# SYNC|stopped: BadLine 5|
 (0.000000) can0 00000605#40|(0.000000) can0 605#R|(0.000000) can0 7ff# => 3 7FF# unknown|";
 
 #[test]

@@ -77,7 +77,9 @@ const SHEETS: &str = "\
 ; end / ParameterValue=0x99|[DeviceComissioning]|NodeID=5 => ok: 3 objects, 4 entries, 0 notes|node 5|
 ; end / [DeviceCommissioning]|NodeID=255 => ok: 3 objects, 4 entries, 1 notes|note 23 NodeId|
 ; end / [DeviceCommissioning]|NodeID=127|[2000] => ok: 3 objects, 4 entries, 1 notes|note 24 Unlisted|node 127|
-; end / [DeviceComissioning]|NodeID=5|[OptionalObjects]|SupportedObjects=1|1=0x1014|[1014]|DataType=7|AccessType=rw|ParameterValue=0x101|[2000] => ok: 4 objects, 5 entries, 1 notes|note 31 Unlisted|node 5|build fault 3 BadCobId 1014:00|
+; end / [DeviceComissioning]|NodeID=5|[OptionalObjects]|SupportedObjects=1|1=0x1014|[1014]|DataType=7|\
+    AccessType=rw|ParameterValue=0x101|[2000] => ok: 4 objects, 5 entries, 1 notes|note 31 Unlisted|\
+    node 5|build fault 3 BadCobId 1014:00|
 ; end / ParameterValue=0x99|[DeviceComissioning]|NodeID=5|[DeviceCommissioning] => fault 4 DuplicateSection line 25|
 ; end / ParameterValue=0x100000000 => fault 16 BadDefault line 22|
 [1000] / [1000 => fault 2 BadLine line 6|
@@ -105,11 +107,21 @@ const BUILDS: &str = "\
 0 ; end / [DeviceComissioning]|NodeID=5 => ok: 3 objects, 4 entries, 0 notes|build fault 1 NodeId|
 0 ; end / ; end => ok: 3 objects, 4 entries, 0 notes|build fault 1 NodeId|
 128 ; end / ; end => ok: 3 objects, 4 entries, 0 notes|build fault 1 NodeId|
-1 ; end / [OptionalObjects]|SupportedObjects=1|1=0x2003|[2003]|DataType=6|AccessType=rw|HighLimit=1000|DefaultValue=$NODEID+999 => ok: 4 objects, 5 entries, 0 notes|
-5 ; end / [OptionalObjects]|SupportedObjects=1|1=0x2003|[2003]|DataType=6|AccessType=rw|HighLimit=1000|DefaultValue=$NODEID+999 => ok: 4 objects, 5 entries, 0 notes|build fault 2 ValueRange 2003:00|
-5 ; end / [OptionalObjects]|SupportedObjects=1|1=0x1014|[1014]|DataType=7|AccessType=rw|DefaultValue=0x101 => ok: 4 objects, 5 entries, 0 notes|build fault 3 BadCobId 1014:00|
-5 ; end / [OptionalObjects]|SupportedObjects=1|1=0x1801|[1801]|ObjectType=9|[1801sub0]|DataType=5|AccessType=ro|DefaultValue=2|[1801sub1]|DataType=7|AccessType=rw|DefaultValue=$NODEID+0x280|[1801sub2]|DataType=5|AccessType=rw|DefaultValue=255|[1A01] => ok: 4 objects, 7 entries, 1 notes|note 39 Unlisted|build fault 4 PdoPair 1801|
-5 ; end / [OptionalObjects]|SupportedObjects=2|1=0x1800|2=0x1A00|[1800]|ObjectType=9|[1800sub0]|DataType=5|AccessType=ro|DefaultValue=2|[1800sub1]|DataType=7|AccessType=rw|DefaultValue=$NODEID+0x180|[1800sub2]|DataType=5|AccessType=rw|DefaultValue=255|[1A00]|ObjectType=9|[1A00sub0]|DataType=5|AccessType=rw|DefaultValue=1|[1A00sub1]|DataType=7|AccessType=rw => ok: 5 objects, 9 entries, 0 notes|build fault 5 BadMapping 1A00:00|";
+1 ; end / [OptionalObjects]|SupportedObjects=1|1=0x2003|[2003]|DataType=6|AccessType=rw|HighLimit=1000|\
+    DefaultValue=$NODEID+999 => ok: 4 objects, 5 entries, 0 notes|
+5 ; end / [OptionalObjects]|SupportedObjects=1|1=0x2003|[2003]|DataType=6|AccessType=rw|HighLimit=1000|\
+    DefaultValue=$NODEID+999 => ok: 4 objects, 5 entries, 0 notes|build fault 2 ValueRange 2003:00|
+5 ; end / [OptionalObjects]|SupportedObjects=1|1=0x1014|[1014]|DataType=7|AccessType=rw|DefaultValue=0x101 => \
+    ok: 4 objects, 5 entries, 0 notes|build fault 3 BadCobId 1014:00|
+5 ; end / [OptionalObjects]|SupportedObjects=1|1=0x1801|[1801]|ObjectType=9|[1801sub0]|DataType=5|\
+    AccessType=ro|DefaultValue=2|[1801sub1]|DataType=7|AccessType=rw|DefaultValue=$NODEID+0x280|[1801sub2]|\
+    DataType=5|AccessType=rw|DefaultValue=255|[1A01] => ok: 4 objects, 7 entries, 1 notes|\
+    note 39 Unlisted|build fault 4 PdoPair 1801|
+5 ; end / [OptionalObjects]|SupportedObjects=2|1=0x1800|2=0x1A00|[1800]|ObjectType=9|[1800sub0]|DataType=5|\
+    AccessType=ro|DefaultValue=2|[1800sub1]|DataType=7|AccessType=rw|DefaultValue=$NODEID+0x180|[1800sub2]|\
+    DataType=5|AccessType=rw|DefaultValue=255|[1A00]|ObjectType=9|[1A00sub0]|DataType=5|AccessType=rw|\
+    DefaultValue=1|[1A00sub1]|DataType=7|AccessType=rw => ok: 5 objects, 9 entries, 0 notes|\
+    build fault 5 BadMapping 1A00:00|";
 
 /// The writer takes so many bytes, and then fails.
 #[test]

@@ -1,107 +1,115 @@
-//! What single lines say.
+//! Lines, however the bytes come.
 
-use co_text::HexPairs;
-use co_value::Key;
-use conode_trace::{AppLine, EventLine, TraceLine};
-use std::alloc::AllocError;
+use co_fixtures::{Endless, Pieces};
+use co_stream::{LineFault, LineReader};
+use std::io::Read;
 use std::process::Abort;
 use std::test::Fail;
 
-// what an event of the application is, as a text: its name and its values, bytes in decimal
-fn app_text(event: &AppLine<'_>, text: &mut String) -> Result<(), AllocError> {
-    match event {
-        AppLine::Write(key, bytes) => {
-            let bytes = bytes.len();
-            let (index, sub) = (key.index, key.sub);
-            write!(text, "write {index} {sub} {bytes}")
+/// A line that is held whole can be known.
+#[test]
+fn held_line(rt: HostRuntime) {
+    let mut lines = LineReader::new();
+    assert!(rt; !lines.has_line());
+    assert!(rt; lines.next(&mut Pieces::new(b"a\nb\n", 10)).is_ok());
+    assert!(rt; lines.has_line());
+}
+
+/// The lines that come, each with a bar after it, and then the fault, if there is one.
+fn joined(
+    rt: &impl AllocGlobal,
+    reader: &mut impl Read,
+) -> Result<(String, Option<LineFault>), Fail> {
+    let mut lines = LineReader::new();
+    let mut text = Vec::new(rt.alloc());
+    for _ in 0..10 {
+        match lines.next(reader) {
+            Ok(Some(line)) => {
+                text.extend_from_slice(line)?;
+                text.push(b'|')?;
+            }
+            Ok(None) => return Ok((String::from_utf8(text)?, None)),
+            Err(fault) => return Ok((String::from_utf8(text)?, Some(fault))),
         }
-        AppLine::Event(number) => write!(text, "event {number}"),
-        AppLine::Changed(key) => {
-            let (index, sub) = (key.index, key.sub);
-            write!(text, "changed {index} {sub}")
-        }
-        AppLine::Raise(code, bits, extra) => {
-            let last = extra[4];
-            write!(text, "raise {code} {bits} {last}")
-        }
-        AppLine::Clear(bits) => write!(text, "clear {bits}"),
+    }
+    Err("more than 10 lines".into())
+}
+
+const CUTS: &str = "[1000]\r\nDataType=7\n\n; \r b\r\r\n\r\nlast\r";
+
+const LINES: &str = "[1000]|DataType=7||; \r b\r||last\r|";
+
+#[test]
+fn each_cut_gives_the_same_lines(rt: HostRuntime) -> Result<(), Fail> {
+    for size in [1, 2, 7, 512, 1000] {
+        let (text, fault) = joined(&rt, &mut Pieces::new(CUTS.as_bytes(), size))?;
+        assert_eq!(rt; text.as_str(), LINES);
+        assert_eq!(rt; fault, None);
+    }
+    Ok(())
+}
+
+/// How long the first line is, by pieces of so many bytes; 0 where it is too long.
+fn first_length(text: &[u8], piece: usize) -> usize {
+    let mut lines = LineReader::new();
+    match lines.next(&mut Pieces::new(text, piece)) {
+        Ok(Some(line)) => line.len(),
+        _ => 0,
     }
 }
 
-// what a line says, as a text
-fn line_text(line: &[u8], text: &mut String) -> Result<(), AllocError> {
-    match &TraceLine::read(line) {
-        None => text.push_str("bad"),
-        Some(TraceLine::Skipped) => text.push_str("skipped"),
-        Some(TraceLine::PassedOver { stamp }) => write!(text, "passed over {stamp}"),
-        Some(TraceLine::Data { stamp, frame }) => {
-            let (id, len) = (frame.id(), frame.bytes().len());
-            write!(text, "data {stamp} {id} {len}")
-        }
-        Some(TraceLine::Event(EventLine::Ticks(count))) => write!(text, "ticks {count}"),
-        Some(TraceLine::Event(EventLine::App(event))) => app_text(event, text),
-    }
-}
-
-// each row a line of a trace, ` = `, and what it says
-fn check(rt: &(impl AllocGlobal + Abort), rows: &'static str) -> Result<(), Fail> {
-    let mut text = String::new(rt.alloc());
-    for row in rows.lines() {
-        let (line, said) = row.split_once(" = ").ok_or("no row")?;
+/// Comments of so many bytes, with an end and perhaps another line.
+#[test]
+fn longest_lines(rt: HostRuntime) -> Result<(), Fail> {
+    let mut text = Vec::new(rt.alloc());
+    for (size, end, length) in [
+        (512, "\nnext", 512),
+        (512, "\r\nnext", 512),
+        (512, "", 512),
+        (511, "\r", 512),
+        (512, "\r\r\n", 0),
+        (512, "\r", 0),
+        (512, "\rx", 0),
+        (513, "\nnext", 0),
+        (513, "\r\n", 0),
+        (513, "", 0),
+    ] {
         text.clear();
-        line_text(line.as_bytes(), &mut text)?;
-        assert_eq!(rt; text.as_str(), said, "for {line:?}");
+        text.resize(size, b';')?;
+        text.extend_from_slice(end.as_bytes())?;
+        for piece in [1, 7, 512, 1000] {
+            assert_eq!(rt; first_length(text.as_slice(), piece), length);
+        }
+    }
+    Ok(())
+}
+
+/// The lines before a read that fails are there.
+#[test]
+fn a_read_fails(rt: HostRuntime) -> Result<(), Fail> {
+    for calls in 0..9 {
+        let mut reader = Pieces {
+            text: b"ab\ncd\nef",
+            size: 1,
+            interruptions: 0,
+            calls,
+        };
+        let mut lines = LineReader::new();
+        for _ in 0..calls / 3 {
+            assert!(rt; lines.next(&mut reader).is_ok_and(|line| line.is_some()));
+        }
+        assert_eq!(rt; lines.next(&mut reader), Err(LineFault::Read));
     }
     Ok(())
 }
 
 #[test]
-fn event_lines(rt: HostRuntime) -> Result<(), Fail> {
-    check(
-        &rt,
-        "!tick 00086400000 = ticks 86400000
-!tick 18446744073709551617 = bad
-!write 2002:0A EFbeADde = write 8194 10 4
-!write 2001:00 - = write 8193 0 0
-!write 2001:00 0 = bad
-!event 65535 = event 65535
-!changed ffFF:fF = changed 65535 255
-!raise 8130 11 0102030405 = raise 33072 17 5
-!raise 8130 11 01020304 = bad
-!clear 1F = clear 31
-!stop = bad",
-    )
-}
-
-#[test]
-fn frame_lines(rt: HostRuntime) -> Result<(), Fail> {
-    check(
-        &rt,
-        "(1.002999) can0 605#2B171000E8030000 = data 1002 1541 8
-(999999999999.999999) c 000# T = data 999999999999999 0 0
-(1.000000) can0 605#R3 = passed over 1000
-(1.000000) can0 605##0 = passed over 1000
-(1.000000) can0 00000605#01 = passed over 1000
-(1.000000) can0 800# = bad
-(1.00000) can0 605# = bad
- = skipped
-; (1.0 = skipped",
-    )
-}
-
-#[test]
-fn words_of_the_command_line(rt: HostRuntime) -> Result<(), Fail> {
-    let Some(mut bytes) = HexPairs::read(b"00fF7a") else {
-        return Err("no bytes".into());
+fn lines_without_end(rt: HostRuntime) -> Result<(), Fail> {
+    let mut reader = Endless {
+        interruptions: 16_777_213,
     };
-    assert_eq!(rt; bytes.len(), 3);
-    assert_eq!(rt; bytes.next(), Some(0));
-    assert_eq!(rt; bytes.next(), Some(255));
-    assert_eq!(rt; bytes.next(), Some(122));
-    assert_eq!(rt; bytes.next(), None);
-    assert!(rt; HexPairs::read(b"").is_none());
-    assert!(rt; HexPairs::read(b"0").is_none());
-    assert!(rt; Key::parse(b"1018:01").is_some());
-    assert!(rt; Key::parse(b"1018:1").is_none());
+    let (text, fault) = joined(&rt, &mut reader)?;
+    assert_eq!(rt; text.as_str(), "|||");
+    assert_eq!(rt; fault, Some(LineFault::NeverEnds));
     Ok(())
 }

@@ -1,11 +1,11 @@
-//! The SDO channels of a device and its dictionary, with frames in text.
+//! Two SDO channels of a device and its dictionary, with frames in text.
 
 ghost use Rattle.co_sdo_bank.specs.Channels.{HaveRoom};
 ghost use Rattle.co_sdo_bank.specs.Banks.{all_settings};
 
-use crate::sheet::TWO_CHANNELS;
 use co_dict::{ObjectStore, capacity_law};
 use co_dict_list::{Limits, ListStore};
+use co_fixtures::sheet_of;
 use co_frame::Outbox;
 use co_sdo_bank::Bank;
 use co_sdo_scripts::{are_frames, frame_of};
@@ -15,31 +15,44 @@ use std::alloc::{AllocError, Global};
 use std::process::Abort;
 use std::test::Fail;
 
+// Channel 1, and channel 2, which the highest bit of its requests' COB-ID takes away.
+const CHANNELS: &str = "\
+1201 9
+1201sub0 5 ro 2
+1201sub1 7 ro 0x680
+1201sub2 7 ro 0x681
+1202 9
+1202sub0 5 ro 2
+1202sub1 7 ro 0x80000682
+1202sub2 7 ro 0x683
+";
+
 /// SDO channels over a dictionary, each with room for every entry.
 #[derive(Drop)]
-pub(crate) struct Served<S: ObjectStore> {
+pub(crate) struct Channels<S: ObjectStore> {
     pub(crate) bank: Bank,
     pub(crate) store: S,
     ghost room: { HaveRoom (S.description store).rows (all_settings bank) },
 }
 
-/// The sheet with two channels at node-ID 5, with room for strings of 16 bytes; `time` is that of a transfer.
-pub(crate) fn two_channels(alloc: Global, time: u16) -> Result<Served<ListStore>, Fail> {
-    let sheet = read(alloc, TWO_CHANNELS.as_bytes())?;
+/// A device with channels 0 and 1 at node-ID 5, with room for strings of 16 bytes; `time` is that of a transfer.
+pub(crate) fn two_channels(alloc: Global, time: u16) -> Result<Channels<ListStore>, Fail> {
+    let text = sheet_of(alloc, &[CHANNELS], &["2001 9 rw\n"], "")?;
+    let sheet = read(alloc, text.as_bytes())?;
     let limits = Limits {
         strings: 16,
         domains: 0,
         own: &[],
     };
     let store = ListStore::build(alloc, &sheet, 5, &limits)?;
-    Ok(Served::over(alloc, store, time)?)
+    Ok(Channels::over(alloc, store, time)?)
 }
 
-impl<S: ObjectStore + Drop> Served<S> {
-    fn over(alloc: Global, store: S, time: u16) -> Result<Served<S>, AllocError> {
+impl<S: ObjectStore + Drop> Channels<S> {
+    fn over(alloc: Global, store: S, time: u16) -> Result<Channels<S>, AllocError> {
         capacity_law(&store);
         let bank = Bank::new(alloc, &store, 65535, time)?;
-        Ok(Served { bank, store })
+        Ok(Channels { bank, store })
     }
 
     // The frames that are sent at a word: `+` is a tick, any other a frame that comes.

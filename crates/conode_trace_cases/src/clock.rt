@@ -1,4 +1,4 @@
-//! Lines in their order: their numbers, ticks and clock, up to a bad one.
+//! Lines of a trace in their order: their numbers, ticks and clock, up to a bad one.
 
 use conode_trace::{BadLine, TraceProgress};
 use std::test::Fail;

@@ -1,6 +1,6 @@
 //! Transfers on two channels at once.
 
-use crate::served::two_channels;
+use crate::two_channels::two_channels;
 use co_frame::Frame;
 use std::test::Fail;
 

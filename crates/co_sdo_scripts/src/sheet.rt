@@ -1,4 +1,4 @@
-//! The data sheet of the device.
+//! The data sheet of the device whose channel the table is of.
 
 /// The mandatory objects, a string at 2001h, numbers at 2002h to 2004h, and a domain at 2100h.
 pub const SHEET: &str = "\

@@ -1,9 +1,13 @@
 //! The states of a channel.
 
+use crate::bad_script::BadScript;
+use crate::frames::frame_of;
 use crate::reply_table::{
     Outcome, block_upload_ended, block_upload_initiated, block_upload_sent, full_sub_block, idle,
     last_segment_taken, segmented_download, segmented_upload, sub_block,
 };
+use arrayvec::ArrayVec;
+use co_frame::Frame;
 
 /// A state of a channel. What is open is a transfer of 2001h.
 #[derive(Clone, Copy, Debug, PartialEq, Eq)]
@@ -67,6 +71,18 @@ impl State {
                 605#A2027F0000000000 585#D100000000000000"
             }
         }
+    }
+
+    /// Those requests alone.
+    pub fn requests(self) -> Result<ArrayVec<Frame, 4>, BadScript> {
+        let mut requests = ArrayVec::new();
+        for text in self.opening().split_whitespace() {
+            let frame = frame_of(text)?;
+            if frame.id() == 0x605 && !requests.is_full() {
+                requests.push(frame);
+            }
+        }
+        Ok(requests)
     }
 
     /// What a frame leads to whose first bytes are these, and whose others are 0.
