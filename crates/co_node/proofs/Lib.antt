@@ -1,4 +1,5 @@
 pub mod Runs
 pub mod Builds
+pub mod Held
 mod Begins
 mod BuiltExamples
