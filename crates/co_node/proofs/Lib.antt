@@ -1,5 +1,6 @@
 pub mod Runs
 pub mod Builds
+pub mod Greatest
 pub mod Held
 mod Begins
 mod BuiltExamples

@@ -11,8 +11,9 @@ ghost use Rattle.co_node_model.specs.Inputs.{Applied, Framed, Inputs, Ticked, ap
 ghost use Rattle.co_node_model.specs.Moments.{Constants};
 ghost use Rattle.co_node_model.specs.Heartbeats.{boot_up};
 ghost use Rattle.co_node_model.specs.Device.{after_all, all_frames, app_after, contents_of, frame_bound, held_of, prescribed, room_of, state_of};
+ghost use Rattle.co_node.specs.Built.{IsBuilt};
 ghost use Rattle.co_node.specs.Held.{HoldsWithin};
-ghost use Rattle.co_node.specs.Nodes.{Stands, node_constants, planned};
+ghost use Rattle.co_node.specs.Nodes.{Stands, built_constants, greatest_capacity, node_constants, planned};
 ghost use Rattle.co_node.specs.Records.{HasRoom};
 ghost use Rattle.co_node.specs.Runs.{all_ends, most_frames, recorded_after};
 
@@ -49,6 +50,13 @@ impl Node {
             (built_description (planned sheet.now node_id config.now)).rows greatest → Stands
             (node_constants (planned sheet.now node_id config.now) greatest config.now.time)
             node []) }
+        ensures begins { IfOk result (λ node. Stands
+            (built_constants (planned sheet.now node_id config.now) config.now.time) node []) }
+        ensures built { IfOk result (λ _. IsBuilt (planned sheet.now node_id config.now)
+            (built_constants (planned sheet.now node_id config.now) config.now.time)) }
+        ensures greatest { IsGreatestCapacity
+            (built_description (planned sheet.now node_id config.now)).rows
+            (greatest_capacity (built_description (planned sheet.now node_id config.now))) }
         ensures start { IfOk result (λ _. (key : Key) →
             built_contents (planned sheet.now node_id config.now) key
             ≡ (built_description (planned sheet.now node_id config.now)).initial key) }
