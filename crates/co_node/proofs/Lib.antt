@@ -2,5 +2,6 @@ pub mod Runs
 pub mod Builds
 pub mod Greatest
 pub mod Held
+pub mod Refused
 mod Begins
 mod BuiltExamples

@@ -3,3 +3,4 @@ pub mod Runs
 pub mod Nodes
 pub mod Built
 pub mod Held
+pub mod Refused

@@ -1,12 +1,13 @@
 //! A device made from a data sheet.
 
-ghost use Rattle.std.specs.Prelude.{◌≡◌, ℕ, ◌≤◌, ◌<◌, ◌+◌, ◌*◌, ◌++◌, ◌&&◌, [], ◌∷◌, None, IfOk, IfErr, IfSome, is_some, length, map, nat_lt, take, option_map};
+ghost use Rattle.std.specs.Prelude.{◌≡◌, ℕ, Some, ◌≤◌, ◌<◌, ◌+◌, ◌*◌, ◌++◌, ◌&&◌, [], ◌∷◌, None, IfOk, IfErr, IfSome, is_some, length, map, nat_lt, take, option_map};
 ghost use Rattle.co_value.specs.declared.key.Key.{Key};
 ghost use Rattle.co_dict.specs.Stores.{IsGreatestCapacity};
 ghost use Rattle.co_dict_build.specs.Built.{built_contents, built_description};
 ghost use Rattle.co_dict_build.specs.BuildFaults.{IsBuildFault, build_fault};
 ghost use Rattle.co_pdo.specs.Mappings.{has_pdo, mapping_of};
 ghost use Rattle.co_pdo_compiled.specs.CompiledMappings.{IsCompiledForm};
+ghost use Rattle.co_node_model.specs.AppEvents.{event_refusal};
 ghost use Rattle.co_node_model.specs.Inputs.{Applied, Framed, Inputs, Ticked, app_view, input_view};
 ghost use Rattle.co_node_model.specs.Moments.{Constants};
 ghost use Rattle.co_node_model.specs.Heartbeats.{boot_up};
@@ -15,6 +16,7 @@ ghost use Rattle.co_node.specs.Built.{IsBuilt};
 ghost use Rattle.co_node.specs.Held.{HoldsWithin};
 ghost use Rattle.co_node.specs.Nodes.{Stands, built_constants, greatest_capacity, node_constants, planned};
 ghost use Rattle.co_node.specs.Records.{HasRoom};
+ghost use Rattle.co_node.specs.Refused.{AsForNobody};
 ghost use Rattle.co_node.specs.Runs.{all_ends, most_frames, recorded_after};
 
 use crate::config::Config;
@@ -121,6 +123,10 @@ impl Node {
             length outbox.new.items ≤ frame_bound k before (Applied (app_view event.entry)) }
         ensures held { (k : Constants) (before : Inputs) → Stands k self.old before →
             HoldsWithin k (Applied (app_view event.entry) ∷ before) }
+        ensures refused { (k : Constants) (before : Inputs) → Stands k self.old before →
+            (code : ℕ) →
+            event_refusal k.description (contents_of k before) (app_view event.entry) ≡ Some code →
+            AsForNobody k self.new outbox.new.items before (app_view event.entry) code }
     {
         self.device.take_event(event, outbox);
     }
