@@ -2,7 +2,7 @@
 -- EMCY that it may not have.
 use Rattle.std.proofs.Common.{◌≡◌, ℕ, false, [], ◌∷◌, Some, None, refl}
 use Rattle.std.specs.Prelude.{pos}
-use Rattle.co_value.specs.declared.data_type.DataType.TheVariants.{Unsigned32}
+use Rattle.co_value.specs.declared.data_type.DataType.TheVariants.{Unsigned8, Unsigned16, Unsigned32}
 use Rattle.co_profile.specs.declared.access.Access.TheVariants.{Rw}
 use Rattle.co_sheet.specs.Content.{Row as SheetRow}
 use Rattle.co_sheet.specs.Limits.{number}
@@ -14,6 +14,7 @@ use Rattle.co_dict_build.specs.Built.{Plan, built_contents, built_description}
 use Rattle.co_dict_build.specs.BuildFaults.{build_fault, is_used_before}
 use Rattle.co_node_model.specs.Moments.{Constants}
 use Rattle.co_node.specs.Built.{IsBuilt}
+use Rattle.co_node.specs.Nodes.{built_constants, greatest_capacity}
 
 abbrev row : ℕ → ℕ → SheetRow
 row index word = record { key = at index 0; data_type = Unsigned32; access = Rw; low = None; high = None; default = number (pos word); mappable = false; name = None; line = 0 }
@@ -39,3 +40,16 @@ sync_refused = refl
 emergency_refused : build_fault (plan 0x80 0x585) ≡ Some (BadCobId (at 0x1014 0))
 unfolding is_sdo_id has_object subs_present is_used_before
 emergency_refused = refl
+
+-- the greatest capacity, wherever its entry is
+greatest_in_the_middle : greatest_capacity (built_description (record (plan 0 0) { rows = record (row 0x2000 0) { data_type = Unsigned8 } ∷ row 0x2001 0 ∷ record (row 0x2002 0) { data_type = Unsigned16 } ∷ [] })) ≡ 4
+greatest_in_the_middle = refl
+
+greatest_first : greatest_capacity (built_description (record (plan 0 0) { rows = record (row 0x2000 0) { data_type = Unsigned16 } ∷ record (row 0x2001 0) { data_type = Unsigned8 } ∷ [] })) ≡ 2
+greatest_first = refl
+
+greatest_of_none : greatest_capacity (built_description (record (plan 0 0) { rows = [] })) ≡ 0
+greatest_of_none = refl
+
+made_with_the_greatest : built_constants (plan 0x80 0x85) 1000 ≡ made (plan 0x80 0x85)
+made_with_the_greatest = refl

@@ -1,4 +1,7 @@
 pub mod Runs
 pub mod Builds
+pub mod Greatest
+pub mod Held
+pub mod Refused
 mod Begins
 mod BuiltExamples

@@ -1,5 +1,6 @@
 -- One more input at the end of a run.
-use Rattle.std.proofs.Common.{◌≡◌, ◌≤◌, ◌<◌, ◌+◌, ℕ, Bool, true, false, ltb, List, [], ◌∷◌, ◌++◌, length, map, get_or, take, refl, sym, ap, ◌∙◌, subst, append_assoc, append-nil, length-append, arith}
+use native.Mathlib.Nat.{add-mul}
+use Rattle.std.proofs.Common.{◌≡◌, ◌≤◌, ◌<◌, ◌+◌, ◌*◌, ℕ, zero, suc, Bool, true, false, ltb, List, [], ◌∷◌, ◌++◌, length, map, get_or, take, refl, sym, ap, ◌∙◌, subst, append_assoc, append-nil, length-append, arith}
 use Rattle.std.proofs.lemmas.List.{take_more, get_or-map, length-map}
 use Rattle.co_frame.specs.FrameContent.{FrameContent}
 use Rattle.co_node_model.specs.declared.input.Input.{Input}
@@ -7,9 +8,11 @@ use Rattle.co_node_model.specs.Inputs.{Inputs, InputView, input_view}
 use Rattle.co_node_model.specs.Moments.{Constants}
 use Rattle.co_node_model.specs.Device.{after_all, all_frames, prescribed}
 use Rattle.co_node.specs.declared.node.Node.{Node}
+use Rattle.co_node.specs.Held.{HoldsWithin}
 use Rattle.co_node.specs.Nodes.{Stands}
 use Rattle.co_node.specs.Records.{Recorded, HasRoom, with_input}
 use Rattle.co_node.specs.Runs.{all_ends, most_frames, recorded_after}
+use Rattle.co_node.proofs.Held.{holds_within}
 
 after_all-snoc : (before : Inputs) (xs : List InputView) (x : InputView) → after_all before (xs ++ x ∷ []) ≡ x ∷ after_all before xs
 after_all-snoc before [] x = refl
@@ -89,3 +92,28 @@ pub stands_more : (k : Constants) (before : Inputs) (xs ys : List InputView) (x 
     → Stands k node (x ∷ after_all before xs) → Stands k node (after_all before ys)
 stands_more k before xs ys x node next stands =
     subst (λ (inputs : Inputs). Stands k node inputs) (sym (after_all-snoc before xs x) ∙ ap (after_all before) (sym next)) stands
+
+-- one more input gives no more frames than an input gives at most
+pub few_more : (r new : Recorded) (sent : List FrameContent) (old taken most bound : ℕ) → new ≡ with_input sent r
+    → length r.frames ≤ old + taken * most → length sent ≤ bound → bound ≡ most → length new.frames ≤ old + (taken + 1) * most
+few_more r new sent old taken most bound added so_far few same =
+    let count : length new.frames ≡ length r.frames + length sent = ap (λ (r : Recorded). length r.frames) added ∙ length-append r.frames sent in
+    omega (arith, add-mul taken 1 most)
+
+-- what holds of all numbers up to one and of the next
+pub up_to_next : (P : ℕ → Type 0) (m : ℕ) → ((n : ℕ) → n ≤ m → P n) → P (m + 1) → (n : ℕ) → n ≤ m + 1 → P n
+up_to_next P m each last n below = by_test (ltb m n) refl
+  where
+    by_test : (b : Bool) → ltb m n ≡ b → P n
+    by_test true e = let same : n ≡ m + 1 = grind arith in subst P (sym same) last
+    by_test false e = each n (grind arith)
+
+pub holds_first : (k : Constants) (before : Inputs) (node : Node) (vs : List InputView) → Stands k node before → (n : ℕ) → n ≤ 0 → HoldsWithin k (after_all before (take n vs))
+holds_first k before node [] stands zero below = holds_within k before node stands
+holds_first k before node (v ∷ vs) stands zero below = holds_within k before node stands
+holds_first k before node vs stands (suc n) below = absurd (omega arith)
+
+pub holds_more : (k : Constants) (before : Inputs) (xs ys : List InputView) (x : InputView) → ys ≡ xs ++ x ∷ []
+    → HoldsWithin k (x ∷ after_all before xs) → HoldsWithin k (after_all before ys)
+holds_more k before xs ys x next holds =
+    subst (λ (inputs : Inputs). HoldsWithin k inputs) (sym (after_all-snoc before xs x) ∙ ap (after_all before) (sym next)) holds

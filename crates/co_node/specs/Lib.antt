@@ -2,3 +2,5 @@ pub mod Records
 pub mod Runs
 pub mod Nodes
 pub mod Built
+pub mod Held
+pub mod Refused

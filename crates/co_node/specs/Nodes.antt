@@ -1,6 +1,6 @@
 -- A device made from a data sheet.
-use Rattle.std.specs.Prelude.{ℕ}
-use Rattle.co_dict.specs.Rows.{Contents}
+use Rattle.std.specs.Prelude.{ℕ, fold, max}
+use Rattle.co_dict.specs.Rows.{Contents, capacity_at}
 use Rattle.co_dict.specs.Stores.{Description}
 use Rattle.co_sheet.specs.Content.{SheetContent}
 use Rattle.co_dict_image.specs.declared.image_store.ImageStore.{ImageStore}
@@ -22,6 +22,14 @@ planned sheet node config = plan_of node (limits_view config.limits) sheet
 -- what never changes of the device that is made, where this is the greatest capacity of its entries
 abbrev pub node_constants : Plan → ℕ → ℕ → Constants
 node_constants plan greatest time = constants_of (built_description plan) (built_contents plan) greatest time
+
+-- the greatest capacity of the entries of a dictionary, in bytes; 0 where it has none
+abbrev pub greatest_capacity : Description → ℕ
+greatest_capacity d = fold (λ most key. max most (capacity_at d.rows key)) 0 d.keys
+
+-- what never changes of the device that a data sheet makes, with this SDO timeout in ms
+abbrev pub built_constants : Plan → ℕ → Constants
+built_constants plan time = node_constants plan (greatest_capacity (built_description plan)) time
 
 -- the description and the contents of its dictionary
 abbrev pub description_of : ImageStore → Description

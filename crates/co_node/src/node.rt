@@ -1,18 +1,22 @@
 //! A device made from a data sheet.
 
-ghost use Rattle.std.specs.Prelude.{◌≡◌, ℕ, ◌≤◌, ◌<◌, ◌++◌, ◌&&◌, [], ◌∷◌, None, IfOk, IfErr, IfSome, is_some, length, map, nat_lt, take, option_map};
+ghost use Rattle.std.specs.Prelude.{◌≡◌, ℕ, Some, ◌≤◌, ◌<◌, ◌+◌, ◌*◌, ◌++◌, ◌&&◌, [], ◌∷◌, None, IfOk, IfErr, IfSome, is_some, length, map, nat_lt, take, option_map};
 ghost use Rattle.co_value.specs.declared.key.Key.{Key};
 ghost use Rattle.co_dict.specs.Stores.{IsGreatestCapacity};
 ghost use Rattle.co_dict_build.specs.Built.{built_contents, built_description};
 ghost use Rattle.co_dict_build.specs.BuildFaults.{IsBuildFault, build_fault};
 ghost use Rattle.co_pdo.specs.Mappings.{has_pdo, mapping_of};
 ghost use Rattle.co_pdo_compiled.specs.CompiledMappings.{IsCompiledForm};
+ghost use Rattle.co_node_model.specs.AppEvents.{event_refusal};
 ghost use Rattle.co_node_model.specs.Inputs.{Applied, Framed, Inputs, Ticked, app_view, input_view};
 ghost use Rattle.co_node_model.specs.Moments.{Constants};
 ghost use Rattle.co_node_model.specs.Heartbeats.{boot_up};
 ghost use Rattle.co_node_model.specs.Device.{after_all, all_frames, app_after, contents_of, frame_bound, held_of, prescribed, room_of, state_of};
-ghost use Rattle.co_node.specs.Nodes.{Stands, node_constants, planned};
+ghost use Rattle.co_node.specs.Built.{IsBuilt};
+ghost use Rattle.co_node.specs.Held.{HoldsWithin};
+ghost use Rattle.co_node.specs.Nodes.{Stands, built_constants, greatest_capacity, node_constants, planned};
 ghost use Rattle.co_node.specs.Records.{HasRoom};
+ghost use Rattle.co_node.specs.Refused.{AsForNobody};
 ghost use Rattle.co_node.specs.Runs.{all_ends, most_frames, recorded_after};
 
 use crate::config::Config;
@@ -48,6 +52,13 @@ impl Node {
             (built_description (planned sheet.now node_id config.now)).rows greatest → Stands
             (node_constants (planned sheet.now node_id config.now) greatest config.now.time)
             node []) }
+        ensures begins { IfOk result (λ node. Stands
+            (built_constants (planned sheet.now node_id config.now) config.now.time) node []) }
+        ensures built { IfOk result (λ _. IsBuilt (planned sheet.now node_id config.now)
+            (built_constants (planned sheet.now node_id config.now) config.now.time)) }
+        ensures greatest { IsGreatestCapacity
+            (built_description (planned sheet.now node_id config.now)).rows
+            (greatest_capacity (built_description (planned sheet.now node_id config.now))) }
         ensures start { IfOk result (λ _. (key : Key) →
             built_contents (planned sheet.now node_id config.now) key
             ≡ (built_description (planned sheet.now node_id config.now)).initial key) }
@@ -80,6 +91,8 @@ impl Node {
             Stands k self.new (Framed frame.now ∷ before) }
         ensures few { (k : Constants) (before : Inputs) → Stands k self.old before →
             length outbox.new.items ≤ frame_bound k before (Framed frame.now) }
+        ensures held { (k : Constants) (before : Inputs) → Stands k self.old before →
+            HoldsWithin k (Framed frame.now ∷ before) }
     {
         self.device.take_frame(frame, outbox);
     }
@@ -93,6 +106,8 @@ impl Node {
             Stands k self.new (Ticked ∷ before) }
         ensures few { (k : Constants) (before : Inputs) → Stands k self.old before →
             length outbox.new.items ≤ frame_bound k before Ticked }
+        ensures held { (k : Constants) (before : Inputs) → Stands k self.old before →
+            HoldsWithin k (Ticked ∷ before) }
     {
         self.device.tick(outbox);
     }
@@ -106,6 +121,12 @@ impl Node {
             Stands k self.new (Applied (app_view event.entry) ∷ before) }
         ensures few { (k : Constants) (before : Inputs) → Stands k self.old before →
             length outbox.new.items ≤ frame_bound k before (Applied (app_view event.entry)) }
+        ensures held { (k : Constants) (before : Inputs) → Stands k self.old before →
+            HoldsWithin k (Applied (app_view event.entry) ∷ before) }
+        ensures refused { (k : Constants) (before : Inputs) → Stands k self.old before →
+            (code : ℕ) →
+            event_refusal k.description (contents_of k before) (app_view event.entry) ≡ Some code →
+            AsForNobody k self.new outbox.new.items before (app_view event.entry) code }
     {
         self.device.take_event(event, outbox);
     }
@@ -119,6 +140,8 @@ impl Node {
             Stands k self.new (input_view input.entry ∷ before) }
         ensures few { (k : Constants) (before : Inputs) → Stands k self.old before →
             length outbox.new.items ≤ frame_bound k before (input_view input.entry) }
+        ensures held { (k : Constants) (before : Inputs) → Stands k self.old before →
+            HoldsWithin k (input_view input.entry ∷ before) }
     {
         let frame = match input {
             Input::Frame(frame) => frame,
@@ -212,6 +235,11 @@ impl Node {
             (take result (map input_view inputs.now)) }
         ensures stands { (k : Constants) (before : Inputs) → Stands k self.old before →
             Stands k self.new (after_all before (take result (map input_view inputs.now))) }
+        ensures few { (k : Constants) (before : Inputs) → Stands k self.old before →
+            length kept.new.frames ≤ length kept.old.frames + result * most_frames k }
+        ensures held { (k : Constants) (before : Inputs) → Stands k self.old before →
+            (n : ℕ) → n ≤ result →
+            HoldsWithin k (after_all before (take n (map input_view inputs.now))) }
         ensures roomy { (k : Constants) (before : Inputs) → Stands k self.old before →
             (n : ℕ) → n < result → HasRoom (most_frames k)
             (recorded_after k before (take n (map input_view inputs.now)) kept.old) }

@@ -1,7 +1,8 @@
-use Rattle.std.proofs.Common.{◌≡◌, ℕ, ◌≤◌, ◌<◌, ◌++◌, length, map, take}
+use Rattle.std.proofs.Common.{◌≡◌, ℕ, ◌≤◌, ◌<◌, ◌+◌, ◌*◌, ◌++◌, length, map, take}
 use Rattle.co_node_model.specs.Inputs.{Inputs, input_view}
 use Rattle.co_node_model.specs.Moments.{Constants}
 use Rattle.co_node_model.specs.Device.{after_all, all_frames}
+use Rattle.co_node.specs.Held.{HoldsWithin}
 use Rattle.co_node.specs.Nodes.{Stands}
 use Rattle.co_node.specs.Records.{HasRoom}
 use Rattle.co_node.specs.Runs.{all_ends, most_frames, recorded_after}
@@ -18,6 +19,10 @@ invariant-loop-input l = record {
       l.kept.frames ≡ l.fn.kept.frames ++ all_frames k before (take l.taken (map input_view l.inputs));
   ends : (k : Constants) (before : Inputs) → Stands k l.fn.self before →
       l.kept.ends ≡ l.fn.kept.ends ++ all_ends k before (length l.fn.kept.frames) (take l.taken (map input_view l.inputs));
+  few : (k : Constants) (before : Inputs) → Stands k l.fn.self before →
+      length l.kept.frames ≤ length l.fn.kept.frames + l.taken * most_frames k;
+  held : (k : Constants) (before : Inputs) → Stands k l.fn.self before → (n : ℕ) → n ≤ l.taken →
+      HoldsWithin k (after_all before (take n (map input_view l.inputs)));
   roomy : (k : Constants) (before : Inputs) → Stands k l.fn.self before → (n : ℕ) → n < l.taken →
       HasRoom (most_frames k) (recorded_after k before (take n (map input_view l.inputs)) l.fn.kept);
   stands : (k : Constants) (before : Inputs) → Stands k l.fn.self before →

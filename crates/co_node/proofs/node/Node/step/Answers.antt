@@ -1,6 +1,7 @@
 use Rattle.std.proofs.Common.{rules, ◌≡◌, ◌≤◌, ◌∷◌, length, subst}
 use Rattle.co_node_model.specs.Inputs.{Applied, InputView, Written, input_view}
 use Rattle.co_node_model.specs.Device.{frame_bound, prescribed}
+use Rattle.co_node.specs.Held.{HoldsWithin}
 use Rattle.co_node.specs.Nodes.{Stands}
 use Rattle.co_node.proofs.node.Node.step.Goals as goal
 
@@ -20,3 +21,7 @@ returns-in-App-Write-clause-stands c = λ k before stands.
 pub returns-in-App-Write-clause-few : goal.returns-in-App-Write-clause-few
 returns-in-App-Write-clause-few c = λ k before stands.
     subst (λ (v : InputView). length c.take_event.new.outbox.items ≤ frame_bound k before v) (same c) (c.take_event.ensures.few k before stands)
+
+pub returns-in-App-Write-clause-held : goal.returns-in-App-Write-clause-held
+returns-in-App-Write-clause-held c = λ k before stands.
+    subst (λ (v : InputView). HoldsWithin k (v ∷ before)) (same c) (c.take_event.ensures.held k before stands)

@@ -1,0 +1,7 @@
+use Rattle.std.proofs.Common.{◌∷◌}
+use Rattle.co_node_model.specs.Inputs.{Framed}
+use Rattle.co_node.proofs.Held.{holds_within}
+use Rattle.co_node.proofs.node.Node.take_frame.Goals as goal
+
+pub returns-clause-held : goal.returns-clause-held
+returns-clause-held c = λ k before stands. holds_within k (Framed c.args.frame.now ∷ before) (record { device = c.take_frame.new.self }) (c.take_frame.ensures.stands k before stands)

@@ -1,0 +1,7 @@
+use Rattle.std.proofs.Common.{◌∷◌}
+use Rattle.co_node_model.specs.Inputs.{Ticked}
+use Rattle.co_node.proofs.Held.{holds_within}
+use Rattle.co_node.proofs.node.Node.tick.Goals as goal
+
+pub returns-clause-held : goal.returns-clause-held
+returns-clause-held c = λ k before stands. holds_within k (Ticked ∷ before) (record { device = c.tick.new.self }) (c.tick.ensures.stands k before stands)
