@@ -180,6 +180,18 @@ each-cases text f false is c = inr (by_cases (Contains-append_cases (line_faults
 pub each : (text : List ℕ) (f : SheetFault) → Contains (faults_of text) f → IsFaultOf text f
 each text f c = each-cases text f (nat_lt 1048576 (length text)) refl c
 
+-- ---- a text that is too large has that fault alone
+
+is_past : (limit size : ℕ) → limit < size → nat_lt limit size ≡ true
+is_past limit size h = grind (arith, nat_tests)
+
+large-cases : (large : Bool) (others : List SheetFault) → large ≡ true → cond large (fault_at 0 TooLarge ∷ []) others ≡ fault_at 0 TooLarge ∷ []
+large-cases true others h = refl
+large-cases false others h = absurd (cc)
+
+pub large-alone : (text : List ℕ) → 1048576 < length text → faults_of text ≡ fault_at 0 TooLarge ∷ []
+large-alone text h = large-cases (nat_lt 1048576 (length text)) (faults_in (lines_of text)) (is_past 1048576 (length text) h)
+
 -- ---- without the lines of a kind
 
 pub kind-gone : (kind : FaultKind) (lines : List Line) → fault_number kind ≤ 5 → faults_in (emptied_of kind [] lines) ≡ without kind (faults_in lines)
