@@ -192,6 +192,38 @@ large-cases false others h = absurd (cc)
 pub large-alone : (text : List ℕ) → 1048576 < length text → faults_of text ≡ fault_at 0 TooLarge ∷ []
 large-alone text h = large-cases (nat_lt 1048576 (length text)) (faults_in (lines_of text)) (is_past 1048576 (length text) h)
 
+-- ---- of any other, each line's fault is among them
+
+line-among : (read before after : List Line) (line : Line) (f : SheetFault) → Contains (fault_of_line line (own_fault (read ++ lines_read read before) line)) f
+    → Contains (line_faults read (before ++ line ∷ after)) f
+line-among read [] after line f own =
+    let here = fault_of_line line (own_fault read line) in
+    sub-front here here (line_faults (read ++ next_read read line ∷ []) after) (λ a c. c) f
+    (subst (λ (b : List Line). Contains (fault_of_line line (own_fault b line)) f) (append-nil read) own)
+line-among read (l ∷ before) after line f own =
+    let next = read ++ next_read read l ∷ [] in
+    let rest = line_faults next (before ++ line ∷ after) in
+    sub-after rest (fault_of_line l (own_fault read l)) rest (λ a c. c) f
+    (line-among next before after line f
+    (subst (λ (b : List Line). Contains (fault_of_line line (own_fault b line)) f) (sym (append_assoc read (next_read read l ∷ []) (lines_read next before))) own))
+
+lines-among : (lines : List Line) (f : SheetFault) → IsLineFault lines f → Contains (faults_in lines) f
+lines-among lines f found =
+    let all = line_faults [] lines in
+    sub-front all all (found_by all_checks (sections_read lines)) (λ a c. c) f
+    (subst (λ (ls : List Line). Contains (line_faults [] ls) f) (sym found.cut) (line-among [] found.before found.after found.line f found.own))
+
+is_within : (limit size : ℕ) → size ≤ limit → nat_lt limit size ≡ false
+is_within limit size h = grind (arith, nat_tests)
+
+of-text : (large : Bool) (others : List SheetFault) (f : SheetFault) → large ≡ false → Contains others f → Contains (cond large (fault_at 0 TooLarge ∷ []) others) f
+of-text true others f h c = absurd (cc)
+of-text false others f h c = c
+
+pub line-contains : (text : List ℕ) (f : SheetFault) → length text ≤ 1048576 → IsLineFault (lines_of text) f → Contains (faults_of text) f
+line-contains text f few found =
+    of-text (nat_lt 1048576 (length text)) (faults_in (lines_of text)) f (is_within 1048576 (length text) few) (lines-among (lines_of text) f found)
+
 -- ---- without the lines of a kind
 
 pub kind-gone : (kind : FaultKind) (lines : List Line) → fault_number kind ≤ 5 → faults_in (emptied_of kind [] lines) ≡ without kind (faults_in lines)

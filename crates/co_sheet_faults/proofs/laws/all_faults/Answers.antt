@@ -1,4 +1,4 @@
-use Rattle.co_sheet_faults.proofs.AllLemmas.{accepted-none, none-accepted, contains, each, large-alone}
+use Rattle.co_sheet_faults.proofs.AllLemmas.{accepted-none, none-accepted, contains, each, large-alone, line-contains}
 use Rattle.co_sheet_faults.proofs.laws.all_faults.Goals as goal
 
 pub returns-clause-accepted : goal.returns-clause-accepted
@@ -15,3 +15,6 @@ returns-clause-each c = each
 
 pub returns-clause-large : goal.returns-clause-large
 returns-clause-large c = large-alone
+
+pub returns-clause-lines : goal.returns-clause-lines
+returns-clause-lines c = line-contains
