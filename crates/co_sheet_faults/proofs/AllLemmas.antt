@@ -18,9 +18,9 @@ use Rattle.co_sheet.specs.Accepted.{least_fault, first_found, first_fault, IsAcc
 use Rattle.co_sheet_faults.specs.LinesAtFault.{own_fault, next_read, fault_of_line, lines_read, line_faults, sections_read}
 use Rattle.co_sheet_faults.specs.AllChecks.{all_checks}
 use Rattle.co_sheet_faults.specs.AllFaults.{found_by, faults_in, faults_of}
-use Rattle.co_sheet_faults.specs.FaultLaws.{IsLineFault, IsFoundFault, IsFaultOf, emptied_of, without}
+use Rattle.co_sheet_faults.specs.FaultLaws.{IsLineFault, IsFirstCheckFault, IsFoundFault, IsFaultOf, emptied_of, without}
 use Rattle.co_sheet_faults.proofs.LineLemmas.{clean, contains-head, contains-first, kept, filter-append}
-use Rattle.co_sheet_faults.proofs.SubLemmas.{Sub, contains-none, sub-same, sub-append, sub-front, sub-after, none-sub}
+use Rattle.co_sheet_faults.proofs.SubLemmas.{Sub, contains-none, sub-same, sub-append, sub-front, sub-after, both-empty, none-sub}
 use Rattle.co_sheet_faults.proofs.SoundLemmas.{sound}
 use Rattle.co_sheet_faults.proofs.KindLemmas.{late, all-stay}
 use Rattle.co_sheet_faults.proofs.CompleteLemmas.{Complete, complete}
@@ -223,6 +223,30 @@ of-text false others f h c = c
 pub line-contains : (text : List ℕ) (f : SheetFault) → length text ≤ 1048576 → IsLineFault (lines_of text) f → Contains (faults_of text) f
 line-contains text f few found =
     of-text (nat_lt 1048576 (length text)) (faults_in (lines_of text)) f (is_within 1048576 (length text) few) (lines-among (lines_of text) f found)
+
+-- ---- and every fault that the first check to find any finds
+
+check-among : (before after ds : List (List TextSection → List SheetFault)) (check : List TextSection → List SheetFault) (sections : List TextSection) (f : SheetFault)
+    → Complete (before ++ check ∷ after) ds sections → found_by before sections ≡ [] → Contains (check sections) f → Contains (found_by ds sections) f
+check-among [] after [] check sections f complete none found = absurd complete
+check-among [] after (d ∷ ds) check sections f complete none found = sub-front (check sections) (d sections) (found_by ds sections) complete.0 f found
+check-among (b ∷ before) after [] check sections f complete none found = absurd complete
+check-among (b ∷ before) after (d ∷ ds) check sections f complete none found =
+    let apart = both-empty (b sections) (found_by before sections) none in
+    sub-after (found_by ds sections) (d sections) (found_by ds sections) (λ a c. c) f
+    (check-among before after ds check sections f (complete.1 apart.0) apart.1 found)
+
+every-among : (lines : List Line) (f : SheetFault) → IsFirstCheckFault lines f → Contains (faults_in lines) f
+every-among lines f first =
+    let sections = sections_read lines in
+    let all = found_by all_checks sections in
+    sub-after all (line_faults [] lines) all (λ a c. c) f
+    (check-among first.before first.after all_checks first.check sections f
+    (subst (λ (cs : List (List TextSection → List SheetFault)). Complete cs all_checks sections) first.cut (complete sections)) first.none first.found)
+
+pub every-contains : (text : List ℕ) (f : SheetFault) → length text ≤ 1048576 → IsFirstCheckFault (lines_of text) f → Contains (faults_of text) f
+every-contains text f few first =
+    of-text (nat_lt 1048576 (length text)) (faults_in (lines_of text)) f (is_within 1048576 (length text) few) (every-among (lines_of text) f first)
 
 -- ---- without the lines of a kind
 

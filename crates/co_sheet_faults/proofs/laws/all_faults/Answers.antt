@@ -1,4 +1,4 @@
-use Rattle.co_sheet_faults.proofs.AllLemmas.{accepted-none, none-accepted, contains, each, large-alone, line-contains}
+use Rattle.co_sheet_faults.proofs.AllLemmas.{accepted-none, none-accepted, contains, each, large-alone, line-contains, every-contains}
 use Rattle.co_sheet_faults.proofs.laws.all_faults.Goals as goal
 
 pub returns-clause-accepted : goal.returns-clause-accepted
@@ -18,3 +18,6 @@ returns-clause-large c = large-alone
 
 pub returns-clause-lines : goal.returns-clause-lines
 returns-clause-lines c = line-contains
+
+pub returns-clause-every : goal.returns-clause-every
+returns-clause-every c = every-contains
