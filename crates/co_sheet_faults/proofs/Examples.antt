@@ -136,8 +136,12 @@ count_too_large = refl
 no_index : replaced 5 (codes "3=0x11018") ≡ fault_at 1 BadList ∷ []
 no_index = refl
 
-no_index_twice : with_lines 5 (codes "4=0x11018" ∷ codes "5=0x11018" ∷ []) ≡ []
+no_index_twice : faults (slice_set (take 5 small ++ codes "4=0x11018" ∷ codes "5=0x11018" ∷ drop 5 small) 1 (codes "SupportedObjects=5")) ≡ fault_at 1 BadList ∷ []
 no_index_twice = refl
+
+-- keys that aren't counted name nothing
+past_the_count : with_lines 5 (codes "4=0x11018" ∷ codes "5=0x11018" ∷ []) ≡ []
+past_the_count = refl
 
 listed_three_times : faults (slice_set (slice_set small 2 (codes "1=0x1019")) 3 (codes "2=0x1019")) ≡ fault_at 4 ListedTwice ∷ fault_at 3 MissingSection ∷ []
 listed_three_times = refl
