@@ -8,7 +8,6 @@ use Rattle.std.proofs.lemmas.Bool.Decides.{nat_tests}
 use Rattle.co_sheet_rows.specs.declared.fault.FaultKind.{FaultKind}
 use Rattle.co_sheet_rows.specs.declared.fault.FaultKind.TheVariants.{TooLarge}
 use Rattle.co_sheet_rows.specs.declared.fault.SheetFault.{SheetFault}
-use Rattle.co_sheet_rows.specs.FaultTexts.{fault_number}
 use Rattle.co_sheet_text.specs.declared.fault.TextFault.{TextFault}
 use Rattle.co_sheet_text.specs.Text.{Line, lines_of}
 use Rattle.co_sheet_text.specs.Sections.{TextSection, sections_of, first_line_fault}
@@ -18,7 +17,7 @@ use Rattle.co_sheet.specs.Accepted.{least_fault, first_found, first_fault, IsAcc
 use Rattle.co_sheet_faults.specs.LinesAtFault.{own_fault, next_read, fault_of_line, lines_read, line_faults, sections_read}
 use Rattle.co_sheet_faults.specs.AllChecks.{all_checks}
 use Rattle.co_sheet_faults.specs.AllFaults.{found_by, faults_in, faults_of}
-use Rattle.co_sheet_faults.specs.FaultLaws.{IsLineFault, IsFirstCheckFault, IsFoundFault, IsFaultOf, emptied_of, without}
+use Rattle.co_sheet_faults.specs.FaultLaws.{IsLineKind, IsLineFault, IsFirstCheckFault, IsFoundFault, IsFaultOf, emptied_of, without}
 use Rattle.co_sheet_faults.proofs.LineLemmas.{clean, contains-head, contains-first, kept, filter-append}
 use Rattle.co_sheet_faults.proofs.SubLemmas.{Sub, contains-none, sub-same, sub-append, sub-front, sub-after, both-empty, none-sub}
 use Rattle.co_sheet_faults.proofs.SoundLemmas.{sound}
@@ -250,7 +249,7 @@ every-contains text f few first =
 
 -- ---- without the lines of a kind
 
-pub kind-gone : (kind : FaultKind) (lines : List Line) → fault_number kind ≤ 5 → faults_in (emptied_of kind [] lines) ≡ without kind (faults_in lines)
+pub kind-gone : (kind : FaultKind) (lines : List Line) → IsLineKind kind → faults_in (emptied_of kind [] lines) ≡ without kind (faults_in lines)
 kind-gone kind lines few =
     let same = kept kind [] lines in
     let found = found_by all_checks (sections_read lines) in

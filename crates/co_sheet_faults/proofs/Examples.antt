@@ -1,10 +1,11 @@
 -- All faults of a small data sheet, by one change to it: each of the kinds, and what rests on a value at fault.
-use Rattle.std.proofs.Common.{◌≡◌, ℕ, List, [], ◌∷◌, ◌++◌, refl, codes}
+use Rattle.std.proofs.Common.{◌≡◌, ℕ, List, [], ◌∷◌, ◌++◌, refl, codes, arith}
 use Rattle.std.specs.Prelude.{remove, take, drop, slice_set, ◌-◌, replicate}
 use Rattle.co_sheet_rows.specs.declared.fault.SheetFault.{SheetFault}
 use Rattle.co_sheet_rows.specs.declared.fault.FaultKind.TheVariants.{TooLarge, BadLine, KeyOutsideSection, DuplicateSection, DuplicateKey, MissingSection, BadNumber, AmbiguousNumber, BadList, ListedTwice, MissingKey, BadType, LeftOutType, BadAccess, BadLimits, BadDefault, MissingSub0, CompactForm, MissingMandatory}
 use Rattle.co_sheet.specs.Faults.{fault_at}
 use Rattle.co_sheet_faults.specs.AllFaults.{faults_of}
+use Rattle.co_sheet_faults.specs.FaultLaws.{IsLineKind}
 
 -- lines as a text, each ended by LF
 abbrev joined : List (List ℕ) → List ℕ
@@ -202,3 +203,11 @@ default_below_low_limit = refl
 several : faults (slice_set (slice_set (slice_set (slice_set small 7 (codes "AccessType=r")) 8 (codes "DefaultValue=none")) 10 (codes "DataType=6")) 19 (codes "DataType"))
     ≡ fault_at 20 BadLine ∷ fault_at 19 MissingKey ∷ fault_at 11 BadType ∷ fault_at 8 BadAccess ∷ fault_at 9 BadNumber ∷ []
 several = refl
+
+-- ---- the last kind of a line's own fault, and the next
+
+last_line_kind : IsLineKind DuplicateKey
+last_line_kind = omega arith
+
+no_line_kind : IsLineKind MissingSection → ⊥
+no_line_kind h = absurd (omega arith)

@@ -1,6 +1,6 @@
 -- What all faults of a text keep, beside what is found: against the first fault that is answered for
 -- a sheet, and of a text without its lines of one kind (CiA 306).
-use Rattle.std.specs.Prelude.{◌≡◌, ◌⊎◌, ℕ, Bool, true, false, not, ◌==◌, ◌<◌, length, if◌then◌else◌, List, [], ◌∷◌, ◌++◌, Contains, filter}
+use Rattle.std.specs.Prelude.{◌≡◌, ◌⊎◌, ℕ, Bool, true, false, not, ◌==◌, ◌<◌, ◌≤◌, length, if◌then◌else◌, List, [], ◌∷◌, ◌++◌, Contains, filter}
 use Rattle.co_sheet_rows.specs.declared.fault.FaultKind.{FaultKind}
 use Rattle.co_sheet_rows.specs.declared.fault.FaultKind.TheVariants.{TooLarge}
 use Rattle.co_sheet_rows.specs.declared.fault.SheetFault.{SheetFault}
@@ -11,6 +11,11 @@ use Rattle.co_sheet.specs.Faults.{fault_at}
 use Rattle.co_sheet.specs.Checks.{checks}
 use Rattle.co_sheet_faults.specs.LinesAtFault.{emptied, own_fault, next_read, fault_of_line, lines_read, sections_read}
 use Rattle.co_sheet_faults.specs.AllFaults.{found_by}
+
+-- a kind of a line's own fault: TooLarge, BadLine, KeyOutsideSection, DuplicateSection or
+-- DuplicateKey
+abbrev pub IsLineKind : FaultKind → Type 0
+IsLineKind kind = fault_number kind ≤ 5
 
 -- a fault is of a kind, and whether any of a list is
 abbrev pub is_of : FaultKind → SheetFault → Bool

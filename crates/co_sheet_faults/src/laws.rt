@@ -4,12 +4,11 @@ ghost use Rattle.std.specs.Prelude.{◌≡◌, ℕ, ◌<◌, ◌≤◌, length, 
 ghost use Rattle.co_sheet_rows.specs.declared.fault.FaultKind.{FaultKind as Kind};
 ghost use Rattle.co_sheet_rows.specs.declared.fault.FaultKind.TheVariants.{TooLarge};
 ghost use Rattle.co_sheet_rows.specs.declared.fault.SheetFault.{SheetFault as Fault};
-ghost use Rattle.co_sheet_rows.specs.FaultTexts.{fault_number};
 ghost use Rattle.co_sheet_text.specs.Text.{Line, lines_of};
 ghost use Rattle.co_sheet.specs.Accepted.{IsAccepted, first_fault};
 ghost use Rattle.co_sheet.specs.Faults.{fault_at};
 ghost use Rattle.co_sheet_faults.specs.AllFaults.{faults_in, faults_of};
-ghost use Rattle.co_sheet_faults.specs.FaultLaws.{IsLineFault, IsFirstCheckFault, IsFaultOf, emptied_of, without};
+ghost use Rattle.co_sheet_faults.specs.FaultLaws.{IsLineKind, IsLineFault, IsFirstCheckFault, IsFaultOf, emptied_of, without};
 
 /// All faults of a text against the reader of a sheet. There is none exactly where the text is accepted. The fault that
 /// the reader answers is among them. Each is a fault by its own definition: the text is too large, or a line has it, or
@@ -35,6 +34,6 @@ pub fn all_faults()
 /// `DuplicateSection`, `DuplicateKey`), exactly the faults of that kind are gone. A section line is emptied to `[]`, which
 /// begins a section that nothing reads. This is a law: a call of it changes nothing.
 pub fn emptied_lines()
-    ensures gone { (kind : Kind) (lines : List Line) → fault_number kind ≤ 5 →
+    ensures gone { (kind : Kind) (lines : List Line) → IsLineKind kind →
         faults_in (emptied_of kind [] lines) ≡ without kind (faults_in lines) }
 {}
