@@ -8,7 +8,6 @@ use Rattle.std.proofs.lemmas.Bool.Decides.{nat_tests}
 use Rattle.co_sheet_rows.specs.declared.fault.FaultKind.{FaultKind}
 use Rattle.co_sheet_rows.specs.declared.fault.FaultKind.TheVariants.{TooLarge}
 use Rattle.co_sheet_rows.specs.declared.fault.SheetFault.{SheetFault}
-use Rattle.co_sheet_rows.specs.FaultTexts.{fault_number}
 use Rattle.co_sheet_text.specs.declared.fault.TextFault.{TextFault}
 use Rattle.co_sheet_text.specs.Text.{Line, lines_of}
 use Rattle.co_sheet_text.specs.Sections.{TextSection, sections_of, first_line_fault}
@@ -18,9 +17,9 @@ use Rattle.co_sheet.specs.Accepted.{least_fault, first_found, first_fault, IsAcc
 use Rattle.co_sheet_faults.specs.LinesAtFault.{own_fault, next_read, fault_of_line, lines_read, line_faults, sections_read}
 use Rattle.co_sheet_faults.specs.AllChecks.{all_checks}
 use Rattle.co_sheet_faults.specs.AllFaults.{found_by, faults_in, faults_of}
-use Rattle.co_sheet_faults.specs.FaultLaws.{IsLineFault, IsFoundFault, IsFaultOf, emptied_of, without}
+use Rattle.co_sheet_faults.specs.FaultLaws.{IsLineKind, IsLineFault, IsFirstCheckFault, IsFoundFault, IsFaultOf, emptied_of, without}
 use Rattle.co_sheet_faults.proofs.LineLemmas.{clean, contains-head, contains-first, kept, filter-append}
-use Rattle.co_sheet_faults.proofs.SubLemmas.{Sub, contains-none, sub-same, sub-append, sub-front, sub-after, none-sub}
+use Rattle.co_sheet_faults.proofs.SubLemmas.{Sub, contains-none, sub-same, sub-append, sub-front, sub-after, both-empty, none-sub}
 use Rattle.co_sheet_faults.proofs.SoundLemmas.{sound}
 use Rattle.co_sheet_faults.proofs.KindLemmas.{late, all-stay}
 use Rattle.co_sheet_faults.proofs.CompleteLemmas.{Complete, complete}
@@ -180,9 +179,77 @@ each-cases text f false is c = inr (by_cases (Contains-append_cases (line_faults
 pub each : (text : List ℕ) (f : SheetFault) → Contains (faults_of text) f → IsFaultOf text f
 each text f c = each-cases text f (nat_lt 1048576 (length text)) refl c
 
+-- ---- a text that is too large has that fault alone
+
+is_past : (limit size : ℕ) → limit < size → nat_lt limit size ≡ true
+is_past limit size h = grind (arith, nat_tests)
+
+large-cases : (large : Bool) (others : List SheetFault) → large ≡ true → cond large (fault_at 0 TooLarge ∷ []) others ≡ fault_at 0 TooLarge ∷ []
+large-cases true others h = refl
+large-cases false others h = absurd (cc)
+
+pub large-alone : (text : List ℕ) → 1048576 < length text → faults_of text ≡ fault_at 0 TooLarge ∷ []
+large-alone text h = large-cases (nat_lt 1048576 (length text)) (faults_in (lines_of text)) (is_past 1048576 (length text) h)
+
+-- ---- of any other, each line's fault is among them
+
+line-among : (read before after : List Line) (line : Line) (f : SheetFault) → Contains (fault_of_line line (own_fault (read ++ lines_read read before) line)) f
+    → Contains (line_faults read (before ++ line ∷ after)) f
+line-among read [] after line f own =
+    let here = fault_of_line line (own_fault read line) in
+    sub-front here here (line_faults (read ++ next_read read line ∷ []) after) (λ a c. c) f
+    (subst (λ (b : List Line). Contains (fault_of_line line (own_fault b line)) f) (append-nil read) own)
+line-among read (l ∷ before) after line f own =
+    let next = read ++ next_read read l ∷ [] in
+    let rest = line_faults next (before ++ line ∷ after) in
+    sub-after rest (fault_of_line l (own_fault read l)) rest (λ a c. c) f
+    (line-among next before after line f
+    (subst (λ (b : List Line). Contains (fault_of_line line (own_fault b line)) f) (sym (append_assoc read (next_read read l ∷ []) (lines_read next before))) own))
+
+lines-among : (lines : List Line) (f : SheetFault) → IsLineFault lines f → Contains (faults_in lines) f
+lines-among lines f found =
+    let all = line_faults [] lines in
+    sub-front all all (found_by all_checks (sections_read lines)) (λ a c. c) f
+    (subst (λ (ls : List Line). Contains (line_faults [] ls) f) (sym found.cut) (line-among [] found.before found.after found.line f found.own))
+
+is_within : (limit size : ℕ) → size ≤ limit → nat_lt limit size ≡ false
+is_within limit size h = grind (arith, nat_tests)
+
+of-text : (large : Bool) (others : List SheetFault) (f : SheetFault) → large ≡ false → Contains others f → Contains (cond large (fault_at 0 TooLarge ∷ []) others) f
+of-text true others f h c = absurd (cc)
+of-text false others f h c = c
+
+pub line-contains : (text : List ℕ) (f : SheetFault) → length text ≤ 1048576 → IsLineFault (lines_of text) f → Contains (faults_of text) f
+line-contains text f few found =
+    of-text (nat_lt 1048576 (length text)) (faults_in (lines_of text)) f (is_within 1048576 (length text) few) (lines-among (lines_of text) f found)
+
+-- ---- and every fault that the first check to find any finds
+
+check-among : (before after ds : List (List TextSection → List SheetFault)) (check : List TextSection → List SheetFault) (sections : List TextSection) (f : SheetFault)
+    → Complete (before ++ check ∷ after) ds sections → found_by before sections ≡ [] → Contains (check sections) f → Contains (found_by ds sections) f
+check-among [] after [] check sections f complete none found = absurd complete
+check-among [] after (d ∷ ds) check sections f complete none found = sub-front (check sections) (d sections) (found_by ds sections) complete.0 f found
+check-among (b ∷ before) after [] check sections f complete none found = absurd complete
+check-among (b ∷ before) after (d ∷ ds) check sections f complete none found =
+    let apart = both-empty (b sections) (found_by before sections) none in
+    sub-after (found_by ds sections) (d sections) (found_by ds sections) (λ a c. c) f
+    (check-among before after ds check sections f (complete.1 apart.0) apart.1 found)
+
+every-among : (lines : List Line) (f : SheetFault) → IsFirstCheckFault lines f → Contains (faults_in lines) f
+every-among lines f first =
+    let sections = sections_read lines in
+    let all = found_by all_checks sections in
+    sub-after all (line_faults [] lines) all (λ a c. c) f
+    (check-among first.before first.after all_checks first.check sections f
+    (subst (λ (cs : List (List TextSection → List SheetFault)). Complete cs all_checks sections) first.cut (complete sections)) first.none first.found)
+
+pub every-contains : (text : List ℕ) (f : SheetFault) → length text ≤ 1048576 → IsFirstCheckFault (lines_of text) f → Contains (faults_of text) f
+every-contains text f few first =
+    of-text (nat_lt 1048576 (length text)) (faults_in (lines_of text)) f (is_within 1048576 (length text) few) (every-among (lines_of text) f first)
+
 -- ---- without the lines of a kind
 
-pub kind-gone : (kind : FaultKind) (lines : List Line) → fault_number kind ≤ 5 → faults_in (emptied_of kind [] lines) ≡ without kind (faults_in lines)
+pub kind-gone : (kind : FaultKind) (lines : List Line) → IsLineKind kind → faults_in (emptied_of kind [] lines) ≡ without kind (faults_in lines)
 kind-gone kind lines few =
     let same = kept kind [] lines in
     let found = found_by all_checks (sections_read lines) in

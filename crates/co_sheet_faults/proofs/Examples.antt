@@ -1,10 +1,11 @@
 -- All faults of a small data sheet, by one change to it: each of the kinds, and what rests on a value at fault.
-use Rattle.std.proofs.Common.{◌≡◌, ℕ, List, [], ◌∷◌, ◌++◌, refl, codes}
+use Rattle.std.proofs.Common.{◌≡◌, ℕ, List, [], ◌∷◌, ◌++◌, refl, codes, arith}
 use Rattle.std.specs.Prelude.{remove, take, drop, slice_set, ◌-◌, replicate}
 use Rattle.co_sheet_rows.specs.declared.fault.SheetFault.{SheetFault}
 use Rattle.co_sheet_rows.specs.declared.fault.FaultKind.TheVariants.{TooLarge, BadLine, KeyOutsideSection, DuplicateSection, DuplicateKey, MissingSection, BadNumber, AmbiguousNumber, BadList, ListedTwice, MissingKey, BadType, LeftOutType, BadAccess, BadLimits, BadDefault, MissingSub0, CompactForm, MissingMandatory}
 use Rattle.co_sheet.specs.Faults.{fault_at}
 use Rattle.co_sheet_faults.specs.AllFaults.{faults_of}
+use Rattle.co_sheet_faults.specs.FaultLaws.{IsLineKind}
 
 -- lines as a text, each ended by LF
 abbrev joined : List (List ℕ) → List ℕ
@@ -136,8 +137,12 @@ count_too_large = refl
 no_index : replaced 5 (codes "3=0x11018") ≡ fault_at 1 BadList ∷ []
 no_index = refl
 
-no_index_twice : with_lines 5 (codes "4=0x11018" ∷ codes "5=0x11018" ∷ []) ≡ []
+no_index_twice : faults (slice_set (take 5 small ++ codes "4=0x11018" ∷ codes "5=0x11018" ∷ drop 5 small) 1 (codes "SupportedObjects=5")) ≡ fault_at 1 BadList ∷ []
 no_index_twice = refl
+
+-- keys that aren't counted name nothing
+past_the_count : with_lines 5 (codes "4=0x11018" ∷ codes "5=0x11018" ∷ []) ≡ []
+past_the_count = refl
 
 listed_three_times : faults (slice_set (slice_set small 2 (codes "1=0x1019")) 3 (codes "2=0x1019")) ≡ fault_at 4 ListedTwice ∷ fault_at 3 MissingSection ∷ []
 listed_three_times = refl
@@ -198,3 +203,11 @@ default_below_low_limit = refl
 several : faults (slice_set (slice_set (slice_set (slice_set small 7 (codes "AccessType=r")) 8 (codes "DefaultValue=none")) 10 (codes "DataType=6")) 19 (codes "DataType"))
     ≡ fault_at 20 BadLine ∷ fault_at 19 MissingKey ∷ fault_at 11 BadType ∷ fault_at 8 BadAccess ∷ fault_at 9 BadNumber ∷ []
 several = refl
+
+-- ---- the last kind of a line's own fault, and the next
+
+last_line_kind : IsLineKind DuplicateKey
+last_line_kind = omega arith
+
+no_line_kind : IsLineKind MissingSection → ⊥
+no_line_kind h = absurd (omega arith)

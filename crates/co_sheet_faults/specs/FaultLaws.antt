@@ -1,15 +1,21 @@
 -- What all faults of a text keep, beside what is found: against the first fault that is answered for
 -- a sheet, and of a text without its lines of one kind (CiA 306).
-use Rattle.std.specs.Prelude.{◌≡◌, ◌⊎◌, ℕ, Bool, true, false, not, ◌==◌, ◌<◌, length, if◌then◌else◌, List, [], ◌∷◌, ◌++◌, Contains, filter}
+use Rattle.std.specs.Prelude.{◌≡◌, ◌⊎◌, ℕ, Bool, true, false, not, ◌==◌, ◌<◌, ◌≤◌, length, if◌then◌else◌, List, [], ◌∷◌, ◌++◌, Contains, filter}
 use Rattle.co_sheet_rows.specs.declared.fault.FaultKind.{FaultKind}
 use Rattle.co_sheet_rows.specs.declared.fault.FaultKind.TheVariants.{TooLarge}
 use Rattle.co_sheet_rows.specs.declared.fault.SheetFault.{SheetFault}
 use Rattle.co_sheet_rows.specs.FaultTexts.{fault_number}
 use Rattle.co_sheet_text.specs.Text.{Line, lines_of}
+use Rattle.co_sheet_text.specs.Sections.{TextSection}
 use Rattle.co_sheet.specs.Faults.{fault_at}
 use Rattle.co_sheet.specs.Checks.{checks}
 use Rattle.co_sheet_faults.specs.LinesAtFault.{emptied, own_fault, next_read, fault_of_line, lines_read, sections_read}
 use Rattle.co_sheet_faults.specs.AllFaults.{found_by}
+
+-- a kind of a line's own fault: TooLarge, BadLine, KeyOutsideSection, DuplicateSection or
+-- DuplicateKey
+abbrev pub IsLineKind : FaultKind → Type 0
+IsLineKind kind = fault_number kind ≤ 5
 
 -- a fault is of a kind, and whether any of a list is
 abbrev pub is_of : FaultKind → SheetFault → Bool
@@ -41,6 +47,15 @@ pub record IsLineFault (lines : List Line) (fault : SheetFault) : Type 0 where
 -- a check of a sheet finds the fault in the sections that are read
 abbrev pub IsFoundFault : List Line → SheetFault → Type 0
 IsFoundFault lines fault = Contains (found_by checks (sections_read lines)) fault
+
+-- the first check of a sheet that finds any fault there finds the fault
+pub record IsFirstCheckFault (lines : List Line) (fault : SheetFault) : Type 0 where
+  pub before : List (List TextSection → List SheetFault)
+  pub check : List TextSection → List SheetFault
+  pub after : List (List TextSection → List SheetFault)
+  pub cut : checks ≡ before ++ check ∷ after
+  pub none : found_by before (sections_read lines) ≡ []
+  pub found : Contains (check (sections_read lines)) fault
 
 -- a fault is one by its own definition: the text is too large, a line has it, or a check finds it
 abbrev pub IsFaultOf : List ℕ → SheetFault → Type 0

@@ -1,17 +1,20 @@
 //! Laws of all faults of a text.
 
-ghost use Rattle.std.specs.Prelude.{◌≡◌, ℕ, ◌≤◌, List, [], Contains, Some};
+ghost use Rattle.std.specs.Prelude.{◌≡◌, ℕ, ◌<◌, ◌≤◌, length, List, [], ◌∷◌, Contains, Some};
 ghost use Rattle.co_sheet_rows.specs.declared.fault.FaultKind.{FaultKind as Kind};
+ghost use Rattle.co_sheet_rows.specs.declared.fault.FaultKind.TheVariants.{TooLarge};
 ghost use Rattle.co_sheet_rows.specs.declared.fault.SheetFault.{SheetFault as Fault};
-ghost use Rattle.co_sheet_rows.specs.FaultTexts.{fault_number};
-ghost use Rattle.co_sheet_text.specs.Text.{Line};
+ghost use Rattle.co_sheet_text.specs.Text.{Line, lines_of};
 ghost use Rattle.co_sheet.specs.Accepted.{IsAccepted, first_fault};
+ghost use Rattle.co_sheet.specs.Faults.{fault_at};
 ghost use Rattle.co_sheet_faults.specs.AllFaults.{faults_in, faults_of};
-ghost use Rattle.co_sheet_faults.specs.FaultLaws.{IsFaultOf, emptied_of, without};
+ghost use Rattle.co_sheet_faults.specs.FaultLaws.{IsLineKind, IsLineFault, IsFirstCheckFault, IsFaultOf, emptied_of, without};
 
 /// All faults of a text against the reader of a sheet. There is none exactly where the text is accepted. The fault that
 /// the reader answers is among them. Each is a fault by its own definition: the text is too large, or a line has it, or
-/// a check finds it in the sections that are read. This is a law: a call of it changes nothing.
+/// a check finds it in the sections that are read. A text that is too large has that fault alone. Of any other, the fault
+/// of each line is among them, and every fault that the first check to find any finds in the sections that are read.
+/// This is a law: a call of it changes nothing.
 pub fn all_faults()
     ensures accepted { (text : List ℕ) → IsAccepted text → faults_of text ≡ [] }
     ensures none { (text : List ℕ) → faults_of text ≡ [] → IsAccepted text }
@@ -19,12 +22,18 @@ pub fn all_faults()
         Contains (faults_of text) fault }
     ensures each { (text : List ℕ) (fault : Fault) → Contains (faults_of text) fault →
         IsFaultOf text fault }
+    ensures large { (text : List ℕ) → 1048576 < length text →
+        faults_of text ≡ fault_at 0 TooLarge ∷ [] }
+    ensures lines { (text : List ℕ) (fault : Fault) → length text ≤ 1048576 →
+        IsLineFault (lines_of text) fault → Contains (faults_of text) fault }
+    ensures every { (text : List ℕ) (fault : Fault) → length text ≤ 1048576 →
+        IsFirstCheckFault (lines_of text) fault → Contains (faults_of text) fault }
 {}
 
 /// Where the lines whose own fault is of one kind are emptied (`TooLarge`, `BadLine`, `KeyOutsideSection`,
 /// `DuplicateSection`, `DuplicateKey`), exactly the faults of that kind are gone. A section line is emptied to `[]`,
 /// which begins a section that nothing reads. This is a law: a call of it changes nothing.
 pub fn emptied_lines()
-    ensures gone { (kind : Kind) (lines : List Line) → fault_number kind ≤ 5 →
+    ensures gone { (kind : Kind) (lines : List Line) → IsLineKind kind →
         faults_in (emptied_of kind [] lines) ≡ without kind (faults_in lines) }
 {}

@@ -1,4 +1,4 @@
-use Rattle.co_sheet_faults.proofs.AllLemmas.{accepted-none, none-accepted, contains, each}
+use Rattle.co_sheet_faults.proofs.AllLemmas.{accepted-none, none-accepted, contains, each, large-alone, line-contains, every-contains}
 use Rattle.co_sheet_faults.proofs.laws.all_faults.Goals as goal
 
 pub returns-clause-accepted : goal.returns-clause-accepted
@@ -12,3 +12,12 @@ returns-clause-first c = contains
 
 pub returns-clause-each : goal.returns-clause-each
 returns-clause-each c = each
+
+pub returns-clause-large : goal.returns-clause-large
+returns-clause-large c = large-alone
+
+pub returns-clause-lines : goal.returns-clause-lines
+returns-clause-lines c = line-contains
+
+pub returns-clause-every : goal.returns-clause-every
+returns-clause-every c = every-contains
