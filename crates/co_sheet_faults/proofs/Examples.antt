@@ -147,6 +147,10 @@ past_the_count = refl
 listed_three_times : faults (slice_set (slice_set small 2 (codes "1=0x1019")) 3 (codes "2=0x1019")) ≡ fault_at 4 ListedTwice ∷ fault_at 3 MissingSection ∷ []
 listed_three_times = refl
 
+-- what is in an object is found once
+object_listed_twice : faults (slice_set (slice_set small 3 (codes "2=0x1000")) 7 (codes "AccessType=rx")) ≡ fault_at 4 ListedTwice ∷ fault_at 8 BadAccess ∷ []
+object_listed_twice = refl
+
 object_type_unread : replaced 14 (codes "ObjectType=x") ≡ fault_at 14 BadNumber ∷ []
 object_type_unread = refl
 
@@ -178,6 +182,9 @@ default_at_other_type = refl
 default_unread_at_other_type : faults (slice_set (slice_set small 6 (codes "DataType=5")) 8 (codes "DefaultValue=x")) ≡ fault_at 7 BadType ∷ []
 default_unread_at_other_type = refl
 
+limits_at_other_type : faults (slice_set (take 9 small ++ codes "HighLimit=256" ∷ drop 9 small) 6 (codes "DataType=5")) ≡ fault_at 7 BadType ∷ []
+limits_at_other_type = refl
+
 both_limits_outside : with_lines 21 (codes "LowLimit=-1" ∷ codes "HighLimit=-2" ∷ []) ≡ fault_at 22 BadLimits ∷ fault_at 23 BadLimits ∷ []
 both_limits_outside = refl
 
@@ -193,6 +200,9 @@ high_limit_unread = refl
 -- a default is held against the limit that is not at fault
 default_above_bad_limit : with_lines 21 (codes "LowLimit=5" ∷ codes "HighLimit=3" ∷ codes "DefaultValue=6" ∷ []) ≡ fault_at 23 BadLimits ∷ []
 default_above_bad_limit = refl
+
+default_below_bad_limit : with_lines 21 (codes "LowLimit=0x100000000" ∷ codes "DefaultValue=3" ∷ []) ≡ fault_at 22 BadLimits ∷ []
+default_below_bad_limit = refl
 
 default_below_low_limit : with_lines 21 (codes "LowLimit=5" ∷ codes "HighLimit=3" ∷ codes "DefaultValue=4" ∷ codes "ParameterValue=5" ∷ []) ≡ fault_at 23 BadLimits ∷ fault_at 24 BadDefault ∷ []
 default_below_low_limit = refl

@@ -12,9 +12,9 @@ ghost use Rattle.co_sheet_faults.specs.FaultLaws.{IsLineKind, IsLineFault, IsFir
 
 /// All faults of a text against the reader of a sheet. There is none exactly where the text is accepted. The fault that
 /// the reader answers is among them. Each is a fault by its own definition: the text is too large, or a line has it, or
-/// a check finds it in the sections that are read. A text that is too large has that fault alone. Of any other, the fault
-/// of each line is among them, and every fault that the first check to find any finds in the sections that are read.
-/// This is a law: a call of it changes nothing.
+/// a check finds it in the sections that are read. A text that is too large has that fault alone. Of any other, the
+/// fault of each line is among them, and every fault that the first check to find any finds in the sections that are
+/// read. This is a law: a call of it changes nothing.
 pub fn all_faults()
     ensures accepted { (text : List ℕ) → IsAccepted text → faults_of text ≡ [] }
     ensures none { (text : List ℕ) → faults_of text ≡ [] → IsAccepted text }
@@ -32,7 +32,8 @@ pub fn all_faults()
 
 /// Where the lines whose own fault is of one kind are emptied (`TooLarge`, `BadLine`, `KeyOutsideSection`,
 /// `DuplicateSection`, `DuplicateKey`), exactly the faults of that kind are gone. A section line is emptied to `[]`,
-/// which begins a section that nothing reads. This is a law: a call of it changes nothing.
+/// which begins a section that nothing reads. It is of lists of lines, not of texts. This is a law: a call of it changes
+/// nothing.
 pub fn emptied_lines()
     ensures gone { (kind : Kind) (lines : List Line) → IsLineKind kind →
         faults_in (emptied_of kind [] lines) ≡ without kind (faults_in lines) }
