@@ -116,7 +116,7 @@ ip link set vcan0 down
 sleep 1
 for value in 1 2 3; do echo "8 set 6000:01 $value" >&3; done
 sleep 1
-is 'what waits' "$(echo '8 state' >&3; sleep 0.5; tail -n 1 out | cut -d , -f 2-4)" ' vcan0 down, 1 frames wait, 0 TPDOs thrown away'
+is 'what waits' "$(echo '8 state' >&3; sleep 0.5; tail -n 1 out | cut -d , -f 2-4)" ' vcan0 down, 1 frames wait, 0 thrown away'
 candump -D -L vcan0,088:7FF > waited 2> /dev/null &
 listener=$!
 for _ in $(seq 600); do echo '8 raise 3120' >&3; done
