@@ -16,6 +16,7 @@
 #define MOST_UNREAD 262144 /* bytes that a client hasn't read, before it is dropped */
 #define PIECE 4096         /* a pipe that has room takes as many bytes at once */
 #define RETRY_MS 100       /* clients are let in again, where there were no descriptors */
+#define SAID_MS 10000      /* that is said again where it was well for so long */
 
 struct client standard;
 static struct output standard_output = { .fd = 1 };
@@ -23,8 +24,8 @@ static struct client *clients[MOST_CLIENTS];
 static const char *socket_path;
 static struct stat bound;         /* what was made at socket_path */
 static struct source listener;
-static bool is_paused, is_short;  /* nobody is let in for a moment, as there were no descriptors; that was said */
-static uint64_t retry;            /* when it is tried again */
+static bool is_paused;            /* nobody is let in for a moment, as there were no descriptors */
+static uint64_t retry, said_next; /* when it is tried again, and when that is said again */
 
 /* ---- what they are told */
 
@@ -191,8 +192,9 @@ static bool add_client(struct client **at, int fd)
 /* A connection that can't be taken stays, and would be found at each turn: nobody is let in for a moment. */
 static void pause_listener(void)
 {
-    if (!is_short) fprintf(stderr, "%s: no client can be let in: %s\n", socket_path, strerror(errno));
-    is_paused = is_short = true;
+    if (elapsed >= said_next) fprintf(stderr, "%s: no client can be let in: %s\n", socket_path, strerror(errno));
+    said_next = elapsed + SAID_MS;
+    is_paused = true;
     retry = elapsed + RETRY_MS;
     set_wanted(&listener, false, false);
 }
@@ -211,7 +213,6 @@ static void take_connection(struct source *source)
         if (errno != EAGAIN && errno != EINTR && errno != ECONNABORTED) pause_listener();
         return;
     }
-    is_short = false;
     while (i < MOST_CLIENTS && clients[i]) i++;
     if (i < MOST_CLIENTS && add_client(&clients[i], fd)) return;
     if (i == MOST_CLIENTS) fprintf(stderr, "%s: a client is turned away: there are %zu\n", socket_path, i);
