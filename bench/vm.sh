@@ -9,6 +9,25 @@ set -eu
 # shellcheck source=bench/folder.sh
 . "$(dirname "$(readlink -f "$0")")/folder.sh"
 seconds=${1:-60}
+
+# Says which packages are missing: each is a package and a file of it.
+missing=$(
+    while read -r package file; do
+        [ -e "$file" ] || command -v "$file" > /dev/null || echo "$package"
+    done << 'END'
+qemu-system-x86 qemu-system-x86_64
+busybox-static /bin/busybox
+cpio cpio
+kmod /sbin/modprobe
+can-utils candump
+iproute2 ip
+gcc gcc
+make make
+libc6-dev /usr/include/stdio.h
+linux-image-amd64 /lib/modules
+END
+)
+[ -z "$missing" ] || { echo "vm.sh: packages are missing: $(echo "$missing" | paste -s -d " " -)" >&2; exit 1; }
 release=$(basename "$(find /lib/modules -mindepth 1 -maxdepth 1 | sort -V | tail -n 1)")
 
 "$root/bin/libbafokun" "$folder/lib"
