@@ -9,6 +9,25 @@ set -eu
 # shellcheck source=bench/folder.sh
 . "$(dirname "$(readlink -f "$0")")/folder.sh"
 seconds=${1:-60}
+
+# Says which packages are missing: each is a package and a file of it.
+missing=$(
+    while read -r package file; do
+        [ -e "$file" ] || command -v "$file" > /dev/null || echo "$package"
+    done << 'END'
+qemu-system-x86 qemu-system-x86_64
+busybox-static /bin/busybox
+cpio cpio
+kmod /sbin/modprobe
+can-utils candump
+iproute2 ip
+gcc gcc
+make make
+libc6-dev /usr/include/stdio.h
+linux-image-amd64 /lib/modules
+END
+)
+[ -z "$missing" ] || { echo "vm.sh: packages are missing: $(echo "$missing" | paste -s -d " " -)" >&2; exit 1; }
 release=$(basename "$(find /lib/modules -mindepth 1 -maxdepth 1 | sort -V | tail -n 1)")
 
 "$root/bin/libbafokun" "$folder/lib"
@@ -116,7 +135,7 @@ ip link set vcan0 down
 sleep 1
 for value in 1 2 3; do echo "8 set 6000:01 $value" >&3; done
 sleep 1
-is 'what waits' "$(echo '8 state' >&3; sleep 0.5; tail -n 1 out | cut -d , -f 2-4)" ' vcan0 down, 1 frames wait, 0 TPDOs thrown away'
+is 'what waits' "$(echo '8 state' >&3; sleep 0.5; tail -n 1 out | cut -d , -f 2-4)" ' vcan0 down, 1 frames wait, 0 thrown away'
 candump -D -L vcan0,088:7FF > waited 2> /dev/null &
 listener=$!
 for _ in $(seq 600); do echo '8 raise 3120' >&3; done

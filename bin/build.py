@@ -6,8 +6,8 @@ every x86-64 processor.
     build.py bafokun               the static library for C, crates/bafokun/out/release/libbafokun.a
 
 A crate is proved again where a file of its own or a library below it is newer. What is proved stays so when this is interrupted.
-It says how long it will take, by the processor seconds that each crate took when the last release was made
-(release/proving.txt) and by how fast this machine is, and notes what each crate took here in crates/conode/out/proving.txt.
+It says how long it will take, by the processor seconds that each crate took when it was last measured and by how fast this machine
+is. It notes what each crate takes here in crates/conode/out/proving.txt; release/proving.txt is what was noted of each before.
 """
 
 import fcntl
@@ -91,9 +91,14 @@ class Crate:
         """Links a program that is compiled."""
         if not self.is_program:
             return 0
+        # a program that is half linked would be newer than all that it is made of
+        new = f"{self.made()}.new"
         words = ["--target", "x86_64-unknown-linux-gnu", "--toolchain", f"{kit}/toolchain"]
-        words += ["-o", self.made(), self.object(), f"{kit}/c/libos_c.a", f"{kit}/c/liblibc_c.a"]
-        return subprocess.run([f"{kit}/bin/rattle-link", *words], stdin=subprocess.DEVNULL).returncode
+        words += ["-o", new, self.object(), f"{kit}/c/libos_c.a", f"{kit}/c/liblibc_c.a"]
+        status = subprocess.run([f"{kit}/bin/rattle-link", *words], stdin=subprocess.DEVNULL).returncode
+        if status == 0:
+            os.replace(new, self.made())
+        return status
 
 
 def read_crates(wanted):
@@ -103,7 +108,7 @@ def read_crates(wanted):
         for line in lines:
             head, colon, uses = line.partition("#")[0].partition(":")
             if colon:
-                name, *words = head.split()
+                name, *words = head.split() or [""]
                 crates[name] = Crate(name, words, uses.split())
 
     def visit(crate):
@@ -116,6 +121,8 @@ def read_crates(wanted):
             crate.below += [one for one in [*it.below, it] if one not in crate.below]
         found.append(crate)
 
+    if wanted not in crates:
+        raise ValueError(f"there is no crate {wanted}")
     visit(crates[wanted])
     return found
 
@@ -140,23 +147,29 @@ def read_measured(file):
             rows = [line.split() for line in lines]
     except OSError:
         return {}
-    return {row[0]: (float(row[1]), int(row[2])) for row in rows if len(row) == 3}
+    try:
+        return {name: (float(seconds), int(megabytes)) for name, seconds, megabytes in rows}
+    except ValueError:
+        say(f"{file} isn't read: a line of it isn't a name and two numbers")
+        return {}
 
 
 def foresee(crates):
-    """Gives each crate the seconds that it should take on this machine, and the memory."""
+    """Gives each crate the seconds that it should take on this machine, and the memory. Returns how many seconds one at SPEED is
+    here."""
     said = {**read_measured(MEASURED), **read_measured(MEASURED_HERE)}
     rate = SPEED / speed()
     for it in crates:
         lines = sum(open(path, "rb").read().count(b"\n") for path in it.sources() if path.endswith(".rt"))
         seconds, it.megabytes = said.get(it.name, (SECONDS + SECONDS_A_LINE * lines, MEGABYTES))
         it.seconds = seconds * rate
+    return rate
 
 
 def write_measured(crate, seconds, megabytes):
-    """Notes what a crate took here."""
+    """Notes what a crate took here, in seconds at SPEED."""
     said = read_measured(MEASURED_HERE)
-    said[crate.name] = seconds * speed() / SPEED, round(megabytes)
+    said[crate.name] = seconds, round(megabytes)
     os.makedirs(os.path.dirname(MEASURED_HERE), exist_ok=True)
     with open(f"{MEASURED_HERE}.new", "w", encoding="utf-8") as new:
         new.writelines(f"{name} {took:.0f} {held}\n" for name, (took, held) in sorted(said.items()))
@@ -226,9 +239,9 @@ def estimate(left, running, cores):
 
 
 class Run:
-    """A crate at work."""
+    """A crate at work. It holds the lock of its folder, so that the next build waits for it where this one was killed."""
 
-    def __init__(self, crate, jobs, kit, room):
+    def __init__(self, crate, jobs, kit, room, held):
         self.crate, self.jobs, self.begun = crate, jobs, time.monotonic()
         self.log = open(f"{room}/{crate.name}", "w+", errors="replace", encoding="utf-8")
         os.makedirs(os.path.dirname(crate.made()), exist_ok=True)
@@ -239,7 +252,7 @@ class Run:
                 os.remove(f"{os.path.dirname(crate.made())}/stamp")
         how = {"cwd": crate.folder, "stdin": subprocess.DEVNULL, "stdout": self.log, "stderr": subprocess.STDOUT}
         words = [f"{kit}/bin/rattle", "build", *crate.words(kit, jobs)]
-        self.process = subprocess.Popen(words, start_new_session=True, **how)
+        self.process = subprocess.Popen(words, start_new_session=True, pass_fds=[held], **how)
         self.status = None
 
     def seconds_left(self):
@@ -274,14 +287,14 @@ def minutes(seconds):
     return f"{round(seconds / 60)} min"
 
 
-def build(crates, kit):
+def build(crates, kit, held):
     """Proves and builds those that are not current; whether all could be."""
     left = [it for it in crates if not it.is_current()]
     stale = {it.name for it in left}
     left = [it for it in crates if it.name in stale or any(below.name in stale for below in it.below)]
     if not left:
         return True
-    foresee(crates)
+    rate = foresee(crates)
     cores, count, ended, running = processors(), len(left), 0, []
     say(
         f"proving {count} of {len(crates)} crates, about {minutes(estimate(left, [], cores))} on {cores} processors;"
@@ -295,7 +308,7 @@ def build(crates, kit):
                 idle = cores - sum(it.jobs for it in running)
                 found = schedule.next([it.crate.name for it in running], idle, memory)
                 if found:
-                    running.append(Run(*found, kit, room))
+                    running.append(Run(*found, kit, room, held[found[0].folder]))
                     continue
                 done = [it for it in running if it.has_ended()]
                 for it in done:
@@ -307,7 +320,7 @@ def build(crates, kit):
                         return False
                     ended += 1
                     used, foreseen = used + it.used, foreseen + it.crate.seconds
-                    write_measured(it.crate, it.used, it.megabytes)
+                    write_measured(it.crate, it.used / rate, it.megabytes)
                     # what has ended says how fast this machine really is
                     at_work = [(it.seconds_left(), it.crate, it.jobs) for it in running]
                     rest = used / foreseen * estimate([*schedule.left.values()], at_work, cores)
@@ -322,8 +335,8 @@ def build(crates, kit):
 
 
 def lock(crates):
-    """Keeps other builds, and rt, out of these crates' folders until this process ends."""
-    held = []
+    """Keeps other builds, and rt, out of these crates' folders until this process and its provers end; by folder what holds it."""
+    held = {}
     for folder in sorted(it.folder for it in crates):
         it = os.open(folder, os.O_RDONLY)
         try:
@@ -333,12 +346,11 @@ def lock(crates):
             fcntl.flock(it, fcntl.LOCK_EX)
         except OSError:
             pass
-        held.append(it)
+        held[folder] = it
     return held
 
 
-def main(words):
-    wanted, *rest = words
+def run(wanted, rest):
     rt = shutil.which("rt")
     if not rt:
         say("the Rattle kit's command rt is not on the PATH")
@@ -347,18 +359,32 @@ def main(words):
     crates = read_crates(wanted)
     for number in (signal.SIGTERM, signal.SIGHUP):
         signal.signal(number, lambda number, _: sys.exit(128 + number))
-    try:
-        held = lock(crates)
-        is_built = build(crates, os.path.dirname(page))
-        for it in held:
-            os.close(it)
-    except KeyboardInterrupt:
-        return 130
+    held = lock(crates)
+    is_built = build(crates, os.path.dirname(page), held)
+    for it in held.values():
+        os.close(it)
     if not is_built:
         return 1
     if rest[:1] == ["--"]:
         os.execv(crates[-1].made(), [crates[-1].made(), *rest[1:]])
     return 0
+
+
+def main(words):
+    if not words or words[0].startswith("-") or words[1:2] not in ([], ["--"]):
+        print("usage: build.py CRATE [-- WORD..]", file=sys.stderr)
+        return 2
+    try:
+        return run(words[0], words[1:])
+    except KeyboardInterrupt:
+        return 130
+    except OSError as error:
+        say(f"{error.filename}: {error.strerror}" if error.filename else error)
+    except subprocess.CalledProcessError as error:
+        say(error)
+    except (KeyError, ValueError) as error:
+        say(f"crates.txt: {error}")
+    return 1
 
 
 if __name__ == "__main__":

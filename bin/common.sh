@@ -70,7 +70,8 @@ is_released() {
         echo "release/ isn't what was released: its files have other checksums than SHA256SUMS" >&2
         return 1
     fi
-    { mkdir -p "$root/crates/conode/out" && : > "$mark"; } 2> /dev/null || true
+    # not `:`, whose failed redirection would end the shell
+    { mkdir -p "$root/crates/conode/out" && true > "$mark"; } 2> /dev/null || true
 }
 
 # Whether the proof kit is there.

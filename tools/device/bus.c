@@ -22,8 +22,8 @@
 const char *const health_names[] = { "error active", "error passive", "bus-off", "down" };
 
 /*
- * Gives the node what the bus is like; bafokun_bus will do it. 8120h is error passive, 8140h recovered from bus-off. Once it is
- * active again, bit 4 of the error register is cleared, and bit 0 with it where no other error is left.
+ * Gives the node what the bus is like, as an error of the application: 8120h is error passive, 8140h recovered from bus-off. Once
+ * it is active again, bit 4 of the error register is cleared, and bit 0 with it where no other error is left.
  */
 static void give_health(struct device *device, enum health before)
 {
@@ -40,16 +40,15 @@ static void give_health(struct device *device, enum health before)
                                       BAFOKUN_MOST_FRAMES));
 }
 
-/* The bus is now like this to a device. The first device of an interface that meets it says it. */
+/* The bus is now like this to a device. The first device of an interface says it. */
 static void become(struct device *device, enum health health)
 {
     enum health before = device->health;
-    bool is_said = false;
+    bool is_first = true;
     if (health == before) return;
-    for (size_t i = 0; i < device_count; i++)
-        is_said |= strcmp(devices[i].interface, device->interface) == 0 && devices[i].health == health;
+    for (const struct device *at = devices; at < device; at++) is_first &= strcmp(at->interface, device->interface) != 0;
     device->health = health;
-    if (!is_said) fprintf(stderr, "%s: %s\n", device->interface, health_names[health]);
+    if (is_first) fprintf(stderr, "%s: %s\n", device->interface, health_names[health]);
     give_health(device, before);
 }
 
@@ -91,16 +90,20 @@ static bool is_tpdo(struct device *device, const bafokun_frame *frame)
     return true;
 }
 
+/* Makes room, where a TPDO waits; else the frame that comes is the one that is thrown away. */
 static void throw_oldest_tpdo(struct device *device)
 {
     size_t at = 0;
     while (at < device->waiting && !device->queue[at].is_tpdo) at++;
+    device->thrown++;
     if (at == device->waiting) return;
     memmove(&device->queue[at], &device->queue[at + 1], (--device->waiting - at) * sizeof *device->queue);
-    device->thrown++;
 }
 
-/* A TPDO or heartbeat that waits is replaced by its newer one; where no room is left the oldest TPDO is thrown away. */
+/*
+ * A TPDO or heartbeat that waits is replaced by its newer one; where no room is left the oldest TPDO is thrown away, or the frame
+ * itself, where no TPDO waits.
+ */
 static void let_wait(struct device *device, const bafokun_frame *frame)
 {
     struct waiting *queue = device->queue;
@@ -161,9 +164,9 @@ static bool connect_bus(struct device *device)
     if (fd < 0) return false;
     strcpy(request.ifr_name, device->interface);
     if (ioctl(fd, SIOCGIFFLAGS, &request) == 0 && (request.ifr_flags & IFF_UP)) {
-        at.can_ifindex = (int)if_nametoindex(device->interface);
+        at.can_ifindex = (int)if_nametoindex(device->interface); /* 0, where it has just gone, would be every interface */
         device->bus = (struct source){ fd, take_frames };
-        if (setsockopt(fd, SOL_CAN_RAW, CAN_RAW_ERR_FILTER, &errors, sizeof errors) == 0
+        if (at.can_ifindex != 0 && setsockopt(fd, SOL_CAN_RAW, CAN_RAW_ERR_FILTER, &errors, sizeof errors) == 0
             && bind(fd, (struct sockaddr *)&at, sizeof at) == 0 && add_source(&device->bus))
             return true;
         reason = errno;
@@ -199,6 +202,6 @@ void tend_bus(struct device *device)
     device->waiting -= sent;
     if (device->bus.fd >= 0 && device->is_deaf != is_crowded(device)) {
         device->is_deaf = is_crowded(device);
-        set_reading(&device->bus, !device->is_deaf);
+        set_wanted(&device->bus, !device->is_deaf, false);
     }
 }

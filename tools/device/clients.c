@@ -15,22 +15,29 @@
 #define MOST_CLIENTS 64
 #define MOST_UNREAD 262144 /* bytes that a client hasn't read, before it is dropped */
 #define PIECE 4096         /* a pipe that has room takes as many bytes at once */
+#define RETRY_MS 100       /* clients are let in again, where there were no descriptors */
+#define SAID_MS 10000      /* that is said again where it was well for so long */
 
 struct client standard;
 static struct output standard_output = { .fd = 1 };
 static struct client *clients[MOST_CLIENTS];
 static const char *socket_path;
+static struct stat bound;         /* what was made at socket_path */
+static struct source listener;
+static bool is_paused;            /* nobody is let in for a moment, as there were no descriptors */
+static uint64_t retry, said_next; /* when it is tried again, and when that is said again */
 
 /* ---- what they are told */
 
-/* Writes what can be written without a wait, or all of it. */
+/* Writes what can be written without a wait, or all of it, unless a signal ends the run and nobody reads. */
 static void flush(struct output *output, bool must_wait)
 {
     size_t done = 0;
     while (done < output->used && !output->is_broken) {
         struct pollfd room = { output->fd, POLLOUT, 0 };
         size_t length = output->used - done < PIECE ? output->used - done : PIECE;
-        if (poll(&room, 1, must_wait ? -1 : 0) < 1) break;
+        output->is_broken = must_wait && !wait_for_room(output->fd);
+        if (output->is_broken || (!must_wait && poll(&room, 1, 0) < 1)) break;
         ssize_t count = output->is_socket ? send(output->fd, output->text + done, length, MSG_DONTWAIT)
                                           : write(output->fd, output->text + done, length);
         if (count < 0 && errno != EAGAIN && errno != EINTR) output->is_broken = true;
@@ -127,6 +134,7 @@ static void take_text(struct source *source)
 {
     struct client *client = (struct client *)source;
     char *begin = client->line, *end, *line_end;
+    if (client->has_ended) return;
     ssize_t size = read(source->fd, begin + client->used, sizeof client->line - 1 - client->used);
     if (size < 0 && (errno == EAGAIN || errno == EINTR)) return;
     end = begin + client->used + (size > 0 ? size : 0);
@@ -139,7 +147,8 @@ static void take_text(struct source *source)
     if (size > 0) return;
     if (client->used > 0 || client->is_long) take_line(client, client->line, client->used);
     client->has_ended = true;
-    remove_source(source);
+    if (client == &standard) remove_source(source);
+    else set_wanted(source, false, client->has_left);
 }
 
 /* Standard input and output. */
@@ -162,56 +171,104 @@ static void free_client(struct client *client)
     free(client);
 }
 
+/* Lets a client in at this connection. False: errno says why. */
+static bool add_client(struct client **at, int fd)
+{
+    struct client *client = calloc(1, sizeof *client);
+    struct output *output = calloc(1, sizeof *output);
+    if (client && output) {
+        *output = (struct output){ .fd = fd, .is_socket = true };
+        client->source = (struct source){ fd, take_text };
+        client->output = output;
+        *at = client;
+        if (add_source(&client->source)) return true;
+        *at = NULL;
+    }
+    free(client);
+    free(output);
+    return false;
+}
+
+/* A connection that can't be taken stays, and would be found at each turn: nobody is let in for a moment. */
+static void pause_listener(void)
+{
+    if (elapsed >= said_next) fprintf(stderr, "%s: no client can be let in: %s\n", socket_path, strerror(errno));
+    said_next = elapsed + SAID_MS;
+    is_paused = true;
+    retry = elapsed + RETRY_MS;
+    set_wanted(&listener, false, false);
+}
+
+static void resume_listener(void)
+{
+    is_paused = false;
+    set_wanted(&listener, true, false);
+}
+
 static void take_connection(struct source *source)
 {
     size_t i = 0;
     int fd = accept4(source->fd, NULL, NULL, SOCK_NONBLOCK | SOCK_CLOEXEC);
-    struct client *client = calloc(1, sizeof *client);
-    struct output *output = calloc(1, sizeof *output);
-    while (i < MOST_CLIENTS && clients[i]) i++;
-    if (fd < 0 || !client || !output || i == MOST_CLIENTS) {
-        fprintf(stderr, "%s: a client is turned away: there are %zu\n", socket_path, i);
-        if (fd >= 0) close(fd);
-        free(client);
-        free(output);
+    if (fd < 0) {
+        if (errno != EAGAIN && errno != EINTR && errno != ECONNABORTED) pause_listener();
         return;
     }
-    *output = (struct output){ .fd = fd, .is_socket = true };
-    client->source = (struct source){ fd, take_text };
-    client->output = output;
-    add_source(&client->source);
-    clients[i] = client;
+    while (i < MOST_CLIENTS && clients[i]) i++;
+    if (i < MOST_CLIENTS && add_client(&clients[i], fd)) return;
+    if (i == MOST_CLIENTS) fprintf(stderr, "%s: a client is turned away: there are %zu\n", socket_path, i);
+    else fprintf(stderr, "%s: a client is turned away: %s\n", socket_path, strerror(errno));
+    close(fd);
+}
+
+/* Removes a socket that was left at the address, where nobody listens any more. */
+static void remove_left(const struct sockaddr_un *at)
+{
+    struct stat left;
+    int other = socket(AF_UNIX, SOCK_STREAM | SOCK_NONBLOCK | SOCK_CLOEXEC, 0);
+    bool is_left = connect(other, (const struct sockaddr *)at, sizeof *at) != 0 && errno == ECONNREFUSED;
+    if (is_left && lstat(at->sun_path, &left) == 0 && S_ISSOCK(left.st_mode)) unlink(at->sun_path);
+    close(other);
+}
+
+/* The path is free again, unless somebody else has it by now. */
+static void free_path(void)
+{
+    struct stat there;
+    bool is_ours = socket_path && lstat(socket_path, &there) == 0 && there.st_dev == bound.st_dev && there.st_ino == bound.st_ino;
+    if (is_ours) unlink(socket_path);
 }
 
 /* Listens at a path where nobody else does. Only the own user may connect. False: errno says why. */
 bool open_socket(const char *path)
 {
-    static struct source listener = { -1, take_connection };
     struct sockaddr_un at = { .sun_family = AF_UNIX };
-    struct stat left;
     errno = ENAMETOOLONG;
     if (strlen(path) >= sizeof at.sun_path) return false;
     strcpy(at.sun_path, path);
-    int other = socket(AF_UNIX, SOCK_STREAM | SOCK_CLOEXEC, 0);
-    bool is_used = connect(other, (struct sockaddr *)&at, sizeof at) == 0;
-    if (!is_used && lstat(path, &left) == 0 && S_ISSOCK(left.st_mode)) unlink(path);
-    close(other);
+    remove_left(&at);
+    listener = (struct source){ socket(AF_UNIX, SOCK_STREAM | SOCK_NONBLOCK | SOCK_CLOEXEC, 0), take_connection };
+    if (listener.fd < 0) return false;
     mode_t mask = umask(0177);
-    listener.fd = socket(AF_UNIX, SOCK_STREAM | SOCK_NONBLOCK | SOCK_CLOEXEC, 0);
     bool is_bound = bind(listener.fd, (struct sockaddr *)&at, sizeof at) == 0;
     umask(mask);
-    if (is_bound) socket_path = path;
-    return is_bound && listen(listener.fd, 16) == 0 && add_source(&listener);
+    if (!is_bound) return false;
+    if (lstat(path, &bound) == 0) socket_path = path;
+    if (socket_path && listen(listener.fd, 16) == 0 && add_source(&listener)) return true;
+    free_path();
+    return false;
 }
 
-/* Says what changed and writes the answers. True: the client has gone, or doesn't read. */
+/* Says what changed and writes the answers. True: the client has gone and has all its answers, or it doesn't read. */
 static bool tend(struct client *client)
 {
-    say_changes(client);
+    bool is_gone = client->has_ended && client != &standard;
+    if (!is_gone) say_changes(client);
     flush(client->output, client == &standard && in_stdio);
-    bool is_full = client->output->used > MOST_UNREAD;
+    bool is_full = client->output->used > MOST_UNREAD, has_left = client->output->used > 0;
+    if (client != &standard && has_left != client->has_left) set_wanted(&client->source, !is_gone, has_left);
+    client->has_left = has_left;
     if (is_full) fprintf(stderr, "%s isn't read, and is dropped\n", client == &standard ? "standard output" : "a client");
-    return is_full || client->output->is_broken || (client->has_ended && client != &standard);
+    return is_full || client->output->is_broken || (is_gone && !has_left);
 }
 
 /* At each turn of the loop. In --stdio standard input and --play end the run. */
@@ -224,10 +281,12 @@ void tend_clients(void)
     if (in_stdio && standard.has_ended && (by_stamps || !is_playing())) end_loop(true);
     for (struct client **at = clients; at < clients + MOST_CLIENTS; at++) {
         if (!*at || !tend(*at)) continue;
-        if (!(*at)->has_ended) remove_source(&(*at)->source);
+        remove_source(&(*at)->source);
         free_client(*at);
         *at = NULL;
+        retry = elapsed;
     }
+    if (is_paused && elapsed >= retry) resume_listener();
 }
 
 /* The end: the last answers are written, the path is free. */
@@ -239,5 +298,5 @@ void close_clients(void)
     free_client(&standard);
     for (struct client **at = clients; at < clients + MOST_CLIENTS; at++)
         if (*at) free_client(*at);
-    if (socket_path) unlink(socket_path);
+    free_path();
 }

@@ -46,7 +46,7 @@ static bool read_hex(const char *word, size_t digits, unsigned long *number)
     return strspn(word, "0123456789abcdefABCDEF") == digits && word[digits] == 0;
 }
 
-static bool read_decimal(const char *word, unsigned long least, unsigned long most, unsigned long *number)
+bool read_decimal(const char *word, unsigned long least, unsigned long most, unsigned long *number)
 {
     *number = strtoul(word, NULL, 10);
     return *word && word[strspn(word, "0123456789")] == 0 && *number >= least && *number <= most;
@@ -57,7 +57,7 @@ static bool read_key(const struct device *device, const char *word, struct entry
 {
     unsigned long index = strtoul(word, NULL, 16), sub_index;
     if (strspn(word, "0123456789abcdefABCDEF") != 4 || word[4] != ':' || !read_hex(word + 5, 2, &sub_index)) return false;
-    *entry = (struct entry){ (uint16_t)index, (uint8_t)sub_index, 0, word, NULL };
+    *entry = (struct entry){ (uint16_t)index, (uint8_t)sub_index, 0, "", NULL };
     entry->type = type_of(device, entry);
     return true;
 }
@@ -79,7 +79,7 @@ static bool read_entry(struct request *at, struct entry *entry)
 
 /* ---- events */
 
-/* The words of an SDO abort code that an event is refused with; bafokun_abort_text will have them. */
+/* The words of an SDO abort code that an event is refused with. */
 static const char *abort_text(uint32_t code)
 {
     static const struct { uint32_t code; const char *text; } texts[] = {
@@ -118,7 +118,7 @@ static enum outcome changed_entry(struct request *at, const struct entry *entry)
 static enum outcome tick(struct request *at)
 {
     unsigned long count;
-    if (!read_decimal(at->words[0], 1, 86400000, &count)) return WRONG;
+    if (!read_decimal(at->words[0], 1, DAY_MS, &count)) return WRONG;
     return move_clock(count) ? DONE : (say_error(at->client, "here time passes by itself"), SAID);
 }
 
@@ -200,7 +200,7 @@ static enum outcome get(struct request *at)
     return SAID;
 }
 
-/* Says the watched entries that have changed; bafokun_next_changed will know them. */
+/* Says the watched entries that have changed. */
 void say_changes(struct client *client)
 {
     for (size_t i = 0; i < client->watch_count; i++) {
@@ -236,7 +236,7 @@ static enum outcome state(struct request *at)
 {
     struct device *device = at->device;
     uint8_t now = bafokun_state(&device->node);
-    say(at->client, "node %d %s, %s %s, %zu frames wait, %lu TPDOs thrown away\n", bafokun_node_id(&device->node),
+    say(at->client, "node %d %s, %s %s, %zu frames wait, %lu thrown away\n", bafokun_node_id(&device->node),
         now == BAFOKUN_OPERATIONAL ? "operational" : now == BAFOKUN_STOPPED ? "stopped" : "pre-operational",
         device->interface, health_names[device->health], device->waiting, device->thrown);
     return SAID;

@@ -9,8 +9,9 @@
 #define MOST_BYTES 65535  /* bytes of an entry */
 #define MOST_WATCHES 32   /* of a client */
 #define MOST_WAITING 1024 /* frames of a device that wait for the bus */
+#define DAY_MS 86400000   /* most ms of a !tick */
 
-/* What epoll watches: ready is called when there is something to read. */
+/* What epoll watches: ready is called when there is something to read, or room to write where that is wanted. */
 struct source {
     int fd;
     void (*ready)(struct source *source);
@@ -68,6 +69,7 @@ struct client {
     struct source source; /* first */
     struct output *output;
     bool is_trace, is_long, has_ended; /* answers are comments of a trace; the line is too long; no line comes any more */
+    bool has_left;                     /* there are answers that it hasn't taken yet */
     const char *numbered;              /* "line": where answers have the number of the line, else NULL */
     unsigned long number;
     char line[MOST_LINE + 2];
@@ -87,9 +89,10 @@ bool start_loop(void);
 bool run_loop(void);
 void end_loop(bool is_well);
 bool add_source(struct source *source);
-void set_reading(struct source *source, bool is_wanted);
+void set_wanted(struct source *source, bool to_read, bool to_write);
 void remove_source(struct source *source);
 void elapse(uint64_t ms);
+bool wait_for_room(int fd);
 
 /* bus.c: SocketCAN */
 bool open_bus(struct device *device);
@@ -109,6 +112,7 @@ void deliver(void);
 /* commands.c: a line of the application */
 extern bafokun_frame frames[BAFOKUN_MOST_FRAMES];
 void send_frames(struct device *device, size_t count);
+bool read_decimal(const char *word, unsigned long least, unsigned long most, unsigned long *number);
 void do_line(struct client *client, char *line);
 void say_changes(struct client *client);
 

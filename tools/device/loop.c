@@ -2,6 +2,8 @@
 #define _GNU_SOURCE
 #include "device.h"
 
+#include <errno.h>
+#include <poll.h>
 #include <signal.h>
 #include <sys/epoll.h>
 #include <sys/signalfd.h>
@@ -10,11 +12,13 @@
 #include <unistd.h>
 
 #define MOST_EVENTS 64
+#define LAST_MS 1000 /* a signal that ends the run waits so long for each piece of output */
 
 uint64_t elapsed;
 static uint64_t begin; /* ms of CLOCK_MONOTONIC */
 static int epoll;
-static bool is_over, is_bad;
+static bool is_over, is_bad, is_signalled;
+static struct source signals;
 static struct source *file; /* standard input where it is a file: epoll doesn't take it, since a read never waits */
 
 static uint64_t monotonic_ms(void)
@@ -32,9 +36,9 @@ bool add_source(struct source *source)
     return is_added || source->fd == 0;
 }
 
-void set_reading(struct source *source, bool is_wanted)
+void set_wanted(struct source *source, bool to_read, bool to_write)
 {
-    struct epoll_event event = { is_wanted ? EPOLLIN : 0, { .ptr = source } };
+    struct epoll_event event = { (to_read ? EPOLLIN : 0u) | (to_write ? EPOLLOUT : 0u), { .ptr = source } };
     epoll_ctl(epoll, EPOLL_CTL_MOD, source->fd, &event);
 }
 
@@ -56,27 +60,38 @@ void elapse(uint64_t ms)
     }
 }
 
-/* How many ms nothing is due: bafokun_idle will say it. Until then the clock rings each ms. */
-static uint64_t idle_ms(void) { return 1; }
-
-/* Sets the clock to ring when something is due. What has passed by then is given to the devices in the loop. */
+/* Sets the clock to ring at the next ms. What has passed by then is given to the devices in the loop. */
 static void ring(struct source *clock)
 {
-    uint64_t due = begin + elapsed + idle_ms(), rings;
+    uint64_t due = begin + elapsed + 1, rings;
     struct itimerspec at = { { 0, 0 }, { (time_t)(due / 1000), (long)(due % 1000) * 1000000 } };
     if (read(clock->fd, &rings, sizeof rings) > 0 || elapsed == 0) timerfd_settime(clock->fd, TFD_TIMER_ABSTIME, &at, NULL);
 }
 
-static void take_signal(struct source *signals)
+static void take_signal(struct source *source)
 {
     struct signalfd_siginfo info;
-    if (read(signals->fd, &info, sizeof info) > 0) end_loop(true);
+    if (read(source->fd, &info, sizeof info) <= 0) return;
+    is_signalled = true;
+    end_loop(true);
+}
+
+/* Waits until there is room to write. False: there is none, and a signal ends the run. */
+bool wait_for_room(int fd)
+{
+    struct pollfd both[] = { { fd, POLLOUT, 0 }, { signals.fd, POLLIN, 0 } };
+    while (!is_signalled) {
+        if (poll(both, 2, -1) < 0 && errno != EINTR) return false;
+        if (both[0].revents != 0) return true;
+        if (both[1].revents != 0) take_signal(&signals);
+    }
+    return poll(both, 1, LAST_MS) > 0;
 }
 
 /* False: errno says why. */
 bool start_loop(void)
 {
-    static struct source clock = { -1, ring }, signals = { -1, take_signal };
+    static struct source clock = { -1, ring };
     sigset_t ends;
     sigemptyset(&ends);
     sigaddset(&ends, SIGTERM);
@@ -87,7 +102,7 @@ bool start_loop(void)
     signal(SIGTTIN, SIG_IGN); /* in the background a terminal isn't read */
     epoll = epoll_create1(EPOLL_CLOEXEC);
     clock.fd = timerfd_create(CLOCK_MONOTONIC, TFD_NONBLOCK | TFD_CLOEXEC);
-    signals.fd = signalfd(-1, &ends, SFD_NONBLOCK | SFD_CLOEXEC);
+    signals = (struct source){ signalfd(-1, &ends, SFD_NONBLOCK | SFD_CLOEXEC), take_signal };
     begin = monotonic_ms();
     if (!by_stamps) ring(&clock);
     return epoll >= 0 && clock.fd >= 0 && add_source(&clock) && add_source(&signals);

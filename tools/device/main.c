@@ -3,9 +3,11 @@
 #include "device.h"
 
 #include <errno.h>
+#include <fcntl.h>
 #include <getopt.h>
 #include <stdlib.h>
 #include <string.h>
+#include <unistd.h>
 
 #define MOST_SHEET 1048577 /* a byte more than a sheet may have */
 
@@ -40,14 +42,14 @@ static bool read_number(const char *text, unsigned long most, uint16_t *number)
     return *text >= '0' && *text <= '9' && *end == 0 && value <= most;
 }
 
-/* Says why there is no device; bafokun_fault_text will have the words. */
+/* Says why there is no device. */
 static void say_fault(const char *word, const char *sheet, const bafokun_fault *fault)
 {
     if (fault->stage == BAFOKUN_FAULT_DEVICE)
         fprintf(stderr, "%s: build fault %u %04X:%02X", word, fault->number, fault->index, fault->sub_index);
     else
         fprintf(stderr, "%s: fault %u line %llu", word, fault->number, (unsigned long long)fault->line);
-    fprintf(stderr, "; `conode check %s` names it, `conode adapt %s` mends what can be mended\n", sheet, sheet);
+    fprintf(stderr, "; `conode check %s` names it, docs/SHEETS.md says how to fix it\n", sheet);
 }
 
 /* Reads INTERFACE:N or N. */
@@ -62,6 +64,14 @@ static bool read_address(const char *text, size_t length, struct device *device,
     return read_number(number, 127, node_id) && *node_id > 0 && *device->interface && strlen(address) < 16;
 }
 
+/* Whether a device built before has this address. */
+static bool is_taken(struct device *device, uint16_t node_id)
+{
+    for (struct device *at = devices; at < device; at++)
+        if (strcmp(at->interface, device->interface) == 0 && bafokun_node_id(&at->node) == node_id) return true;
+    return false;
+}
+
 /* Builds the device of a word [INTERFACE:]N=SHEET. False: it was said why. */
 static bool build(const char *word)
 {
@@ -72,6 +82,8 @@ static bool build(const char *word)
     bafokun_fault fault;
     if (!sheet || !read_address(word, (size_t)(sheet++ - word), device, &node_id))
         return fprintf(stderr, "%s: [INTERFACE:]N=SHEET, with N from 1 to 127, and --can without INTERFACE\n", word), false;
+    if (is_taken(device, node_id))
+        return fprintf(stderr, "%s: there is a node %d on %s already\n", word, node_id, device->interface), false;
     FILE *file = fopen(sheet, "re");
     size_t length = file ? fread(text, 1, sizeof text, file) : 0;
     if (!file || ferror(file)) return fail(sheet), false;
@@ -100,7 +112,7 @@ static bool read_words(int count, char **words)
         case 'S': is_right &= read_number(optarg, 65535, &config.strings); break;
         case 'D': is_right &= read_number(optarg, 65535, &config.domains); break;
         case 'T': is_right &= read_number(optarg, 65535, &config.time); break;
-        case 'h': exit(fputs(usage, stdout) < 0);
+        case 'h': exit(fputs(usage, stdout) < 0 || fflush(stdout) != 0 ? fail("standard output") : 0);
         default: is_right = false;
         }
     }
@@ -124,8 +136,18 @@ static int run(void)
     return is_well ? 0 : 1;
 }
 
+/* Where a standard stream is closed, no file of ours is taken for it: reads find the end, writes fail. */
+static void hold_standard(void)
+{
+    int fd;
+    do fd = open("/dev/null", O_RDONLY);
+    while (fd >= 0 && fd <= 2);
+    if (fd > 2) close(fd);
+}
+
 int main(int count, char **words)
 {
+    hold_standard();
     if (!read_words(count, words)) return fputs(usage, stderr), 2;
     devices = calloc((size_t)(count - optind), sizeof *devices);
     bool is_built = devices != NULL;

@@ -1,5 +1,5 @@
 /*
- * The names and data types of a sheet's entries, until bafokun_entry gives them. bafokun_build has accepted the sheet, so
+ * The names and data types of a sheet's entries, which the library doesn't give. bafokun_build has accepted the sheet, so
  * nothing is checked again; docs/SHEETS.md says what a sheet is.
  */
 #define _GNU_SOURCE

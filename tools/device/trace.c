@@ -8,7 +8,6 @@
 #include <time.h>
 
 #define HEX "0123456789abcdefABCDEF"
-#define DAY_MS 86400000
 #define MOST_HEARD 8192
 
 unsigned long frames_in, frames_out;
