@@ -1,0 +1,108 @@
+"""The shared library: where it is found, and its calls, as bafokun.h has them."""
+
+from __future__ import annotations
+
+import ctypes
+import os
+from ctypes import POINTER, c_bool, c_char_p, c_size_t, c_uint8, c_uint16, c_uint32, c_uint64, c_void_p
+from functools import lru_cache
+from pathlib import Path
+from typing import Any, Iterator
+
+MOST_FRAMES = 514
+"""No input gives more frames."""
+
+
+class CNode(ctypes.Structure):
+    """The place of a device."""
+
+    _fields_ = [("built", c_size_t), ("device", c_void_p)]
+
+
+class CFrame(ctypes.Structure):
+    """A CAN data frame."""
+
+    _fields_ = [("id", c_uint16), ("length", c_uint16), ("bytes", c_uint8 * 8)]
+
+
+class CConfig(ctypes.Structure):
+    """What an EDS leaves open."""
+
+    _fields_ = [("strings", c_uint16), ("domains", c_uint16), ("time", c_uint16)]
+
+
+class CFault(ctypes.Structure):
+    """Why there is no device."""
+
+    _fields_ = [
+        ("line", c_uint64),
+        ("stage", c_uint16),
+        ("number", c_uint16),
+        ("index", c_uint16),
+        ("sub_index", c_uint16),
+    ]
+
+
+NO_FAULT, SHEET_FAULT, DEVICE_FAULT = 0, 1, 2
+DONE, REFUSED = 1, 2
+
+_NODE = POINTER(CNode)
+_FRAMES = (POINTER(CFrame), c_size_t)
+_KEY = (c_uint16, c_uint8)
+
+# each call: what it gives, what it takes
+_CALLS = {
+    "build": (c_bool, _NODE, c_char_p, c_size_t, c_uint8, POINTER(CConfig), POINTER(CFault)),
+    "free": (None, _NODE),
+    "boot": (c_size_t, _NODE, *_FRAMES),
+    "take": (c_size_t, _NODE, POINTER(CFrame), *_FRAMES),
+    "tick": (c_size_t, _NODE, *_FRAMES),
+    "write": (c_size_t, _NODE, *_KEY, c_char_p, c_size_t, *_FRAMES),
+    "event": (c_size_t, _NODE, c_uint16, *_FRAMES),
+    "changed": (c_size_t, _NODE, *_KEY, *_FRAMES),
+    "raise": (c_size_t, _NODE, c_uint16, c_uint8, c_char_p, *_FRAMES),
+    "clear": (c_size_t, _NODE, c_uint8, *_FRAMES),
+    "value": (c_bool, _NODE, *_KEY, POINTER(c_uint8), c_size_t, POINTER(c_size_t)),
+    "node_id": (c_uint8, _NODE),
+    "state": (c_uint8, _NODE),
+    "answer": (c_uint8, _NODE, POINTER(c_uint32)),
+    "held": (c_size_t, _NODE, c_uint8),
+}
+
+
+def _places() -> Iterator[str]:
+    package = Path(__file__).resolve().parent
+    for folder in (
+        package,
+        package.parents[1] / "release",  # of a clone
+        package.parents[2],  # bin/install: PREFIX/lib, where the package is in PREFIX/lib/python3.X/site-packages
+    ):
+        if (folder / "libbafokun.so").is_file():
+            yield str(folder / "libbafokun.so")
+    yield "libbafokun.so.0"  # where the system looks
+
+
+def _open() -> ctypes.CDLL:
+    chosen = os.environ.get("BAFOKUN_LIBRARY")
+    if chosen:
+        return ctypes.CDLL(chosen)
+    for place in _places():
+        try:
+            return ctypes.CDLL(place)
+        except OSError as error:
+            last = error
+    raise OSError(f"{last}: BAFOKUN_LIBRARY may name the file libbafokun.so, which bin/libbafokun gives")
+
+
+@lru_cache(maxsize=None)
+def load() -> Any:
+    """The library: that of BAFOKUN_LIBRARY, else the one beside the package, of the clone, or installed.
+
+    OSError: there is none.
+    """
+    library = _open()
+    for name, (gives, *takes) in _CALLS.items():
+        call = getattr(library, f"bafokun_{name}")
+        call.restype = gives
+        call.argtypes = takes
+    return library

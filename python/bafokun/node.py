@@ -1,0 +1,276 @@
+"""A CANopen device."""
+
+from __future__ import annotations
+
+import ctypes
+import os
+import threading
+import weakref
+from enum import IntEnum
+from pathlib import Path
+from typing import Any, Dict, Iterator, List, Optional, Tuple, Union
+
+from . import library as c
+from .entry import Entry
+from .faults import BuildFault, Refused, SheetFault
+from .frame import AnyFrame, Frame, frame_of
+from .sheet import descriptions, node_id_of
+from .values import Value
+
+Key = Union[str, int, Tuple[int, int]]
+"""An entry's name, "Object.Entry", an index, or an index and a sub-index."""
+
+# the bit of the error register that is the kind of an emergency error code, by its first digit
+_KINDS = {0x2: 0x02, 0x3: 0x04, 0x4: 0x08, 0x8: 0x10, 0xF: 0x80}
+
+
+# in ms
+_DAY = 86_400_000
+
+
+class State(IntEnum):
+    """NMT states (CiA 301, 7.3.2), as the byte of a heartbeat."""
+
+    STOPPED = 4
+    OPERATIONAL = 5
+    PRE_OPERATIONAL = 127
+
+
+def _checked(name: str, value: int, most: int) -> int:
+    # ctypes would cut it off
+    if not 0 <= value <= most:
+        raise ValueError(f"{name} isn't 0 to {most}: {value}")
+    return value
+
+
+class Node:
+    """A device made from a data sheet. It begins in state pre-operational, and knows no bus and no clock.
+
+    What comes from the bus and the clock (`boot`, `take`, `tick`) gives the frames that the device sends, in order. What
+    the application does (entries that are set, `write`, `changed`, `event`, `raise_error`, `clear_errors`) may send too:
+    these frames wait, and are the first of what the next of those calls gives, or `frames`. Each call may come from any
+    thread. After a reset by NMT entries have their defaults again, as after the build.
+    """
+
+    def __init__(
+        self,
+        sheet: bytes,
+        node_id: Optional[int] = None,
+        *,
+        strings: int = 16,
+        domains: int = 889,
+        sdo_timeout: int = 1000,
+        path: str = "",
+    ):
+        """Of a sheet's text, at a node-ID, 1 to 127, or that of the sheet where it is a device configuration file.
+
+        strings and domains are the room of strings and domains in bytes, sdo_timeout is in ms, 0 for none, path is for
+        messages. SheetFault, BuildFault: why there is no device. OSError: there is no library.
+        """
+        self._lock = threading.RLock()
+        self._library: Any = c.load()
+        self._handle = c.CNode()
+        self._room = (c.CFrame * c.MOST_FRAMES)()
+        self._waiting: List[Frame] = []
+        if node_id is None:
+            # where there is none, the library says so, or what else is wrong
+            node_id = node_id_of(sheet) or 0
+        config = c.CConfig(
+            _checked("strings", strings, 0xFFFF),
+            _checked("domains", domains, 0xFFFF),
+            _checked("sdo_timeout", sdo_timeout, 0xFFFF),
+        )
+        fault = c.CFault()
+        build = self._library.bafokun_build
+        if not build(self._handle, sheet, len(sheet), _checked("node_id", node_id, 0xFF), config, fault):
+            if fault.stage == c.SHEET_FAULT:
+                raise SheetFault(fault.number, fault.line, path)
+            raise BuildFault(fault.number, fault.index, fault.sub_index, path)
+        # also where nobody closes it
+        self._free = weakref.finalize(self, self._library.bafokun_free, self._handle)
+        self._entries = {(it.index, it.sub_index): Entry(self, it) for it in descriptions(sheet, self._has)}
+        self._names = self._named()
+
+    @classmethod
+    def from_sheet(
+        cls,
+        path: Union[str, "os.PathLike[str]"],
+        node_id: Optional[int] = None,
+        *,
+        strings: int = 16,
+        domains: int = 889,
+        sdo_timeout: int = 1000,
+    ) -> Node:
+        """Of a file, an EDS or a DCF; the rest is as for Node. OSError: the file can't be read."""
+        text = Path(path).read_bytes()
+        return cls(text, node_id, strings=strings, domains=domains, sdo_timeout=sdo_timeout, path=os.fspath(path))
+
+    def close(self) -> None:
+        """Gives the device and its memory back; no other call may come after this one."""
+        with self._lock:
+            self._free()
+
+    def __enter__(self) -> Node:
+        return self
+
+    def __exit__(self, *_: object) -> None:
+        self.close()
+
+    def _named(self) -> Dict[str, List[Entry]]:
+        names: Dict[str, List[Entry]] = {}
+        for entry in self:
+            names.setdefault(entry.name, []).append(entry)
+            if entry.object_name:
+                names.setdefault(f"{entry.object_name}.{entry.name}", []).append(entry)
+        return names
+
+    # ---- the library's calls
+
+    def _call(self, name: str, *words: object) -> Any:
+        """One call. All of them come from here."""
+        with self._lock:
+            if not self._free.alive:
+                raise ValueError("the node is closed")
+            return getattr(self._library, f"bafokun_{name}")(self._handle, *words)
+
+    def _input(self, name: str, *words: object) -> None:
+        """One input; the frames that it gives wait."""
+        with self._lock:
+            count = self._call(name, *words, self._room, c.MOST_FRAMES)
+            if count:
+                self._waiting += [Frame(it.id, bytes(it.bytes[: it.length])) for it in self._room[:count]]
+
+    def _event(self, name: str, *words: object) -> None:
+        """An event of the application."""
+        with self._lock:
+            self._input(name, *words)
+            code = ctypes.c_uint32()
+            if self._call("answer", code) == c.REFUSED:
+                raise Refused(code.value)
+
+    def _has(self, index: int, sub_index: int) -> bool:
+        return bool(self._call("value", index, sub_index, (ctypes.c_uint8 * 1)(), 0, ctypes.c_size_t()))
+
+    # ---- the bus and the clock
+
+    def frames(self) -> List[Frame]:
+        """The frames that wait: what the application did gave them. They are to be sent once, in order."""
+        with self._lock:
+            frames, self._waiting = self._waiting, []
+            return frames
+
+    def boot(self) -> List[Frame]:
+        """The boot-up, to be sent once after the build."""
+        with self._lock:
+            self._input("boot")
+            return self.frames()
+
+    def take(self, frame: AnyFrame) -> List[Frame]:
+        """A frame was received: a pair (identifier, data) or a message of python-can."""
+        with self._lock:
+            taken = frame_of(frame)
+            if taken:
+                data = taken.data.ljust(8, b"\0")
+                self._input("take", c.CFrame(taken.id, len(taken.data), (ctypes.c_uint8 * 8)(*data)))
+            return self.frames()
+
+    def tick(self, ms: int = 1) -> List[Frame]:
+        """So many ms elapsed, at most a day."""
+        with self._lock:
+            for _ in range(_checked("ms", ms, _DAY)):
+                self._input("tick")
+            return self.frames()
+
+    # ---- the application
+
+    def write(self, index: int, sub_index: int, data: bytes) -> None:
+        """Writes all bytes of an entry, also of one that a client may only read, and sends no TPDO. Refused: why not."""
+        # (of what isn't bytes this makes a TypeError)
+        data = memoryview(data).tobytes()
+        self._event("write", _checked("index", index, 0xFFFF), _checked("sub_index", sub_index, 0xFF), data, len(data))
+
+    def changed(self, index: int, sub_index: int) -> None:
+        """The value of an entry changed: an event on each active TPDO that maps it."""
+        self._event("changed", _checked("index", index, 0xFFFF), _checked("sub_index", sub_index, 0xFF))
+
+    def event(self, tpdo: int) -> None:
+        """An event on a TPDO; 0 is the one of 1800h."""
+        self._event("event", _checked("tpdo", tpdo, 0xFFFF))
+
+    def raise_error(self, code: int, bits: Optional[int] = None, manufacturer: bytes = bytes(5)) -> None:
+        """An error: its emergency error code, the bits of the error register besides bit 0, five bytes of the manufacturer.
+
+        Without bits it is that of the code's kind: current, voltage, temperature, communication, the manufacturer's.
+        """
+        if len(manufacturer) != 5:
+            raise ValueError(f"these are no five bytes: {manufacturer!r}")
+        kind = _KINDS.get(_checked("code", code, 0xFFFF) >> 12, 0) if bits is None else _checked("bits", bits, 0xFF)
+        self._event("raise", code, kind, bytes(manufacturer))
+
+    def clear_errors(self, bits: int = 0xFF) -> None:
+        """Errors have ended: these bits of the error register are cleared."""
+        self._event("clear", _checked("bits", bits, 0xFF))
+
+    # ---- questions
+
+    @property
+    def node_id(self) -> int:
+        """The node-ID, 1 to 127."""
+        return int(self._call("node_id"))
+
+    @property
+    def state(self) -> State:
+        """The NMT state."""
+        return State(self._call("state"))
+
+    def held(self, channel: int) -> int:
+        """How many bytes are held for the transfer of an SDO channel."""
+        return int(self._call("held", _checked("channel", channel, 0xFF)))
+
+    def read(self, index: int, sub_index: int) -> bytes:
+        """The bytes of an entry, least significant first. KeyError: there is none."""
+        _checked("index", index, 0xFFFF)
+        _checked("sub_index", sub_index, 0xFF)
+        with self._lock:
+            room, length = 64, ctypes.c_size_t()
+            while True:
+                data = (ctypes.c_uint8 * room)()
+                if not self._call("value", index, sub_index, data, room, length):
+                    raise KeyError(f"there is no entry {index:04X}:{sub_index:02X}")
+                if length.value <= room:
+                    return bytes(data[: length.value])
+                room = length.value
+
+    # ---- entries
+
+    def __iter__(self) -> Iterator[Entry]:
+        return iter(self._entries.values())
+
+    def __len__(self) -> int:
+        return len(self._entries)
+
+    def __getitem__(self, key: Key) -> Entry:
+        """An entry by its name, by "Object.Entry", by index and sub-index, or by the index of a VAR or DOMAIN.
+
+        KeyError: there is none; or there are several, whose keys it has.
+        """
+        found = self._found(key)
+        if len(found) != 1:
+            several = ", ".join(f"{it.index:04X}:{it.sub_index:02X}" for it in found)
+            shown = f"{key:04X}h" if isinstance(key, int) else repr(key)
+            raise KeyError(f"{shown} is several entries: {several}" if found else f"no entry is {shown}")
+        return found[0]
+
+    def __setitem__(self, key: Key, value: Value) -> None:
+        """Sets the value of an entry, as `.raw`."""
+        self[key].raw = value
+
+    def __contains__(self, key: Key) -> bool:
+        return len(self._found(key)) == 1
+
+    def _found(self, key: Key) -> List[Entry]:
+        if isinstance(key, str):
+            return self._names.get(key) or [it for it in self if it.object_name == key]
+        if isinstance(key, int):
+            return [it for it in self if it.index == key]
+        return [self._entries[key]] if key in self._entries else []

@@ -1,0 +1,106 @@
+"""A node on the virtual bus of python-can, where that is installed."""
+
+import threading
+import time
+import unittest
+from pathlib import Path
+
+import bafokun
+
+try:
+    import can
+except ImportError:
+    can = None
+
+ROOT = Path(__file__).resolve().parents[2]
+SENSOR = ROOT / "examples" / "temperature-sensor.eds"
+
+
+@unittest.skipUnless(can, "python-can isn't installed")
+class Bus(unittest.TestCase):
+    def setUp(self):
+        self.node = bafokun.Node.from_sheet(SENSOR, 5)
+        self.bus, self.tool = (can.Bus(self.id(), interface="virtual") for _ in range(2))
+
+    def tearDown(self):
+        self.bus.shutdown()
+        self.tool.shutdown()
+
+    def send(self, identifier, data, **kind):
+        kind.setdefault("is_extended_id", False)
+        self.tool.send(can.Message(arbitration_id=identifier, data=bytes.fromhex(data), **kind))
+
+    def next(self):
+        """The next frame on the bus, as text."""
+        message = self.tool.recv(10)
+        self.assertIsNotNone(message, "no frame for ten seconds")
+        self.assertFalse(message.is_extended_id)
+        return str(bafokun.Frame(message.arbitration_id, bytes(message.data)))
+
+    def test_messages(self):
+        """A message is the frame that it has; one that a device doesn't hear is passed over."""
+        request = dict(arbitration_id=0x605, data=bytes.fromhex("4000100000000000"))
+        (response,) = self.node.take(can.Message(is_extended_id=False, **request))
+        self.assertEqual(str(response), "585#4300100094010200")
+        self.assertEqual(response.message().arbitration_id, 0x585)
+        self.assertEqual(self.node.take(can.Message(**request)), [])
+        self.assertEqual(self.node.take(can.Message(is_extended_id=False, is_fd=True, **request)), [])
+        self.assertEqual(self.node.take(can.Message(is_extended_id=False, arbitration_id=0x605, is_remote_frame=True)), [])
+
+    def test_running(self):
+        with bafokun.running(self.node, self.bus):
+            self.assertEqual(self.next(), "705#00")
+            self.node["AI input PV 1"] = 215
+            self.send(0x605, "4030710100000000")
+            self.assertEqual(self.next(), "585#4B307101D7000000")
+            # the heartbeat time becomes 50 ms
+            self.send(0x605, "2B17100032000000")
+            self.assertEqual(self.next(), "585#6017100000000000")
+            begin = time.monotonic()
+            self.assertEqual([self.next() for _ in range(20)], ["705#7F"] * 20)
+            self.assertGreater(time.monotonic() - begin, 0.9)
+        self.assertIsNone(self.tool.recv(0.1))
+
+    def test_run(self):
+        """It ends after so many seconds; or when it is told to."""
+        begin = time.monotonic()
+        bafokun.run(self.node, self.bus, seconds=0.05)
+        self.assertGreaterEqual(time.monotonic() - begin, 0.05)
+        stop = threading.Event()
+        stop.set()
+        bafokun.run(self.node, self.bus, stop=stop)
+        self.assertEqual([self.next(), self.next()], ["705#00", "705#00"])
+
+    def test_own_frames(self):
+        """A bus that gives what it sent itself: a node doesn't hear that."""
+        own = can.Bus(self.id(), interface="virtual", receive_own_messages=True)
+        node = bafokun.Node.from_sheet(SENSOR, 5)
+        heard = []
+        node.take = lambda message: heard.append(message) or []
+        bafokun.run(node, own, seconds=0.05)
+        own.shutdown()
+        self.assertEqual(heard, [])
+
+    def test_full_bus(self):
+        """Frames that the bus doesn't take wait, in order; after a second that is an error."""
+        send, refusals = self.bus.send, [3]
+
+        def busy(message):
+            refusals[0] -= 1
+            if refusals[0] >= 0:
+                raise can.CanError("queue is full")
+            send(message)
+
+        self.bus.send = busy
+        with bafokun.running(self.node, self.bus):
+            self.send(0x605, "4000100000000000")
+            self.assertEqual([self.next(), self.next()], ["705#00", "585#4300100094010200"])
+        refusals[0] = 1 << 30
+        begin = time.monotonic()
+        with self.assertRaisesRegex(can.CanError, "full"):
+            bafokun.run(self.node, self.bus, seconds=10)
+        self.assertGreater(time.monotonic() - begin, 1)
+
+
+if __name__ == "__main__":
+    unittest.main()

@@ -1,0 +1,383 @@
+"""A node through frames, ticks and its entries. What it sends is that of CiA 301, or of a session in examples/."""
+
+import gc
+import os
+import re
+import threading
+import unittest
+from pathlib import Path
+
+import bafokun
+from bafokun.faults import _ABORTS, _BUILD, _SHEET
+
+ROOT = Path(__file__).resolve().parents[2]
+SENSOR = ROOT / "examples" / "temperature-sensor.eds"
+MODULE = ROOT / "examples" / "io-module.eds"
+
+# the mandatory objects, and what a test puts after them
+MANDATORY = """[MandatoryObjects]
+SupportedObjects=3
+1=0x1000
+2=0x1001
+3=0x1018
+[1000]
+ParameterName=Device type
+DataType=7
+AccessType=ro
+[1001]
+ParameterName=Error register
+DataType=5
+AccessType=ro
+[1018]
+ParameterName=Identity
+ObjectType=9
+[1018sub0]
+ParameterName=Highest sub-index
+DataType=5
+AccessType=const
+DefaultValue=1
+[1018sub1]
+ParameterName=Vendor-ID
+DataType=7
+AccessType=ro
+DefaultValue=0x1F2
+"""
+
+
+def sheet(*objects, **more):
+    """A sheet with these objects from 2000h on, each the lines of its section."""
+    lists = [f"[ManufacturerObjects]\nSupportedObjects={len(objects)}"]
+    lists += [f"{i + 1}={0x2000 + i}" for i in range(len(objects))]
+    sections = [f"[{0x2000 + i:X}]\n{text}" for i, text in enumerate(objects)]
+    return (MANDATORY + "\n".join(lists + sections) + "\n" + more.get("more", "")).encode("latin-1")
+
+
+def var(kind, name="value", access="rw", **keys):
+    """The lines of a VAR."""
+    lines = [f"ParameterName={name}", f"DataType={kind}", f"AccessType={access}"]
+    return "\n".join(lines + [f"{key}={value}" for key, value in keys.items()])
+
+
+def upload(node, index, sub_index):
+    """The response to the upload of an entry by SDO, expedited."""
+    (response,) = node.take((0x600 + node.node_id, bytes([0x40, index & 0xFF, index >> 8, sub_index, 0, 0, 0, 0])))
+    return response.data
+
+
+class Sessions(unittest.TestCase):
+    """The sessions of examples/, which conode replay plays too."""
+
+    def play(self, eds, node_id, session):
+        node = bafokun.Node.from_sheet(eds, node_id)
+        now, sent = None, [(0, frame) for frame in node.boot()]
+        for line in (ROOT / "examples" / f"{session}.log").read_text().splitlines():
+            words = line.split()
+            frames = []
+            if line.startswith("("):
+                ms = int(words[0][1:-1].replace(".", "")) // 1000
+                for now in range((ms if now is None else now) + 1, ms + 1):
+                    sent += [(now, frame) for frame in node.tick()]
+                now = ms
+                identifier, data = words[2].split("#")
+                frames = node.take((int(identifier, 16), bytes.fromhex(data)))
+            elif words[0] == "!tick":
+                for now in range(now + 1, now + int(words[1]) + 1):
+                    sent += [(now, frame) for frame in node.tick()]
+            elif words[0].startswith("!"):
+                try:
+                    self.event(node, *words)
+                except bafokun.Refused as error:
+                    sent.append((None, f"refused {error.code:08X}"))
+                frames = node.frames()
+            sent += [(now, frame) for frame in frames]
+        wanted = []
+        for line in (ROOT / "examples" / f"{session}.replayed").read_text().splitlines():
+            words = line.split()
+            if words[0] != ";":
+                wanted.append((int(words[0][1:-1].replace(".", "")) // 1000, words[2]))
+            elif words[1] == "line":
+                wanted.append((None, " ".join(words[3:])))
+        self.assertEqual([(ms, str(it)) for ms, it in sent], wanted)
+
+    def event(self, node, name, first, *words):
+        if name == "!event":
+            node.event(int(first))
+        elif name == "!clear":
+            node.clear_errors(int(first, 16))
+        elif name == "!raise":
+            node.raise_error(int(first, 16), int(words[0], 16), bytes.fromhex(words[1]))
+        else:
+            key = tuple(int(it, 16) for it in first.split(":"))
+            node.write(*key, bytes.fromhex(words[0])) if name == "!write" else node.changed(*key)
+
+    def test_sensor(self):
+        self.play(SENSOR, 5, "temperature-sensor-session")
+
+    def test_module(self):
+        self.play(MODULE, 8, "io-module-session")
+
+
+class Entries(unittest.TestCase):
+    def test_names(self):
+        node = bafokun.Node.from_sheet(SENSOR, 5)
+        self.assertEqual(len(node), 22)
+        entry = node["AI sensor type.AI sensor type 1"]
+        self.assertEqual(repr(entry), "<Entry 6110:01 'AI sensor type 1' UNSIGNED16 ro>")
+        self.assertIs(node[0x6110, 1], entry)
+        self.assertIs(node["AI sensor type 1"], entry)
+        self.assertEqual((entry.object_name, node[0x1000].object_name), ("AI sensor type", ""))
+        self.assertEqual([it.index for it in node][:2], [0x1000, 0x1001])
+        self.assertIn("Device type", node)
+        for missing, text in [
+            ("Number of channels", "6110:00, 6131:00, 6132:00, 6150:00, 7130:00"),
+            ("Identity object", "1018:00, 1018:01, 1018:02, 1018:03, 1018:04"),
+            (0x6110, "6110:00, 6110:01"),
+            ("device type", "no entry"),
+            ((0x1000, 1), "no entry"),
+            (0x1002, "no entry is 1002h"),
+        ]:
+            self.assertNotIn(missing, node)
+            with self.assertRaisesRegex(KeyError, text):
+                node[missing]
+
+    def test_values(self):
+        """Each type: a value, and its bytes."""
+        for kind, value, data, wrong, foreign in [
+            (0x01, True, "01", 2, "yes"),
+            (0x02, -128, "80", -129, 1.0),
+            (0x03, -2, "FEFF", 32768, "1"),
+            (0x10, -2, "FEFFFF", 1 << 23, b""),
+            (0x15, -1, "FF" * 8, 1 << 63, None),
+            (0x05, 255, "FF", 256, 1.0),
+            (0x06, 258, "0201", -1, "1"),
+            (0x16, 0x030201, "010203", 1 << 24, None),
+            (0x1B, (1 << 64) - 1, "FF" * 8, 1 << 64, None),
+            (0x09, "a\udcffb", "61FF62", "\u00e4", 5),
+            (0x0A, b"\0\1", "0001", None, 5),
+            (0x0F, b"", "", None, "text"),
+        ]:
+            with self.subTest(kind=kind):
+                node = bafokun.Node(sheet(var(kind)), 5)
+                node[0x2000] = value
+                self.assertEqual(node[0x2000].raw, value)
+                self.assertIs(type(node[0x2000].raw), type(value))
+                self.assertEqual(node[0x2000].bytes, bytes.fromhex(data))
+                if wrong is not None:
+                    with self.assertRaises(ValueError):
+                        node[0x2000] = wrong
+                with self.assertRaises(TypeError):
+                    node[0x2000] = foreign
+                self.assertEqual(node[0x2000].raw, value)
+
+    def test_original_types(self):
+        """What an adapted sheet has of types that the library doesn't know."""
+        for original, kind, value, data in [
+            (0x08, 0x07, 21.5, "0000AC41"),
+            (0x11, 0x1B, -2.0, "00000000000000C0"),
+            (0x0B, 0x0A, "\u00e4\u20ac", "E400AC20"),
+            (0x0C, 0x19, 0x010000000002, "020000000001"),
+        ]:
+            with self.subTest(original=original):
+                node = bafokun.Node(sheet(var(kind, OriginalDataType=f"0x{original:04X}")), 5)
+                node[0x2000] = value
+                self.assertEqual(node[0x2000].bytes, bytes.fromhex(data))
+                self.assertEqual(node[0x2000].raw, value)
+                self.assertEqual(node[0x2000].type, original)
+        # a REAL32 is never a text, nor outside its range
+        node = bafokun.Node(sheet(var(7, OriginalDataType=8)), 5)
+        for wrong, error in [("1", TypeError), (b"\0\0\0\0", TypeError), (1e300, ValueError)]:
+            with self.assertRaises(error):
+                node[0x2000] = wrong
+        # one that doesn't fit the type is none
+        for other in ("0x0011", "0x0006", "none", "0x08 ; REAL32"):
+            self.assertEqual(bafokun.Node(sheet(var(7, OriginalDataType=other)), 5)[0x2000].type, 7)
+
+    def test_sheets(self):
+        """What is odd in a sheet, and accepted."""
+        odd = sheet(
+            var(9, name="Gr\xf6\xdfe = 1", DefaultValue="x\xff"),
+            "ObjectType=2\nParameterName=File",
+            "ParameterName=List\nObjectType=8",
+            "objecttype = 7 \r\nparametername=\nParameterName= Last\t\nDataType=0x5\nAccessType=RO",
+            more="[2002SUB0]\nParameterName=Count\nDataType=5\nAccessType=ro\n[2002sub0A]\nParameterName=Tenth\n"
+            "DataType=5\nAccessType=ro\n[2000sub1]\nParameterName=passed over\n[2005]\nParameterName=unlisted\n"
+            "DataType=0x40\n; ParameterName=a comment\n",
+        )
+        node = bafokun.Node(b"\xef\xbb\xbf" + odd, 5)
+        self.assertEqual(
+            [repr(it) for it in node][4:],
+            [
+                "<Entry 2000:00 'Größe = 1' VISIBLE_STRING rw>",
+                "<Entry 2001:00 'File' DOMAIN rw>",
+                "<Entry 2002:00 'Count' UNSIGNED8 ro>",
+                "<Entry 2002:0A 'Tenth' UNSIGNED8 ro>",
+                "<Entry 2003:00 'Last' UNSIGNED8 ro>",
+            ],
+        )
+        self.assertEqual(node["Größe = 1"].raw, "x\udcff")
+        self.assertEqual(node["List.Tenth"].sub_index, 10)
+
+    def test_set_by_the_application(self):
+        """It is what a client reads; what the sheet refuses is refused, and changes nothing."""
+        node = bafokun.Node.from_sheet(SENSOR, 5)
+        node["AI input PV 1"] = -2
+        self.assertEqual(upload(node, 0x7130, 1), bytes.fromhex("4B307101FEFF0000"))
+        with self.assertRaisesRegex(bafokun.Refused, "06090032: the value is below the low limit") as caught:
+            node["Measuring interval in ms"] = 9
+        self.assertEqual(caught.exception.code, 0x06090032)
+        self.assertEqual(node["Measuring interval in ms"].raw, 1000)
+        with self.assertRaisesRegex(bafokun.Refused, "06070013"):
+            node[0x2000].bytes = b"\0"
+        with self.assertRaises(TypeError):
+            node[0x2000].bytes = 2
+        # longer than the room that is asked for first
+        node = bafokun.Node.from_sheet(SENSOR, 5, strings=300)
+        node["Date of the last calibration"] = "9" * 300
+        self.assertEqual(node["Date of the last calibration"].raw, "9" * 300)
+
+    def test_read_and_written_by_key(self):
+        node = bafokun.Node.from_sheet(SENSOR, 5)
+        node.write(0x7130, 1, b"\xd7\0")
+        self.assertEqual(node.read(0x7130, 1), b"\xd7\0")
+        with self.assertRaisesRegex(KeyError, "7130:02"):
+            node.read(0x7130, 2)
+        with self.assertRaisesRegex(bafokun.Refused, "no such sub-index"):
+            node.write(0x7130, 2, b"\xd7\0")
+
+
+class Inputs(unittest.TestCase):
+    def test_events_wait(self):
+        """What the application's side sends comes first in what the next input gives, or by itself."""
+        node = bafokun.Node.from_sheet(MODULE, 8)
+        self.assertEqual(node.boot(), [(0x708, b"\0")])
+        self.assertEqual(node.state, bafokun.State.PRE_OPERATIONAL)
+        self.assertEqual(node.take((0, b"\x01\x08")), [])
+        self.assertEqual(node.state, bafokun.State.OPERATIONAL)
+        node[0x6000, 1] = 5
+        node.raise_error(0x3120)
+        # TPDO1 at the change (1A00h), the emergency with the bit of voltage
+        self.assertEqual(
+            [str(it) for it in node.take((0x123, b""))], ["188#0500", "088#2031050000000000"]
+        )
+        node.clear_errors()
+        node.event(0)
+        node.tick(99)
+        self.assertEqual([str(it) for it in node.frames()], [])
+        self.assertEqual(node[0x1001].raw, 0)
+        self.assertEqual((node.node_id, node.held(0)), (8, 0))
+
+    def test_words_out_of_range(self):
+        node = bafokun.Node.from_sheet(SENSOR, 5)
+        for call in (
+            lambda: node.take((0x800, b"")),
+            lambda: node.take((-1, b"")),
+            lambda: node.take((0x605, bytes(9))),
+            lambda: node.tick(-1),
+            lambda: node.write(0x17130, 1, b"\0\0"),
+            lambda: node.read(0x7130, 257),
+            lambda: node.event(0x10000),
+            lambda: node.raise_error(0x14200),
+            lambda: node.raise_error(0x4200, 256),
+            lambda: node.raise_error(0x4200, 8, b"1234"),
+            lambda: node.held(256),
+            lambda: bafokun.Node.from_sheet(SENSOR, 261),
+            lambda: bafokun.Node.from_sheet(SENSOR, 5, domains=65536),
+        ):
+            with self.assertRaises(ValueError):
+                call()
+
+    def test_closed(self):
+        with bafokun.Node.from_sheet(SENSOR, 5) as node:
+            entry = node[0x1000]
+        node.close()
+        for call in (node.tick, node.boot, lambda: entry.raw, lambda: node.state):
+            with self.assertRaisesRegex(ValueError, "closed"):
+                call()
+
+    def test_given_back(self):
+        """Also where nobody closes it: a node that is lost is freed."""
+        freed = bafokun.Node.from_sheet(SENSOR, 5)._free
+        gc.collect()
+        self.assertFalse(freed.alive)
+
+    def test_threads(self):
+        """Calls from several threads come one after the other."""
+        node = bafokun.Node.from_sheet(SENSOR, 5)
+        request = (0x605, bytes.fromhex("4000100000000000"))
+        responses = []
+
+        def ask():
+            responses.extend(frame for _ in range(500) for frame in node.take(request))
+
+        threads = [threading.Thread(target=ask) for _ in range(4)]
+        for thread in threads:
+            thread.start()
+        for thread in threads:
+            thread.join()
+        self.assertEqual(responses, [(0x585, bytes.fromhex("4300100094010200"))] * 2000)
+
+
+class Faults(unittest.TestCase):
+    def test_sheet(self):
+        path = ROOT / "examples" / "typical-mistake.eds"
+        with self.assertRaises(bafokun.SheetFault) as caught:
+            bafokun.Node.from_sheet(path, 5)
+        fault = caught.exception
+        self.assertEqual((fault.number, fault.name, fault.line), (9, "BadList", 59))
+        self.assertTrue(str(fault).startswith(f"{path}:59: BadList: SupportedObjects and the keys don't agree"))
+        with self.assertRaisesRegex(bafokun.Fault, r"^line 0: MissingSection: there is no section \[MandatoryObjects\]"):
+            bafokun.Node(b"", 5)
+
+    def test_build(self):
+        with self.assertRaisesRegex(ValueError, "BadMapping 1A00:00") as caught:
+            bafokun.Node.from_sheet(ROOT / "examples" / "unmappable-entry.eds", 5)
+        fault = caught.exception
+        self.assertIsInstance(fault, bafokun.BuildFault)
+        self.assertEqual((fault.number, fault.index, fault.sub_index), (5, 0x1A00, 0))
+
+    def test_node_id(self):
+        """That of a device configuration file counts where none is given."""
+        self.assertEqual(bafokun.Node.from_sheet(ROOT / "examples" / "temperature-sensor.dcf").node_id, 5)
+        self.assertEqual(bafokun.Node.from_sheet(ROOT / "examples" / "temperature-sensor.dcf", 6).node_id, 6)
+        for node_id in (None, 0, 128):
+            with self.assertRaisesRegex(bafokun.BuildFault, "NodeId"):
+                bafokun.Node.from_sheet(SENSOR, node_id)
+
+    def test_words(self):
+        """The names and the numbers are those of docs/SHEETS.md, the abort codes those of docs/TRACES.md."""
+        pages = (ROOT / "docs" / "SHEETS.md").read_text(), (ROOT / "docs" / "TRACES.md").read_text()
+        faults, builds = pages[0].split("### The build faults")
+        for page, table in ((faults, _SHEET), (builds, _BUILD)):
+            named = re.findall(r"^\*\*(\d+) (\w+)[ .]", page, re.MULTILINE)
+            self.assertEqual([(int(number), name) for number, name in named], [(it, table[it][0]) for it in table])
+        meanings = re.findall(r"^\| ([0-9A-F]{8}) \| [ *]*\| (.*?) \|", pages[1], re.MULTILINE)
+        said = {int(code, 16): meaning for code, meaning in meanings}
+        for code, same in ((0x08000021, "for"), (0x08000022, "in")):
+            self.assertRegex(said[code], f"^the same, {same} ")
+            del said[code]
+            self.assertTrue(_ABORTS.pop(code).startswith(_ABORTS[0x08000020]))
+        self.assertEqual(said, _ABORTS)
+
+
+class Package(unittest.TestCase):
+    def test_version(self):
+        header = (ROOT / "include" / "bafokun.h").read_text()
+        self.assertIn(f'#define BAFOKUN_VERSION "{bafokun.__version__}"\n', header)
+
+    def test_library_of_the_environment(self):
+        """The chosen library is taken, and none in its place."""
+        bafokun.library.load.cache_clear()
+        chosen = os.environ.get("BAFOKUN_LIBRARY")
+        try:
+            os.environ["BAFOKUN_LIBRARY"] = str(ROOT / "include" / "bafokun.h")
+            with self.assertRaises(OSError):
+                bafokun.Node.from_sheet(SENSOR, 5)
+        finally:
+            del os.environ["BAFOKUN_LIBRARY"]
+            if chosen:
+                os.environ["BAFOKUN_LIBRARY"] = chosen
+            bafokun.library.load.cache_clear()
+
+
+if __name__ == "__main__":
+    unittest.main()
