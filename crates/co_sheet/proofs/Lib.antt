@@ -8,8 +8,8 @@ mod LeastLemmas
 mod FindingLemmas
 mod EntryReadingLemmas
 mod ListLemmas
-mod ListingLemmas
-mod TwiceLemmas
+pub mod ListingLemmas
+pub mod TwiceLemmas
 mod ListReadingLemmas
 mod ObjectReadingLemmas
 mod OrderLemmas
@@ -18,7 +18,7 @@ mod FirstLemmas
 mod ContentLemmas
 mod AcceptedLemmas
 mod PlaceLemmas
-mod KeyLemmas
+pub mod KeyLemmas
 mod EachEntryLemmas
 mod SheetLawLemmas
 mod ViewLemmas

@@ -96,21 +96,21 @@ listed-end items i seen k all past invariant =
 
 -- ---- the smallest line
 
-abbrev AllBelow : ℕ → List Listing → Type 0
+abbrev pub AllBelow : ℕ → List Listing → Type 0
 AllBelow line ls = AllByRecursion (λ (l : Listing). l.line < line) ls
 
-abbrev AllAbove : ℕ → List Listing → Type 0
+abbrev pub AllAbove : ℕ → List Listing → Type 0
 AllAbove line ls = AllByRecursion (λ (l : Listing). line < l.line) ls
 
-above : (line low : ℕ) (ls : List Listing) → line < low → RisesFrom low (map (λ (l : Listing). l.line) ls) → AllAbove line ls
+pub above : (line low : ℕ) (ls : List Listing) → line < low → RisesFrom low (map (λ (l : Listing). l.line) ls) → AllAbove line ls
 above line low [] h rises = tt
 above line low (l ∷ ls) h rises = let first = rises.0 in (omega arith, above line (l.line + 1) ls (omega arith) rises.1)
 
-below-more : (line more : ℕ) (ls : List Listing) → line ≤ more → AllBelow line ls → AllBelow more ls
+pub below-more : (line more : ℕ) (ls : List Listing) → line ≤ more → AllBelow line ls → AllBelow more ls
 below-more line more [] h all = tt
 below-more line more (l ∷ ls) h all = let first = all.0 in (omega arith, below-more line more ls h all.1)
 
-below-append : (line : ℕ) (ls : List Listing) (l : Listing) → AllBelow line ls → l.line < line → AllBelow line (ls ++ l ∷ [])
+pub below-append : (line : ℕ) (ls : List Listing) (l : Listing) → AllBelow line ls → l.line < line → AllBelow line (ls ++ l ∷ [])
 below-append line [] l all h = (h, tt)
 below-append line (x ∷ ls) l all h = (all.0, below-append line ls l all.1 h)
 
@@ -133,7 +133,7 @@ itself l = let same : ltb l.line l.line ≡ false = grind (arith, nat_tests) in 
     last true = refl
     last false = refl
 
-seen-before : (before : List Listing) (l : Listing) (rest : List Listing) → AllBelow l.line before → AllAbove l.line rest
+pub seen-before : (before : List Listing) (l : Listing) (rest : List Listing) → AllBelow l.line before → AllAbove l.line rest
     → is_listed_before (before ++ l ∷ rest) l ≡ list_any (eqb l.index) (map (λ (o : Listing). o.index) before)
 seen-before [] l rest below up = ap (λ b. b || list_any (λ o. eqb o.index l.index && ltb o.line l.line) rest) (itself l) ∙ none_after l rest up
 seen-before (o ∷ before) l rest below up =

@@ -11,6 +11,7 @@ pub mod Limits
 pub mod Commissioning
 pub mod Notes
 pub mod Checks
+pub mod Listings
 pub mod Accepted
 pub mod AcceptedTexts
 pub mod Content

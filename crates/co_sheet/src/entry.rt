@@ -13,7 +13,7 @@ use co_text::split_at_first;
 use co_value::DataType;
 
 /// The access that a word means (CiA 306, object description); `None` for every other word.
-pub(crate) fn access_with(word: &[u8]) -> Option<Access>
+pub fn access_with(word: &[u8]) -> Option<Access>
     ensures { result ≡ access_with word.now }
 {
     if same_name(word, b"ro") {
@@ -35,10 +35,7 @@ pub(crate) fn access_with(word: &[u8]) -> Option<Access>
 
 /// Reads the default of a numeric type: a number, `$NODEID`, or a sum of both with blanks allowed round `+`
 /// (CiA 306, object description). The fault is that of the number; another form is `Malformed`.
-pub(crate) fn numeric_default(
-    data_type: DataType,
-    text: &[u8],
-) -> Result<Preset<'static>, NumeralFault>
+pub fn numeric_default(data_type: DataType, text: &[u8]) -> Result<Preset<'static>, NumeralFault>
     ensures { result_map default_view result ≡ numeric_default data_type text.now }
 {
     if is_node_id(text) {
@@ -69,7 +66,7 @@ fn node_id_sum(left: &[u8], right: &[u8]) -> Result<Preset<'static>, NumeralFaul
 }
 
 /// Whether a text is pairs of hexadecimal digits, and nothing between them.
-pub(crate) fn is_pairs(text: &[u8]) -> bool
+pub fn is_pairs(text: &[u8]) -> bool
     ensures { result ≡ is_pairs text.now }
 {
     text.len() % 2 == 0 && all_digits(text, 16)

@@ -28,7 +28,7 @@ fn same_kind(kind: SectionKind, other: SectionKind) -> bool
 }
 
 /// The section of a kind, if there is one.
-pub(crate) fn section_at<'s, 'a>(
+pub fn section_at<'s, 'a>(
     sections: &'s [TextSection<'s, 'a>],
     kind: SectionKind,
 ) -> Option<&'s TextSection<'s, 'a>>

@@ -15,16 +15,16 @@ use std::marker::Model;
 
 /// An object, and its section.
 #[derive(Clone, Copy, Debug)]
-pub(crate) struct ListedSection<'s, 'a> {
-    pub(crate) index: u16,
-    pub(crate) section: &'s TextSection<'s, 'a>,
+pub struct ListedSection<'s, 'a> {
+    pub index: u16,
+    pub section: &'s TextSection<'s, 'a>,
 }
 
 /// An entry, and the section that describes it.
 #[derive(Clone, Copy, Debug)]
-pub(crate) struct EntrySection<'s, 'a> {
-    pub(crate) key: Key,
-    pub(crate) section: &'s TextSection<'s, 'a>,
+pub struct EntrySection<'s, 'a> {
+    pub key: Key,
+    pub section: &'s TextSection<'s, 'a>,
 }
 
 // the first section of each object
@@ -86,7 +86,7 @@ fn parts_with_index<'t, 's, 'a>(
 
 /// The sections of a text, and where those of an object are among them.
 #[derive(Drop)]
-pub(crate) struct Tables<'s, 'a> {
+pub struct Tables<'s, 'a> {
     sections: &'s [TextSection<'s, 'a>],
     objects: BTreeMap<u64, ListedSection<'s, 'a>>,
     parts: Vec<EntrySection<'s, 'a>>,
@@ -108,8 +108,8 @@ impl<'s, 'a> Model for Tables<'s, 'a> {
 }
 
 impl<'s, 'a> Tables<'s, 'a> {
-    // goes over the sections once
-    pub(crate) fn new(
+    /// Goes over the sections once. It fails out of memory.
+    pub fn new(
         alloc: Global,
         sections: &'s [TextSection<'s, 'a>],
     ) -> Result<Tables<'s, 'a>, AllocError>
@@ -125,21 +125,22 @@ impl<'s, 'a> Tables<'s, 'a> {
         })
     }
 
-    pub(crate) fn sections(&self) -> &'s [TextSection<'s, 'a>]
+    /// All sections, in the order of the text.
+    pub fn sections(&self) -> &'s [TextSection<'s, 'a>]
         ensures { map section_view result.now ≡ self.now }
     {
         self.sections
     }
 
-    // the section of an object
-    pub(crate) fn object(&self, index: u64) -> Option<ListedSection<'s, 'a>>
+    /// The section of the object with this index, the first if there are several; `None` where there is none.
+    pub fn object(&self, index: u64) -> Option<ListedSection<'s, 'a>>
         ensures { option_map object_view result ≡ object_at index self.now }
     {
         self.objects.get(&index).copied()
     }
 
-    // the sub-index sections of an object, in the order of the text
-    pub(crate) fn parts(&self, index: u16) -> &[EntrySection<'s, 'a>]
+    /// The sub-index sections of an object, in the order of the text.
+    pub fn parts(&self, index: u16) -> &[EntrySection<'s, 'a>]
         ensures { map entry_view result.now ≡ sub_indices self.now index }
     {
         parts_with_index(self.parts.as_slice(), index)

@@ -7,7 +7,7 @@ use co_sheet_rows::{FaultKind, SheetFault};
 use co_sheet_text::{TextFault, TextFaultKind};
 
 /// A fault of a line as one of the sheet.
-pub(crate) fn sheet_fault(fault: TextFault) -> SheetFault
+pub fn sheet_fault(fault: TextFault) -> SheetFault
     ensures { result ≡ sheet_fault fault }
 {
     SheetFault {

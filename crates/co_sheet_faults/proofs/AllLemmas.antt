@@ -14,7 +14,8 @@ use Rattle.co_sheet_text.specs.Sections.{TextSection, sections_of, first_line_fa
 use Rattle.co_sheet.specs.Faults.{fault_at, sheet_fault}
 use Rattle.co_sheet.specs.Checks.{checks}
 use Rattle.co_sheet.specs.Accepted.{least_fault, first_found, first_fault, IsAccepted}
-use Rattle.co_sheet_faults.specs.LinesAtFault.{own_fault, next_read, fault_of_line, lines_read, line_faults, sections_read}
+use Rattle.co_sheet_text.specs.LinesAtFault.{own_fault, next_read, lines_read, sections_read}
+use Rattle.co_sheet_faults.specs.LinesAtFault.{fault_of_line, line_faults}
 use Rattle.co_sheet_faults.specs.AllChecks.{all_checks}
 use Rattle.co_sheet_faults.specs.AllFaults.{found_by, faults_in, faults_of}
 use Rattle.co_sheet_faults.specs.FaultLaws.{IsLineKind, IsLineFault, IsFirstCheckFault, IsFoundFault, IsFaultOf, emptied_of, without}

@@ -10,7 +10,9 @@ use Rattle.co_sheet_text.specs.declared.fault.TextFault.{TextFault}
 use Rattle.co_sheet_text.specs.Text.{Line}
 use Rattle.co_sheet_text.specs.Sections.{LineForm, skipped, section_line, unclosed, name_value, malformed, TextSection, sections_of, line_form, last_section, form_rules, first_broken, fault_at, first_line_fault}
 use Rattle.co_sheet.specs.Faults.{sheet_fault}
-use Rattle.co_sheet_faults.specs.LinesAtFault.{emptied_form, emptied, own_fault, read_as, next_read, lines_read, fault_of_line, line_faults}
+use Rattle.co_sheet_text.specs.LinesAtFault.{emptied_form, emptied, own_fault, read_as, next_read, lines_read}
+use Rattle.co_sheet_faults.specs.LinesAtFault.{fault_of_line, line_faults}
+use Rattle.co_sheet_text.proofs.ReadLemmas.{emptied-good}
 use Rattle.co_sheet_faults.specs.FaultLaws.{is_of, has_kind, emptied_of, without}
 
 -- ---- where no line has a fault
@@ -69,40 +71,6 @@ pub contains-first : (before ls : List Line) (f : TextFault) → first_line_faul
     → Contains (line_faults before ls) (sheet_fault f)
 contains-first before [] f h = absurd (cc)
 contains-first before (l ∷ ls) f h = contains-line (own_fault before l) before ls l f h (contains-first (before ++ l ∷ []) ls f)
-
--- ---- a line that is read has no fault
-
-skipped-good : (ss : List TextSection) (o : Option TextSection) → last_section ss ≡ o → first_broken (form_rules ss skipped) ≡ None
-skipped-good ss None h = rw h refl
-skipped-good ss (Some s) h = rw h refl
-
-opened-good : (ss : List TextSection) (o : Option TextSection) → last_section ss ≡ o → first_broken (form_rules ss (section_line [])) ≡ None
-opened-good ss None h = rw h refl
-opened-good ss (Some s) h = rw h refl
-
--- by the form that a line had
-emptied-form : (before : List Line) (form : LineForm) (n : ℕ)
-    → own_fault before (record { number = n; bytes = emptied_form form }) ≡ None
-emptied-form before skipped n = skipped-good (sections_of before) (last_section (sections_of before)) refl
-emptied-form before malformed n = skipped-good (sections_of before) (last_section (sections_of before)) refl
-emptied-form before (name_value name value) n = skipped-good (sections_of before) (last_section (sections_of before)) refl
-emptied-form before unclosed n = opened-good (sections_of before) (last_section (sections_of before)) refl
-emptied-form before (section_line name) n = opened-good (sections_of before) (last_section (sections_of before)) refl
-
-pub emptied-good : (before : List Line) (l : Line) → own_fault before (emptied l) ≡ None
-emptied-good before l = emptied-form before (line_form l) l.number
-
-read-good : (before : List Line) (l : Line) (o : Option TextFaultKind) → own_fault before l ≡ o → own_fault before (read_as o l) ≡ None
-read-good before l None h = h
-read-good before l (Some k) h = emptied-good before l
-
--- so what is read has no line at fault
-pub read-clean : (before ls : List Line) → first_line_fault before (lines_read before ls) ≡ None
-read-clean before [] = refl
-read-clean before (l ∷ ls) =
-    ap (λ (o : Option TextFaultKind). option_or (option_map (fault_at (next_read before l).number) o) (first_line_fault (before ++ next_read before l ∷ []) (lines_read (before ++ next_read before l ∷ []) ls)))
-    (read-good before l (own_fault before l) refl)
-    ∙ read-clean (before ++ next_read before l ∷ []) ls
 
 -- ---- without the lines of a kind
 

@@ -5,7 +5,8 @@ use Rattle.co_sheet_rows.specs.declared.fault.SheetFault.{SheetFault}
 use Rattle.co_sheet_text.specs.Text.{Line, lines_of}
 use Rattle.co_sheet_text.specs.Sections.{TextSection}
 use Rattle.co_sheet.specs.Faults.{fault_at}
-use Rattle.co_sheet_faults.specs.LinesAtFault.{line_faults, sections_read}
+use Rattle.co_sheet_text.specs.LinesAtFault.{sections_read}
+use Rattle.co_sheet_faults.specs.LinesAtFault.{line_faults}
 use Rattle.co_sheet_faults.specs.AllChecks.{all_checks}
 
 -- what checks find

@@ -9,7 +9,8 @@ use Rattle.co_sheet_text.specs.Text.{Line, lines_of}
 use Rattle.co_sheet_text.specs.Sections.{TextSection}
 use Rattle.co_sheet.specs.Faults.{fault_at}
 use Rattle.co_sheet.specs.Checks.{checks}
-use Rattle.co_sheet_faults.specs.LinesAtFault.{emptied, own_fault, next_read, fault_of_line, lines_read, sections_read}
+use Rattle.co_sheet_text.specs.LinesAtFault.{emptied, own_fault, next_read, lines_read, sections_read}
+use Rattle.co_sheet_faults.specs.LinesAtFault.{fault_of_line}
 use Rattle.co_sheet_faults.specs.AllFaults.{found_by}
 
 -- a kind of a line's own fault: TooLarge, BadLine, KeyOutsideSection, DuplicateSection or

@@ -10,3 +10,4 @@ mod SectionsKeptLemmas
 mod PassLemmas
 mod FirstFaultLemmas
 pub mod SectionLawLemmas
+pub mod ReadLemmas

@@ -88,16 +88,15 @@ rises-after : (low : ℕ) (ls : List Line) → RisesFrom low (map (λ (l : Line)
 rises-after low [] rises kind = tt
 rises-after low (l ∷ ls) rises kind = rises-form l ls (line_form l) low kind rises.0 (rises-after (l.number + 1) ls rises.1)
 
-numbers-rise : (n : ℕ) (ls : List (List ℕ)) → RisesFrom n (map (λ (l : Line). l.number) (numbered n ls))
+pub numbers-rise : (n : ℕ) (ls : List (List ℕ)) → RisesFrom n (map (λ (l : Line). l.number) (numbered n ls))
 numbers-rise n [] = tt
 numbers-rise n (l ∷ ls) = (omega arith, numbers-rise (n + 1) ls)
 
-lines-rise : (text : List ℕ) → RisesFrom 1 (property_lines (sections_of (lines_of text)))
-lines-rise text =
-    let ls = lines_of text in
+lines-rise : (ls : List Line) → RisesFrom 1 (map (λ (l : Line). l.number) ls) → RisesFrom 1 (property_lines (sections_of ls))
+lines-rise ls numbers =
     let kind = PassedOver in
     rises-rest 1 (map (λ (k : Property). k.line) (filter_map (given_by kind) (body_of ls))) (property_lines (sections_of ls))
-    (rises-after 1 ls (numbers-rise 1 (lines (without_mark text))) kind)
+    (rises-after 1 ls numbers kind)
 
 -- ---- kinds differ
 
@@ -284,9 +283,8 @@ values-line ss l all good =
 
 -- ---- all of it
 
-pub parsed : (text : List ℕ) → first_line_fault [] (lines_of text) ≡ None → IsParsed (sections_of (lines_of text))
-parsed text good =
-    let ls = lines_of text in
+pub parsed-lines : (ls : List Line) → RisesFrom 1 (map (λ (l : Line). l.number) ls) → first_line_fault [] ls ≡ None → IsParsed (sections_of ls)
+parsed-lines ls numbers good =
     let none = sym (first_line_fault-after [] ls) ∙ good in
     let whole = sections_of-with_lines ls in
     let keys = subst (AllByRecursion PropertiesDiffer) whole (hold-lines (AllByRecursion PropertiesDiffer) (λ ss l differ good. keys-form ss l.number (line_form l) differ good.form_good) [] ls tt none) in
@@ -294,5 +292,8 @@ parsed text good =
       kinds_differ = subst (λ (ss : List TextSection). AllDiffer is_read_twice (kinds ss)) whole (hold-lines (λ ss. AllDiffer is_read_twice (kinds ss)) (λ ss l differ good. differ-form ss l.number (line_form l) differ good.form_good) [] ls tt none);
       properties_differ = keys;
       values_short = subst (AllByRecursion ValuesShort) whole (hold-lines (AllByRecursion ValuesShort) values-line [] ls tt none);
-      lines_rise = lines-rise text;
+      lines_rise = lines-rise ls numbers;
     }
+
+pub parsed : (text : List ℕ) → first_line_fault [] (lines_of text) ≡ None → IsParsed (sections_of (lines_of text))
+parsed text good = parsed-lines (lines_of text) (numbers-rise 1 (lines (without_mark text))) good

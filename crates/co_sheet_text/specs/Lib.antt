@@ -4,6 +4,7 @@ pub mod Sections
 pub mod Numerals
 pub mod Properties
 pub mod Views
+pub mod LinesAtFault
 pub mod LinesRead
 pub mod Cuts
 pub mod OpenSections

@@ -8,6 +8,7 @@ use Rattle.co_sheet_text.specs.declared.fault.TextFault.{TextFault}
 use Rattle.co_sheet_text.specs.declared.section_kind.SectionKind.{SectionKind}
 use Rattle.co_sheet_text.specs.Text.{Line}
 use Rattle.co_sheet_text.specs.OutOfMemory.{out_of_memory}
+use Rattle.co_sheet_text.specs.LinesAtFault.{read_as}
 use Rattle.co_sheet_text.specs.Names.{kind_of, is_read}
 use Rattle.co_sheet_text.specs.Sections.{LineForm, skipped, section_line, unclosed, name_value, Property, TextSection, is_given, property_given, property_at, section_at, last_section, line_form, fault_at}
 
@@ -64,6 +65,10 @@ form_fault before form = fault_within (last_section before) form
 abbrev pub fault_by_form : List TextSection → Line → Option TextFaultKind
 fault_by_form before line =
     if nat_lt 512 (length line.bytes) then Some TooLarge else form_fault before (line_form line)
+
+-- the sections after one more line, as it is read in spite of a fault
+abbrev pub with_line_read : List TextSection → Line → List TextSection
+with_line_read sections line = with_line sections (read_as (fault_by_form sections line) line)
 
 -- these are the sections after a line of this form, which has no fault
 abbrev pub TakesForm : List TextSection → ℕ → LineForm → List TextSection → Type 0

@@ -17,6 +17,18 @@ pub enum TextFaultKind {
     Memory,
 }
 
+impl TextFaultKind {
+    ghost use Rattle.std.specs.Prelude.{◌≡◌};
+    ghost use Rattle.co_sheet_text.specs.OutOfMemory.{is_memory};
+
+    /// Whether memory ran out, which is no line's fault.
+    pub(crate) fn is_memory(self) -> bool
+        ensures { result ≡ is_memory self }
+    {
+        matches!(self, TextFaultKind::Memory)
+    }
+}
+
 /// The first fault of a text's lines, and its line.
 #[derive(Clone, Copy, Debug, PartialEq, Eq, Hash)]
 pub struct TextFault {

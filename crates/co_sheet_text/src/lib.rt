@@ -18,7 +18,7 @@ mod text_section;
 pub use fault::{TextFault, TextFaultKind};
 pub use numeral::{Numeral, NumeralFault, all_digits, number_in, signed_numeral, unsigned_number};
 pub use parsed_text::ParsedText;
-pub use pass::sections_in;
+pub use pass::{all_sections_in, sections_in};
 pub use section_kind::SectionKind;
 pub use text::{same_name, trim, without_mark};
 pub use text_section::{Property, TextSection};

@@ -1,8 +1,10 @@
-//! One pass over the lines of a data sheet's text.
+//! One pass over the lines of a data sheet's text: to the first line at fault, or in spite of all of them.
 
-ghost use Rattle.std.specs.Prelude.{◌≡◌, ◌≤◌, ◌⊎◌, [], length, Some, None, OnOk, IfOk, IfErr};
+ghost use Rattle.std.specs.Prelude.{◌≡◌, ◌≤◌, ◌⊎◌, ◌++◌, [], length, Some, None, OnOk, IfOk, IfErr};
+ghost use Rattle.std.specs.List.{cons_option};
 ghost use Rattle.co_sheet_text.specs.Text.{lines_of};
 ghost use Rattle.co_sheet_text.specs.Sections.{sections_of, first_line_fault, HaveNoFault, IsFirstAtFault};
+ghost use Rattle.co_sheet_text.specs.LinesAtFault.{sections_read, own_faults};
 ghost use Rattle.co_sheet_text.specs.OutOfMemory.{out_of_memory};
 ghost use Rattle.co_sheet_text.specs.SectionLaws.{IsParsed};
 
@@ -11,7 +13,7 @@ use crate::parsed_text::ParsedText;
 use crate::sections_read::SectionsRead;
 use crate::text::without_mark;
 use co_text::split_line;
-use std::alloc::Global;
+use std::alloc::{AllocError, Global};
 
 /// The sections of a text, in their order, each with its properties, or the fault of the first line that has one
 /// (CiA 306, structure of an EDS).
@@ -39,4 +41,41 @@ pub fn sections_in(alloc: Global, text: &[u8]) -> Result<ParsedText<'_>, TextFau
         number += 1;
     }
     Ok(sections.into_text(alloc)?)
+}
+
+// adds the fault of a line, if it has one
+fn add_fault(faults: &mut Vec<TextFault>, fault: Option<TextFault>) -> Result<(), AllocError>
+    ensures { OnOk result (faults.new.items ≡ faults.old.items ++ cons_option fault []) }
+{
+    if let Some(fault) = fault {
+        faults.push(fault)?;
+    }
+    Ok(())
+}
+
+/// The sections of a text in spite of its lines at fault, and the faults of these lines (CiA 306, structure of an EDS).
+///
+/// A section line at fault begins a section that nothing reads, and any other line at fault is passed over. The faults
+/// are those of `sections_in` after the lines before as they are read: one a line, in the order of the lines. It fails
+/// out of memory.
+pub fn all_sections_in(
+    alloc: Global,
+    text: &[u8],
+) -> Result<(ParsedText<'_>, Vec<TextFault>), AllocError>
+    requires { length text.now ≤ 1048576 }
+    ensures sections { IfOk result (λ read. read.0 ≡ sections_read (lines_of text.now)) }
+    ensures parsed { IfOk result (λ read. IsParsed read.0) }
+    ensures faults { IfOk result (λ read. read.1.items ≡ own_faults [] (lines_of text.now)) }
+{
+    let mut sections = SectionsRead::new(alloc);
+    let mut faults = Vec::new(alloc);
+    let mut rest = without_mark(text);
+    let mut number = 1;
+    while let Some((line, others)) = split_line(rest) {
+        let fault = sections.take_in_spite(alloc, line, number)?;
+        add_fault(&mut faults, fault)?;
+        rest = others;
+        number += 1;
+    }
+    Ok((sections.into_text(alloc)?, faults))
 }

@@ -1,12 +1,22 @@
 //! The sections of the lines that are read so far.
 
-ghost use Rattle.std.specs.Prelude.{◌≡◌, [], is_some, option_map, Some, OnOk, IfOk, IfErr};
+ghost use Rattle.std.specs.Prelude.{◌≡◌, [], is_some, option_map, Some, OnOk, OnErr, IfOk, IfErr};
 ghost use Rattle.std.specs.Option.{ForNone, ForSome};
 ghost use Rattle.std.specs.List.{list_any};
-ghost use Rattle.co_sheet_text.specs.Text.{Line};
+ghost use Rattle.co_sheet_text.specs.Text.{Line, trim};
 ghost use Rattle.co_sheet_text.specs.Names.{same_kind};
-ghost use Rattle.co_sheet_text.specs.Sections.{section_line, name_value, malformed, section_at, fault_at};
-ghost use Rattle.co_sheet_text.specs.LinesRead.{TakesForm, RefusesForm, TakesLine, RefusesLine, form_fault};
+ghost use Rattle.co_sheet_text.specs.Sections.{section_line, name_value, malformed, section_at, fault_at, form_of};
+ghost use Rattle.co_sheet_text.specs.LinesRead.{
+  TakesForm,
+  RefusesForm,
+  TakesLine,
+  RefusesLine,
+  form_fault,
+  fault_by_form,
+  with_line,
+  with_line_read,
+};
+ghost use Rattle.co_sheet_text.specs.LinesAtFault.{emptied_form, emptied};
 ghost use Rattle.co_sheet_text.specs.Cuts.{property_count};
 ghost use Rattle.co_sheet_text.specs.SectionsKept.{sections_kept};
 
@@ -21,6 +31,16 @@ use std::alloc::{AllocError, Global};
 
 /// A line of a text may have so many bytes, without its end.
 const LONGEST_LINE: usize = 512;
+
+// what a line at fault is read as: a section line begins a section that nothing reads, any other line is empty
+fn emptied(line: &[u8]) -> &'static [u8]
+    ensures { result.now ≡ emptied_form (form_of (trim line.now)) }
+{
+    match form_of(line) {
+        LineForm::Section(_) | LineForm::Unclosed => b"[]",
+        LineForm::Skipped | LineForm::NameValue(_, _) | LineForm::Malformed => b"",
+    }
+}
 
 /// The sections of the lines that are read so far: those that are whole, by their section lines, and the one that is
 /// being read, which has the properties of all.
@@ -56,6 +76,7 @@ impl<'a> SectionsRead<'a> {
             (sections_so_far self.new)) }
         ensures err { IfErr result
             (RefusesForm (sections_so_far self.old) line (section_line name.now)) }
+        ensures kept { OnErr result (sections_so_far self.new ≡ sections_so_far self.old) }
     {
         self.closed.reserve(1)?;
         let kind = SectionKind::of_name(name);
@@ -88,6 +109,7 @@ impl<'a> SectionsRead<'a> {
             (sections_so_far self.new)) }
         ensures err { IfErr result
             (RefusesForm (sections_so_far self.old) line (name_value name.now value.now)) }
+        ensures kept { OnErr result (sections_so_far self.new ≡ sections_so_far self.old) }
     {
         match &mut self.current {
             Some(section) => section.take_line(name, value, line),
@@ -125,6 +147,7 @@ impl<'a> SectionsRead<'a> {
             OnOk result (TakesLine (sections_so_far self.old) line (sections_so_far self.new)) }
         ensures err { let line : Line = record { number = number; bytes = bytes.now } in
             IfErr result (RefusesLine (sections_so_far self.old) line) }
+        ensures kept { OnErr result (sections_so_far self.new ≡ sections_so_far self.old) }
     {
         if bytes.len() > LONGEST_LINE {
             return Err(TextFault {
@@ -142,6 +165,47 @@ impl<'a> SectionsRead<'a> {
             LineForm::NameValue(name, value) => self.take_property(name, value, number),
             LineForm::Malformed => self.take_malformed(number),
         }
+    }
+
+    // takes what a line at fault is read as
+    fn take_emptied(
+        &mut self,
+        alloc: Global,
+        bytes: &'a [u8],
+        number: usize,
+    ) -> Result<(), AllocError>
+        ensures { let line : Line = record { number = number; bytes = bytes.now } in
+            OnOk result
+            (sections_so_far self.new ≡ with_line (sections_so_far self.old) (emptied line)) }
+    {
+        match self.take_line(alloc, emptied(bytes), number) {
+            Ok(()) => Ok(()),
+            Err(_) => Err(AllocError),
+        }
+    }
+
+    /// Takes one more line in spite of its fault, and answers this fault.
+    pub(crate) fn take_in_spite(
+        &mut self,
+        alloc: Global,
+        bytes: &'a [u8],
+        number: usize,
+    ) -> Result<Option<TextFault>, AllocError>
+        ensures fault { let line : Line = record { number = number; bytes = bytes.now } in
+            IfOk result (λ fault. fault
+            ≡ option_map (fault_at number) (fault_by_form (sections_so_far self.old) line)) }
+        ensures taken { let line : Line = record { number = number; bytes = bytes.now } in
+            OnOk result
+            (sections_so_far self.new ≡ with_line_read (sections_so_far self.old) line) }
+    {
+        let Err(fault) = self.take_line(alloc, bytes, number) else {
+            return Ok(None);
+        };
+        if fault.kind.is_memory() {
+            return Err(AllocError);
+        }
+        self.take_emptied(alloc, bytes, number)?;
+        Ok(Some(fault))
     }
 
     /// The sections, with one list of their properties.

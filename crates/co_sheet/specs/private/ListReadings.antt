@@ -1,6 +1,6 @@
 -- What is checked of the object lists, and what is read of them on the way
 -- (CiA 306, object lists).
-use Rattle.std.specs.Prelude.{ℕ, Bool, ◌&&◌, ◌==◌, not, true, false, nat_le, nat_lt, List, [], ◌∷◌, Option, Some, None, filter, flat_map, map, option_and_then, if◌then◌else◌}
+use Rattle.std.specs.Prelude.{ℕ, Bool, ◌&&◌, ◌==◌, not, false, nat_le, nat_lt, List, [], ◌∷◌, Option, Some, None, flat_map, map, option_and_then, if◌then◌else◌}
 use Rattle.std.specs.List.{list_any, list_all}
 use Rattle.std.specs.Option.{option_map_or}
 use Rattle.co_sheet_text.specs.Names.{is_list, is_position, number_in}
@@ -8,16 +8,12 @@ use Rattle.co_sheet_text.specs.Sections.{Property, TextSection}
 use Rattle.co_sheet_text.specs.Properties.{property_number}
 use Rattle.co_sheet_text.specs.SectionLaws.{RisesFrom}
 use Rattle.co_sheet.specs.declared.checks.findings.Finding.{Finding}
-use Rattle.co_sheet.specs.declared.checks.lists.Listing.{Listing as ListingOfCode}
 use Rattle.co_sheet_rows.specs.declared.fault.FaultKind.TheVariants.{BadList, ListedTwice, MissingMandatory}
 use Rattle.co_sheet_rows.specs.declared.fault.SheetFault.{SheetFault}
-use Rattle.co_sheet.specs.ObjectLists.{Listing, count_of, listings_in}
-use Rattle.co_sheet.specs.Checks.{fault_if, unread_number, has_numbers, is_listed_before, is_bad_list, missing_lists, unread_list_numbers, bad_lists}
+use Rattle.co_sheet.specs.ObjectLists.{Listing}
+use Rattle.co_sheet.specs.Checks.{fault_if, unread_number, has_numbers, is_listed_before, missing_lists, unread_list_numbers, bad_lists}
+pub use Rattle.co_sheet.specs.Listings.{listing_view, is_bad_section, named_in, named_by}
 use Rattle.co_sheet.specs.private.Findings.{first_finding}
-
--- a listing of the code, as the definitions have it
-abbrev pub listing_view : ListingOfCode → Listing
-listing_view l = record { index = l.index; line = l.line }
 
 -- one of the places up to a number
 abbrev pub is_key_to : ℕ → Property → Bool
@@ -42,14 +38,6 @@ abbrev pub listed : {X : Type 0} → Option X → List X
 listed None = []
 listed (Some x) = x ∷ []
 
--- what a list names from 1000h on
-abbrev pub named_in : TextSection → List Listing
-named_in s = filter (λ l. nat_le 0x1000 l.index) (listings_in s)
-
--- a list without its count, or a bad one
-abbrev pub is_bad_section : TextSection → Bool
-is_bad_section s = option_map_or (is_bad_list s) (count_of s) true
-
 -- checks 2 and 3 of one section
 abbrev pub unread_in : TextSection → List SheetFault
 unread_in s = if has_numbers s.kind then flat_map unread_number s.properties else []
@@ -60,10 +48,6 @@ bad_in s = if is_list s.kind then fault_if (is_bad_section s) BadList s.line els
 -- what they find first
 abbrev pub list_finding : TextSection → Option Finding
 list_finding s = first_finding 2 (unread_in ∷ bad_in ∷ []) s
-
--- what a section names from 1000h on
-abbrev pub named_by : TextSection → List Listing
-named_by s = if is_list s.kind then named_in s else []
 
 -- checks 1 to 3, of sections by themselves
 abbrev pub own_checks : List (List TextSection → List SheetFault)

@@ -101,8 +101,8 @@ pub(crate) struct Values<'a> {
     parameter: Option<Stated<'a>>,
 }
 
-// two numbers, where both are there, are in order
-fn at_most(low: Option<i128>, high: Option<i128>) -> bool
+/// Whether two numbers, where both are there, are in order.
+pub fn at_most(low: Option<i128>, high: Option<i128>) -> bool
     ensures { result ≡ at_most low high }
 {
     match (low, high) {
@@ -111,7 +111,8 @@ fn at_most(low: Option<i128>, high: Option<i128>) -> bool
     }
 }
 
-fn is_in_type(data_type: DataType, value: i128) -> bool
+/// Whether a number is one of a numeric type.
+pub fn is_in_type(data_type: DataType, value: i128) -> bool
     ensures { result ≡ is_in_type data_type value }
 {
     at_most(data_type.least(), Some(value)) && at_most(Some(value), data_type.greatest())
@@ -267,8 +268,8 @@ impl<'a> Values<'a> {
 }
 
 impl<'s, 'a> EntrySection<'s, 'a> {
-    // whether the entry is a DOMAIN by its object type
-    fn is_domain(&self) -> bool
+    /// Whether the entry is a DOMAIN by its object type.
+    pub fn is_domain(&self) -> bool
         ensures { result ≡ is_domain (entry_view self.now) }
     {
         match self.section.property(b"ObjectType") {
@@ -322,7 +323,9 @@ impl<'s, 'a> EntrySection<'s, 'a> {
         Ok((code.unwrap_or(0x0F), is_mappable))
     }
 
-    fn is_bad_type(&self, domain: bool, code: u64) -> bool
+    /// Whether this code of its DataType is none of a type, or another than DOMAIN's at object type 2, or another than
+    /// the type that is fixed (CiA 301, object dictionary).
+    pub fn is_bad_type(&self, domain: bool, code: u64) -> bool
         requires { domain ≡ is_domain (entry_view self.now) }
         ensures { result ≡ is_bad_type (entry_view self.now) code }
     {

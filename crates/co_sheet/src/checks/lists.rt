@@ -19,17 +19,14 @@ ghost use Rattle.co_sheet_text.specs.Views.{property_view, section_view};
 ghost use Rattle.co_sheet.specs.ObjectLists.{listings};
 ghost use Rattle.co_sheet.specs.Checks.{unread_number, has_numbers, is_bad_list};
 ghost use Rattle.co_sheet.specs.Accepted.{least_fault, first_found, IsAnswered};
+ghost use Rattle.co_sheet.specs.Listings.{listing_view, is_bad_section, named_in, named_by};
 ghost use Rattle.co_sheet.specs.private.ListReadings.{
-  listing_view,
   listed,
   listing_at,
   listing_with,
   is_key_to,
   is_large,
-  is_bad_section,
-  named_in,
   list_finding,
-  named_by,
   own_checks,
   is_listed_at,
   twice_in,
@@ -47,10 +44,10 @@ use std::alloc::{AllocError, Global};
 
 /// An index that an object list names, and the line where it does.
 #[derive(Clone, Copy, Debug, PartialEq, Eq)]
-pub(crate) struct Listing {
-    pub(crate) index: u64,
+pub struct Listing {
+    pub index: u64,
     /// From 1.
-    pub(crate) line: usize,
+    pub line: usize,
 }
 
 // whether a key is one of the places up to this: a number from 1, without leading zeros
@@ -115,9 +112,10 @@ fn add_listings(
     Ok(has_large)
 }
 
-// what a list names, after what is there; whether the list lacks its count, has one that is too
-// large, lacks a place up to it, or names an index that is too large
-fn read_list(listings: &mut Vec<Listing>, section: &TextSection) -> Result<bool, AllocError>
+/// Adds what a list names from 1000h on, at its places 1 to SupportedObjects (CiA 306, object lists). Whether the list is
+/// bad: it lacks its count, has one above FFFFh, lacks a place up to it, or names an index above FFFFh. It fails out of
+/// memory.
+pub fn read_list(listings: &mut Vec<Listing>, section: &TextSection) -> Result<bool, AllocError>
     ensures bad { IfOk result (λ bad. bad ≡ is_bad_section (section_view section.now)) }
     ensures named { OnOk result (map listing_view listings.new.items
         ≡ map listing_view listings.old.items ++ named_in (section_view section.now)) }
@@ -128,8 +126,8 @@ fn read_list(listings: &mut Vec<Listing>, section: &TextSection) -> Result<bool,
     }
 }
 
-// whether the values of a section are all numbers
-fn has_numbers(kind: SectionKind) -> bool
+/// Whether the values of a section are all numbers: an object list, DummyUsage, DeviceInfo, the device commissioning.
+pub fn has_numbers(kind: SectionKind) -> bool
     ensures { result ≡ has_numbers kind }
 {
     kind.is_list()
