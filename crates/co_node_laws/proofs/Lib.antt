@@ -20,6 +20,8 @@ pub mod LossDistances
 pub mod ValuesNow
 pub mod TpdoDistances
 pub mod RpdoWaits
+pub mod RpdoLast
+pub mod ByKind
 mod ChangesExamples
 mod DistanceExamples
 mod PartsExamples
