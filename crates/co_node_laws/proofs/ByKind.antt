@@ -56,8 +56,34 @@ use Rattle.co_node_model.specs.Sync.{sync_errors, with_sync}
 use Rattle.co_node_model.specs.Tpdos.{due_at, part_started, schedule_log, start_turn, tpdo_frame, turn_by_write, turn_of, with_turn}
 use Rattle.co_profile.specs.TransmissionTypes.{is_synchronous}
 use Rattle.co_node_laws.specs.ByKind.{
-  Outcome, Heard, Ignored, Commanded, Synced, Requested, Received, Done, kind_of, kind_of_command, kind_of_frame, kind_of_event, outcome, device_after, device_of,
-  frames_of, lost_now, no_frame, sent_by, sent_with, state_after_losses, ticked, with_download, by_heartbeat, by_request, by_tick, due_at_tick, one_ms_later,
+  Outcome,
+  Heard,
+  Ignored,
+  Commanded,
+  Synced,
+  Requested,
+  Received,
+  Done,
+  kind_of,
+  kind_of_command,
+  kind_of_frame,
+  kind_of_event,
+  outcome,
+  device_after,
+  device_of,
+  frames_of,
+  lost_now,
+  no_frame,
+  sent_by,
+  sent_with,
+  state_after_losses,
+  ticked,
+  with_download,
+  by_heartbeat,
+  by_request,
+  by_tick,
+  due_at_tick,
+  one_ms_later,
 }
 use Rattle.co_node_laws.specs.Changes.{after_errors_and_data}
 use Rattle.co_node_laws.specs.Devices.{Device, after_sending, emergency_at_end, with_part_started, with_tpdo_written, with_write}
@@ -231,7 +257,7 @@ sync_in k inputs input frame Operational =
     ap (λ es. ended k inputs (stays Operational) es (taken ++ []) w) (append-nil errors)
     ∙ ap (λ ts. ended k inputs (stays Operational) errors ts w) (append-nil taken)
     ∙ ap (with_queue (ended k inputs (stays Operational) errors taken w))
-      (queued_both (emergencies_of d.rows errors c) (all_data_emergencies d (all_raised d.rows errors c) taken) (waiting k inputs))
+    (queued_both (emergencies_of d.rows errors c) (all_data_emergencies d (all_raised d.rows errors c) taken) (waiting k inputs))
 
 by_sync : (k : Constants) (inputs : Inputs) (input : InputView) (frame : FrameContent)
     → of_input k inputs (with_sync (state_of k inputs) frame (nothing_of input (contents_of k inputs))) ≡ outcome k (Synced frame) (view k inputs)
@@ -265,9 +291,9 @@ rpdo_in k inputs input n frame Operational =
     let w = with_lost d [] (with_rpdo n Operational frame (nothing_of input c)) in
     ap (λ ts. ended k inputs (stays Operational) errors (ts ++ taken) w) (rpdo_takes_none waits n frame log)
     ∙ ap (with_queue (ended k inputs (stays Operational) errors taken w))
-      (queued_both (emergencies_of d.rows errors c) (all_data_emergencies d (all_raised d.rows errors c) taken) (waiting k inputs))
+    (queued_both (emergencies_of d.rows errors c) (all_data_emergencies d (all_raised d.rows errors c) taken) (waiting k inputs))
     ∙ (λ i. with_kept (with_queue (ended k inputs (stays Operational) errors taken w) (queued (all_data_emergencies d (all_raised d.rows errors c) taken) (queued (emergencies_of d.rows errors c) (waiting k inputs))))
-      (λ j. rpdo_kept waits n j frame log i))
+    (λ j. rpdo_kept waits n j frame log i))
 
 by_rpdo : (k : Constants) (inputs : Inputs) (input : InputView) (n : ℕ) (frame : FrameContent)
     → of_input k inputs (with_rpdo n (state_of k inputs) frame (nothing_of input (contents_of k inputs))) ≡ outcome k (Received (record { number = n; frame = frame })) (view k inputs)
@@ -527,8 +553,8 @@ module _ (below : Below) where
       let c = contents_of k inputs in
       subs_same (λ sub. is_over_after (silence (entry_log sub log)) (monitored_after (entry_log sub log))) (λ sub. is_over_after (ticks_silent k sub inputs) (monitored_by (number_at c (consumer_key sub))))
       (λ sub low high.
-        ap (λ o. is_over_after o (monitored_after (entry_log sub log))) (silence_is k sub inputs low high)
-        ∙ ap (λ o. is_over_after (ticks_silent k sub inputs) o) (monitored_is k sub inputs low high ∙ monitored_now below k sub inputs))
+      ap (λ o. is_over_after o (monitored_after (entry_log sub log))) (silence_is k sub inputs low high)
+      ∙ ap (λ o. is_over_after (ticks_silent k sub inputs) o) (monitored_is k sub inputs low high ∙ monitored_now below k sub inputs))
 
   heartbeat_is : (k : Constants) (inputs : Inputs) → is_heartbeat_due producer.Tick (producer_log k (moments k inputs)) ≡ is_multiple (heartbeat_ticks k inputs) (number_at (contents_of k inputs) producer_key)
   heartbeat_is k inputs =

@@ -22,6 +22,8 @@ pub mod TpdoDistances
 pub mod RpdoWaits
 pub mod RpdoLast
 pub mod ByKind
+pub mod ByKindLaws
+mod ByKindExamples
 mod ChangesExamples
 mod DistanceExamples
 mod PartsExamples

@@ -21,7 +21,13 @@ use Rattle.co_node_model.specs.Device.{contents_of, moments, with_frame}
 use Rattle.co_node_model.specs.Rpdos.{emptied_by, empties_slot, is_short, kept_by, rpdo_type, slot_log, with_rpdo}
 use Rattle.co_node_laws.specs.Distances.{moment_at}
 use Rattle.co_node_laws.specs.RpdoWaits.{
-  IsLastAccepted, all_keep_waiting, is_effective, is_newer_of, keeps_waiting, renews, waiting_frame,
+  IsLastAccepted,
+  all_keep_waiting,
+  is_effective,
+  is_newer_of,
+  keeps_waiting,
+  renews,
+  waiting_frame,
 }
 use Rattle.co_node_laws.proofs.RpdoWaits.{goes_on, newer_is, taken_for, watched_is}
 

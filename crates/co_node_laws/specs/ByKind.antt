@@ -1,6 +1,6 @@
 -- A device by the kind of its inputs: for each kind what it does, which frames it gives, and nothing of what it can't do. That
 -- a device so described sends `prescribed`, and has the state and the entries of `co_node_model`, is a law of this crate.
-use Rattle.std.specs.Prelude.{ℕ, ◌+◌, ◌==◌, ◌&&◌, not, Bool, false, List, [], ◌∷◌, ◌++◌, map, is_some, Option, Some, None, if◌then◌else◌}
+use Rattle.std.specs.Prelude.{ℕ, ◌+◌, ◌==◌, ◌&&◌, not, Bool, true, false, List, [], ◌∷◌, ◌++◌, map, is_some, Option, Some, None, if◌then◌else◌}
 use Rattle.std.specs.List.{filter}
 use Rattle.co_value.specs.declared.key.Key.{Key}
 use Rattle.co_frame.specs.FrameContent.{FrameContent}
@@ -41,7 +41,16 @@ use Rattle.co_node_model.specs.Rpdos.{immediate, is_short, rpdo_errors, rpdo_typ
 use Rattle.co_node_model.specs.Sync.{counter_in, sync_errors}
 use Rattle.co_node_model.specs.Tpdos.{is_mapped_into, tpdo_frame}
 use Rattle.co_node_laws.specs.Devices.{
-  Device, after_sending, built, emergency_at_end, frames_kept, in_state, reset, with_data, with_errors, with_write,
+  Device,
+  after_sending,
+  built,
+  emergency_at_end,
+  frames_kept,
+  in_state,
+  reset,
+  with_data,
+  with_errors,
+  with_write,
 }
 use Rattle.co_node_laws.specs.Distances.{is_multiple, queued}
 
@@ -253,6 +262,30 @@ abbrev pub kind_of : Constants → Device → InputView → Kind
 kind_of k d (Framed frame) = kind_of_frame k (address_of (number_for (channels k) frame.id) d.entries frame.id) frame
 kind_of k d Ticked = Tick
 kind_of k d (Applied event) = kind_of_event event (event_refusal k.description d.entries event)
+
+-- an input that does nothing: ignored, or refused
+abbrev pub is_inert : Kind → Bool
+is_inert Tick = false
+is_inert (Commanded service) = false
+is_inert (Synced frame) = false
+is_inert (Requested frame) = false
+is_inert (Received rpdo) = false
+is_inert (Heard c) = false
+is_inert Ignored = true
+is_inert (Done event) = false
+is_inert (Refused code) = true
+
+-- a frame of SYNC, SDO or an RPDO: it does nothing while the device is stopped (7.3.2.2)
+abbrev pub is_silent_while_stopped : Kind → Bool
+is_silent_while_stopped Tick = false
+is_silent_while_stopped (Commanded service) = false
+is_silent_while_stopped (Synced frame) = true
+is_silent_while_stopped (Requested frame) = true
+is_silent_while_stopped (Received rpdo) = true
+is_silent_while_stopped (Heard c) = false
+is_silent_while_stopped Ignored = false
+is_silent_while_stopped (Done event) = false
+is_silent_while_stopped (Refused code) = false
 
 -- ---- all kinds together
 

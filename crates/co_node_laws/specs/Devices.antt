@@ -50,7 +50,7 @@ pub record Device : Type 0 where
   pub silence : ℕ → Option ℕ
   -- of each RPDO the frame that waits for a SYNC (7.2.2.2)
   pub kept : ℕ → Option FrameContent
-  -- the starts of TPDOs, and in operational the SYNCs, events and ticks with the TPDOs sent at them (7.2.2.2 to 7.2.2.4)
+  -- of TPDOs the starts, and in operational the SYNCs, events and ticks with those sent at them, newest first (7.2.2.2 to .4)
   pub schedule : Schedule
 
 -- as it is built: pre-operational (7.3.2.2)
@@ -81,7 +81,8 @@ in_state after d =
       schedule = if enters Operational t then with_all_started d.entries d.schedule else d.schedule;
     }
 
--- a reset restores its area, ends in pre-operational, drops what is open or waits, and begins all counts anew (7.3.2.2)
+-- a reset restores its area, ends in pre-operational, drops what is open or waits, and begins all counts anew; TPDOs start as
+-- operational is entered (7.3.2.2)
 abbrev pub reset : Constants → Area → Device → Device
 reset k area d = record d {
   state = PreOperational;

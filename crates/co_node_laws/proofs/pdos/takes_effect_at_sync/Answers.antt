@@ -12,4 +12,4 @@ pub returns-clause-taken : goal.returns-clause-taken
 returns-clause-taken c = taken_by_sync
 
 pub returns-clause-last : goal.returns-clause-last
-returns-clause-last c = last_accepted
+returns-clause-last c = λ k inputs n frame waits. last_accepted k n inputs frame waits
