@@ -1,6 +1,6 @@
 -- A device by the kind of its inputs sends what is prescribed, and has the state and the entries of the definitions.
-use Rattle.std.proofs.Common.{◌≡◌, ℕ, suc, zero, ◌+◌, ◌-◌, ◌%◌, ◌<◌, ◌≤◌, Bool, true, false, cond, List, [], ◌∷◌, ◌++◌, append_assoc, Option, Some, None, refl, sym, ap, ◌∙◌, arith}
-use Rattle.std.specs.Prelude.{◌==◌, ◌&&◌, ◌||◌, not, nat_lt, map, is_some, if◌then◌else◌}
+use Rattle.std.proofs.Common.{◌≡◌, ℕ, suc, zero, ◌+◌, ◌-◌, ◌%◌, ◌<◌, ◌≤◌, Bool, true, false, cond, List, [], ◌∷◌, ◌++◌, append_assoc, Option, Some, None, refl, ap, ◌∙◌, arith}
+use Rattle.std.specs.Prelude.{◌==◌, ◌&&◌, ◌||◌, not, nat_lt, map, if◌then◌else◌}
 use Rattle.std.specs.List.{filter, range_with_len}
 use Rattle.std.proofs.lemmas.List.{append-nil}
 use Rattle.co_value.specs.declared.key.Key.{Key}
@@ -18,10 +18,9 @@ use Rattle.co_dict.specs.Rows.{Contents, number_at, written}
 use Rattle.co_dict.specs.Stores.{Description}
 use Rattle.co_sdo.specs.Completed.{contents_with, key_set}
 use Rattle.co_sdo.specs.Downloads.{Download}
-use Rattle.co_sdo.specs.Log.{Log, Ticked as TickOfChannel}
-use Rattle.co_sdo_bank.specs.Events.{ChannelEvent, exchange_of, frames_at, logs_after, set_of, with_each}
+use Rattle.co_sdo_bank.specs.Events.{ChannelEvent, exchange_of, frames_at, logs_after, set_of}
 use Rattle.co_pdo.specs.declared.tpdo.Part.{Part}
-use Rattle.co_pdo.specs.Schedules.{History as Schedule, with_start}
+use Rattle.co_pdo.specs.Schedules.{History as Schedule}
 use Rattle.co_node_parts.specs.declared.heartbeat_producer.ProducerEvent.TheVariants as producer
 use Rattle.co_node_parts.specs.declared.heartbeat_consumers.ConsumersEvent.TheVariants as consumers
 use Rattle.co_node_parts.specs.declared.nmt_state.LossReaction.{LossReaction}
@@ -33,61 +32,31 @@ use Rattle.co_node_parts.specs.declared.nmt_state.Transition.{Transition}
 use Rattle.co_node_parts.specs.declared.rpdo_slots.KeptFrame.{KeptFrame}
 use Rattle.co_node_parts.specs.declared.rpdo_slots.SlotEvent.TheVariants as slot
 use Rattle.co_node_parts.specs.Consumers.{is_monitored, is_over_after, monitored_after, monitored_by, silence}
-use Rattle.co_node_parts.specs.ConsumerTables.{ConsumersLog, entry_log, entry_subs, lost_at}
-use Rattle.co_node_parts.specs.NmtStates.{after_loss, commanded, enters, heartbeat_of, is_state, leaves, reaction_with, state_after}
-use Rattle.co_node_parts.specs.Producers.{ProducerLog, is_heartbeat_due, period_of, ticks}
+use Rattle.co_node_parts.specs.ConsumerTables.{entry_log, entry_subs, lost_at}
+use Rattle.co_node_parts.specs.NmtStates.{after_loss, commanded, enters, is_state, state_after}
+use Rattle.co_node_parts.specs.Producers.{ProducerLog, is_heartbeat_due, ticks}
 use Rattle.co_node_parts.specs.RpdoSlots.{SlotLog, all_kept, kept_of, taken_at}
 use Rattle.co_node_model.specs.declared.address.Address.{Address}
 use Rattle.co_node_model.specs.declared.address.Address.TheVariants.{Nmt, Sync, Channel, Rpdo, ErrorControl, Nobody}
 use Rattle.co_node_model.specs.declared.device_error.DeviceError.{DeviceError}
-use Rattle.co_node_model.specs.declared.marks.Marks.{Marks}
 use Rattle.co_node_model.specs.declared.turn.Turn.TheVariants as turn
 use Rattle.co_node_model.specs.Addresses.{address_at}
 use Rattle.co_node_model.specs.AppEvents.{event_refusal, with_app_event}
-use Rattle.co_node_model.specs.Device.{contents_of, frames, moment, moments, prescribed, received_at, state_of, with_frame}
+use Rattle.co_node_model.specs.Device.{contents_of, moments, prescribed, received_at, state_of, with_frame}
 use Rattle.co_node_model.specs.Emergencies.{all_raised, emergencies_of, emergency_frames}
-use Rattle.co_node_model.specs.Heartbeats.{consumers_call, consumers_log, is_heartbeat, life_frames, life_of, lost_by, loss_errors, loss_event, producer_event, producer_log, with_error_control, with_lost, with_losses}
+use Rattle.co_node_model.specs.Heartbeats.{consumers_call, consumers_log, is_heartbeat, life_frames, life_of, lost_by, producer_event, producer_log, with_lost}
 use Rattle.co_node_model.specs.Inputs.{AppView, Applied, ChangedAt, Cleared, EventOn, Framed, Inputs, InputView, Raised, Ticked, Written}
-use Rattle.co_node_model.specs.Moments.{Constants, History, Moment, channels, nothing_of, quiet}
-use Rattle.co_node_model.specs.Nmt.{after_service, commanded_event, is_reset, service_for, state_at, state_log, transition_of, with_service}
-use Rattle.co_node_model.specs.Rpdos.{after_all_data, all_data_emergencies, arrival_errors, effective, empties_slot, immediate, is_short, rpdo_errors, rpdo_type, slot_event, slot_log, with_rpdo}
+use Rattle.co_node_model.specs.Moments.{Constants, Moment, channels, nothing_of, quiet}
+use Rattle.co_node_model.specs.Nmt.{commanded_event, is_reset, service_for, state_log, transition_of, with_service}
+use Rattle.co_node_model.specs.Rpdos.{all_data_emergencies, arrival_errors, empties_slot, immediate, is_short, rpdo_errors, rpdo_type, slot_event, slot_log, with_rpdo}
 use Rattle.co_node_model.specs.Sdo.{channel_logs, timed_out_at, with_channel_frame, with_channel_ticks, with_drop, with_request, with_tick}
 use Rattle.co_node_model.specs.Sync.{sync_errors, with_sync}
 use Rattle.co_node_model.specs.Tpdos.{due_at, part_started, schedule_log, start_turn, tpdo_frame, turn_by_write, turn_of, with_turn}
 use Rattle.co_profile.specs.TransmissionTypes.{is_synchronous}
-use Rattle.co_node_laws.specs.ByKind.{
-  Outcome,
-  Heard,
-  Ignored,
-  Commanded,
-  Synced,
-  Requested,
-  Received,
-  Done,
-  kind_of,
-  kind_of_command,
-  kind_of_frame,
-  kind_of_event,
-  outcome,
-  device_after,
-  device_of,
-  frames_of,
-  lost_now,
-  no_frame,
-  sent_by,
-  sent_with,
-  state_after_losses,
-  ticked,
-  with_download,
-  by_heartbeat,
-  by_request,
-  by_tick,
-  due_at_tick,
-  one_ms_later,
-}
+use Rattle.co_node_laws.specs.ByKind.{Outcome, Heard, Ignored, Commanded, Synced, Requested, Received, Done, kind_of, kind_of_command, kind_of_frame, kind_of_event, outcome, device_after, device_of, frames_of, lost_now, no_frame, sent_by, sent_with, state_after_losses, ticked, with_download, by_heartbeat, by_tick}
 use Rattle.co_node_laws.specs.Changes.{after_errors_and_data}
-use Rattle.co_node_laws.specs.Devices.{Device, after_sending, emergency_at_end, with_part_started, with_tpdo_written, with_write}
-use Rattle.co_node_laws.specs.Distances.{aged, begins_entry, begins_heartbeat, emergencies_sent, heartbeat_period, heartbeat_ticks, is_multiple, moment_at, monitored, queued, silence_after, ticks_silent, waiting}
+use Rattle.co_node_laws.specs.Devices.{Device, after_sending, emergency_at_end, with_part_started, with_write}
+use Rattle.co_node_laws.specs.Distances.{aged, begins_entry, begins_heartbeat, emergencies_sent, heartbeat_ticks, is_multiple, moment_at, monitored, queued, silence_after, ticks_silent, waiting}
 use Rattle.co_node_laws.specs.RpdoWaits.{waiting_frame}
 use Rattle.co_node_laws.proofs.Below.{Below}
 use Rattle.co_node_laws.proofs.Changed.{quiet_rpdo, quiet_sync}

@@ -2,7 +2,6 @@
 -- a device so described sends `prescribed`, and has the state and the entries of `co_node_model`, is a law of this crate.
 use Rattle.std.specs.Prelude.{ℕ, ◌+◌, ◌==◌, ◌&&◌, not, Bool, true, false, List, [], ◌∷◌, ◌++◌, map, is_some, Option, Some, None, if◌then◌else◌}
 use Rattle.std.specs.List.{filter}
-use Rattle.co_value.specs.declared.key.Key.{Key}
 use Rattle.co_frame.specs.FrameContent.{FrameContent}
 use Rattle.co_frame.specs.Heartbeats.{heartbeat_in}
 use Rattle.co_frame.specs.Nmt.{nmt_command_in}
@@ -12,11 +11,10 @@ use Rattle.co_profile.specs.Keys.{error_behaviour_key, producer_key}
 use Rattle.co_profile.specs.TransmissionTypes.{is_synchronous}
 use Rattle.co_dict.specs.declared.area.Area.TheVariants.{Communication, All}
 use Rattle.co_dict.specs.ConsumerHeartbeats.{consumer_key}
-use Rattle.co_dict.specs.Rows.{Contents, number_at, written}
+use Rattle.co_dict.specs.Rows.{number_at, written}
 use Rattle.co_dict.specs.Stores.{Description}
 use Rattle.co_sdo.specs.Downloads.{Download}
 use Rattle.co_sdo.specs.Log.{Ticked as TickOfChannel}
-use Rattle.co_sdo_bank.specs.Channels.{ChannelSettings}
 use Rattle.co_sdo_bank.specs.Events.{ChannelEvent, exchange_of, frames_at, logs_after, number_for, set_of, time_out_of, with_each}
 use Rattle.co_pdo.specs.Schedules.{all_due, all_due_among, sync_with, with_events, with_sync, with_tick}
 use Rattle.co_pdo.specs.Tpdos.{tpdo_numbers}

@@ -1,6 +1,6 @@
 -- What a device has after its inputs, and what a write, a change of the NMT state, a reset, errors and the data of RPDOs do to
 -- it: the words in which `ByKind` says what each kind of input does.
-use Rattle.std.specs.Prelude.{ℕ, ◌-◌, ◌==◌, ◌&&◌, not, Bool, List, [], ◌∷◌, slice_get, Option, Some, None, if◌then◌else◌}
+use Rattle.std.specs.Prelude.{ℕ, ◌-◌, ◌==◌, ◌&&◌, not, Bool, List, [], slice_get, Option, Some, None, if◌then◌else◌}
 use Rattle.std.specs.List.{list_all, filter_map, range_with_len}
 use Rattle.co_value.specs.declared.key.Key.{Key}
 use Rattle.co_value.specs.Keys.{same_key}
@@ -11,7 +11,7 @@ use Rattle.co_profile.specs.Keys.{producer_key, emergency_key, emergency_inhibit
 use Rattle.co_dict.specs.declared.area.Area.{Area}
 use Rattle.co_dict.specs.CobIds.{is_valid}
 use Rattle.co_dict.specs.ConsumerHeartbeats.{consumer_key}
-use Rattle.co_dict.specs.Rows.{Rows, Contents, number_at, restored}
+use Rattle.co_dict.specs.Rows.{Contents, number_at, restored}
 use Rattle.co_dict.specs.Stores.{Description}
 use Rattle.co_sdo.specs.Log.{Log, Dropped}
 use Rattle.co_sdo_bank.specs.Events.{with_each}
