@@ -20,6 +20,10 @@ pub mod LossDistances
 pub mod ValuesNow
 pub mod TpdoDistances
 pub mod RpdoWaits
+pub mod RpdoLast
+pub mod ByKind
+pub mod ByKindLaws
+mod ByKindExamples
 mod ChangesExamples
 mod DistanceExamples
 mod PartsExamples

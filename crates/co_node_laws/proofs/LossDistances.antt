@@ -127,7 +127,7 @@ silence_with false true heard word log = refl
 silence_with false false None word log = refl
 silence_with false false (Some node) word log = refl
 
-monitored_is : (k : Constants) (sub : ℕ) (inputs : Inputs) → 1 ≤ sub → sub ≤ 127 → monitored_after (entry_log sub (consumers_log k (moments k inputs))) ≡ monitored k sub inputs
+pub monitored_is : (k : Constants) (sub : ℕ) (inputs : Inputs) → 1 ≤ sub → sub ≤ 127 → monitored_after (entry_log sub (consumers_log k (moments k inputs))) ≡ monitored k sub inputs
 monitored_is k sub [] low high = ap monitored_by (word_at k.start sub low high)
 monitored_is k sub (input ∷ inputs) low high =
     let m = moment_at k inputs input in
@@ -137,7 +137,7 @@ monitored_is k sub (input ∷ inputs) low high =
     ∙ monitored_with (begins_entry sub m.marks) m.marks.ticked m.marks.heard word log
     ∙ ap (λ o. cond (begins_entry sub m.marks) (monitored_by word) o) (monitored_is k sub inputs low high)
 
-silence_is : (k : Constants) (sub : ℕ) (inputs : Inputs) → 1 ≤ sub → sub ≤ 127 → silence (entry_log sub (consumers_log k (moments k inputs))) ≡ ticks_silent k sub inputs
+pub silence_is : (k : Constants) (sub : ℕ) (inputs : Inputs) → 1 ≤ sub → sub ≤ 127 → silence (entry_log sub (consumers_log k (moments k inputs))) ≡ ticks_silent k sub inputs
 silence_is k sub [] low high = refl
 silence_is k sub (input ∷ inputs) low high =
     let m = moment_at k inputs input in

@@ -1,15 +1,16 @@
 -- The frame of an RPDO of a synchronous type takes effect at the next SYNC.
-use Rattle.std.proofs.Common.{◌≡◌, ℕ, ◌-◌, Bool, true, false, cond, List, [], ◌∷◌, ◌++◌, Option, Some, None, refl, ap, ◌∙◌, arith}
-use Rattle.std.specs.Prelude.{◌==◌, ◌&&◌, ◌||◌, not, is_some, is_none}
+use Rattle.std.proofs.Common.{◌≡◌, ℕ, ◌-◌, Bool, true, false, cond, List, [], ◌∷◌, ◌++◌, Option, Some, None, refl, ap, ◌∙◌, sym, arith}
+use Rattle.std.specs.Prelude.{◌==◌, ◌&&◌, ◌||◌, not, is_some, if◌then◌else◌}
 use Rattle.std.proofs.lemmas.Bool.Decides.{nat_tests}
 use Rattle.std.proofs.lemmas.List.{append-nil}
 use Rattle.co_value.specs.declared.key.Key.{Key}
 use Rattle.co_frame.specs.FrameContent.{FrameContent}
+use Rattle.co_frame.specs.Heartbeats.{heartbeat_in}
 use Rattle.co_profile.specs.Indices.{rpdo_communication}
 use Rattle.co_dict.specs.Rows.{Contents}
 use Rattle.co_dict.specs.Stores.{Description}
 use Rattle.co_node_parts.specs.declared.nmt_state.NodeState.{NodeState}
-use Rattle.co_node_parts.specs.declared.nmt_state.NodeState.TheVariants.{Operational}
+use Rattle.co_node_parts.specs.declared.nmt_state.NodeState.TheVariants.{PreOperational, Operational, Stopped}
 use Rattle.co_node_parts.specs.declared.rpdo_slots.KeptFrame.{KeptFrame}
 use Rattle.co_node_parts.specs.declared.rpdo_slots.SlotEvent.{SlotEvent}
 use Rattle.co_node_parts.specs.declared.rpdo_slots.SlotEvent.TheVariants as slot
@@ -17,16 +18,18 @@ use Rattle.co_node_parts.specs.NmtStates.{leaves, is_state}
 use Rattle.co_node_parts.specs.RpdoSlots.{SlotLog, kept_of, taken_at, all_kept}
 use Rattle.co_node_model.specs.Rpdos.{rpdo_type, is_short, empties_slot, emptied_by, kept_by, slot_event, immediate, slot_log, with_rpdo, with_pdos}
 use Rattle.co_profile.specs.TransmissionTypes.{is_synchronous}
-use Rattle.co_node_model.specs.Inputs.{InputView, Inputs, Framed}
+use Rattle.co_node_model.specs.Inputs.{InputView, Inputs, AppView, Framed, Ticked, Applied, Written, EventOn, ChangedAt, Raised, Cleared}
+use Rattle.co_node_model.specs.AppEvents.{event_refusal, with_app_event}
 use Rattle.co_node_model.specs.Nmt.{is_reset, state_at, transition_of}
-use Rattle.co_node_model.specs.Heartbeats.{consumers_call, consumers_log, lost_by, with_lost, with_losses}
-use Rattle.co_node_model.specs.declared.address.Address.TheVariants.{Sync, Rpdo}
+use Rattle.co_node_model.specs.Heartbeats.{is_heartbeat, consumers_call, consumers_log, lost_by, with_lost, with_losses}
+use Rattle.co_node_model.specs.declared.address.Address.{Address}
+use Rattle.co_node_model.specs.declared.address.Address.TheVariants.{Nmt, Sync, Channel, Rpdo, ErrorControl, Nobody}
 use Rattle.co_node_model.specs.Moments.{Constants, Moment, History, nothing_of}
 use Rattle.co_node_model.specs.Sync.{with_sync}
 use Rattle.co_node_model.specs.Device.{with_frame, moments, contents_of, state_of}
 use Rattle.co_node_model.specs.Addresses.{address_at}
 use Rattle.co_node_laws.specs.Distances.{moment_at}
-use Rattle.co_node_laws.specs.RpdoWaits.{waiting_frame, renews, is_frame_of, keeps_waiting, all_keep_waiting}
+use Rattle.co_node_laws.specs.RpdoWaits.{waiting_frame, renews, is_effective, is_newer_of, keeps_waiting, all_keep_waiting}
 use Rattle.co_node_laws.proofs.Kept.{by_reset}
 use Rattle.co_node_laws.proofs.Changed.{IsUncommanded, quiet_sync, quiet_rpdo}
 
@@ -79,8 +82,12 @@ emptied_other : (n : ℕ) (key : Key) (log : SlotLog) (b : Bool) → empties_slo
 emptied_other n key log true is off = ap (λ b. cond b None (kept_of n log)) off
 emptied_other n key log false is off = refl
 
-kept_other : (n : ℕ) (rpdo : KeptFrame) (log : SlotLog) (b : Bool) → (n == rpdo.number) ≡ false → kept_of n (cond b (slot.Keep rpdo.number rpdo.frame) slot.Quiet ∷ log) ≡ kept_of n log
-kept_other n rpdo log true off = ap (λ b. cond b (Some rpdo.frame) (kept_of n log)) off
+right_true : (b : Bool) → b && true ≡ b
+right_true true = refl
+right_true false = refl
+
+kept_other : (n : ℕ) (rpdo : KeptFrame) (log : SlotLog) (b : Bool) → n == rpdo.number && b ≡ false → kept_of n (cond b (slot.Keep rpdo.number rpdo.frame) slot.Quiet ∷ log) ≡ kept_of n log
+kept_other n rpdo log true off = ap (λ b. cond b (Some rpdo.frame) (kept_of n log)) (sym (right_true (n == rpdo.number)) ∙ off)
 kept_other n rpdo log false off = refl
 
 not_true : (a : Bool) → not a ≡ true → a ≡ false
@@ -95,22 +102,98 @@ second : (a b : Bool) → a && b ≡ true → b ≡ true
 second true b e = e
 second false b e = absurd (cc)
 
-by_marks : (d : Description) (c : Contents) (n : ℕ) (ends operational : Bool) (sync : Option FrameContent) (set : Option Key) (rpdo : Option KeptFrame) (log : SlotLog)
-    → not ends && (is_none sync && (not (renews n set) && not (is_frame_of n rpdo))) ≡ true
-    → kept_of n (cond ends slot.EmptyAll (cond (is_some sync && operational) slot.Sync (cond (is_some set) (emptied_by set) (kept_by d c rpdo))) ∷ log) ≡ kept_of n log
-by_marks d c n true operational sync set rpdo log keeps = absurd (cc)
-by_marks d c n false operational (Some frame) set rpdo log keeps = absurd (cc)
-by_marks d c n false operational None (Some key) rpdo log keeps =
-    emptied_other n key log (empties_slot key) refl (not_true (renews n (Some key)) (first (not (renews n (Some key))) (not (is_frame_of n rpdo)) keeps))
-by_marks d c n false operational None None None log keeps = refl
-by_marks d c n false operational None None (Some rpdo) log keeps =
-    kept_other n rpdo log (is_synchronous (rpdo_type c rpdo.number) && not (is_short d c rpdo)) (not_true (n == rpdo.number) keeps)
+by_marks : (d : Description) (c : Contents) (n : ℕ) (ends syncs : Bool) (set : Option Key) (rpdo : Option KeptFrame) (log : SlotLog)
+    → not ends && (not syncs && (not (renews n set) && not (is_newer_of n d c rpdo))) ≡ true
+    → kept_of n (cond ends slot.EmptyAll (cond syncs slot.Sync (cond (is_some set) (emptied_by set) (kept_by d c rpdo))) ∷ log) ≡ kept_of n log
+by_marks d c n true syncs set rpdo log keeps = absurd (cc)
+by_marks d c n false true set rpdo log keeps = absurd (cc)
+by_marks d c n false false (Some key) rpdo log keeps =
+    emptied_other n key log (empties_slot key) refl (not_true (renews n (Some key)) (first (not (renews n (Some key))) (not (is_newer_of n d c rpdo)) keeps))
+by_marks d c n false false None None log keeps = refl
+by_marks d c n false false None (Some rpdo) log keeps =
+    kept_other n rpdo log (is_synchronous (rpdo_type c rpdo.number) && not (is_short d c rpdo)) (not_true (n == rpdo.number && (is_synchronous (rpdo_type c rpdo.number) && not (is_short d c rpdo))) keeps)
+
+-- ---- the frame of an RPDO changes no entry before it is looked at
+
+-- a frame of this RPDO was received
+pub record IsTaken (k : Constants) (inputs : Inputs) (input : InputView) (rpdo : KeptFrame) : Type 0 where
+  pub is : input ≡ Framed rpdo.frame
+  pub address : address_at k (moments k inputs) rpdo.frame.id ≡ Rpdo rpdo.number
+  pub operational : state_of k inputs ≡ Operational
+
+none_either : (b : Bool) (x y : Moment) → x.marks.rpdo ≡ None → y.marks.rpdo ≡ None → (if b then x else y).marks.rpdo ≡ None
+none_either true x y p q = p
+none_either false x y p q = q
+
+not_some : {A : Type 0} (o : Option A) (x : A) → o ≡ None → o ≡ Some x → ⊥
+not_some o x none some = absurd (cc)
+
+-- which frame it is, by its address
+pub record IsFor (s : NodeState) (address : Address) (frame : FrameContent) (rpdo : KeptFrame) : Type 0 where
+  pub to : address ≡ Rpdo rpdo.number
+  pub same : frame ≡ rpdo.frame
+  pub operational : s ≡ Operational
+
+rpdo_for : (n : ℕ) (frame : FrameContent) (m : Moment) (rpdo : KeptFrame) (s : NodeState) → m.marks.rpdo ≡ None → (with_rpdo n s frame m).marks.rpdo ≡ Some rpdo → IsFor s (Rpdo n) frame rpdo
+rpdo_for n frame m rpdo PreOperational none e = absurd (not_some m.marks.rpdo rpdo none e)
+rpdo_for n frame m rpdo Stopped none e = absurd (not_some m.marks.rpdo rpdo none e)
+rpdo_for n frame m rpdo Operational none e =
+    let is : record { number = n; frame = frame } ≡ rpdo = cc in
+    record { to = ap (λ (r : KeptFrame). Rpdo r.number) is; same = ap (λ (r : KeptFrame). r.frame) is; operational = refl }
+
+frame_for : (k : Constants) (history : History) (address : Address) (frame : FrameContent) (input : InputView) (c : Contents) (rpdo : KeptFrame)
+    → (with_frame k history address frame (nothing_of input c)).marks.rpdo ≡ Some rpdo → IsFor (state_at history) address frame rpdo
+frame_for k history Nmt frame input c rpdo e = absurd (cc)
+frame_for k history Sync frame input c rpdo e = absurd (not_some _ rpdo (none_either (is_state Stopped (state_at history)) _ _ refl refl) e)
+frame_for k history (Channel j) frame input c rpdo e = absurd (not_some _ rpdo (none_either (is_state Stopped (state_at history)) _ _ refl refl) e)
+frame_for k history (Rpdo n) frame input c rpdo e = rpdo_for n frame (nothing_of input c) rpdo (state_at history) refl e
+frame_for k history (ErrorControl node) frame input c rpdo e = absurd (not_some _ rpdo (none_either (is_heartbeat (heartbeat_in frame.bytes)) _ _ refl refl) e)
+frame_for k history Nobody frame input c rpdo e = absurd (cc)
+
+event_for : (d : Description) (event : AppView) (refusal : Option ℕ) (input : InputView) (c : Contents) → (with_app_event d event refusal (nothing_of input c)).marks.rpdo ≡ None
+event_for d event (Some code) input c = refl
+event_for d (Written key bytes) None input c = refl
+event_for d (EventOn n) None input c = refl
+event_for d (ChangedAt key) None input c = refl
+event_for d (Raised code bits manufacturer) None input c = refl
+event_for d (Cleared bits) None input c = refl
+
+pub taken_for : (k : Constants) (inputs : Inputs) (input : InputView) (rpdo : KeptFrame) → (moment_at k inputs input).marks.rpdo ≡ Some rpdo → IsTaken k inputs input rpdo
+taken_for k inputs (Framed frame) rpdo e =
+    let h = moments k inputs in
+    let is = frame_for k h (address_at k h frame.id) frame (Framed frame) (contents_of k inputs) rpdo e in
+    record { is = ap Framed is.same; address = ap (λ (f : FrameContent). address_at k h f.id) (sym is.same) ∙ is.to; operational = is.operational }
+taken_for k inputs Ticked rpdo e = absurd (cc)
+taken_for k inputs (Applied event) rpdo e =
+    absurd (not_some _ rpdo (event_for k.description event (event_refusal k.description (contents_of k inputs) event) (Applied event) (contents_of k inputs)) e)
+
+pub watched_is : (k : Constants) (inputs : Inputs) (input : InputView) (rpdo : KeptFrame) → (moment_at k inputs input).marks.rpdo ≡ Some rpdo → (moment_at k inputs input).watched ≡ contents_of k inputs
+watched_is k inputs input rpdo e =
+    let is = taken_for k inputs input rpdo e in
+    let h = moments k inputs in
+    let c = contents_of k inputs in
+    let r = with_rpdo rpdo.number (state_at h) rpdo.frame (nothing_of (Framed rpdo.frame) c) in
+    let u = quiet_rpdo rpdo.number rpdo.frame c (Framed rpdo.frame) (state_at h) in
+    ap (λ (i : InputView). (moment_at k inputs i).watched) is.is
+    ∙ ap (λ a. (with_losses k h (with_frame k h a rpdo.frame (nothing_of (Framed rpdo.frame) c))).watched) is.address
+    ∙ ap (λ lost. (with_lost k.description lost r).watched) (by_reset r.marks r.received (consumers_log k h) (is_reset r.marks) refl u.ticked)
+    ∙ u.received
+
+newer_by : (k : Constants) (inputs : Inputs) (input : InputView) (n : ℕ) (rpdo : Option KeptFrame) → (moment_at k inputs input).marks.rpdo ≡ rpdo
+    → is_newer_of n k.description (contents_of k inputs) rpdo ≡ is_newer_of n k.description (moment_at k inputs input).watched rpdo
+newer_by k inputs input n None is = refl
+newer_by k inputs input n (Some rpdo) is = ap (λ c. is_newer_of n k.description c (Some rpdo)) (sym (watched_is k inputs input rpdo is))
+
+pub newer_is : (k : Constants) (inputs : Inputs) (input : InputView) (n : ℕ)
+    → is_newer_of n k.description (contents_of k inputs) (moment_at k inputs input).marks.rpdo ≡ is_newer_of n k.description (moment_at k inputs input).watched (moment_at k inputs input).marks.rpdo
+newer_is k inputs input n = newer_by k inputs input n (moment_at k inputs input).marks.rpdo refl
 
 pub goes_on : (k : Constants) (n : ℕ) (inputs : Inputs) (input : InputView) → keeps_waiting k n inputs input ≡ true → waiting_frame k n (input ∷ inputs) ≡ waiting_frame k n inputs
 goes_on k n inputs input keeps =
     let m = moment_at k inputs input in
     let t = transition_of m (moments k inputs) in
-    by_marks k.description m.watched n (is_reset m.marks || leaves Operational t) (is_state Operational t.after) m.marks.sync m.marks.set m.marks.rpdo (slot_log k (moments k inputs)) keeps
+    by_marks k.description m.watched n (is_reset m.marks || leaves Operational t) (is_effective m.marks.sync t) m.marks.set m.marks.rpdo (slot_log k (moments k inputs))
+    (sym (ap (λ b. not (is_reset m.marks || leaves Operational t) && (not (is_effective m.marks.sync t) && (not (renews n m.marks.set) && not b))) (newer_is k inputs input n)) ∙ keeps)
 
 pub waits : (k : Constants) (n : ℕ) (inputs later : Inputs) → all_keep_waiting k n inputs later ≡ true → waiting_frame k n (later ++ inputs) ≡ waiting_frame k n inputs
 waits k n inputs [] all = refl

@@ -9,8 +9,7 @@ ghost use Rattle.co_pdo.specs.Log.{Happened};
 ghost use Rattle.co_pdo.specs.Schedules.{is_among, sync_with};
 ghost use Rattle.co_pdo.specs.Tpdos.{is_active, settings_of};
 ghost use Rattle.co_node_parts.specs.declared.nmt_state.NodeState.TheVariants.{Operational};
-ghost use Rattle.co_node_parts.specs.RpdoSlots.{all_kept};
-ghost use Rattle.co_node_model.specs.Rpdos.{rpdo_type, is_short, slot_log};
+ghost use Rattle.co_node_model.specs.Rpdos.{rpdo_type, is_short};
 ghost use Rattle.co_profile.specs.TransmissionTypes.{is_synchronous};
 ghost use Rattle.co_node_model.specs.Tpdos.{numbers_asked};
 ghost use Rattle.co_node_model.specs.Inputs.{InputView, Inputs, Framed, Ticked};
@@ -22,7 +21,12 @@ ghost use Rattle.co_node_model.specs.Addresses.{address_at};
 ghost use Rattle.co_node_model.specs.Device.{contents_of, moments, state_of};
 ghost use Rattle.co_node_laws.specs.Calls.{is_asked};
 ghost use Rattle.co_node_laws.specs.Distances.{moment_at};
-ghost use Rattle.co_node_laws.specs.RpdoWaits.{all_keep_waiting, waiting_frame};
+ghost use Rattle.co_node_laws.specs.RpdoWaits.{
+  IsLastAccepted,
+  all_keep_waiting,
+  waiting_frame,
+  waiting_frames,
+};
 ghost use Rattle.co_node_laws.specs.TpdoDistances.{is_sent, ticks_of_timer, tpdo_log, turn_of_input};
 
 /// TPDO n is sent at a SYNC, at a tick and at an event of the application on it, in operational, exactly where `is_due`
@@ -61,10 +65,12 @@ pub fn tpdo_due()
         is_sent k n inputs Ticked ≡ (ticks_of_timer k n inputs + 1 == settings.event_timer) }
 {}
 
-/// In operational the frame of an RPDO of type 0 to 240, where it isn't short, waits from when it comes; it waits on
-/// while no SYNC comes, operational isn't left, nothing resets the device, the RPDO isn't written and no other frame
-/// of it comes. The next SYNC in operational takes all frames that wait, by number: their data take effect then
-/// (7.2.2.2 and 7.5.2.35).
+/// In operational the frame of an RPDO of type 0 to 240, where it isn't short, waits from when it comes (`waits`); it
+/// waits on while no SYNC comes in operational, operational isn't left, nothing resets the device, the RPDO isn't
+/// written and no newer frame of it comes that waits: a short one is dropped, and the frame before it waits on. The
+/// next SYNC in operational takes all frames that wait, by number: their data take effect then (`taken`). Each is the
+/// last frame that its RPDO accepted so, and nothing since ended its wait, so no SYNC took it before (`last`; 7.2.2.2,
+/// 7.2.2.4 and 7.5.2.35).
 pub fn takes_effect_at_sync()
     ensures waits { (k : Constants) (inputs later : Inputs) (n : ℕ) (frame : FrameContent) →
         address_at k (moments k inputs) frame.id ≡ Rpdo n → state_of k inputs ≡ Operational →
@@ -75,5 +81,7 @@ pub fn takes_effect_at_sync()
         waiting_frame k n (later ++ Framed frame ∷ inputs) ≡ Some frame }
     ensures taken { (k : Constants) (inputs : Inputs) (frame : FrameContent) →
         address_at k (moments k inputs) frame.id ≡ Sync → state_of k inputs ≡ Operational →
-        (moment_at k inputs (Framed frame)).taken ≡ all_kept 512 (slot_log k (moments k inputs)) }
+        (moment_at k inputs (Framed frame)).taken ≡ waiting_frames k inputs }
+    ensures last { (k : Constants) (inputs : Inputs) (n : ℕ) (frame : FrameContent) →
+        waiting_frame k n inputs ≡ Some frame → IsLastAccepted k n inputs frame }
 {}
