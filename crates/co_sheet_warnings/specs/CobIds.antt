@@ -1,0 +1,45 @@
+-- COB-IDs that depend on the node-ID (CiA 301, predefined connection set; CiA 306-1, `$NODEID`).
+use Rattle.std.specs.Prelude.{ℕ, Bool, false, ◌&&◌, ◌||◌, ◌==◌, ◌^◌, nat_lt, if◌then◌else◌, List, [], ◌∷◌, codes, is_some}
+use Rattle.std.specs.List.{list_any, before_first, after_first}
+use Rattle.std.specs.Option.{option_map_or}
+use Rattle.std.specs.Result.{result_ok}
+use Rattle.co_sheet_text.specs.declared.section_kind.SectionKind.{SectionKind}
+use Rattle.co_sheet_text.specs.declared.section_kind.SectionKind.TheVariants.{Object, SubIndex}
+use Rattle.co_sheet_text.specs.Text.{trim}
+use Rattle.co_sheet_text.specs.Numerals.{unsigned_number}
+use Rattle.co_sheet_text.specs.Sections.{Property, TextSection, property_at}
+use Rattle.co_sheet_text.specs.Properties.{property_number}
+use Rattle.co_sheet.specs.Limits.{is_plus, is_node_id}
+use Rattle.co_sheet_warnings.specs.SubIndices.{is_within}
+
+-- the COB-IDs that a device has by its node-ID: of EMCY, and of the first four RPDOs and TPDOs
+abbrev pub has_default_cob_id : SectionKind → Bool
+has_default_cob_id (Object index) = index == 0x1014
+has_default_cob_id (SubIndex key) =
+    (key.sub == 1) && (is_within 0x1400 0x1403 key.index || is_within 0x1800 0x1803 key.index)
+has_default_cob_id kind = false
+
+-- a number without `$NODEID` and without bit 31, which disables a PDO and EMCY
+abbrev pub is_enabled : ℕ → Bool
+is_enabled cob_id = nat_lt cob_id (2 ^ 31)
+
+abbrev pub fixed_number : Property → List ℕ
+fixed_number k = if option_map_or is_enabled (property_number k) false then k.line ∷ [] else []
+
+abbrev pub fixed_cob_id : TextSection → List ℕ
+fixed_cob_id s =
+    if has_default_cob_id s.kind
+    then option_map_or fixed_number (property_at (codes "DefaultValue") s) []
+    else []
+
+-- a number, `+` and then `$NODEID`
+abbrev pub is_node_id_last : List ℕ → Bool
+is_node_id_last value =
+    list_any is_plus value && is_node_id (trim (after_first is_plus value))
+    && is_some (result_ok (unsigned_number (trim (before_first is_plus value))))
+
+abbrev pub node_id_last : Property → List ℕ
+node_id_last k = if is_node_id_last k.value then k.line ∷ [] else []
+
+abbrev pub node_id_place : TextSection → List ℕ
+node_id_place s = option_map_or node_id_last (property_at (codes "DefaultValue") s) []

@@ -1,0 +1,82 @@
+-- Values of the communication profile that don't work together (CiA 301, TPDO, heartbeat consumer).
+use Rattle.std.specs.Prelude.{ℕ, ◌/◌, ◌%◌, Bool, false, not, ◌&&◌, ◌==◌, nat_le, nat_lt, if◌then◌else◌, List, [], ◌∷◌, find, Option, Some, option_and_then}
+use Rattle.std.specs.List.{list_any}
+use Rattle.std.specs.Option.{option_map_or}
+use Rattle.co_sheet_text.specs.declared.section_kind.SectionKind.{SectionKind}
+use Rattle.co_sheet_text.specs.declared.section_kind.SectionKind.TheVariants.{SubIndex}
+use Rattle.co_sheet_text.specs.Sections.{Property, TextSection}
+use Rattle.co_sheet_text.specs.Properties.{property_number}
+use Rattle.co_sheet.specs.Entries.{Entry, sub_indices}
+use Rattle.co_sheet.specs.Limits.{value_property}
+use Rattle.co_sheet_warnings.specs.SubIndices.{is_within, value_number}
+
+-- the number at a sub-index of an object
+abbrev pub number_at_sub : ℕ → List Entry → Option ℕ
+number_at_sub sub entries = option_and_then value_number (find (λ e. e.key.sub == sub) entries)
+
+-- a property where its number passes a test
+abbrev pub line_if : (ℕ → Bool) → Property → List ℕ
+line_if test k = if option_map_or test (property_number k) false then k.line ∷ [] else []
+
+-- transmission types 0 to 240 wait for a SYNC, and an inhibit time isn't asked then
+abbrev pub is_synchronous : ℕ → Bool
+is_synchronous transmission = nat_le transmission 240
+
+abbrev pub is_some_time : ℕ → Bool
+is_some_time time = nat_lt 0 time
+
+abbrev pub inhibit_time_of : List Entry → Entry → List ℕ
+inhibit_time_of entries e =
+    if (e.key.sub == 3) && is_within 0x1800 0x19FF e.key.index
+    && option_map_or is_synchronous (number_at_sub 2 entries) false
+    then option_map_or (line_if is_some_time) (value_property e) []
+    else []
+
+abbrev pub inhibit_time : List TextSection → TextSection → SectionKind → List ℕ
+inhibit_time sections s (SubIndex key) =
+    inhibit_time_of (sub_indices sections key.index) (record { key = key; section = s })
+inhibit_time sections s kind = []
+
+-- a word of 1016h: bits 22 to 16 have a node-ID and bits 15 to 0 a time; without a time it isn't used
+abbrev pub node_of_word : ℕ → ℕ
+node_of_word word = word / 65536 % 128
+
+abbrev pub is_used_word : ℕ → Bool
+is_used_word word = not (word % 65536 == 0)
+
+abbrev pub consumes : ℕ → ℕ → Bool
+consumes node word = is_used_word word && (node_of_word word == node)
+
+-- the heartbeat of the device's own node
+abbrev pub own_heartbeat_of : ℕ → Entry → List ℕ
+own_heartbeat_of node e =
+    if (e.key.index == 0x1016) && nat_lt 0 e.key.sub
+    then option_map_or (line_if (consumes node)) (value_property e) []
+    else []
+
+abbrev pub own_heartbeat : Option ℕ → TextSection → SectionKind → List ℕ
+own_heartbeat (Some node) s (SubIndex key) =
+    own_heartbeat_of node (record { key = key; section = s })
+own_heartbeat given s kind = []
+
+-- an entry with a smaller sub-index consumes the heartbeat of the same node
+abbrev pub consumes_before : ℕ → ℕ → Entry → Bool
+consumes_before sub word e =
+    nat_lt 0 e.key.sub && nat_lt e.key.sub sub
+    && option_map_or (consumes (node_of_word word)) (value_number e) false
+
+abbrev pub is_consumed_twice : List Entry → ℕ → ℕ → Bool
+is_consumed_twice entries sub word =
+    is_used_word word && nat_lt 0 (node_of_word word)
+    && list_any (consumes_before sub word) entries
+
+abbrev pub heartbeat_twice_of : List Entry → Entry → List ℕ
+heartbeat_twice_of entries e =
+    if e.key.index == 0x1016
+    then option_map_or (line_if (is_consumed_twice entries e.key.sub)) (value_property e) []
+    else []
+
+abbrev pub heartbeat_twice : List TextSection → TextSection → SectionKind → List ℕ
+heartbeat_twice sections s (SubIndex key) =
+    heartbeat_twice_of (sub_indices sections key.index) (record { key = key; section = s })
+heartbeat_twice sections s kind = []

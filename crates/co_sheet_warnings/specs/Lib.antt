@@ -1,0 +1,9 @@
+pub mod ReadTexts
+pub mod SubIndices
+pub mod Lists
+pub mod CobIds
+pub mod Lines
+pub mod Communication
+pub mod Warnings
+pub mod WarningWords
+pub mod private

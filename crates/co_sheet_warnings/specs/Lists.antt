@@ -1,0 +1,58 @@
+-- Which objects the lists name (CiA 306-1, object lists).
+use Rattle.std.specs.Prelude.{ℕ, Bool, not, ◌&&◌, ◌||◌, ◌==◌, nat_le, nat_lt, if◌then◌else◌, List, [], ◌∷◌, map, flat_map, filter_map, Option, Some, None}
+use Rattle.co_sheet_text.specs.declared.section_kind.SectionKind.{SectionKind}
+use Rattle.co_sheet_text.specs.declared.section_kind.SectionKind.TheVariants.{MandatoryObjects, ManufacturerObjects, Object}
+use Rattle.co_sheet_text.specs.Sections.{TextSection}
+use Rattle.co_sheet.specs.ObjectLists.{Listing, is_listed}
+use Rattle.co_sheet.specs.Listings.{named_by}
+use Rattle.co_sheet.specs.Notes.{unlisted_note}
+use Rattle.co_sheet_warnings.specs.SubIndices.{is_within}
+
+-- 1000h, 1001h and 1018h are mandatory, 2000h to 5FFFh the manufacturer's, and all others optional
+abbrev pub is_mandatory : ℕ → Bool
+is_mandatory index = (index == 0x1000) || (index == 0x1001) || (index == 0x1018)
+
+abbrev pub is_of_manufacturer : ℕ → Bool
+is_of_manufacturer index = is_within 0x2000 0x5FFF index
+
+abbrev pub is_right_list : SectionKind → ℕ → Bool
+is_right_list MandatoryObjects index = is_mandatory index
+is_right_list ManufacturerObjects index = is_of_manufacturer index
+is_right_list list index = not (is_mandatory index || is_of_manufacturer index)
+
+-- a list names an object that belongs in another list
+abbrev pub wrong_listing : SectionKind → Listing → Option ℕ
+wrong_listing list l =
+    if nat_le l.index 0xFFFF && not (is_right_list list l.index) then Some l.line else None
+
+abbrev pub wrong_listings : TextSection → List ℕ
+wrong_listings s = filter_map (wrong_listing s.kind) (named_by s)
+
+abbrev pub wrong_lists : List TextSection → List ℕ
+wrong_lists sections = flat_map wrong_listings sections
+
+-- an index of a list is smaller than the one before it: the first, if any
+abbrev pub first_fall : ℕ → List Listing → List ℕ
+first_fall last [] = []
+first_fall last (l ∷ ls) = if nat_lt l.index last then l.line ∷ [] else first_fall l.index ls
+
+abbrev pub list_order : TextSection → List ℕ
+list_order s = first_fall 0 (named_by s)
+
+abbrev pub list_orders : List TextSection → List ℕ
+list_orders sections = flat_map list_order sections
+
+-- an object section that no list names
+abbrev pub unlisted : List TextSection → TextSection → SectionKind → List ℕ
+unlisted sections s (Object index) = map (λ n. n.line) (unlisted_note sections s index)
+unlisted sections s kind = []
+
+-- the lists name 1000h, and neither the heartbeat's time nor both objects of node guarding
+-- (CiA 301, error control)
+abbrev pub lacks_error_control : List TextSection → Bool
+lacks_error_control sections =
+    is_listed sections 0x1000 && not (is_listed sections 0x1017)
+    && not (is_listed sections 0x100C && is_listed sections 0x100D)
+
+abbrev pub no_error_control : List TextSection → List ℕ
+no_error_control sections = if lacks_error_control sections then 0 ∷ [] else []

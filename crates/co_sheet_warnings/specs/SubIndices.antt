@@ -1,0 +1,78 @@
+-- What an object says of its sub-indices, against those that the text describes
+-- (CiA 306-1, object description; CiA 301, sub-index 0 of arrays and records).
+use Rattle.std.specs.Prelude.{ℕ, Bool, true, false, not, ◌&&◌, ◌||◌, ◌==◌, nat_le, nat_lt, max, fold, if◌then◌else◌, List, [], ◌∷◌, length, map, codes, is_none, Option, option_and_then}
+use Rattle.std.specs.Option.{option_map_or}
+use Rattle.co_sheet_text.specs.declared.section_kind.SectionKind.{SectionKind}
+use Rattle.co_sheet_text.specs.declared.section_kind.SectionKind.TheVariants.{Object, SubIndex}
+use Rattle.co_sheet_text.specs.Text.{same_name}
+use Rattle.co_sheet_text.specs.Sections.{Property, TextSection, property_at}
+use Rattle.co_sheet_text.specs.Properties.{property_number}
+use Rattle.co_sheet.specs.Entries.{Entry, sub_indices}
+use Rattle.co_sheet.specs.Limits.{value_property}
+use Rattle.co_sheet.specs.Notes.{sub_number_note}
+
+-- a range of numbers, with both its ends
+abbrev pub is_within : ℕ → ℕ → ℕ → Bool
+is_within low high n = nat_le low n && nat_le n high
+
+-- SubNumber isn't the number of the object's sub-index sections
+abbrev pub sub_number : List TextSection → TextSection → SectionKind → List ℕ
+sub_number sections s (Object index) =
+    map (λ n. n.line) (sub_number_note s (length (sub_indices sections index)))
+sub_number sections s kind = []
+
+-- an object or a sub-index without a name
+abbrev pub is_entry_kind : SectionKind → Bool
+is_entry_kind (Object index) = true
+is_entry_kind (SubIndex key) = true
+is_entry_kind kind = false
+
+abbrev pub missing_name : TextSection → List ℕ
+missing_name s =
+    if is_entry_kind s.kind && is_none (property_at (codes "ParameterName") s) then s.line ∷ []
+    else []
+
+-- the highest sub-index; FFh describes the object itself, and isn't counted
+abbrev pub counted : ℕ → ℕ
+counted sub = if sub == 0xFF then 0 else sub
+
+abbrev pub highest_from : ℕ → List Entry → ℕ
+highest_from first entries = fold (λ highest e. max highest (counted e.key.sub)) first entries
+
+abbrev pub highest_of : List Entry → ℕ
+highest_of entries = highest_from 0 entries
+
+-- an entry that nobody writes
+abbrev pub is_constant_word : List ℕ → Bool
+is_constant_word word = same_name word (codes "ro") || same_name word (codes "const")
+
+abbrev pub is_constant : Entry → Bool
+is_constant e =
+    option_map_or (λ k. is_constant_word k.value) (property_at (codes "AccessType") e.section) false
+
+-- sub-index 0 of the error field counts errors, and of a PDO's mapping the objects that are mapped
+abbrev pub is_highest_by_rule : ℕ → Bool
+is_highest_by_rule index =
+    not ((index == 0x1003) || is_within 0x1600 0x17FF index || is_within 0x1A00 0x1BFF index)
+
+-- the number that an entry begins with, where it is one
+abbrev pub value_number : Entry → Option ℕ
+value_number e = option_and_then property_number (value_property e)
+
+-- a number of one byte, other than the highest sub-index
+abbrev pub other_number : ℕ → Property → List ℕ
+other_number highest k =
+    option_map_or (λ n. if nat_lt 0xFF n || (n == highest) then [] else k.line ∷ [])
+    (property_number k) []
+
+-- a constant sub-index 0 isn't the highest sub-index of its object
+abbrev pub sub_index_0_of : List Entry → Entry → List ℕ
+sub_index_0_of entries e =
+    if (e.key.sub == 0) && is_highest_by_rule e.key.index && is_constant e
+    then option_map_or (other_number (highest_of entries)) (value_property e) []
+    else []
+
+abbrev pub sub_index_0 : List TextSection → TextSection → SectionKind → List ℕ
+sub_index_0 sections s (SubIndex key) =
+    sub_index_0_of (sub_indices sections key.index) (record { key = key; section = s })
+sub_index_0 sections s kind = []

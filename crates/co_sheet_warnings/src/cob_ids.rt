@@ -1,0 +1,73 @@
+//! COB-IDs that depend on the node-ID.
+
+ghost use Rattle.std.specs.Prelude.{◌≡◌, option_to_list};
+ghost use Rattle.co_sheet_text.specs.Views.{property_view, section_view};
+ghost use Rattle.co_sheet_warnings.specs.CobIds.{
+  has_default_cob_id,
+  is_enabled,
+  fixed_number,
+  fixed_cob_id,
+  is_node_id_last,
+  node_id_place,
+};
+
+use co_sheet_text::{Property, SectionKind, TextSection, same_name, trim, unsigned_number};
+use co_text::split_at_first;
+
+fn has_default_cob_id(kind: SectionKind) -> bool
+    ensures { result ≡ has_default_cob_id kind }
+{
+    match kind {
+        SectionKind::Object(index) => index == 0x1014,
+        SectionKind::SubIndex(key) => {
+            key.sub == 1 && matches!(key.index, 0x1400..=0x1403 | 0x1800..=0x1803)
+        }
+        _ => false,
+    }
+}
+
+/// A word of a COB-ID is disabled by this bit.
+const DISABLED: u64 = 1 << 31;
+
+fn fixed_number(given: &Property) -> Option<usize>
+    ensures { option_to_list result ≡ fixed_number (property_view given.now) }
+{
+    if given.number()? < DISABLED {
+        Some(given.line)
+    } else {
+        None
+    }
+}
+
+/// A fixed number where the COB-ID depends on the node-ID by default.
+pub(crate) fn fixed_cob_id(section: &TextSection) -> Option<usize>
+    ensures { option_to_list result ≡ fixed_cob_id (section_view section.now) }
+{
+    if !has_default_cob_id(section.kind) {
+        return None;
+    }
+    fixed_number(&section.property(b"DefaultValue")?)
+}
+
+fn is_node_id_last(value: &[u8]) -> bool
+    ensures { result ≡ is_node_id_last value.now }
+{
+    match split_at_first(value, b'+') {
+        Some((left, right)) => {
+            same_name(trim(right), b"$NODEID") && unsigned_number(trim(left)).is_ok()
+        }
+        None => false,
+    }
+}
+
+/// A formula with `$NODEID` after its number.
+pub(crate) fn node_id_place(section: &TextSection) -> Option<usize>
+    ensures { option_to_list result ≡ node_id_place (section_view section.now) }
+{
+    let given = section.property(b"DefaultValue")?;
+    if is_node_id_last(given.value) {
+        Some(given.line)
+    } else {
+        None
+    }
+}

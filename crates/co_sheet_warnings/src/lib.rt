@@ -1,0 +1,18 @@
+//! What is legal in an electronic data sheet (CiA 306) and suspicious: each warning with its line, and its words.
+#![tactic(auto)]
+
+mod cob_ids;
+mod communication;
+mod find;
+mod in_sections;
+mod lines;
+mod lists;
+mod read_text;
+mod sub_indices;
+mod warning;
+mod whole;
+mod words;
+
+pub use find::find_warnings;
+pub use warning::{Warning, WarningKind};
+pub use words::{fix_of, is_quiet, meaning_of, name_of, subject_of};

@@ -1,0 +1,82 @@
+//! The lines of a text.
+
+ghost use Rattle.std.specs.Prelude.{◌≡◌, ◌≤◌, length, map, option_to_list, IfOk};
+ghost use Rattle.std.specs.List.{list_any};
+ghost use Rattle.std.specs.Prelude.{nat_lt};
+ghost use Rattle.co_sheet_text.specs.Text.{lines_of};
+ghost use Rattle.co_sheet_warnings.specs.Lines.{long_line, long_lines, has_other_byte, not_ascii};
+ghost use Rattle.co_sheet_warnings.specs.private.Views.{line_view};
+
+use co_sheet_text::without_mark;
+use co_text::split_line;
+use std::alloc::{AllocError, Global};
+
+/// A line of a text without its end, and its number, from 1.
+#[derive(Clone, Copy, Debug)]
+pub(crate) struct Line<'a> {
+    pub(crate) number: usize,
+    pub(crate) bytes: &'a [u8],
+}
+
+/// The lines of a text.
+pub(crate) fn lines_in(alloc: Global, text: &[u8]) -> Result<Vec<Line<'_>>, AllocError>
+    requires { length text.now ≤ 1048576 }
+    ensures { IfOk result (λ lines. map line_view lines.items ≡ lines_of text.now) }
+{
+    let mut lines = Vec::new(alloc);
+    let mut rest = without_mark(text);
+    let mut number = 1;
+    while let Some((bytes, others)) = split_line(rest) {
+        lines.push(Line { number, bytes })?;
+        rest = others;
+        number += 1;
+    }
+    Ok(lines)
+}
+
+/// The longest line that the standard allows, and the longest that is read.
+const LONGEST: usize = 255;
+
+const LONGEST_READ: usize = 512;
+
+fn long_line(line: &Line) -> Option<usize>
+    ensures { result ≡ long_line (line_view line.now) }
+{
+    let len = line.bytes.len();
+    if LONGEST < len && len <= LONGEST_READ {
+        Some(line.number)
+    } else {
+        None
+    }
+}
+
+/// The lines of more than 255 bytes that are read.
+pub(crate) fn long_lines(alloc: Global, lines: &[Line]) -> Result<Vec<usize>, AllocError>
+    ensures { IfOk result (λ places. places.items ≡ long_lines (map line_view lines.now)) }
+{
+    let mut places = Vec::new(alloc);
+    for line in lines {
+        if let Some(place) = long_line(line) {
+            places.push(place)?;
+        }
+    }
+    Ok(places)
+}
+
+fn has_other_byte(line: &Line) -> bool
+    ensures { result ≡ has_other_byte (line_view line.now) }
+{
+    line.bytes.iter().any(|byte| 0x7F < *byte)
+}
+
+/// The first line with a byte above 7Fh.
+pub(crate) fn not_ascii(lines: &[Line]) -> Option<usize>
+    ensures { option_to_list result ≡ not_ascii (map line_view lines.now) }
+{
+    for line in lines {
+        if has_other_byte(line) {
+            return Some(line.number);
+        }
+    }
+    None
+}

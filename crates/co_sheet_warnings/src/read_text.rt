@@ -1,0 +1,91 @@
+//! A text as it is read, with what is looked up in it.
+
+ghost use Rattle.std.specs.Prelude.{◌≡◌, map, IfOk};
+ghost use Rattle.co_sheet.specs.Entries.{sub_indices};
+ghost use Rattle.co_sheet.specs.ObjectLists.{is_listed};
+ghost use Rattle.co_sheet.specs.SectionViews.{entry_view};
+ghost use Rattle.co_sheet_text.specs.Views.{section_view};
+ghost use Rattle.co_sheet_warnings.specs.private.Views.{line_view, text_view};
+
+use crate::lines::Line;
+use crate::lists::listed_indices;
+use co_sheet::{EntrySection, Tables};
+use co_sheet_text::TextSection;
+use indexmap::IndexSet;
+use std::alloc::{AllocError, Global};
+use std::marker::Model;
+
+/// The lines and sections of a text, and the node-ID that is given for the device. Contracts see these; beside them are
+/// the indices that the lists name.
+#[derive(Drop)]
+pub(crate) struct ReadText<'s, 'a> {
+    lines: &'s [Line<'a>],
+    tables: Tables<'s, 'a>,
+    node: Option<u8>,
+    indices: IndexSet<u64>,
+}
+
+impl<'s, 'a> Model for ReadText<'s, 'a> {
+    ghost use Rattle.co_sheet_warnings.specs.ReadTexts.{ReadText};
+    ghost use Rattle.co_sheet_warnings.specs.private.Views.{text_view, HasListed};
+
+    ghost Value = { ReadText };
+
+    ghost view = { λ t. text_view t.lines.now t.tables t.node };
+
+    ghost invariant = { λ t. HasListed t.tables t.indices };
+}
+
+impl<'s, 'a> ReadText<'s, 'a> {
+    pub(crate) fn new(
+        alloc: Global,
+        lines: &'s [Line<'a>],
+        sections: &'s [TextSection<'s, 'a>],
+        node: Option<u8>,
+    ) -> Result<ReadText<'s, 'a>, AllocError>
+        ensures { IfOk result
+            (λ text. text ≡ text_view lines.now (map section_view sections.now) node) }
+    {
+        let tables = Tables::new(alloc, sections)?;
+        let indices = listed_indices(alloc, sections)?;
+        Ok(ReadText {
+            lines,
+            tables,
+            node,
+            indices,
+        })
+    }
+
+    pub(crate) fn lines(&self) -> &'s [Line<'a>]
+        ensures { map line_view result.now ≡ self.now.lines }
+    {
+        self.lines
+    }
+
+    pub(crate) fn sections(&self) -> &'s [TextSection<'s, 'a>]
+        ensures { map section_view result.now ≡ self.now.sections }
+    {
+        self.tables.sections()
+    }
+
+    /// The node-ID that is given for the device.
+    pub(crate) fn node(&self) -> Option<u8>
+        ensures { result ≡ self.now.node }
+    {
+        self.node
+    }
+
+    /// The sub-index sections of an object, in the order of the text.
+    pub(crate) fn parts(&self, index: u16) -> &[EntrySection<'s, 'a>]
+        ensures { map entry_view result.now ≡ sub_indices self.now.sections index }
+    {
+        self.tables.parts(index)
+    }
+
+    /// Whether a list names an index.
+    pub(crate) fn is_listed(&self, index: u16) -> bool
+        ensures { result ≡ is_listed self.now.sections index }
+    {
+        self.indices.contains(&u64::from(index))
+    }
+}

@@ -1,0 +1,5 @@
+//! Tests of the warnings of a data sheet.
+#![tactic(auto)]
+
+#[cfg(test)]
+mod small_sheets;
