@@ -7,3 +7,7 @@ mod KindLemmas
 mod AllLemmas
 mod EntryOrderLemmas
 mod CollectedLemmas
+mod FaultOrderLemmas
+mod EntryCodeLemmas
+mod ListCodeLemmas
+mod TextCodeLemmas

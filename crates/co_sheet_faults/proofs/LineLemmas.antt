@@ -1,5 +1,5 @@
 -- The faults of lines, one by one: against the first of them, and of lines that are emptied.
-use Rattle.std.proofs.Common.{◌≡◌, ℕ, Bool, true, false, cond, not, List, [], ◌∷◌, ◌++◌, Option, Some, None, refl, sym, ap, ◌∙◌, subst, Contains}
+use Rattle.std.proofs.Common.{◌≡◌, Bool, true, false, cond, not, List, [], ◌∷◌, ◌++◌, Option, Some, None, refl, sym, ap, ◌∙◌, subst, Contains}
 use Rattle.std.specs.Prelude.{option_map}
 use Rattle.std.specs.Option.{option_or}
 use Rattle.std.proofs.lemmas.List.Elements.{Contains-append_left, Contains-push, filter-append as elements-append}
@@ -8,9 +8,9 @@ use Rattle.co_sheet_rows.specs.declared.fault.SheetFault.{SheetFault}
 use Rattle.co_sheet_text.specs.declared.fault.TextFaultKind.{TextFaultKind}
 use Rattle.co_sheet_text.specs.declared.fault.TextFault.{TextFault}
 use Rattle.co_sheet_text.specs.Text.{Line}
-use Rattle.co_sheet_text.specs.Sections.{LineForm, skipped, section_line, unclosed, name_value, malformed, TextSection, sections_of, line_form, last_section, form_rules, first_broken, fault_at, first_line_fault}
+use Rattle.co_sheet_text.specs.Sections.{fault_at, first_line_fault}
 use Rattle.co_sheet.specs.Faults.{sheet_fault}
-use Rattle.co_sheet_text.specs.LinesAtFault.{emptied_form, emptied, own_fault, read_as, next_read, lines_read}
+use Rattle.co_sheet_text.specs.LinesAtFault.{emptied, own_fault, read_as, next_read, lines_read}
 use Rattle.co_sheet_faults.specs.LinesAtFault.{fault_of_line, line_faults}
 use Rattle.co_sheet_text.proofs.ReadLemmas.{emptied-good}
 use Rattle.co_sheet_faults.specs.FaultLaws.{is_of, has_kind, emptied_of, without}

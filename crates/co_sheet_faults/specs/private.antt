@@ -1,2 +1,4 @@
 -- What the crate's own functions promise one another; no public contract rests on these.
 pub mod Collected
+pub mod EntryParts
+pub mod ListParts

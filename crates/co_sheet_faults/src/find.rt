@@ -1,10 +1,18 @@
-//! The sections of a text in spite of its lines at fault.
+//! All faults of a text, in order.
 
-ghost use Rattle.std.specs.Prelude.{◌≡◌, ◌≤◌, length, IfOk};
+ghost use Rattle.std.specs.Prelude.{◌≡◌, ◌++◌, ◌≤◌, length, map, Contains, OnOk, IfOk};
+ghost use Rattle.std.specs.List.Sorted.{IsStrictlySortedBy};
+ghost use Rattle.co_sheet_rows.specs.declared.fault.SheetFault.{SheetFault as Fault};
 ghost use Rattle.co_sheet_text.specs.Text.{lines_of};
 ghost use Rattle.co_sheet_text.specs.LinesAtFault.{sections_read};
+ghost use Rattle.co_sheet.specs.Faults.{sheet_fault};
+ghost use Rattle.co_sheet_faults.specs.AllFaults.{faults_of};
+ghost use Rattle.co_sheet_faults.specs.FaultOrder.{fault_cmp};
+ghost use Rattle.co_sheet_faults.specs.private.Collected.{text_collected};
 
-use co_sheet_text::{ParsedText, all_sections_in};
+use crate::collect::collect;
+use co_sheet::{FaultKind, GREATEST_SIZE, SheetFault, sheet_fault};
+use co_sheet_text::{ParsedText, TextFault, all_sections_in};
 use std::alloc::{AllocError, Global};
 
 /// The sections of a text in spite of its lines at fault (CiA 306, structure of an EDS): a section line at fault begins
@@ -15,4 +23,68 @@ pub fn read_sections(alloc: Global, text: &[u8]) -> Result<ParsedText<'_>, Alloc
 {
     let (sections, _) = all_sections_in(alloc, text)?;
     Ok(sections)
+}
+
+fn add_lines(faults: &mut Vec<SheetFault>, lines: &[TextFault]) -> Result<(), AllocError>
+    ensures { OnOk result
+        (faults.new.items ≡ faults.old.items ++ map sheet_fault lines.now) }
+{
+    for fault in lines {
+        faults.push(sheet_fault(*fault))?;
+    }
+    Ok(())
+}
+
+// the faults of a text in the order in which one pass finds them
+fn collected_in(alloc: Global, text: &[u8]) -> Result<Vec<SheetFault>, AllocError>
+    requires { length text.now ≤ 1048576 }
+    ensures { IfOk result (λ found. found.items ≡ text_collected (lines_of text.now)) }
+{
+    let (parsed, lines) = all_sections_in(alloc, text)?;
+    let mut faults = Vec::new(alloc);
+    add_lines(&mut faults, lines.as_slice())?;
+    let sections = parsed.sections(alloc)?;
+    collect(alloc, &mut faults, sections.as_slice())?;
+    Ok(faults)
+}
+
+// sorts faults, and leaves each of them once
+fn put_in_order(faults: &mut Vec<SheetFault>) -> Result<(), AllocError>
+    ensures all { OnOk result ((fault : Fault) → Contains faults.old.items fault
+        → Contains faults.new.items fault) }
+    ensures only { OnOk result ((fault : Fault) → Contains faults.new.items fault
+        → Contains faults.old.items fault) }
+    ensures increase { OnOk result (IsStrictlySortedBy fault_cmp faults.new.items) }
+{
+    faults.sort_by_key(|fault| (fault.line, fault.kind.number()))?;
+    faults.dedup_by_key(|fault| (fault.line, fault.kind.number()));
+    Ok(())
+}
+
+/// All faults of a text (CiA 306), where `co_sheet::read` answers the first: of its lines, and what each check finds in
+/// what can be read.
+///
+/// They are sorted by line, then by the number of their kind, and none is there twice. A fault that no line is to blame
+/// for has line 0: the text is more than 1,048,576 bytes (`TooLarge`, which then is alone), MandatoryObjects is missing
+/// (`MissingSection`), or 1000h, 1001h or 1018h is in no list (`MissingMandatory`). The text is a data sheet exactly
+/// where there is no fault. Nothing is found that rests on a value at fault. It fails out of memory, and none of the
+/// faults is `Memory`.
+pub fn find_faults(alloc: Global, text: &[u8]) -> Result<Vec<SheetFault>, AllocError>
+    ensures all { IfOk result (λ found. (fault : Fault) → Contains (faults_of text.now) fault
+        → Contains found.items fault) }
+    ensures only { IfOk result (λ found. (fault : Fault) → Contains found.items fault
+        → Contains (faults_of text.now) fault) }
+    ensures increase { IfOk result (λ found. IsStrictlySortedBy fault_cmp found.items) }
+{
+    if text.len() > GREATEST_SIZE {
+        let mut faults = Vec::new(alloc);
+        faults.push(SheetFault {
+            kind: FaultKind::TooLarge,
+            line: 0,
+        })?;
+        return Ok(faults);
+    }
+    let mut faults = collected_in(alloc, text)?;
+    put_in_order(&mut faults)?;
+    Ok(faults)
 }

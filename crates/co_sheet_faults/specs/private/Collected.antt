@@ -1,11 +1,14 @@
 -- The faults in the order in which the code finds them: section by section, listing by listing.
-use Rattle.std.specs.Prelude.{ℕ, Bool, not, if◌then◌else◌, List, [], ◌++◌, flat_map, codes}
+use Rattle.std.specs.Prelude.{ℕ, Bool, not, if◌then◌else◌, List, [], ◌++◌, map, flat_map, codes}
 use Rattle.std.specs.Option.{option_map_or}
 use Rattle.co_value.specs.declared.data_type.DataType.{DataType}
 use Rattle.co_sheet_text.specs.declared.section_kind.SectionKind.TheVariants.{DeviceInfo}
 use Rattle.co_sheet_rows.specs.declared.fault.SheetFault.{SheetFault}
 use Rattle.co_sheet_text.specs.Names.{is_list}
+use Rattle.co_sheet_text.specs.Text.{Line}
+use Rattle.co_sheet_text.specs.LinesAtFault.{own_faults, sections_read}
 use Rattle.co_sheet_text.specs.Sections.{TextSection, section_at}
+use Rattle.co_sheet.specs.Faults.{sheet_fault}
 use Rattle.co_sheet.specs.ObjectLists.{is_one_of, Listing, listings}
 use Rattle.co_sheet.specs.Entries.{single_codes, compound_codes, object_code, ListedObject, Entry, sub_indices, data_type_of}
 use Rattle.co_sheet.specs.Limits.{is_numeric}
@@ -114,3 +117,7 @@ collected sections =
     ++ (compact_pdo sections
     ++ (flat_map (listing_collected sections) (listings sections)
     ++ all_missing_mandatory sections)))
+
+-- and those of lines before them
+abbrev pub text_collected : List Line → List SheetFault
+text_collected lines = map sheet_fault (own_faults [] lines) ++ collected (sections_read lines)
