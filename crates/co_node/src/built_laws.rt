@@ -16,8 +16,14 @@ ghost use Rattle.co_node_model.specs.Loop.{download_of, last_ends, sent_of, stat
 ghost use Rattle.co_node.specs.Built.{IsBuilt};
 ghost use Rattle.co_node_laws.specs.Served.{IsServed};
 ghost use Rattle.co_node_laws.specs.Apart.{BeginsApart};
+ghost use Rattle.co_node.specs.Served.{PermittedComplete, StandOnDictionaries};
 
 use co_node_laws::{segmented_download_ends, stays_apart};
+
+/// The entries of a device that stands after whatever inputs are those of a dictionary: its store keeps them so.
+pub fn stands_on_dictionary()
+    ensures { StandOnDictionaries }
+{}
 
 /// A device built from a data sheet, as by `Node::build`, begins with SYNC and EMCY apart from its default SDO channel:
 /// else the word 1005:00 or 1014:00 would be the fault `BadCobId`.
@@ -46,4 +52,13 @@ pub fn built_download_ends()
     begins_apart();
     stays_apart();
     segmented_download_ends();
+}
+
+/// So does each that a device built from a data sheet permits: nothing has to be known of its entries, since a device
+/// that stands has those of a dictionary.
+pub fn permitted_download_completes()
+    ensures { PermittedComplete }
+{
+    stands_on_dictionary();
+    built_download_ends();
 }

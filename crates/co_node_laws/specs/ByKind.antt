@@ -25,7 +25,7 @@ use Rattle.co_node_parts.specs.declared.rpdo_slots.KeptFrame.{KeptFrame}
 use Rattle.co_node_parts.specs.Consumers.{is_monitored, is_over_after, later, monitored_by}
 use Rattle.co_node_parts.specs.ConsumerTables.{entry_subs}
 use Rattle.co_node_parts.specs.EmergencyQueues.{older}
-use Rattle.co_node_parts.specs.NmtStates.{after_loss, heartbeat_of, is_state, reaction_with}
+use Rattle.co_node_parts.specs.NmtStates.{after_loss, commanded, heartbeat_of, is_state, reaction_with}
 use Rattle.co_node_model.specs.declared.address.Address.{Address}
 use Rattle.co_node_model.specs.declared.address.Address.TheVariants.{Nmt, Sync, Channel, Rpdo, ErrorControl, Nobody}
 use Rattle.co_node_model.specs.Addresses.{address_of}
@@ -89,7 +89,7 @@ with_tpdos_at_sync description frame d =
       last = map (tpdo_frame description d.entries) due;
     }
 
--- the error of its length is raised; in operational the frames of RPDOs that wait take effect, then TPDOs are sent
+-- the error of its length is raised; in operational the frames of RPDOs that wait take effect, then TPDOs are sent (7.2.2.2)
 abbrev pub by_sync : Constants → FrameContent → NodeState → Device → Outcome
 by_sync k frame Stopped d = no_frame d
 by_sync k frame PreOperational d = no_frame (with_errors k.description (sync_errors d.entries (Some frame)) d)
@@ -99,12 +99,12 @@ by_sync k frame Operational d =
 
 -- ---- a frame on the request identifier of an SDO channel (7.2.4): nothing while stopped
 
--- the entry of a download that it completes, if it completes one that is permitted, is written
+-- the entry of the download that it completes, if it completes one that is permitted, is written (7.2.4.3.3, .4, .9 to .11)
 abbrev pub with_download : Option Download → Device → Device
 with_download None d = d
 with_download (Some w) d = with_write w.key (written d.entries w.key w.bytes) d
 
--- one of eight bytes is answered, and may set an entry
+-- one of eight bytes is answered, and may set an entry (7.2.4.3)
 abbrev pub answered : Constants → FrameContent → Device → Outcome
 answered k frame d =
     let exchange = exchange_of (channels k) k.description d.entries d.transfers frame in
@@ -116,6 +116,7 @@ answered k frame d =
       last = [];
     }
 
+-- one that comes while the device is stopped is ignored (7.3.2.2)
 abbrev pub by_request : Constants → FrameContent → NodeState → Device → Outcome
 by_request k frame Stopped d = no_frame d
 by_request k frame PreOperational d = answered k frame d
@@ -127,7 +128,8 @@ by_request k frame Operational d = answered k frame d
 abbrev pub waits_for_sync : Constants → KeptFrame → Device → Bool
 waits_for_sync k rpdo d = is_synchronous (rpdo_type d.entries rpdo.number) && not (is_short k.description d.entries rpdo)
 
--- the error of its length is raised; its data take effect at once (types 254 and 255), or it replaces the frame that waits
+-- the error of its length is raised; its data take effect at once, types 254 and 255, or it replaces the frame that waits
+-- (7.2.2.4 and 7.5.2.35)
 abbrev pub by_rpdo : Constants → KeptFrame → NodeState → Device → Outcome
 by_rpdo k rpdo Stopped d = no_frame d
 by_rpdo k rpdo PreOperational d = no_frame d
@@ -137,8 +139,9 @@ by_rpdo k rpdo Operational d =
       kept = λ n. if waits_for_sync k rpdo d && n == rpdo.number then Some rpdo.frame else d.kept n;
     })
 
--- ---- a heartbeat of node c (7.2.8.3.2): in every state the entries of 1016h that monitor it count anew
+-- ---- a heartbeat of node c, in every state
 
+-- the entries of 1016h that monitor it count anew (7.2.8.3.2 and 7.5.2.19)
 abbrev pub by_heartbeat : ℕ → Device → Outcome
 by_heartbeat c d = no_frame (record d {
   silence = λ sub. if is_monitored c (monitored_by (number_at d.entries (consumer_key sub))) then Some 0 else d.silence sub;
@@ -181,7 +184,7 @@ abbrev pub state_after_losses : List ℕ → Device → NodeState
 state_after_losses [] d = d.state
 state_after_losses (sub ∷ lost) d = after_loss (reaction_with (number_at d.entries error_behaviour_key)) d.state
 
--- the device 1 ms later: where a transfer is aborted at it, these heartbeats are lost, and it is then in a state
+-- the device 1 ms later: a transfer is aborted, or none, these heartbeats are lost, and it is then in this state (7.2.8.3.2)
 abbrev pub one_ms_later : Constants → Option ChannelEvent → List ℕ → NodeState → Device → Device
 one_ms_later k timed_out lost after d =
     in_state after (with_errors k.description (loss_errors lost) (record d {
@@ -201,7 +204,7 @@ last_of_tick k is_due d =
     life_frames k.description.node (if is_due then Some (heartbeat_of d.state) else None)
     ++ map (tpdo_frame k.description d.entries) (due_at_tick d)
 
--- of the channels whose time is over the lowest aborts its transfer; heartbeats are lost; heartbeat and TPDOs are sent
+-- the frames: the abort, the heartbeat, TPDOs (7.2.4.3.17, 7.2.8.3.2, 7.2.2.3)
 abbrev pub ticked : Constants → Option ChannelEvent → List ℕ → NodeState → Bool → Device → Outcome
 ticked k timed_out lost after is_due d =
     let e = one_ms_later k timed_out lost after d in
@@ -212,6 +215,8 @@ ticked k timed_out lost after is_due d =
       last = last_of_tick k is_due e;
     }
 
+-- of the channels whose time is over the lowest aborts its transfer; heartbeats are lost whose time has passed; the device's
+-- own is sent where its period divides the ticks (7.2.4.3.17 and 7.2.8.3.2)
 abbrev pub by_tick : Constants → Device → Outcome
 by_tick k d =
     ticked k (time_out_of (channels k) (with_each TickOfChannel d.transfers)) (lost_now d) (state_after_losses (lost_now d) d)
@@ -238,11 +243,12 @@ pub data Kind : Type 0 where
   Done : AppView → Kind
   Refused : ℕ → Kind
 
+-- a command, where it is for this node or for all nodes (7.2.8.3.1)
 abbrev pub kind_of_command : Option NmtService → Kind
 kind_of_command None = Ignored
 kind_of_command (Some service) = Commanded service
 
--- a frame, by who takes it
+-- a frame, by who takes it (7.3.5)
 abbrev pub kind_of_frame : Constants → Address → FrameContent → Kind
 kind_of_frame k Nmt frame = kind_of_command (service_for k.description.node (nmt_command_in frame))
 kind_of_frame k Sync frame = Synced frame
@@ -256,6 +262,7 @@ abbrev pub kind_of_event : AppView → Option ℕ → Kind
 kind_of_event event None = Done event
 kind_of_event event (Some code) = Refused code
 
+-- an input: a frame by its identifier, and what refuses an event by the entries as they then are
 abbrev pub kind_of : Constants → Device → InputView → Kind
 kind_of k d (Framed frame) = kind_of_frame k (address_of (number_for (channels k) frame.id) d.entries frame.id) frame
 kind_of k d Ticked = Tick
@@ -263,27 +270,22 @@ kind_of k d (Applied event) = kind_of_event event (event_refusal k.description d
 
 -- an input that does nothing: ignored, or refused
 abbrev pub is_inert : Kind → Bool
-is_inert Tick = false
-is_inert (Commanded service) = false
-is_inert (Synced frame) = false
-is_inert (Requested frame) = false
-is_inert (Received rpdo) = false
-is_inert (Heard c) = false
 is_inert Ignored = true
-is_inert (Done event) = false
 is_inert (Refused code) = true
+is_inert _ = false
 
 -- a frame of SYNC, SDO or an RPDO: it does nothing while the device is stopped (7.3.2.2)
 abbrev pub is_silent_while_stopped : Kind → Bool
-is_silent_while_stopped Tick = false
-is_silent_while_stopped (Commanded service) = false
 is_silent_while_stopped (Synced frame) = true
 is_silent_while_stopped (Requested frame) = true
 is_silent_while_stopped (Received rpdo) = true
-is_silent_while_stopped (Heard c) = false
-is_silent_while_stopped Ignored = false
-is_silent_while_stopped (Done event) = false
-is_silent_while_stopped (Refused code) = false
+is_silent_while_stopped _ = false
+
+-- the NMT state after an input of this kind: commands and lost heartbeats alone change it (7.3.2)
+abbrev pub state_with : Kind → Device → NodeState
+state_with Tick d = state_after_losses (lost_now d) d
+state_with (Commanded service) d = commanded service
+state_with _ d = d.state
 
 -- ---- all kinds together
 
@@ -309,16 +311,19 @@ device_after o = after_sending (emergency_at_end o.aborted o.device) o.device
 
 -- ---- over all inputs, the newest first
 
+-- a device after one more input
 abbrev pub device_with : Constants → Device → InputView → Device
 device_with k d input = device_after (outcome k (kind_of k d input) d)
 
+-- a device after all its inputs
 abbrev pub device_of : Constants → Inputs → Device
 device_of k [] = built k
 device_of k (input ∷ inputs) = device_with k (device_of k inputs) input
 
--- the frames that one more input gives
+-- the frames that one more input gives to a device
 abbrev pub sent_with : Constants → Device → InputView → List FrameContent
 sent_with k d input = frames_of (outcome k (kind_of k d input) d)
 
+-- the same after all inputs before it
 abbrev pub sent_by : Constants → Inputs → InputView → List FrameContent
 sent_by k inputs input = sent_with k (device_of k inputs) input

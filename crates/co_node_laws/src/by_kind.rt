@@ -17,6 +17,7 @@ ghost use Rattle.co_node_laws.specs.ByKind.{
   kind_of,
   no_frame,
   sent_by,
+  state_with,
 };
 ghost use Rattle.co_node_laws.specs.Devices.{emergency_at_end};
 
@@ -79,6 +80,16 @@ pub fn inert_input()
     ensures device { (k : Constants) (inputs : Inputs) (input : InputView) →
         is_inert (kind_of k (device_of k inputs) input) ≡ true →
         device_of k (input ∷ inputs) ≡ device_after (no_frame (device_of k inputs)) }
+{
+    device_by_kind();
+}
+
+/// Only NMT commands to this node or to all nodes, and lost heartbeats of other nodes, change the NMT state (CiA 301,
+/// 7.3.2 and 7.5.2.32): after one more input, of whatever kind, it is `state_with`.
+pub fn state_by_kind()
+    ensures { (k : Constants) (inputs : Inputs) (input : InputView) →
+        state_of k (input ∷ inputs)
+        ≡ state_with (kind_of k (device_of k inputs) input) (device_of k inputs) }
 {
     device_by_kind();
 }

@@ -19,7 +19,9 @@ pub use answers::{
     event_answer, no_answer_to_frames, no_answer_to_ticks, reset_restores_area,
     reset_sends_boot_up_alone,
 };
-pub use by_kind::{device_by_kind, heartbeat_of_another, inert_input, nothing_while_stopped};
+pub use by_kind::{
+    device_by_kind, heartbeat_of_another, inert_input, nothing_while_stopped, state_by_kind,
+};
 pub use changes::{changes_by_event, changes_by_request};
 pub use distances::{emergency_sent, heartbeat_due, heartbeat_lost};
 pub use downloads::segmented_download_ends;

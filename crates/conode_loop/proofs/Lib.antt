@@ -3,3 +3,4 @@ pub mod RoundLemmas
 pub mod Lines
 pub mod Exchanges
 pub mod AllRounds
+pub mod Completed

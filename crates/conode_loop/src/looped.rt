@@ -4,6 +4,7 @@ ghost use Rattle.std.specs.Prelude.{◌≡◌, ◌⊎◌, ◌≤◌, length, OnO
 ghost use Rattle.co_node_model.specs.Moments.{Constants};
 ghost use Rattle.co_node_model.specs.Inputs.{Inputs};
 ghost use Rattle.co_node.specs.Nodes.{Stands};
+ghost use Rattle.co_node.specs.Served.{IsComplete, IsPermitted};
 ghost use Rattle.co_node_model.specs.Loop.{Loop, BothEnds, download_of, first_ends, last_ends, rounds, state_at};
 ghost use Rattle.conode_io.specs.Written.{WritesFront, WritesLines, WritesSome};
 ghost use Rattle.conode_loop.specs.Printed.{last_line, lines_from, loop_lines};
@@ -11,7 +12,7 @@ ghost use Rattle.conode_loop.specs.Standing.{EndsStand, StandsAfterSome};
 
 use crate::rounds::all_rounds;
 use co_frame::{Frame, Ids, Outbox};
-use co_node::Node;
+use co_node::{Node, permitted_download_completes};
 use co_sdo_client::{Client, ClientState, Mode};
 use co_text::{push_decimal, push_u32};
 use co_value::Key;
@@ -85,6 +86,9 @@ fn loop_client<W: Write>(
 /// that the client sent, or `; gave up` where it still waits after the last round. The answer is how the client
 /// stands.
 ///
+/// A segmented download that the node permits ends done: after one request and one for each seven bytes or fewer, with
+/// the bytes in the entry (`done`).
+///
 /// `Write` where the writer failed: then some of the lines have been written, and perhaps a part of the next one.
 /// `Memory` where memory ran out: some of the lines have been written, never all. The node has then taken the inputs
 /// of some of the rounds.
@@ -115,8 +119,12 @@ pub fn loop_back<W: Write>(
     ensures some { (k : Constants) (before : Inputs) → Stands k node.old before → StandsAfterSome
         (download_of k key bytes.now mode) (first_ends (download_of k key bytes.now mode) before)
         node.new }
+    ensures done { (k : Constants) (before : Inputs) → Stands k node.old before →
+        IsPermitted k before key bytes.now mode →
+        IfOk result (IsComplete k before key bytes.now mode) }
     ensures err { IfErr result (λ fault. (fault ≡ CmdFault.Write) ⊎ (fault ≡ CmdFault.Memory)) }
 {
+    permitted_download_completes();
     let node_id = u16::from(node.node_id());
     let ids = Ids {
         request: 0x600 + node_id,

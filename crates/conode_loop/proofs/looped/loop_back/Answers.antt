@@ -2,6 +2,7 @@ use Rattle.std.proofs.Common.{rules, ◌≡◌, ◌+◌, ℕ, ap, ◌∙◌}
 use Rattle.co_node_model.specs.Loop.{download_of, first_ends, request_id, response_id}
 use Rattle.conode_loop.specs.Standing.{EndsStand}
 use Rattle.conode_loop.proofs.AllRounds.{has_begun, none_made}
+use Rattle.conode_loop.proofs.Completed.{is_complete}
 use Rattle.conode_loop.proofs.looped.loop_back.Goals as goal
 
 pub returns-clause-state : goal.returns-clause-state
@@ -84,3 +85,8 @@ returns-clause-some g c = λ k before stands.
 
 pub returns-in_err-extend_from_slice-clause-some : goal.returns-in_err-extend_from_slice-clause-some
 returns-in_err-extend_from_slice-clause-some g c = λ k before stands. none_made (download_of k c.args.key c.args.bytes.now c.args.mode) before c.args.node.now stands
+
+pub returns-clause-done : goal.returns-clause-done
+returns-clause-done g c = λ k before stands permitted.
+    is_complete _ k before c.args.key c.args.bytes.now c.args.mode (returns-clause-state g c k before stands)
+    (c.permitted_download_completes.ensures k c.args.node.now before c.args.key c.args.bytes.now c.args.mode stands permitted c.requires)
