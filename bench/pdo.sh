@@ -115,7 +115,7 @@ use anyhow::{Context, Result, bail};
 use co_dict::ObjectStore;
 use co_dict_build::Limits;
 use co_dict_image::ImageStore;
-use co_pdo::{Due, Schedule, Side};
+use co_pdo::{Due, PdoNumber, Schedule, Side};
 use co_pdo_compiled::{Compiled, apply_at, image_at};
 use co_sheet::read;
 use std::env::args;
@@ -180,12 +180,12 @@ fn time<S: ObjectStore>(rt: &HostRuntime, store: &mut S, tpdos: &str) -> Result<
     if due != 0 {
         bail!("{due} TPDOs were due");
     }
-    let compiled = Compiled::of(store, Side::Tpdo, 0);
+    let compiled = Compiled::of(store, Side::Tpdo, PdoNumber::of(0));
     let begin = Instant::now(rt)?;
     let sum = images(store, &compiled);
     print(rt, "image_at", &begin, u64::from(FRAMES))?;
     println!(rt; "sum {sum}")?;
-    let compiled = Compiled::of(store, Side::Rpdo, 0);
+    let compiled = Compiled::of(store, Side::Rpdo, PdoNumber::of(0));
     let begin = Instant::now(rt)?;
     take_all(store, &compiled);
     print(rt, "apply_at", &begin, u64::from(FRAMES))?;

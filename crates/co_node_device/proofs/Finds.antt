@@ -1,6 +1,6 @@
 -- The first of a range of numbers that passes a test.
-use Rattle.std.proofs.Common.{◌≡◌, ℕ, zero, suc, ◌+◌, ◌<◌, Bool, true, false, cond, [], ◌∷◌, ◌++◌, refl, sym, ap, ◌∙◌, subst, arith}
-use Rattle.std.specs.Prelude.{Option, Some, None, IfSome}
+use Rattle.std.proofs.Common.{◌≡◌, ℕ, zero, suc, ◌+◌, ◌<◌, Bool, cond, [], ◌∷◌, ◌++◌, refl, sym, ap, ◌∙◌, arith}
+use Rattle.std.specs.Prelude.{Option, Some}
 use Rattle.std.specs.List.{find, range_with_len}
 use Rattle.std.specs.Option.{option_or}
 use Rattle.std.proofs.lemmas.List.{map-id}
@@ -29,20 +29,8 @@ find_same p q a (suc n) same =
     ap (λ b. cond b (Some a) (find p (range_with_len (a + 1) n))) (same a (omega arith))
     ∙ ap (cond (q a) (Some a)) (find_same p q (a + 1) n (λ k below. same k (omega arith)))
 
--- what holds of a number that is there, and of one more
-below_more : (old : Option ℕ) (passes : Bool) (n : ℕ) → n < 512 → IfSome old (λ k. k < 512)
-    → IfSome (option_or old (number_if passes n)) (λ k. k < 512)
-below_more (Some k) passes n less below = below
-below_more None true n less below = less
-below_more None false n less below = below
-
 -- after the last of 512 numbers
 pub found_to_the_end : (contents : Contents) (id : ℕ) (o : Option ℕ) (n : ℕ) → n ≡ 512
     → o ≡ find (is_rpdo_with contents id) (range_with_len 0 n) → o ≡ rpdo_with contents id
 unfolding rpdo_with
 found_to_the_end contents id o n e is = is ∙ ap (λ m. find (is_rpdo_with contents id) (range_with_len 0 m)) e
-
-pub below_entered : (old new : Option ℕ) (passes : Bool) (n : ℕ) → new ≡ option_or old (number_if passes n) → n < 512
-    → IfSome old (λ k. k < 512) → IfSome new (λ k. k < 512)
-below_entered old new passes n e less below =
-    subst (λ (o : Option ℕ). IfSome o (λ k. k < 512)) (sym e) (below_more old passes n less below)

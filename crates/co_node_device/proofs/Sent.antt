@@ -1,47 +1,36 @@
--- The frames of one input, put into an outbox one kind after another, where it has room for all of them.
-use Rattle.std.proofs.Common.{◌≡◌, ◌+◌, ◌≤◌, List, ◌++◌, length, refl, ap, ◌∙◌, arith}
-use Rattle.std.proofs.lemmas.List.{length-append}
-use Rattle.std.proofs.lemmas.List.Filters.{length-filter_both}
-use Rattle.std.specs.Prelude.{not, map}
-use Rattle.co_frame.specs.FrameContent.{FrameContent}
-use Rattle.co_sdo_bank.specs.Events.{frames_at}
-use Rattle.co_dict.specs.Rows.{Rows}
-use Rattle.co_pdo.specs.Tpdos.{has_tpdo, tpdo_numbers}
-use Rattle.co_node_model.specs.Moments.{Constants, Moment}
-use Rattle.co_node_model.specs.Emergencies.{emergency_frames}
-use Rattle.co_node_model.specs.Device.{frames}
-use Rattle.co_node_model.specs.Heartbeats.{life_frames}
-use Rattle.co_node_model.specs.Tpdos.{tpdo_count, tpdo_frame}
+-- There is room for the TPDOs that are due at an input, after what it sent before them.
+use Rattle.std.proofs.Common.{◌≡◌, ◌+◌, ◌≤◌, ℕ, Bool, true, false, cond, List, [], length, refl, ap, subst, arith}
+use Rattle.std.specs.Prelude.{Option, None, is_some}
 
-pub all_sent : {A : Type 0} (o1 o2 o3 o4 a b c d e : List A)
-    → o1 ≡ a ++ b
-    → (length o1 + length c ≤ 514 → o2 ≡ o1 ++ c)
-    → (length o2 + length d ≤ 514 → o3 ≡ o2 ++ d)
-    → (length o3 + length e ≤ 514 → o4 ≡ o3 ++ e)
-    → length (a ++ b ++ c ++ d ++ e) ≤ 514
-    → o4 ≡ a ++ b ++ c ++ d ++ e
-all_sent o1 o2 o3 o4 a b c d e e1 e2 e3 e4 le =
-    let t2 : length (a ++ b ++ c) ≡ length (a ++ b) + length c = length-append (a ++ b) c in
-    let t3 : length (a ++ b ++ c ++ d) ≡ length (a ++ b ++ c) + length d = length-append (a ++ b ++ c) d in
-    let t4 : length (a ++ b ++ c ++ d ++ e) ≡ length (a ++ b ++ c ++ d) + length e = length-append (a ++ b ++ c ++ d) e in
-    let p2 : o2 ≡ a ++ b ++ c = e2 (omega (arith, t2, t3, t4, ap (λ (o : List _). length o) e1, le)) ∙ ap (λ o. o ++ c) e1 in
-    let p3 : o3 ≡ a ++ b ++ c ++ d = e3 (omega (arith, t3, t4, ap (λ (o : List _). length o) p2, le)) ∙ ap (λ o. o ++ d) p2 in
-    e4 (omega (arith, t4, ap (λ (o : List _). length o) p3, le)) ∙ ap (λ o. o ++ e) p3
-
-numbers_count : length tpdo_numbers ≡ 512
-unfolding tpdo_numbers
-numbers_count = refl
-
--- a dictionary has at most 512 TPDOs
-pub tpdos_within : (rows : Rows) → tpdo_count rows ≤ 512
-tpdos_within rows = omega (arith, length-filter_both (has_tpdo rows) (λ k. not (has_tpdo rows k)) (λ k. refl) tpdo_numbers, numbers_count)
-
--- the frames of a moment, sent one kind after another
-pub moment_sent : (k : Constants) (m : Moment) (o1 o2 o3 o4 : List FrameContent)
-    → o1 ≡ frames_at m.exchange ++ frames_at m.timed_out
-    → (length o1 + length (emergency_frames m.contents m.emergency) ≤ 514 → o2 ≡ o1 ++ emergency_frames m.contents m.emergency)
-    → (length o2 + length (life_frames k.description.node m.life) ≤ 514 → o3 ≡ o2 ++ life_frames k.description.node m.life)
-    → (length o3 + length (map (tpdo_frame k.description m.contents) m.due) ≤ 514 → o4 ≡ o3 ++ map (tpdo_frame k.description m.contents) m.due)
-    → length (frames k m) ≤ 514
-    → o4 ≡ frames k m
-moment_sent k m o1 o2 o3 o4 e1 e2 e3 e4 le = all_sent o1 o2 o3 o4 (frames_at m.exchange) (frames_at m.timed_out) (emergency_frames m.contents m.emergency) (life_frames k.description.node m.life) (map (tpdo_frame k.description m.contents) m.due) e1 e2 e3 e4 le
+module _ {E T : Type 0} where
+  -- where TPDOs may be due, an abort of an SDO transfer or an emergency came before, and not both
+  pub tpdos_fit : (asked may timed_out : Bool) (first second third : ℕ) (due : List T) (emergency : Option E)
+      → first ≤ 127
+      → (may ≡ true → first ≤ cond timed_out 1 0)
+      → (timed_out ≡ true → emergency ≡ None)
+      → second ≤ first + cond (is_some emergency) 1 0
+      → third ≤ second + 1
+      → (asked ≡ true → may ≡ true)
+      → (asked ≡ false → due ≡ [])
+      → length due ≤ 512
+      → third + length due ≤ 514
+  tpdos_fit false may timed_out first second third due emergency few alone quiet s t turn idle many =
+      let none : length due ≡ 0 = ap length (idle refl) in
+      let one : cond (is_some emergency) 1 0 ≤ 1 = at_most (is_some emergency) in
+      omega (arith, none, one)
+    where
+      at_most : (b : Bool) → cond b 1 0 ≤ 1
+      at_most true = omega arith
+      at_most false = omega arith
+  tpdos_fit true may true first second third due emergency few alone quiet s t turn idle many =
+      let one : first ≤ 1 = alone (turn refl) in
+      let none : second ≤ first + 0 = subst (λ (e : Option E). second ≤ first + cond (is_some e) 1 0) (quiet refl) s in
+      omega arith
+  tpdos_fit true may false first second third due emergency few alone quiet s t turn idle many =
+      let none : first ≤ 0 = alone (turn refl) in
+      let one : cond (is_some emergency) 1 0 ≤ 1 = at_most (is_some emergency) in
+      omega arith
+    where
+      at_most : (b : Bool) → cond b 1 0 ≤ 1
+      at_most true = omega arith
+      at_most false = omega arith

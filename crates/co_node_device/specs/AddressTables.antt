@@ -1,6 +1,6 @@
 -- A table of who takes frames, at some contents of the dictionary: the word of SYNC, and for each identifier the first active
 -- RPDO with it (CiA 301, 7.5.2.5 and 7.5.2.35).
-use Rattle.std.specs.Prelude.{ℕ, Option, List, ◌≡◌, ◌<◌, length, IfSome, None, Bool, Some, if◌then◌else◌}
+use Rattle.std.specs.Prelude.{ℕ, Option, List, ◌≡◌, ◌<◌, length, None, Bool, Some, if◌then◌else◌}
 use Rattle.std.specs.List.{slice_index_or}
 use Rattle.co_dict.specs.Rows.{Contents, number_at}
 use Rattle.co_node_model.specs.Rpdos.{rpdo_with}
@@ -11,10 +11,9 @@ pub record TableContent : Type 0 where
   pub sync : ℕ
   pub numbers : List (Option ℕ)
 
--- a place for each identifier, 0 to 7FFh, with numbers of RPDOs, 0 to 511
-pub record IsRpdoTable (numbers : List (Option ℕ)) : Type 0 where
-  pub places : length numbers ≡ 2048
-  pub below : (id : ℕ) (d : Option ℕ) → id < 2048 → IfSome (slice_index_or numbers id d) (λ number. number < 512)
+-- a place for each identifier, 0 to 7FFh
+abbrev pub IsRpdoTable : List (Option ℕ) → Type 0
+IsRpdoTable numbers = length numbers ≡ 2048
 
 -- at each identifier is the first active RPDO with it
 abbrev pub AreRpdosOf : Contents → List (Option ℕ) → Type 0

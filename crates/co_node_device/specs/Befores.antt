@@ -11,6 +11,7 @@ use Rattle.co_node_parts.specs.declared.nmt_state.NodeState.{NodeState}
 use Rattle.co_node_model.specs.Moments.{Constants, Moment, History, channels, contents_at}
 use Rattle.co_node_model.specs.Nmt.{state_at}
 use Rattle.co_node_model.specs.Sdo.{channel_logs, with_channel_ticks}
+use Rattle.co_node_model.specs.declared.address.Address.{Address}
 use Rattle.co_node_model.specs.Addresses.{address_at}
 use Rattle.co_node_device.specs.declared.given.Given.{Given}
 use Rattle.co_node_device.specs.declared.given.Given.TheVariants.{Frame, Tick, Write, Event, Changed, Raise, Clear}
@@ -23,15 +24,15 @@ pub record IsBefore (k : Constants) (history : History) (d : Description) (entri
   pub channels : BankStands d (channels k) bank (channel_logs history)
   pub state : now ≡ state_at history
 
--- where the input is a frame, it goes to the one that takes it
-abbrev pub IsAddressed : Constants → History → Given → FrameContent → Type 0
-IsAddressed k history (Frame address) frame = address ≡ address_at k history frame.id
-IsAddressed k history Tick frame = Unit {0}
-IsAddressed k history (Write key bytes) frame = Unit {0}
-IsAddressed k history (Event n) frame = Unit {0}
-IsAddressed k history (Changed key) frame = Unit {0}
-IsAddressed k history (Raise code bits manufacturer) frame = Unit {0}
-IsAddressed k history (Clear bits) frame = Unit {0}
+-- where the input is a frame, the one with this address takes it
+abbrev pub IsAddressed : Constants → History → Given → Address → FrameContent → Type 0
+IsAddressed k history Frame address frame = address ≡ address_at k history frame.id
+IsAddressed k history Tick address frame = Unit {0}
+IsAddressed k history (Write key bytes) address frame = Unit {0}
+IsAddressed k history (Event n) address frame = Unit {0}
+IsAddressed k history (Changed key) address frame = Unit {0}
+IsAddressed k history (Raise code bits manufacturer) address frame = Unit {0}
+IsAddressed k history (Clear bits) address frame = Unit {0}
 
 -- the log of each SDO channel as an input was received, before transfers are dropped
 abbrev pub logs_received : Moment → History → ℕ → Log

@@ -7,3 +7,5 @@ pub mod Losses
 pub mod Effects
 pub mod Built
 pub mod NodeStanding
+pub mod Phases
+pub mod Standing

@@ -1,5 +1,5 @@
 -- What receiving a frame, a tick and an application event comes to, as far as each goes.
-use Rattle.std.specs.Prelude.{◌≡◌, is_some, true, List, [], ◌++◌, Option}
+use Rattle.std.specs.Prelude.{◌≡◌, Bool, is_some, true, List, [], ◌++◌, ◌||◌, Option}
 use Rattle.co_frame.specs.FrameContent.{FrameContent}
 use Rattle.co_frame.specs.declared.nmt.NmtService.{NmtService}
 use Rattle.co_dict.specs.Rows.{Contents}
@@ -38,6 +38,10 @@ command_marks service = record quiet { command = service }
 -- the marks of a tick, at which this SDO channel was aborted, if one was
 abbrev pub tick_marks : Option ChannelEvent → Marks
 tick_marks timed_out = record quiet { ticked = true; timed_out = is_some timed_out }
+
+-- TPDOs may be due at an input with these marks: a tick, a SYNC, or an event of the application on TPDOs
+abbrev pub may_be_due : Marks → Bool
+may_be_due marks = marks.ticked || (is_some marks.sync || is_some marks.asked)
 
 -- an application event, with these entries
 abbrev pub app_moment : Description → Contents → AppView → Moment

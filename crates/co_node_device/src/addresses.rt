@@ -1,6 +1,6 @@
 //! Who takes a frame (CiA 301, 7.3.5): a table by which no frame is searched for in the dictionary.
 
-ghost use Rattle.std.specs.Prelude.{◌≡◌, ℕ, ◌<◌, Option, None, false, length, IfOk, IfSome};
+ghost use Rattle.std.specs.Prelude.{◌≡◌, ℕ, ◌<◌, Option, None, false, length, IfOk};
 ghost use Rattle.co_dict.specs.Rows.{Contents};
 ghost use Rattle.co_node_model.specs.Rpdos.{rpdo_with, is_rpdo_with};
 ghost use Rattle.co_node_model.specs.Addresses.{
@@ -10,7 +10,6 @@ ghost use Rattle.co_node_model.specs.Addresses.{
   is_address_set,
   address_of,
   address_unless_rpdo,
-  HasNumber,
   address_at,
 };
 ghost use Rattle.co_node_device.specs.AddressTables.{IsTableOf, TableContent, AreRpdosOf, IsRpdoTable, number_if};
@@ -25,7 +24,7 @@ ghost use Rattle.co_node_model.specs.Sdo.{channel_logs};
 use co_dict::{CobId, ObjectStore, Side, number_u32};
 use co_frame::Frame;
 use co_node_model::{Address, Marks};
-use co_pdo::{cob_id, is_active};
+use co_pdo::{PdoNumber, cob_id, is_active};
 use co_profile::{IndexRange, keys};
 use co_sdo_bank::Bank;
 use co_value::Key;
@@ -71,7 +70,7 @@ fn may_change_addresses(marks: &Marks) -> bool
 const IDENTIFIERS: usize = 2048;
 
 /// Empties all places.
-fn clear(numbers: &mut [Option<u16>])
+fn clear(numbers: &mut [Option<PdoNumber>])
     ensures { (id : ℕ) (d : Option ℕ) → id < length numbers.old →
         slice_index_or numbers.new id d ≡ None }
 {
@@ -81,9 +80,8 @@ fn clear(numbers: &mut [Option<u16>])
 }
 
 /// Enters an RPDO at its identifier, if it is active and no other one is there.
-fn enter<S: ObjectStore>(numbers: &mut [Option<u16>], store: &S, number: u16)
-    requires number { number < 512 }
-    requires places { length numbers.old ≡ 2048 }
+fn enter<S: ObjectStore>(numbers: &mut [Option<PdoNumber>], store: &S, number: PdoNumber)
+    requires { length numbers.old ≡ 2048 }
     ensures { (id : ℕ) (d : Option ℕ) → id < 2048 →
         slice_index_or numbers.new id d ≡ option_or (slice_index_or numbers.old id d)
         (number_if (is_rpdo_with (S.contents store.now) id number) number) }
@@ -99,14 +97,15 @@ fn enter<S: ObjectStore>(numbers: &mut [Option<u16>], store: &S, number: u16)
 /// Fills the places: at each identifier the first active RPDO with it.
 #[cold]
 #[inline(never)]
-fn fill<S: ObjectStore>(numbers: &mut [Option<u16>], store: &S)
+fn fill<S: ObjectStore>(numbers: &mut [Option<PdoNumber>], store: &S)
     requires { length numbers.old ≡ 2048 }
     ensures table { IsRpdoTable numbers.new }
     ensures numbers { AreRpdosOf (S.contents store.now) numbers.new }
 {
     clear(numbers);
     for number in 0..512u16 {
-        enter(numbers, store, number);
+        let k = PdoNumber::of(number);
+        enter(numbers, store, k);
     }
 }
 
@@ -116,7 +115,7 @@ fn fill<S: ObjectStore>(numbers: &mut [Option<u16>], store: &S)
 pub struct AddressTable {
     // of 1005h; 0 where there is none
     sync: u32,
-    numbers: BoxedSlice<Option<u16>>,
+    numbers: BoxedSlice<Option<PdoNumber>>,
 }
 
 impl Model for AddressTable {
@@ -170,11 +169,10 @@ impl AddressTable {
 
     /// The number of the first active RPDO with an identifier, 0 to 7FFh.
     #[inline(always)]
-    pub fn rpdo_for(&self, id: u16) -> Option<u16>
+    pub fn rpdo_for(&self, id: u16) -> Option<PdoNumber>
         requires { id < 2048 }
-        ensures number { (contents : Contents) → IsTableOf contents self.now →
+        ensures { (contents : Contents) → IsTableOf contents self.now →
             result ≡ rpdo_with contents id }
-        ensures below { IfSome result (λ number. number < 512) }
     {
         self.numbers[usize::from(id)]
     }
@@ -182,10 +180,8 @@ impl AddressTable {
 
 /// The RPDO, or else who takes a frame with this identifier by error control.
 #[inline(always)]
-fn from_rpdos_on(rpdo: Option<u16>, id: u16) -> Address
-    requires { IfSome rpdo (λ number. number < 512) }
-    ensures address { result ≡ address_unless_rpdo rpdo id }
-    ensures number { HasNumber result }
+fn from_rpdos_on(rpdo: Option<PdoNumber>, id: u16) -> Address
+    ensures { result ≡ address_unless_rpdo rpdo id }
 {
     if let Some(number) = rpdo {
         return Address::Rpdo(number);
@@ -200,12 +196,9 @@ fn from_rpdos_on(rpdo: Option<u16>, id: u16) -> Address
 /// Who takes a frame with this identifier, where `is_sync` says whether it is that of SYNC, `channel` is the SDO
 /// channel whose requests have it, if one has, and `rpdo` the first active RPDO with it, if one has it.
 #[inline(always)]
-fn address_of(id: u16, is_sync: bool, channel: Option<u8>, rpdo: Option<u16>) -> Address
-    requires channel { IfSome channel (λ number. number < 128) }
-    requires rpdo { IfSome rpdo (λ number. number < 512) }
-    ensures address { (contents : Contents) → is_sync ≡ is_sync_id contents id →
+fn address_of(id: u16, is_sync: bool, channel: Option<u8>, rpdo: Option<PdoNumber>) -> Address
+    ensures { (contents : Contents) → is_sync ≡ is_sync_id contents id →
         rpdo ≡ rpdo_with contents id → result ≡ address_of channel contents id }
-    ensures number { HasNumber result }
 {
     if id == 0 {
         return Address::Nmt;
@@ -222,11 +215,10 @@ fn address_of(id: u16, is_sync: bool, channel: Option<u8>, rpdo: Option<u16>) ->
 /// Who takes a frame, by the identifiers of the SDO channels and a table of what the entries say.
 #[inline(always)]
 pub(crate) fn find_address(bank: &Bank, addresses: &AddressTable, frame: &Frame) -> Address
-    ensures address { (k : Constants) (history : History) (d : Description) →
+    ensures { (k : Constants) (history : History) (d : Description) →
         BankStands d (channels k) bank.now (channel_logs history) →
         IsTableOf (contents_at k history) addresses.now →
         result ≡ address_at k history frame.now.id }
-    ensures number { HasNumber result }
 {
     let id = frame.id();
     let channel = bank.channel_for(id);

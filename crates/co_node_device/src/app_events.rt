@@ -3,6 +3,7 @@
 ghost use Rattle.std.specs.Prelude.{◌≡◌, None};
 ghost use Rattle.co_frame.specs.declared.abort_code.AbortCode.{AbortCode};
 ghost use Rattle.co_node_parts.specs.EmergencyQueues.{EmergencyLog, EmergenciesStand, with_queued};
+ghost use Rattle.co_node_model.specs.AppEvents.{is_tpdo};
 ghost use Rattle.co_node_model.specs.Inputs.{Written, EventOn, ChangedAt, Raised, Cleared};
 ghost use Rattle.co_node_model.specs.Moments.{quiet};
 ghost use Rattle.co_node_device.specs.Receiving.{app_moment};
@@ -13,7 +14,7 @@ use co_dict::{ObjectStore, Side, app_store, entry_row};
 use co_frame::AbortCode;
 use co_node_model::{AppAnswer, Asked, DeviceError, Marks};
 use co_node_parts::{Emergencies, EmergencyEvent};
-use co_pdo::has_pdo;
+use co_pdo::{PdoNumber, has_pdo};
 use co_value::Key;
 
 /// A refused event changes nothing.
@@ -61,6 +62,16 @@ pub(crate) fn write<S: ObjectStore>(store: &mut S, key: Key, bytes: &[u8]) -> Re
     }
 }
 
+/// Whether the dictionary has the TPDO with a number; none has one from 512 on.
+fn is_tpdo<S: ObjectStore>(store: &S, number: u16) -> bool
+    ensures { result ≡ is_tpdo (S.description store.now).rows number }
+{
+    match PdoNumber::new(number) {
+        Some(k) => has_pdo(store, Side::Tpdo, k),
+        None => false,
+    }
+}
+
 /// The application gave an event on a TPDO.
 pub(crate) fn event<S: ObjectStore>(store: &S, number: u16) -> Received
     ensures marks { result.marks ≡ (app_moment (S.description store.now) (S.contents store.now)
@@ -70,7 +81,7 @@ pub(crate) fn event<S: ObjectStore>(store: &S, number: u16) -> Received
     ensures contents { S.contents store.now ≡ (app_moment (S.description store.now)
         (S.contents store.now) (EventOn number)).received }
 {
-    if number >= 512 || !has_pdo(store, Side::Tpdo, number) {
+    if !is_tpdo(store, number) {
         return refused(AbortCode::OBJECT_MISSING);
     }
     done(Marks {

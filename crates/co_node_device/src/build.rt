@@ -10,7 +10,7 @@ ghost use Rattle.co_node_model.specs.Moments.{Constants};
 ghost use Rattle.co_node_model.specs.Heartbeats.{boot_up};
 ghost use Rattle.co_node_model.specs.Device.{app_after, contents_of, frame_bound, held_of, room_of, state_of};
 ghost use Rattle.co_node_model.specs.Tpdos.{tpdo_count};
-ghost use Rattle.co_node_device.specs.NodeStanding.{NodeStands};
+ghost use Rattle.co_node_device.specs.Standing.{Stands};
 ghost use Rattle.co_node_device.specs.Built.{constants_of};
 
 use crate::addresses::AddressTable;
@@ -23,7 +23,7 @@ use co_frame::{Heartbeat, Outbox};
 use co_node_laws::greatest_bound;
 use co_node_model::AppAnswer;
 use co_node_parts::{Emergencies, LostHeartbeats, NmtState, NodeState, RpdoSlots};
-use co_pdo::{Due, Schedule, has_pdo};
+use co_pdo::{Due, PdoNumber, Schedule, has_pdo};
 use co_pdo_compiled::Compiled;
 use co_sdo_bank::Bank;
 use co_value::Key;
@@ -35,9 +35,8 @@ impl<S: ObjectStore + Drop> Device<S> {
     /// `AllocError` where there is no memory; the device asks for none after that.
     pub fn new(alloc: Global, store: S, greatest: u32, time: u16) -> Result<Device<S>, AllocError>
         requires greatest { (key : Key) → capacity_at (S.description store).rows key ≤ greatest }
-        ensures stands { IfOk result (λ device. NodeStands (constants_of (S.description store)
-            (S.contents store) greatest time) (S.description device.store)
-            (S.contents device.store) device.parts []) }
+        ensures stands { IfOk result (λ device. Stands
+            (constants_of (S.description store) (S.contents store) greatest time) device []) }
         ensures description { IfOk result (λ device.
             S.description device.store ≡ S.description store) }
         ensures contents { IfOk result (λ device. S.contents device.store ≡ S.contents store) }
@@ -70,9 +69,8 @@ impl<S: ObjectStore> Device<S> {
     /// The boot-up, as the device enters pre-operational after power-on: the outbox then holds it and nothing else (CiA
     /// 301, 7.2.8.3.3).
     pub fn boot(&self, outbox: &mut Outbox)
-        ensures { (k : Constants) (inputs : Inputs) →
-            NodeStands k (S.description self.now.store) (S.contents self.now.store) self.now.parts
-            inputs → outbox.new.items ≡ boot_up k ∷ [] }
+        ensures { (k : Constants) (inputs : Inputs) → Stands k self.now inputs →
+            outbox.new.items ≡ boot_up k ∷ [] }
     {
         outbox.clear();
         send_life(&self.store, Some(Heartbeat::BootUp), outbox);
@@ -80,48 +78,42 @@ impl<S: ObjectStore> Device<S> {
 
     /// The bytes of an entry; `None` where there is no entry.
     pub fn value(&self, key: Key) -> Option<&[u8]>
-        ensures { (k : Constants) (inputs : Inputs) →
-            NodeStands k (S.description self.now.store) (S.contents self.now.store) self.now.parts
-            inputs → option_map (λ bytes. bytes.now) result ≡ contents_of k inputs key }
+        ensures { (k : Constants) (inputs : Inputs) → Stands k self.now inputs →
+            option_map (λ bytes. bytes.now) result ≡ contents_of k inputs key }
     {
         self.store.bytes(key)
     }
 
     /// The node-ID, 1 to 127.
     pub fn node_id(&self) -> u8
-        ensures { (k : Constants) (inputs : Inputs) →
-            NodeStands k (S.description self.now.store) (S.contents self.now.store) self.now.parts
-            inputs → result ≡ k.description.node }
+        ensures { (k : Constants) (inputs : Inputs) → Stands k self.now inputs →
+            result ≡ k.description.node }
     {
         self.store.node_id()
     }
 
     /// The NMT state (CiA 301, 7.3.2).
     pub fn state(&self) -> NodeState
-        ensures { (k : Constants) (inputs : Inputs) →
-            NodeStands k (S.description self.now.store) (S.contents self.now.store) self.now.parts
-            inputs → result ≡ state_of k inputs }
+        ensures { (k : Constants) (inputs : Inputs) → Stands k self.now inputs →
+            result ≡ state_of k inputs }
     {
         self.parts.state.get()
     }
 
     /// How many bytes are held for the transfer of an SDO channel; 0 where there is no such channel.
     pub fn held(&self, channel: u8) -> usize
-        ensures held { (k : Constants) (inputs : Inputs) →
-            NodeStands k (S.description self.now.store) (S.contents self.now.store) self.now.parts
-            inputs → result ≡ held_of k inputs channel }
-        ensures room { (k : Constants) (inputs : Inputs) →
-            NodeStands k (S.description self.now.store) (S.contents self.now.store) self.now.parts
-            inputs → result ≤ room_of k inputs channel }
+        ensures held { (k : Constants) (inputs : Inputs) → Stands k self.now inputs →
+            result ≡ held_of k inputs channel }
+        ensures room { (k : Constants) (inputs : Inputs) → Stands k self.now inputs →
+            result ≤ room_of k inputs channel }
     {
         self.parts.bank.held(channel)
     }
 
     /// The answer to the last input, where that was an application event.
     pub fn last_app(&self) -> AppAnswer
-        ensures { (k : Constants) (inputs : Inputs) →
-            NodeStands k (S.description self.now.store) (S.contents self.now.store) self.now.parts
-            inputs → result ≡ app_after k inputs }
+        ensures { (k : Constants) (inputs : Inputs) → Stands k self.now inputs →
+            result ≡ app_after k inputs }
     {
         self.parts.last_app
     }
@@ -129,29 +121,24 @@ impl<S: ObjectStore> Device<S> {
     /// The compiled mapping of PDO `number` of a side, of what it maps as the dictionary is now; `None` where there is
     /// no such PDO (CiA 301, 7.5.2.36, 7.5.2.38).
     pub fn compiled(&self, side: Side, number: u16) -> Option<&Compiled>
-        ensures there { (k : Constants) (inputs : Inputs) →
-            NodeStands k (S.description self.now.store) (S.contents self.now.store) self.now.parts
-            inputs → is_some result ≡ (nat_lt number 512 && has_pdo side k.description.rows number) }
-        ensures form { (k : Constants) (inputs : Inputs) →
-            NodeStands k (S.description self.now.store) (S.contents self.now.store) self.now.parts
-            inputs → IfSome result (λ compiled. IsCompiledForm k.description
+        ensures there { (k : Constants) (inputs : Inputs) → Stands k self.now inputs →
+            is_some result ≡ (nat_lt number 512 && has_pdo side k.description.rows number) }
+        ensures form { (k : Constants) (inputs : Inputs) → Stands k self.now inputs →
+            IfSome result (λ compiled. IsCompiledForm k.description
             (mapping_of side k.description (contents_of k inputs) number) compiled.now) }
     {
-        if number < 512 && has_pdo(&self.store, side, number) {
-            self.parts.mappings.compiled(side, number)
-        } else {
-            None
+        match PdoNumber::new(number) {
+            Some(k) if has_pdo(&self.store, side, k) => self.parts.mappings.compiled(side, k),
+            _ => None,
         }
     }
 
     /// How many frames one input gives at most: 127, or the number of TPDOs where that is more, and 2; so at most 514.
     pub fn most_frames(&self) -> usize
-        ensures most { (k : Constants) (inputs : Inputs) →
-            NodeStands k (S.description self.now.store) (S.contents self.now.store) self.now.parts
-            inputs → result ≡ max 127 (tpdo_count k.description.rows) + 2 }
-        ensures enough { (k : Constants) (inputs : Inputs) →
-            NodeStands k (S.description self.now.store) (S.contents self.now.store) self.now.parts
-            inputs → (later : Inputs) (input : InputView) → frame_bound k later input ≤ result }
+        ensures most { (k : Constants) (inputs : Inputs) → Stands k self.now inputs →
+            result ≡ max 127 (tpdo_count k.description.rows) + 2 }
+        ensures enough { (k : Constants) (inputs : Inputs) → Stands k self.now inputs →
+            (later : Inputs) (input : InputView) → frame_bound k later input ≤ result }
         ensures few { result ≤ 514 }
     {
         greatest_bound();

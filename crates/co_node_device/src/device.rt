@@ -1,17 +1,15 @@
 //! A device over a dictionary: one input.
 
-ghost use Rattle.std.specs.Prelude.{◌≡◌, ◌≤◌, ◌∷◌, length};
+ghost use Rattle.std.specs.Prelude.{◌≡◌, ◌<◌, ◌≤◌, ◌∷◌, length, true, IfSome, if◌then◌else◌};
 ghost use Rattle.std.proofs.Props.{props};
 ghost use Rattle.co_pdo_compiled.proofs.Props.{part_prop};
 ghost use Rattle.co_sdo_bank.specs.Banks.{all_settings};
 ghost use Rattle.co_sdo_bank.specs.Channels.{HaveRoom};
-ghost use Rattle.co_node_model.specs.Inputs.{Applied, Framed, Inputs, Ticked, app_view};
+ghost use Rattle.co_frame.specs.SegmentSizes.{segments_per_sub_block};
+ghost use Rattle.co_node_model.specs.Inputs.{Applied, Framed, Inputs, InputView, Ticked, app_view};
 ghost use Rattle.co_node_model.specs.Moments.{Constants};
-ghost use Rattle.co_node_model.specs.Device.{prescribed, frame_bound, moments};
+ghost use Rattle.co_node_model.specs.Device.{prescribed, frame_bound, moment, moments};
 ghost use Rattle.co_node_device.specs.MappingTables.{HaveParts};
-ghost use Rattle.co_node_device.specs.Given.{IsNumbered, given_view};
-ghost use Rattle.co_node_device.specs.Befores.{IsAddressed};
-ghost use Rattle.co_node_device.specs.NodeStanding.{NodeStands};
 
 use crate::addresses::find_address;
 use crate::emergencies::{emergency_event, send_emergency, take_emergency};
@@ -26,8 +24,8 @@ use crate::sdo::{drop_if, drops};
 use crate::tpdos::{send_tpdos, take_turn, turn_of};
 use co_dict::{ObjectStore, store_laws};
 use co_frame::{Frame, Outbox};
-use co_node_laws::{addresses_kept, few, greatest_bound, mappings_kept, schedule_ready};
-use co_node_model::{Address, AppEvent};
+use co_node_laws::{addresses_kept, few, mappings_kept, schedule_ready};
+use co_node_model::{Address, AppEvent, Marks};
 use co_node_parts::Transition;
 
 /// A device over a dictionary: each SDO channel has room for every entry.
@@ -41,65 +39,59 @@ pub struct Device<S: ObjectStore> {
 }
 
 impl<S: ObjectStore> Device<S> {
+    ghost use Rattle.co_node_device.specs.Given.{given_view};
+    ghost use Rattle.co_node_device.specs.Befores.{IsAddressed};
+    ghost use Rattle.co_node_device.specs.Receiving.{may_be_due};
+    ghost use Rattle.co_node_device.specs.Phases.{with_sent};
+    ghost use Rattle.co_node_device.specs.Standing.{HasReceived, HasTakenEffect, Stands};
+
     /// A frame is received: the outbox then holds the frames that this prescribes, and nothing else.
     #[inline(never)]
     pub fn take_frame(&mut self, frame: &Frame, outbox: &mut Outbox)
-        ensures frames { (k : Constants) (inputs : Inputs) →
-            NodeStands k (S.description self.old.store) (S.contents self.old.store) self.old.parts
-            inputs → outbox.new.items ≡ prescribed k inputs (Framed frame.now) }
-        ensures few { (k : Constants) (inputs : Inputs) →
-            NodeStands k (S.description self.old.store) (S.contents self.old.store) self.old.parts
-            inputs → length outbox.new.items ≤ frame_bound k inputs (Framed frame.now) }
-        ensures stands { (k : Constants) (inputs : Inputs) →
-            NodeStands k (S.description self.old.store) (S.contents self.old.store) self.old.parts
-            inputs → NodeStands k (S.description self.new.store) (S.contents self.new.store)
-            self.new.parts (Framed frame.now ∷ inputs) }
+        ensures frames { (k : Constants) (inputs : Inputs) → Stands k self.old inputs →
+            outbox.new.items ≡ prescribed k inputs (Framed frame.now) }
+        ensures few { (k : Constants) (inputs : Inputs) → Stands k self.old inputs →
+            length outbox.new.items ≤ frame_bound k inputs (Framed frame.now) }
+        ensures stands { (k : Constants) (inputs : Inputs) → Stands k self.old inputs →
+            Stands k self.new (Framed frame.now ∷ inputs) }
     {
         let address = find_address(&self.parts.bank, &self.parts.addresses, frame);
         match address {
-            Address::Nmt => self.take(Given::Frame(Address::Nmt), frame, outbox),
-            Address::Sync => self.take(Given::Frame(Address::Sync), frame, outbox),
+            Address::Nmt => self.take(Given::Frame, Address::Nmt, frame, outbox),
+            Address::Sync => self.take(Given::Frame, Address::Sync, frame, outbox),
             Address::Channel(number) => {
-                self.take(Given::Frame(Address::Channel(number)), frame, outbox)
+                self.take(Given::Frame, Address::Channel(number), frame, outbox)
             }
-            Address::Rpdo(number) => self.take(Given::Frame(Address::Rpdo(number)), frame, outbox),
+            Address::Rpdo(number) => self.take(Given::Frame, Address::Rpdo(number), frame, outbox),
             Address::ErrorControl(node) => {
-                self.take(Given::Frame(Address::ErrorControl(node)), frame, outbox)
+                self.take(Given::Frame, Address::ErrorControl(node), frame, outbox)
             }
-            Address::Nobody => self.take(Given::Frame(Address::Nobody), frame, outbox),
+            Address::Nobody => self.take(Given::Frame, Address::Nobody, frame, outbox),
         }
     }
 
     /// 1 ms elapsed: the outbox then holds the frames that this prescribes, and nothing else.
     #[inline(never)]
     pub fn tick(&mut self, outbox: &mut Outbox)
-        ensures frames { (k : Constants) (inputs : Inputs) →
-            NodeStands k (S.description self.old.store) (S.contents self.old.store) self.old.parts
-            inputs → outbox.new.items ≡ prescribed k inputs (Ticked) }
-        ensures few { (k : Constants) (inputs : Inputs) →
-            NodeStands k (S.description self.old.store) (S.contents self.old.store) self.old.parts
-            inputs → length outbox.new.items ≤ frame_bound k inputs (Ticked) }
-        ensures stands { (k : Constants) (inputs : Inputs) →
-            NodeStands k (S.description self.old.store) (S.contents self.old.store) self.old.parts
-            inputs → NodeStands k (S.description self.new.store) (S.contents self.new.store)
-            self.new.parts (Ticked ∷ inputs) }
+        ensures frames { (k : Constants) (inputs : Inputs) → Stands k self.old inputs →
+            outbox.new.items ≡ prescribed k inputs Ticked }
+        ensures few { (k : Constants) (inputs : Inputs) → Stands k self.old inputs →
+            length outbox.new.items ≤ frame_bound k inputs Ticked }
+        ensures stands { (k : Constants) (inputs : Inputs) → Stands k self.old inputs →
+            Stands k self.new (Ticked ∷ inputs) }
     {
-        self.take(Given::Tick, &Frame::default(), outbox);
+        self.take(Given::Tick, Address::Nobody, &Frame::default(), outbox);
     }
 
     /// The application did something: the outbox then holds the frames that this prescribes, and nothing else.
     #[inline(never)]
     pub fn take_event(&mut self, event: AppEvent<'_>, outbox: &mut Outbox)
-        ensures frames { (k : Constants) (inputs : Inputs) →
-            NodeStands k (S.description self.old.store) (S.contents self.old.store) self.old.parts
-            inputs → outbox.new.items ≡ prescribed k inputs (Applied (app_view event.entry)) }
-        ensures few { (k : Constants) (inputs : Inputs) →
-            NodeStands k (S.description self.old.store) (S.contents self.old.store) self.old.parts
-            inputs → length outbox.new.items ≤ frame_bound k inputs (Applied (app_view event.entry)) }
-        ensures stands { (k : Constants) (inputs : Inputs) →
-            NodeStands k (S.description self.old.store) (S.contents self.old.store) self.old.parts
-            inputs → NodeStands k (S.description self.new.store) (S.contents self.new.store)
-            self.new.parts (Applied (app_view event.entry) ∷ inputs) }
+        ensures frames { (k : Constants) (inputs : Inputs) → Stands k self.old inputs →
+            outbox.new.items ≡ prescribed k inputs (Applied (app_view event.entry)) }
+        ensures few { (k : Constants) (inputs : Inputs) → Stands k self.old inputs →
+            length outbox.new.items ≤ frame_bound k inputs (Applied (app_view event.entry)) }
+        ensures stands { (k : Constants) (inputs : Inputs) → Stands k self.old inputs →
+            Stands k self.new (Applied (app_view event.entry) ∷ inputs) }
     {
         let given = match event {
             AppEvent::Write(key, bytes) => Given::Write(key, bytes),
@@ -108,26 +100,22 @@ impl<S: ObjectStore> Device<S> {
             AppEvent::Raise(code, bits, manufacturer) => Given::Raise(code, bits, manufacturer),
             AppEvent::Clear(bits) => Given::Clear(bits),
         };
-        self.take(given, &Frame::default(), outbox);
+        self.take(given, Address::Nobody, &Frame::default(), outbox);
     }
 
-    // One input, whose frame goes beside it. It is compiled anew for each call of it, for which most marks are known.
+    // One input, whose frame and the address of who takes this go beside it. It is compiled anew for each call of it,
+    // for which most marks are known.
     #[inline(always)]
-    fn take(&mut self, given: Given<'_>, frame: &Frame, outbox: &mut Outbox)
-        requires { IsNumbered given }
-        ensures frames { (k : Constants) (inputs : Inputs) →
-            NodeStands k (S.description self.old.store) (S.contents self.old.store) self.old.parts
-            inputs → IsAddressed k (moments k inputs) given.entry frame.now →
+    fn take(&mut self, given: Given<'_>, address: Address, frame: &Frame, outbox: &mut Outbox)
+        ensures frames { (k : Constants) (inputs : Inputs) → Stands k self.old inputs →
+            IsAddressed k (moments k inputs) given.entry address frame.now →
             outbox.new.items ≡ prescribed k inputs (given_view given.entry frame.now) }
-        ensures few { (k : Constants) (inputs : Inputs) →
-            NodeStands k (S.description self.old.store) (S.contents self.old.store) self.old.parts
-            inputs → IsAddressed k (moments k inputs) given.entry frame.now →
+        ensures few { (k : Constants) (inputs : Inputs) → Stands k self.old inputs →
+            IsAddressed k (moments k inputs) given.entry address frame.now →
             length outbox.new.items ≤ frame_bound k inputs (given_view given.entry frame.now) }
-        ensures stands { (k : Constants) (inputs : Inputs) →
-            NodeStands k (S.description self.old.store) (S.contents self.old.store) self.old.parts
-            inputs → IsAddressed k (moments k inputs) given.entry frame.now →
-            NodeStands k (S.description self.new.store) (S.contents self.new.store)
-            self.new.parts (given_view given.entry frame.now ∷ inputs) }
+        ensures stands { (k : Constants) (inputs : Inputs) → Stands k self.old inputs →
+            IsAddressed k (moments k inputs) given.entry address frame.now →
+            Stands k self.new (given_view given.entry frame.now ∷ inputs) }
     {
         outbox.clear();
         let before = self.parts.state.get();
@@ -137,11 +125,27 @@ impl<S: ObjectStore> Device<S> {
             &mut self.parts.emergencies,
             before,
             given,
+            address,
             frame,
             outbox,
         );
-        let marks = &received.marks;
         self.parts.last_app = received.app;
+        let transition = self.take_effect(&received.marks);
+        self.send(&received.marks, transition, outbox);
+        // what follows holds of every device, and does nothing
+        few();
+        store_laws(&self.store);
+    }
+
+    // What was received takes effect: lost heartbeats, the NMT state, SDO transfers that are dropped, SYNC and RPDOs.
+    #[inline(always)]
+    fn take_effect(&mut self, marks: &Marks) -> Transition
+        requires { IfSome marks.now.rpdo (λ rpdo. rpdo.number < 512) }
+        ensures { (k : Constants) (inputs : Inputs) (input : InputView) →
+            HasReceived k self.old inputs input marks.now →
+            HasTakenEffect k self.new inputs input marks.now result }
+    {
+        let before = self.parts.state.get();
         let loss = watch(
             &mut self.store,
             &mut self.parts.consumers,
@@ -151,10 +155,8 @@ impl<S: ObjectStore> Device<S> {
         );
         self.parts.state.note(state_event(marks));
         let changed = self.parts.state.note(loss);
-        let transition = Transition {
-            before,
-            after: changed.after,
-        };
+        let after = changed.after;
+        let transition = Transition { before, after };
         drop_if(&mut self.parts.bank, drops(marks, transition));
         self.parts.mappings.note(marks, &self.store);
         take_pdos(
@@ -166,38 +168,44 @@ impl<S: ObjectStore> Device<S> {
             transition,
         );
         self.parts.addresses.note(marks, &self.store);
+        // these laws do nothing
+        addresses_kept();
+        mappings_kept();
+        mappings_stay();
+        transition
+    }
+
+    // Puts what is sent besides SDO into the outbox: an emergency, the boot-up or a heartbeat, and TPDOs.
+    #[inline(always)]
+    fn send(&mut self, marks: &Marks, transition: Transition, outbox: &mut Outbox)
+        requires room { length outbox.old.items ≤ segments_per_sub_block }
+        requires alone { may_be_due marks.now ≡ true →
+            length outbox.old.items ≤ (if marks.now.timed_out then 1 else 0) }
+        ensures frames { (k : Constants) (inputs : Inputs) (input : InputView) →
+            HasTakenEffect k self.old inputs input marks.now transition →
+            outbox.new.items ≡ with_sent k (moment k (moments k inputs) input) outbox.old.items }
+        ensures stands { (k : Constants) (inputs : Inputs) (input : InputView) →
+            HasTakenEffect k self.old inputs input marks.now transition →
+            Stands k self.new (input ∷ inputs) }
+    {
+        let store = &self.store;
+        let after = transition.after;
         self.parts.emergencies.note(emergency_event(marks));
-        let emergency = take_emergency(
-            &self.store,
-            &mut self.parts.emergencies,
-            marks,
-            transition.after,
-        );
-        send_emergency(&self.store, emergency, outbox);
-        let is_due = self.parts.producer.note(producer_event(marks, &self.store));
-        let life = life_of(marks, transition.after, is_due);
-        send_life(&self.store, life, outbox);
+        let emergency = take_emergency(store, &mut self.parts.emergencies, marks, after);
+        send_emergency(store, emergency, outbox);
+        let is_due = self.parts.producer.note(producer_event(marks, store));
+        let life = life_of(marks, after, is_due);
+        send_life(store, life, outbox);
         let turn = turn_of(marks, transition);
-        take_turn(
-            &mut self.parts.schedule,
-            &self.store,
-            turn,
-            &mut self.parts.due,
-        );
+        take_turn(&mut self.parts.schedule, store, turn, &mut self.parts.due);
         send_tpdos(
-            &self.store,
+            store,
             &self.parts.schedule,
             &self.parts.mappings.tpdos,
             &self.parts.due,
             outbox,
         );
-        // what follows holds of every device, and does nothing
-        addresses_kept();
-        mappings_kept();
-        mappings_stay();
+        // a law, which does nothing
         schedule_ready();
-        few();
-        greatest_bound();
-        store_laws(&self.store);
     }
 }

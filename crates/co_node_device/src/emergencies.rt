@@ -1,6 +1,6 @@
 //! EMCY: errors that are raised and cleared, and the emergencies that are sent (CiA 301, 7.2.7).
 
-ghost use Rattle.std.specs.Prelude.{◌≡◌, ◌∷◌, ◌<◌, [], ◌+◌, ◌≤◌, ◌++◌, length};
+ghost use Rattle.std.specs.Prelude.{◌≡◌, ◌∷◌, [], ◌+◌, ◌≤◌, ◌++◌, true, None, is_some, if◌then◌else◌};
 ghost use Rattle.co_node_parts.specs.EmergencyQueues.{
   EmergencyLog,
   EmergenciesStand,
@@ -23,7 +23,8 @@ ghost use Rattle.co_node_model.specs.Emergencies.{
   emergency_frames,
 };
 ghost use Rattle.std.specs.List.{cons_option};
-ghost use Rattle.co_frame.specs.Outboxes.{outbox_room};
+ghost use Rattle.arrayvec.specs.ArrayVec.{array_vec_len};
+ghost use Rattle.co_frame.specs.Outboxes.{HasRoomFor};
 ghost use Rattle.co_dict.specs.Rows.{number_at};
 ghost use Rattle.co_profile.specs.Keys.{emergency_inhibit_key};
 
@@ -156,6 +157,7 @@ pub(crate) fn take_emergency<S: ObjectStore>(
 ) -> Option<Emergency>
     ensures due { (log : EmergencyLog) → EmergenciesStand emergencies.old log →
         result ≡ emergency_due (may_send marks.now after (S.contents store.now)) log }
+    ensures alone { marks.now.timed_out ≡ true → result ≡ None }
     ensures stands { (log : EmergencyLog) → EmergenciesStand emergencies.old log →
         EmergenciesStand emergencies.new
         (with_sending result (number_at (S.contents store.now) emergency_inhibit_key) log) }
@@ -168,19 +170,21 @@ pub(crate) fn take_emergency<S: ObjectStore>(
     emergencies.send(may, inhibit)
 }
 
-/// Puts an emergency into the outbox, if there is one and room for it.
+/// Puts an emergency into the outbox, if there is one.
 #[inline(always)]
 pub(crate) fn send_emergency<S: ObjectStore>(
     store: &S,
     emergency: Option<Emergency>,
     outbox: &mut Outbox,
 )
-    ensures { length outbox.old.items + length (emergency_frames (S.contents store.now) emergency)
-        ≤ outbox_room →
-        outbox.new.items ≡ outbox.old.items ++ emergency_frames (S.contents store.now) emergency }
+    requires { HasRoomFor 1 outbox.old }
+    ensures frames { outbox.new.items ≡
+        outbox.old.items ++ emergency_frames (S.contents store.now) emergency }
+    ensures few { array_vec_len outbox.new ≤
+        array_vec_len outbox.old + (if is_some emergency then 1 else 0) }
 {
     if let Some(emergency) = emergency {
         let id = CobId(number_u32(store, keys::EMERGENCY_COB_ID)).identifier();
-        let _ = outbox.try_push(emergency.write(id));
+        outbox.push(emergency.write(id));
     }
 }

@@ -1,13 +1,12 @@
 //! An input without its frame.
 
-use co_node_model::Address;
 use co_value::Key;
 
 /// An input of a device without its frame, which goes beside it.
 #[derive(Clone, Copy, Debug)]
 pub enum Given<'a> {
-    /// The frame beside it was received, which goes to the one with this address.
-    Frame(Address),
+    /// The frame beside it was received, by the one whose address goes beside it as well.
+    Frame,
     /// 1 ms elapsed.
     Tick,
     /// The application writes bytes into an entry.

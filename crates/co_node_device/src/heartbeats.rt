@@ -1,6 +1,6 @@
 //! Heartbeats: those of other nodes that are monitored, and the device's own (CiA 301, 7.2.8.3.2 and 7.2.8.3.3).
 
-ghost use Rattle.std.specs.Prelude.{◌≡◌, ◌+◌, ◌<◌, ◌≤◌, ◌++◌, None, ◌∷◌, ◌&&◌, [], length};
+ghost use Rattle.std.specs.Prelude.{◌≡◌, ◌+◌, ◌≤◌, ◌++◌, None, ◌∷◌, ◌&&◌, []};
 ghost use Rattle.co_dict.specs.Rows.{Contents, number_at};
 ghost use Rattle.co_node_model.specs.Inputs.{InputView};
 ghost use Rattle.co_node_model.specs.Heartbeats.{
@@ -23,7 +23,8 @@ ghost use Rattle.co_node_model.specs.Emergencies.{all_raised, emergencies_of};
 ghost use Rattle.co_node_device.specs.Losses.{lost_now};
 ghost use Rattle.co_value.specs.declared.key.Key.{Key};
 ghost use Rattle.co_node_parts.specs.Producers.{ProducerStands};
-ghost use Rattle.co_frame.specs.Outboxes.{outbox_room};
+ghost use Rattle.arrayvec.specs.ArrayVec.{array_vec_len};
+ghost use Rattle.co_frame.specs.Outboxes.{HasRoomFor};
 
 use crate::emergencies::raise_and_queue;
 use arrayvec::ArrayVec;
@@ -211,14 +212,15 @@ pub(crate) fn begun_producer<S: ObjectStore>(store: &S) -> HeartbeatProducer
     producer
 }
 
-/// Puts a boot-up or heartbeat into the outbox, if there is one and room for it.
+/// Puts a boot-up or heartbeat into the outbox, if there is one.
 #[inline(always)]
 pub(crate) fn send_life<S: ObjectStore>(store: &S, life: Option<Heartbeat>, outbox: &mut Outbox)
-    ensures { length outbox.old.items + length (life_frames (S.description store.now).node life)
-        ≤ outbox_room → outbox.new.items ≡
+    requires { HasRoomFor 1 outbox.old }
+    ensures frames { outbox.new.items ≡
         outbox.old.items ++ life_frames (S.description store.now).node life }
+    ensures few { array_vec_len outbox.new ≤ array_vec_len outbox.old + 1 }
 {
     if let Some(life) = life {
-        let _ = outbox.try_push(life.write(0x700 + u16::from(store.node_id())));
+        outbox.push(life.write(0x700 + u16::from(store.node_id())));
     }
 }

@@ -13,7 +13,7 @@ ghost use Rattle.co_pdo.specs.Mappings.{mapping_of, total_of};
 
 use co_dict::{ObjectStore, Side};
 use co_node_model::Marks;
-use co_pdo::{PdoFault, has_pdo};
+use co_pdo::{PdoFault, PdoNumber, has_pdo};
 use co_pdo_compiled::{Compiled, apply_at, image_at, mapping_by_words};
 use co_profile::IndexRange;
 use co_value::{Key, PackedBytes};
@@ -60,7 +60,8 @@ fn count_of<S: ObjectStore>(store: &S, side: Side) -> u16
 {
     let mut count = 0;
     for k in 0..512u16 {
-        if has_pdo(store, side, k) {
+        let number = PdoNumber::of(k);
+        if has_pdo(store, side, number) {
             count = k + 1;
         }
     }
@@ -75,7 +76,8 @@ fn compile_all<S: ObjectStore>(pdos: &mut [Compiled], store: &S, side: Side)
     ensures { AreForms side (S.description store.now) (S.contents store.now) pdos.new }
 {
     for k in 0..pdos.len() {
-        pdos[k] = Compiled::of(store, side, k as u16);
+        let number = PdoNumber::of(k as u16);
+        pdos[k] = Compiled::of(store, side, number);
     }
 }
 
@@ -112,7 +114,8 @@ impl MappingTable {
         let count = count_of(store, side);
         let mut pdos = Vec::with_capacity(alloc, usize::from(count))?;
         for k in 0..count {
-            pdos.push_reserved(Compiled::of(store, side, k));
+            let number = PdoNumber::of(k);
+            pdos.push_reserved(Compiled::of(store, side, number));
         }
         Ok(MappingTable {
             pdos: pdos.into_boxed_slice(),
@@ -137,39 +140,41 @@ impl MappingTable {
         }
     }
 
-    /// How many bytes PDO k, 0 to 511, maps.
+    /// How many bytes PDO k maps.
     #[inline(always)]
-    pub fn width(&self, k: u16) -> usize
-        requires { k < 512 }
+    pub fn width(&self, k: PdoNumber) -> usize
         ensures { (side : Side) (d : Description) (contents : Contents) →
             IsMappingTable side d contents self.now →
             result ≡ total_of (mapping_of side d contents k) }
     {
-        match self.pdos.get(usize::from(k)) {
+        match self.pdos.get(usize::from(k.get())) {
             Some(compiled) => compiled.width(),
             None => 0,
         }
     }
 
-    /// The data of PDO k, 0 to 511: what `image` gives of its mapping.
-    pub fn image<S: ObjectStore>(&self, store: &S, k: u16) -> PackedBytes
-        requires number { k < 512 }
-        requires parts { HaveParts (S.description store.now) self.now }
+    /// The data of PDO k: what `image` gives of its mapping.
+    pub fn image<S: ObjectStore>(&self, store: &S, k: PdoNumber) -> PackedBytes
+        requires { HaveParts (S.description store.now) self.now }
         ensures { (side : Side) →
             IsMappingTable side (S.description store.now) (S.contents store.now) self.now →
             result ≡ image_of (S.contents store.now)
             (mapping_of side (S.description store.now) (S.contents store.now) k) }
     {
-        match self.pdos.get(usize::from(k)) {
+        match self.pdos.get(usize::from(k.get())) {
             Some(compiled) => image_at(store, compiled),
             None => PackedBytes::new(),
         }
     }
 
-    /// Takes the data of PDO k, 0 to 511, as `apply` does with its mapping.
-    pub fn apply<S: ObjectStore>(&self, store: &mut S, k: u16, bytes: &[u8]) -> Result<(), PdoFault>
-        requires number { k < 512 }
-        requires parts { HaveParts (S.description store.old) self.now }
+    /// Takes the data of PDO k as `apply` does with its mapping.
+    pub fn apply<S: ObjectStore>(
+        &self,
+        store: &mut S,
+        k: PdoNumber,
+        bytes: &[u8],
+    ) -> Result<(), PdoFault>
+        requires { HaveParts (S.description store.old) self.now }
         ensures fault { (side : Side) →
             IsMappingTable side (S.description store.old) (S.contents store.old) self.now →
             answered result ≡ fault_of (S.description store.old).rows
@@ -181,7 +186,7 @@ impl MappingTable {
             (S.contents store.old) }
         ensures description { S.description store.new ≡ S.description store.old }
     {
-        match self.pdos.get(usize::from(k)) {
+        match self.pdos.get(usize::from(k.get())) {
             Some(compiled) => apply_at(store, compiled, bytes),
             None if bytes.is_empty() => Ok(()),
             None => Err(PdoFault::Long),
@@ -189,11 +194,11 @@ impl MappingTable {
     }
 
     /// The compiled mapping of PDO k; `None` where k is past the last PDO of the side.
-    pub fn compiled(&self, k: u16) -> Option<&Compiled>
+    pub fn compiled(&self, k: PdoNumber) -> Option<&Compiled>
         ensures there { k < length self.now → IsSome result }
         ensures form { IfSome result (λ compiled. (k < length self.now) ×
             (compiled.now ≡ slice_index_or self.now k compiled.now)) }
     {
-        self.pdos.get(usize::from(k))
+        self.pdos.get(usize::from(k.get()))
     }
 }

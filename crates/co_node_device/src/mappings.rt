@@ -1,6 +1,6 @@
 //! The compiled mappings of all PDOs.
 
-ghost use Rattle.std.specs.Prelude.{◌≡◌, ◌<◌, true, false, IfOk, IfSome, IsSome};
+ghost use Rattle.std.specs.Prelude.{◌≡◌, true, false, IfOk, IfSome, IsSome};
 ghost use Rattle.co_dict.specs.Rows.{Contents};
 ghost use Rattle.co_dict.specs.Stores.{Description};
 ghost use Rattle.co_pdo.specs.Mappings.{has_pdo, mapping_of};
@@ -11,6 +11,7 @@ ghost use Rattle.co_node_device.specs.MappingTables.{AreMappings, HaveParts};
 use crate::mapping_table::MappingTable;
 use co_dict::{ObjectStore, Side};
 use co_node_model::Marks;
+use co_pdo::PdoNumber;
 use co_pdo_compiled::Compiled;
 use std::alloc::{AllocError, Global};
 
@@ -52,9 +53,8 @@ impl CompiledMappings {
         self.tpdos.note(marks, store, Side::Tpdo);
     }
 
-    /// The compiled mapping of PDO k, 0 to 511, of a side. Each PDO that the dictionary has is there.
-    pub fn compiled(&self, side: Side, k: u16) -> Option<&Compiled>
-        requires { k < 512 }
+    /// The compiled mapping of PDO k of a side. Each PDO that the dictionary has is there.
+    pub fn compiled(&self, side: Side, k: PdoNumber) -> Option<&Compiled>
         ensures there { (d : Description) (contents : Contents) → AreMappings d contents self.now →
             has_pdo side d.rows k ≡ true → IsSome result }
         ensures form { (d : Description) (contents : Contents) → AreMappings d contents self.now →

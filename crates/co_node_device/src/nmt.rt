@@ -1,6 +1,6 @@
 //! NMT: commands, resets, and what they are to the NMT state (CiA 301, 7.2.8.3.1 and 7.3.2).
 
-ghost use Rattle.std.specs.Prelude.{◌≡◌, ◌<◌, None};
+ghost use Rattle.std.specs.Prelude.{◌≡◌, None};
 ghost use Rattle.co_frame.specs.Nmt.{nmt_command_in};
 ghost use Rattle.co_node_model.specs.Nmt.{after_service, service_for, state_event};
 ghost use Rattle.co_node_device.specs.Receiving.{command_marks};

@@ -1,20 +1,19 @@
 //! Receiving an input: it alone is looked at by its kind, and a frame by who takes it.
 
-ghost use Rattle.std.specs.Prelude.{◌≡◌, ◌+◌, ◌<◌, ◌≤◌, ◌++◌, None, IfSome};
+ghost use Rattle.std.specs.Prelude.{◌≡◌, ◌+◌, ◌<◌, ◌≤◌, ◌++◌, true, None, IfSome, if◌then◌else◌};
 ghost use Rattle.arrayvec.specs.ArrayVec.{array_vec_len};
 ghost use Rattle.co_frame.specs.Outboxes.{HasRoomFor};
 ghost use Rattle.co_frame.specs.SegmentSizes.{segments_per_sub_block};
 ghost use Rattle.co_sdo_bank.specs.Banks.{BankStands, all_settings};
 ghost use Rattle.co_sdo_bank.specs.Channels.{HaveRoom};
 ghost use Rattle.co_sdo_bank.specs.Events.{frames_at};
-ghost use Rattle.co_node_model.specs.Addresses.{HasNumber, address_at};
 ghost use Rattle.co_node_model.specs.declared.address.Address.TheVariants.{Channel};
 ghost use Rattle.co_node_model.specs.Moments.{Constants, History, channels};
 ghost use Rattle.co_node_device.specs.Befores.{IsBefore, IsAddressed, logs_received};
-ghost use Rattle.co_node_device.specs.Receiving.{IsFrameReceived, frame_moment};
+ghost use Rattle.co_node_device.specs.Receiving.{IsFrameReceived, frame_moment, may_be_due};
 ghost use Rattle.co_node_parts.specs.EmergencyQueues.{EmergencyLog, EmergenciesStand, with_queued};
 ghost use Rattle.co_node_model.specs.Device.{received_at};
-ghost use Rattle.co_node_device.specs.Given.{IsNumbered, given_view};
+ghost use Rattle.co_node_device.specs.Given.{given_view};
 
 use crate::app_events::{change, clear_errors, event, raise, write};
 use crate::given::Given;
@@ -39,10 +38,10 @@ fn take_frame<S: ObjectStore>(
     frame: &Frame,
     outbox: &mut Outbox,
 ) -> Marks
-    requires number { HasNumber address }
     requires outbox { HasRoomFor segments_per_sub_block outbox.old }
     requires room { HaveRoom (S.description store.old).rows (all_settings bank.old) }
     ensures few { array_vec_len outbox.new ≤ array_vec_len outbox.old + segments_per_sub_block }
+    ensures alone { may_be_due result ≡ true → array_vec_len outbox.new ≡ array_vec_len outbox.old }
     ensures number { IfSome result.rpdo (λ rpdo. rpdo.number < 512) }
     ensures settings { all_settings bank.new ≡ all_settings bank.old }
     ensures description { S.description store.new ≡ S.description store.old }
@@ -73,8 +72,8 @@ pub(crate) struct Received {
 
 /// Receives an input in an NMT state: a frame goes to the one that takes it, a tick to all SDO
 /// channels, an application event to the entries, the register of errors or nobody. The frames of SDO
-/// channels are put into the outbox, at most 127, and at a tick at most 1; the emergencies that the application raises
-/// are queued.
+/// channels are put into the outbox, at most 127, and where TPDOs may be due only the abort of a transfer whose time is
+/// over; the emergencies that the application raises are queued.
 #[inline(always)]
 pub(crate) fn receive<S: ObjectStore>(
     store: &mut S,
@@ -82,49 +81,49 @@ pub(crate) fn receive<S: ObjectStore>(
     emergencies: &mut Emergencies,
     state: NodeState,
     given: Given<'_>,
+    address: Address,
     frame: &Frame,
     outbox: &mut Outbox,
 ) -> Received
-    requires address { IsNumbered given }
     requires outbox { HasRoomFor segments_per_sub_block outbox.old }
     requires room { HaveRoom (S.description store.old).rows (all_settings bank.old) }
     ensures few { array_vec_len outbox.new ≤ array_vec_len outbox.old + segments_per_sub_block }
-    ensures tick { given.entry ≡ Given.Tick →
-        array_vec_len outbox.new ≤ array_vec_len outbox.old + 1 }
+    ensures alone { may_be_due result.marks ≡ true → array_vec_len outbox.new ≤
+        array_vec_len outbox.old + (if result.marks.timed_out then 1 else 0) }
     ensures number { IfSome result.marks.rpdo (λ rpdo. rpdo.number < 512) }
     ensures settings { all_settings bank.new ≡ all_settings bank.old }
     ensures description { S.description store.new ≡ S.description store.old }
     ensures marks { (k : Constants) (history : History) →
         IsBefore k history (S.description store.old) (S.contents store.old) bank.old state →
-        IsAddressed k history given.entry frame.now →
+        IsAddressed k history given.entry address frame.now →
         result.marks ≡ (received_at k history (given_view given.entry frame.now)).marks }
     ensures app { (k : Constants) (history : History) →
         IsBefore k history (S.description store.old) (S.contents store.old) bank.old state →
-        IsAddressed k history given.entry frame.now →
+        IsAddressed k history given.entry address frame.now →
         result.app ≡ (received_at k history (given_view given.entry frame.now)).app }
     ensures contents { (k : Constants) (history : History) →
         IsBefore k history (S.description store.old) (S.contents store.old) bank.old state →
-        IsAddressed k history given.entry frame.now →
+        IsAddressed k history given.entry address frame.now →
         S.contents store.new ≡ (received_at k history (given_view given.entry frame.now)).received }
     ensures frames { (k : Constants) (history : History) →
         IsBefore k history (S.description store.old) (S.contents store.old) bank.old state →
-        IsAddressed k history given.entry frame.now →
+        IsAddressed k history given.entry address frame.now →
         outbox.new.items ≡ outbox.old.items
         ++ (frames_at (received_at k history (given_view given.entry frame.now)).exchange
         ++ frames_at (received_at k history (given_view given.entry frame.now)).timed_out) }
     ensures channels { (k : Constants) (history : History) →
         IsBefore k history (S.description store.old) (S.contents store.old) bank.old state →
-        IsAddressed k history given.entry frame.now →
+        IsAddressed k history given.entry address frame.now →
         BankStands (S.description store.old) (channels k) bank.new
         (logs_received (received_at k history (given_view given.entry frame.now)) history) }
     ensures emergencies { (k : Constants) (history : History) (log : EmergencyLog) →
         IsBefore k history (S.description store.old) (S.contents store.old) bank.old state →
-        IsAddressed k history given.entry frame.now →
+        IsAddressed k history given.entry address frame.now →
         EmergenciesStand emergencies.old log → EmergenciesStand emergencies.new (with_queued
         (received_at k history (given_view given.entry frame.now)).raised_by_app log) }
 {
     match given {
-        Given::Frame(address) => Received {
+        Given::Frame => Received {
             marks: take_frame(store, bank, state, address, frame, outbox),
             app: AppAnswer::None,
         },

@@ -40,14 +40,13 @@ use co_frame::Frame;
 use co_node_laws::settings_kept;
 use co_node_model::{DeviceError, Marks};
 use co_node_parts::{Emergencies, KeptFrame, NodeState, RpdoSlots, SlotEvent, Transition};
-use co_pdo::PdoFault;
+use co_pdo::{PdoFault, PdoNumber};
 use co_profile::{IndexRange, PDO_COB_ID, TRANSMISSION_TYPE, TransmissionType};
 use co_value::Key;
 
 /// An RPDO's frame counts in operational (CiA 301, 7.2.2).
 #[inline(always)]
-pub(crate) fn take_rpdo(state: NodeState, number: u16, frame: &Frame) -> Marks
-    requires { number < 512 }
+pub(crate) fn take_rpdo(state: NodeState, number: PdoNumber, frame: &Frame) -> Marks
     ensures marks { (input : InputView) (contents : Contents) → result
         ≡ (with_rpdo number state frame.now (nothing_of input contents)).marks }
     ensures number { IfSome result.rpdo (λ rpdo. rpdo.number < 512) }
@@ -57,7 +56,7 @@ pub(crate) fn take_rpdo(state: NodeState, number: u16, frame: &Frame) -> Marks
     }
     Marks {
         rpdo: Some(KeptFrame {
-            number,
+            number: number.get(),
             frame: *frame,
         }),
         ..Marks::quiet()
@@ -227,7 +226,8 @@ fn take_data<S: ObjectStore>(
         EmergenciesStand emergencies.new (with_queued
         (data_emergencies (S.description store.old) (S.contents store.old) rpdo.now) log) }
 {
-    let outcome = mappings.apply(store, rpdo.number, rpdo.frame.bytes());
+    let number = PdoNumber::of(rpdo.number);
+    let outcome = mappings.apply(store, number, rpdo.frame.bytes());
     raise_outcome(store, emergencies, outcome);
     // these laws do nothing
     settings_kept();
@@ -325,7 +325,10 @@ fn mapped_length(mappings: &MappingTable, rpdo: &Option<KeptFrame>) -> usize
         IsMappingTable Rpdo d contents mappings.now → IsMappedLength d contents rpdo.now result }
 {
     match rpdo {
-        Some(rpdo) => mappings.width(rpdo.number),
+        Some(rpdo) => {
+            let number = PdoNumber::of(rpdo.number);
+            mappings.width(number)
+        }
         None => 0,
     }
 }

@@ -1,6 +1,6 @@
 //! The SDO server: frames to the channels of a device, their ticks, and the end of their transfers (CiA 301, 7.2.4).
 
-ghost use Rattle.std.specs.Prelude.{◌≡◌, ◌+◌, ◌<◌, ◌≤◌, ◌++◌, ℕ, List, None, ◌||◌};
+ghost use Rattle.std.specs.Prelude.{◌≡◌, ◌+◌, ◌≤◌, ◌++◌, ℕ, List, None, false, ◌||◌, if◌then◌else◌};
 ghost use Rattle.arrayvec.specs.ArrayVec.{array_vec_len};
 ghost use Rattle.co_frame.specs.Outboxes.{HasRoomFor};
 ghost use Rattle.co_frame.specs.SegmentSizes.{segments_per_sub_block};
@@ -12,7 +12,7 @@ ghost use Rattle.co_sdo_bank.specs.Events.{frames_at, logs_after, time_out_of, w
 ghost use Rattle.co_node_model.specs.declared.address.Address.TheVariants.{Channel};
 ghost use Rattle.co_node_model.specs.Moments.{Constants, History};
 ghost use Rattle.co_node_device.specs.Befores.{IsBefore};
-ghost use Rattle.co_node_device.specs.Receiving.{IsFrameReceived, frame_moment, tick_marks};
+ghost use Rattle.co_node_device.specs.Receiving.{IsFrameReceived, frame_moment, may_be_due, tick_marks};
 ghost use Rattle.co_node_parts.specs.NmtStates.{enters};
 ghost use Rattle.co_node_parts.specs.declared.nmt_state.NodeState.TheVariants.{Stopped};
 ghost use Rattle.co_node_model.specs.Nmt.{is_reset};
@@ -40,6 +40,7 @@ pub(crate) fn take_request<S: ObjectStore>(
     ensures settings { all_settings bank.new ≡ all_settings bank.old }
     ensures description { S.description store.new ≡ S.description store.old }
     ensures rpdo { result.rpdo ≡ None }
+    ensures alone { may_be_due result ≡ false }
     ensures received { (k : Constants) (history : History) (number : ℕ) →
         IsBefore k history (S.description store.old) (S.contents store.old) bank.old state →
         IsFrameReceived (S.description store.old) k history
@@ -60,7 +61,8 @@ pub(crate) fn take_request<S: ObjectStore>(
 #[inline(always)]
 pub(crate) fn take_tick(bank: &mut Bank, outbox: &mut Outbox) -> Marks
     requires { HasRoomFor 1 outbox.old }
-    ensures few { array_vec_len outbox.new ≤ array_vec_len outbox.old + 1 }
+    ensures few { array_vec_len outbox.new ≤
+        array_vec_len outbox.old + (if result.timed_out then 1 else 0) }
     ensures rpdo { result.rpdo ≡ None }
     ensures settings { all_settings bank.new ≡ all_settings bank.old }
     ensures marks { (d : Description) (channels : List ChannelSettings) (logs : ℕ → Log) →

@@ -1,6 +1,6 @@
 //! SYNC: its counter, and the error of its length (CiA 301, 7.2.5).
 
-ghost use Rattle.std.specs.Prelude.{◌≡◌, ◌<◌, None, []};
+ghost use Rattle.std.specs.Prelude.{◌≡◌, None, []};
 ghost use Rattle.co_dict.specs.Rows.{Contents};
 ghost use Rattle.co_node_model.specs.Inputs.{InputView};
 ghost use Rattle.co_node_model.specs.Sync.{with_sync, counter_in, sync_length, sync_errors};

@@ -1,14 +1,13 @@
 //! TPDOs: what an input is to their schedule, which are due, and their frames (CiA 301, 7.2.2.2 to 7.2.2.4).
 
-ghost use Rattle.std.specs.Prelude.{◌≡◌, ◌<◌, ℕ, ◌≤◌, length, true, ◌+◌, ◌++◌, map};
-ghost use Rattle.std.specs.List.{list_any, slice_index_or};
+ghost use Rattle.std.specs.Prelude.{◌≡◌, ◌≤◌, [], length, true, false, ◌+◌, ◌++◌, map};
+ghost use Rattle.std.specs.List.{list_any};
 ghost use Rattle.co_node_model.specs.Tpdos.{
   is_entry,
   is_mapped_into,
   numbers_asked,
   turn_of,
   turn_by_write,
-  HasTpdoNumber,
   due_at,
   with_turn,
   tpdo_frame,
@@ -19,6 +18,7 @@ ghost use Rattle.co_node_laws.specs.Calls.{is_asked};
 ghost use Rattle.co_frame.specs.Outboxes.{outbox_room};
 ghost use Rattle.co_dict.specs.declared.side.Side.TheVariants.{Tpdo};
 ghost use Rattle.co_node_device.specs.MappingTables.{HaveParts, IsMappingTable};
+ghost use Rattle.co_node_device.specs.Receiving.{may_be_due};
 
 use crate::mapping_table::MappingTable;
 use crate::sync::counter_in;
@@ -27,7 +27,7 @@ use co_dict::{ObjectStore, Side};
 use co_frame::{Frame, Outbox};
 use co_node_model::{Asked, Marks, Turn};
 use co_node_parts::{NodeState, Transition};
-use co_pdo::{Due, Mapped, Mapping, Part, Schedule, is_active};
+use co_pdo::{Due, Mapped, Mapping, Part, PdoNumber, Schedule, is_active};
 use co_profile::{EVENT_TIMER, IndexRange, PDO_COB_ID, TRANSMISSION_TYPE};
 use co_value::Key;
 
@@ -49,8 +49,7 @@ fn maps(mapping: &[Mapped], key: Key) -> bool
 }
 
 /// Whether a TPDO is active and maps an entry.
-fn is_mapped_into<S: ObjectStore>(store: &S, key: Key, number: u16) -> bool
-    requires { number < 512 }
+fn is_mapped_into<S: ObjectStore>(store: &S, key: Key, number: PdoNumber) -> bool
     ensures { result ≡
         is_mapped_into (S.description store.now) (S.contents store.now) key number }
 {
@@ -65,7 +64,8 @@ fn numbers_with<S: ObjectStore>(store: &S, key: Key) -> ArrayVec<u16, 512>
 {
     let mut numbers = ArrayVec::new();
     for number in 0..512u16 {
-        if is_mapped_into(store, key, number) {
+        let k = PdoNumber::of(number);
+        if is_mapped_into(store, key, k) {
             numbers.push(number);
         }
     }
@@ -90,12 +90,12 @@ fn numbers_asked<S: ObjectStore>(store: &S, asked: Asked) -> ArrayVec<u16, 512>
 #[inline(always)]
 fn turn_by_write(key: Key) -> Turn
     ensures turn { result ≡ turn_by_write key }
-    ensures number { HasTpdoNumber result }
+    ensures unasked { is_asked result ≡ false }
 {
     if !IndexRange::TPDO_COMMUNICATION.contains(key.index) {
         return Turn::Quiet;
     }
-    let number = key.index - IndexRange::TPDO_COMMUNICATION.0;
+    let number = PdoNumber::of(key.index - IndexRange::TPDO_COMMUNICATION.0);
     if key.sub == PDO_COB_ID || key.sub == TRANSMISSION_TYPE {
         Turn::Start(number, Part::Whole)
     } else if key.sub == EVENT_TIMER {
@@ -109,7 +109,7 @@ fn turn_by_write(key: Key) -> Turn
 #[inline(always)]
 pub(crate) fn turn_of(marks: &Marks, transition: Transition) -> Turn
     ensures turn { result ≡ turn_of marks.now transition }
-    ensures number { HasTpdoNumber result }
+    ensures asked { is_asked result ≡ true → may_be_due marks.now ≡ true }
 {
     if transition.after != NodeState::Operational {
         return Turn::Quiet;
@@ -148,7 +148,6 @@ fn take_asked<S: ObjectStore>(schedule: &mut Schedule, store: &S, asked: Asked, 
         IsScheduleAfter (S.description store.now) schedule.new (with_turn
         (S.description store.now) (Turn.Asked asked) (S.contents store.now) sent.new.items history) }
     ensures few { length sent.new.items ≤ length schedule.old.tpdos }
-    ensures small { (i e : ℕ) → i < length sent.new.items → slice_index_or sent.new.items i e < 512 }
     ensures size { length schedule.new.tpdos ≡ length schedule.old.tpdos }
 {
     schedule.on_events(store, &numbers_asked(store, asked), sent);
@@ -163,7 +162,7 @@ pub(crate) fn take_turn<S: ObjectStore>(
     turn: Turn,
     sent: &mut Due,
 )
-    requires { HasTpdoNumber turn }
+    ensures idle { is_asked turn ≡ false → sent.new.items ≡ [] }
     ensures due { (history : History) →
         IsScheduleAfter (S.description store.now) schedule.old history →
         (is_asked turn ≡ true → AllCurrent (S.contents store.now) history) →
@@ -175,7 +174,6 @@ pub(crate) fn take_turn<S: ObjectStore>(
         IsScheduleAfter (S.description store.now) schedule.new (with_turn
         (S.description store.now) turn (S.contents store.now) sent.new.items history) }
     ensures few { length sent.new.items ≤ length schedule.old.tpdos }
-    ensures small { (i e : ℕ) → i < length sent.new.items → slice_index_or sent.new.items i e < 512 }
     ensures size { length schedule.new.tpdos ≡ length schedule.old.tpdos }
 {
     match turn {
@@ -200,10 +198,9 @@ fn tpdo_frame<S: ObjectStore>(
     store: &S,
     schedule: &Schedule,
     mappings: &MappingTable,
-    number: u16,
+    number: PdoNumber,
 ) -> Frame
-    requires number { number < 512 }
-    requires parts { HaveParts (S.description store.now) mappings.now }
+    requires { HaveParts (S.description store.now) mappings.now }
     ensures { (history : History) → IsScheduleAfter (S.description store.now) schedule.now history →
         IsMappingTable Tpdo (S.description store.now) (S.contents store.now) mappings.now →
         result ≡ tpdo_frame (S.description store.now) (S.contents store.now) number }
@@ -212,25 +209,24 @@ fn tpdo_frame<S: ObjectStore>(
     Frame::packed(schedule.cob_id(store, number).identifier(), &image)
 }
 
-/// Puts the frames of TPDOs into the outbox, where it has room for all of them. `schedule` is the schedule of the TPDOs
+/// Puts the frames of TPDOs into the outbox, which has room for all of them. `schedule` is the schedule of the TPDOs
 /// of the dictionary, `mappings` are their compiled mappings, as the dictionary is now.
 #[inline(always)]
 pub(crate) fn send_tpdos<S: ObjectStore>(
     store: &S,
     schedule: &Schedule,
     mappings: &MappingTable,
-    numbers: &[u16],
+    numbers: &[PdoNumber],
     outbox: &mut Outbox,
 )
-    requires numbers { (i e : ℕ) → i < length numbers.now → slice_index_or numbers.now i e < 512 }
+    requires room { length outbox.old.items + length numbers.now ≤ outbox_room }
     requires parts { HaveParts (S.description store.now) mappings.now }
     ensures { (history : History) → IsScheduleAfter (S.description store.now) schedule.now history →
         IsMappingTable Tpdo (S.description store.now) (S.contents store.now) mappings.now →
-        length outbox.old.items + length numbers.now ≤ outbox_room →
         outbox.new.items ≡ outbox.old.items
         ++ map (tpdo_frame (S.description store.now) (S.contents store.now)) numbers.now }
 {
     for &number in numbers {
-        let _ = outbox.try_push(tpdo_frame(store, schedule, mappings, number));
+        outbox.push(tpdo_frame(store, schedule, mappings, number));
     }
 }

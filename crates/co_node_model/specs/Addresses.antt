@@ -40,15 +40,6 @@ address_of channel contents id =
     else (if is_sync_id contents id then Sync
     else address_unless_channel channel contents id)
 
--- the numbers of channels are up to 127, of RPDOs up to 511, and node-IDs 1 to 127
-abbrev pub HasNumber : Address → Type 0
-HasNumber (Channel j) = j < 128
-HasNumber (Rpdo k) = k < 512
-HasNumber (ErrorControl node) = (1 ≤ node) × (node ≤ 127)
-HasNumber Nmt = Unit {0}
-HasNumber Sync = Unit {0}
-HasNumber Nobody = Unit {0}
-
 -- who takes a frame
 abbrev pub address_at : Constants → History → ℕ → Address
 address_at k history id = address_of (number_for (channels k) id) (contents_at k history) id

@@ -1,5 +1,5 @@
 -- TPDOs: what an input is to their schedule, which are due at it, and their frames (CiA 301, 7.2.2.2 to 7.2.2.4, 7.5.2.37).
-use Rattle.std.specs.Prelude.{ℕ, length, Bool, false, ◌&&◌, List, [], ◌∷◌, ◌==◌, ◌||◌, Option, Some, None, if◌then◌else◌, ◌-◌, is_some, not, ◌<◌}
+use Rattle.std.specs.Prelude.{ℕ, length, Bool, false, ◌&&◌, List, [], ◌∷◌, ◌==◌, ◌||◌, Option, Some, None, if◌then◌else◌, ◌-◌, is_some, not}
 use Rattle.std.specs.List.{list_any, filter}
 use Rattle.co_value.specs.declared.key.Key.{Key}
 use Rattle.co_value.specs.Keys.{same_key}
@@ -88,15 +88,6 @@ abbrev pub turn_of : Marks → Transition → Turn
 turn_of marks t =
     if not (is_state Operational t.after) then turn.Quiet
     else (if not (is_state Operational t.before) then turn.StartAll else turn_with marks.set marks)
-
--- a TPDO that starts has a number below 512
-abbrev pub HasTpdoNumber : Turn → Type 0
-HasTpdoNumber turn.Quiet = Unit {0}
-HasTpdoNumber turn.StartAll = Unit {0}
-HasTpdoNumber (turn.Start k part) = k < 512
-HasTpdoNumber (turn.Sync counter) = Unit {0}
-HasTpdoNumber (turn.Asked asked) = Unit {0}
-HasTpdoNumber turn.Tick = Unit {0}
 
 -- ---- which are due
 

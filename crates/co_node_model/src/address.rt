@@ -1,5 +1,7 @@
 //! Who takes a frame.
 
+use co_pdo::PdoNumber;
+
 /// Who takes a received frame: the first that its identifier fits, in this order (CiA 301, 7.3.5).
 #[derive(Clone, Copy, Debug, PartialEq, Eq, Hash)]
 pub enum Address {
@@ -9,8 +11,8 @@ pub enum Address {
     Sync,
     /// The SDO channel with this number, 0 to 127.
     Channel(u8),
-    /// The active RPDO with this number, 0 to 511.
-    Rpdo(u16),
+    /// The active RPDO with this number.
+    Rpdo(PdoNumber),
     /// The error control of the node with this node-ID, 1 to 127: identifier 700h + node-ID.
     ErrorControl(u8),
     /// Nobody: the frame is ignored.

@@ -1,7 +1,7 @@
 //! What the schedule of TPDOs is asked.
 
 use crate::marks::Asked;
-use co_pdo::Part;
+use co_pdo::{Part, PdoNumber};
 
 /// What an input is to the schedule of TPDOs (CiA 301, 7.2.2.2 to 7.2.2.4).
 #[derive(Clone, Copy, Debug, PartialEq, Eq, Hash)]
@@ -11,7 +11,7 @@ pub enum Turn {
     /// NMT state operational was entered: all TPDOs start.
     StartAll,
     /// An entry of the TPDO with this number was written: it starts, whole or its event timer.
-    Start(u16, Part),
+    Start(PdoNumber, Part),
     /// A SYNC came, with its counter where its data are exactly one byte.
     Sync(Option<u8>),
     /// The application gave an event.

@@ -3,7 +3,6 @@ mod Logs
 mod Lists
 mod Built
 mod Numbers
-mod Small
 mod Histories
 mod Words
 mod Parts

@@ -1,5 +1,5 @@
 -- Which countdowns a TPDO has after its log.
-use Rattle.std.specs.Prelude.{◌≡◌, ℕ, ◌-◌, ◌%◌, nat_le, true, List, [], ◌∷◌, Option, Some, None}
+use Rattle.std.specs.Prelude.{◌≡◌, ℕ, ◌-◌, ◌%◌, true, List, [], ◌∷◌, Option, Some, None}
 use Rattle.co_frame.specs.InhibitTimes.{in_ms}
 use Rattle.co_profile.specs.TransmissionTypes.{is_synchronous}
 use Rattle.co_pdo.specs.declared.settings.Settings.{Settings}

@@ -1,9 +1,10 @@
 //! What is mapped into a PDO.
 
-ghost use Rattle.std.specs.Prelude.{◌≡◌, ◌≤◌, ◌<◌, true, None, IfSome};
+ghost use Rattle.std.specs.Prelude.{◌≡◌, ◌≤◌, true, None, IfSome};
 ghost use Rattle.co_dict.specs.MappingCounts.{is_mapping_index, count_refusal};
 ghost use Rattle.co_pdo.specs.Mappings.{mapped_by, mapped_words, mapping_of, width_in, total_of, all_there};
 
+use crate::pdo_number::PdoNumber;
 use crate::pdos::{has_pdo, mapping_index};
 use arrayvec::ArrayVec;
 use co_dict::{
@@ -95,10 +96,9 @@ fn read_words<S: ObjectStore>(store: &S, side: Side, index: u16, count: u8) -> A
 }
 
 impl Mapping {
-    /// What PDO k, 0 to 511, of a side maps: what its counted words map. Nothing where there is no such PDO, where its
+    /// What PDO k of a side maps: what its counted words map. Nothing where there is no such PDO, where its
     /// count is 0, and where the count's own rule would refuse it on a PDO that is not valid.
-    pub fn read<S: ObjectStore>(store: &S, side: Side, k: u16) -> Mapping
-        requires { k < 512 }
+    pub fn read<S: ObjectStore>(store: &S, side: Side, k: PdoNumber) -> Mapping
         ensures mapping { result ≡
             mapping_of side (S.description store.now) (S.contents store.now) k }
         ensures there { all_there (S.description store.now).rows result ≡ true }

@@ -14,6 +14,7 @@ ghost use Rattle.co_pdo.specs.Pdos.{cob_id_of};
 ghost use Rattle.co_profile.specs.Keys.{counter_overflow_key};
 ghost use Rattle.co_pdo.specs.Tpdos.{tpdo_key, is_active, places_of, settings_of};
 
+use crate::pdo_number::PdoNumber;
 use crate::settings::Settings;
 use co_dict::{CobId, ObjectStore, place_laws, store_laws};
 use co_profile::{IndexRange, TransmissionType, keys};
@@ -40,12 +41,11 @@ pub struct Places {
 }
 
 /// The key of a sub-index of the communication parameter of TPDO k.
-fn tpdo_key(k: u16, sub: u8) -> Key
-    requires { k < 512 }
+fn tpdo_key(k: PdoNumber, sub: u8) -> Key
     ensures { result ≡ tpdo_key k sub }
 {
     Key {
-        index: IndexRange::TPDO_COMMUNICATION.nth(k),
+        index: IndexRange::TPDO_COMMUNICATION.nth(k.get()),
         sub,
     }
 }
@@ -114,8 +114,7 @@ fn number_u32<S: ObjectStore>(store: &S, place: Option<u32>) -> u32
 
 impl Places {
     /// Those of TPDO k.
-    pub(crate) fn of<S: ObjectStore>(store: &S, k: u16) -> Places
-        requires { k < 512 }
+    pub(crate) fn of<S: ObjectStore>(store: &S, k: PdoNumber) -> Places
         ensures { result ≡ places_of (S.description store.now) k }
     {
         Places {
@@ -125,7 +124,7 @@ impl Places {
             event_timer: store.place(tpdo_key(k, 5)),
             start_value: store.place(tpdo_key(k, 6)),
             mapped: store.place(Key {
-                index: IndexRange::TPDO_MAPPING.nth(k),
+                index: IndexRange::TPDO_MAPPING.nth(k.get()),
                 sub: 0,
             }),
             counter_overflow: store.place(keys::SYNC_COUNTER_OVERFLOW),

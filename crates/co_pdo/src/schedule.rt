@@ -1,7 +1,6 @@
 //! Which TPDOs are due.
 
-ghost use Rattle.std.specs.Prelude.{◌≡◌, ℕ, ◌<◌, ◌≤◌, ◌==◌, false, [], length, IfOk};
-ghost use Rattle.std.specs.List.{slice_index_or};
+ghost use Rattle.std.specs.Prelude.{◌≡◌, ℕ, ◌≤◌, ◌==◌, false, [], length, IfOk};
 ghost use Rattle.co_dict.specs.declared.side.Side.{Side};
 ghost use Rattle.co_pdo.specs.declared.settings.Settings.{Settings};
 ghost use Rattle.co_pdo.specs.Pdos.{cob_id_of};
@@ -25,6 +24,7 @@ ghost use Rattle.co_pdo.specs.Schedules.{
   AllCurrent,
 };
 
+use crate::pdo_number::PdoNumber;
 use crate::pdos::cob_id;
 use crate::places::Places;
 use crate::tpdo::{Occasion, Part, Tpdo};
@@ -78,25 +78,24 @@ impl Schedule {
         self.tpdos.len()
     }
 
-    /// The COB-ID word of TPDO k, 0 to 511; 0 where there is no such TPDO (CiA 301, 7.5.2.37). Where the dictionary has
+    /// The COB-ID word of TPDO k; 0 where there is no such TPDO (CiA 301, 7.5.2.37). Where the dictionary has
     /// each TPDO before it, it is read by its place, without a search.
-    pub fn cob_id<S: ObjectStore>(&self, store: &S, k: u16) -> CobId
-        requires { k < 512 }
+    pub fn cob_id<S: ObjectStore>(&self, store: &S, k: PdoNumber) -> CobId
         ensures { (history : History) →
             IsScheduleAfter (S.description store.now) self.now history →
             result.0 ≡ cob_id_of Side.Tpdo (S.contents store.now) k }
     {
-        let place = usize::from(k);
+        let number = k.get();
+        let place = usize::from(number);
         match self.tpdos.get(place) {
-            Some(tpdo) if tpdo.number == k => self.places[place].cob_id(store),
+            Some(tpdo) if tpdo.number.get() == number => self.places[place].cob_id(store),
             _ => cob_id(store, Side::Tpdo, k),
         }
     }
 
-    /// Starts TPDO k, 0 to 511: the whole TPDO, as it enters NMT state operational and after a write of its COB-ID or
+    /// Starts TPDO k: the whole TPDO, as it enters NMT state operational and after a write of its COB-ID or
     /// transmission type, or its event timer alone, after a write of that. Nothing happens where there is no such TPDO.
-    pub fn start<S: ObjectStore>(&mut self, store: &S, k: u16, part: Part)
-        requires { k < 512 }
+    pub fn start<S: ObjectStore>(&mut self, store: &S, k: PdoNumber, part: Part)
         ensures after { (history : History) →
             IsScheduleAfter (S.description store.now) self.old history →
             IsScheduleAfter (S.description store.now) self.new
@@ -153,17 +152,14 @@ impl Schedule {
             IsCurrent s
             (log_of j (with_sync counter (S.contents store.now) sent.new.items history)) }
         ensures few { length sent.new.items ≤ length self.old.tpdos }
-        ensures small { (i e : ℕ) → i < length sent.new.items →
-            slice_index_or sent.new.items i e < 512 }
         ensures size { length self.new.tpdos ≡ length self.old.tpdos }
     {
         let sync = Occasion::Sync(counter_overflow(&self.places, store), counter);
         all_happen(&mut self.tpdos, &self.places, sync, store, sent);
     }
 
-    /// An event came for TPDO k, 0 to 511: whether the TPDO is due, and then counts as sent. False where there is none.
-    pub fn on_event<S: ObjectStore>(&mut self, store: &S, k: u16) -> bool
-        requires { k < 512 }
+    /// An event came for TPDO k: whether the TPDO is due, and then counts as sent. False where there is none.
+    pub fn on_event<S: ObjectStore>(&mut self, store: &S, k: PdoNumber) -> bool
         ensures due { (history : History) →
             IsScheduleAfter (S.description store.now) self.old history →
             AllCurrent (S.contents store.now) history →
@@ -200,8 +196,6 @@ impl Schedule {
             IsCurrent s (log_of j history) → IsCurrent s
             (log_of j (with_events numbers.now (S.contents store.now) sent.new.items history)) }
         ensures few { length sent.new.items ≤ length self.old.tpdos }
-        ensures small { (i e : ℕ) → i < length sent.new.items →
-            slice_index_or sent.new.items i e < 512 }
         ensures size { length self.new.tpdos ≡ length self.old.tpdos }
     {
         all_happen_among(&mut self.tpdos, &self.places, numbers, store, sent);
@@ -223,8 +217,6 @@ impl Schedule {
             IsCurrent s (log_of j history) →
             IsCurrent s (log_of j (with_tick (S.contents store.now) sent.new.items history)) }
         ensures few { length sent.new.items ≤ length self.old.tpdos }
-        ensures small { (i e : ℕ) → i < length sent.new.items →
-            slice_index_or sent.new.items i e < 512 }
         ensures size { length self.new.tpdos ≡ length self.old.tpdos }
     {
         all_happen(&mut self.tpdos, &self.places, Occasion::Tick, store, sent);

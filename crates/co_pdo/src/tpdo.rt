@@ -9,6 +9,7 @@ ghost use Rattle.co_pdo.specs.Countdowns.{IsAfter, IsCurrent};
 ghost use Rattle.co_pdo.specs.Schedules.{is_among, with_event_if};
 ghost use Rattle.co_pdo.specs.Steps.{counts, counted, passes_over, wants, marked};
 
+use crate::pdo_number::PdoNumber;
 use crate::places::Places;
 use crate::settings::{Settings, begins_count};
 use co_dict::ObjectStore;
@@ -37,8 +38,8 @@ pub enum Part {
 /// What is counted for one TPDO, in 16 bytes. A tick reads more of it only where these countdowns make it due.
 #[derive(Clone, Copy, Debug)]
 pub struct Tpdo {
-    /// k of 1800h + k, 0 to 511.
-    pub number: u16,
+    /// k of 1800h + k.
+    pub number: PdoNumber,
     /// As at the last whole start.
     pub transmission_type: TransmissionType,
     /// The inhibit time in ms, as at the last whole start.
@@ -59,9 +60,16 @@ pub struct Tpdo {
     pub timer_left: u16,
 }
 
+/// Whether a number is one of those.
+fn is_among(number: PdoNumber, numbers: &[u16]) -> bool
+    ensures { result ≡ is_among number numbers.now }
+{
+    numbers.contains(&number.get())
+}
+
 impl Tpdo {
     /// A TPDO that was never started.
-    pub(crate) fn new(number: u16) -> Tpdo
+    pub(crate) fn new(number: PdoNumber) -> Tpdo
         ensures number { result.number ≡ number }
         ensures after { IsAfter result [] }
     {
@@ -232,7 +240,7 @@ impl Tpdo {
             IsAfter self.old log → IsCurrent s log →
             IsAfter self.new (with_event_if (is_among self.old.number numbers.now) s log) }
     {
-        if numbers.contains(&self.number) {
+        if is_among(self.number, numbers) {
             self.happens(Occasion::Event, store, places)
         } else {
             false

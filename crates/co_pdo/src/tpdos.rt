@@ -1,7 +1,7 @@
 //! All TPDOs of a dictionary.
 
 ghost use Rattle.std.specs.Prelude.{◌≡◌, ℕ, ◌<◌, ◌≤◌, ◌==◌, ◌&&◌, List, [], length, map, position, IfOk};
-ghost use Rattle.std.specs.List.{filter, slice_index_or};
+ghost use Rattle.std.specs.List.{filter};
 ghost use Rattle.co_dict.specs.Rows.{number_at};
 ghost use Rattle.co_profile.specs.Keys.{counter_overflow_key};
 ghost use Rattle.co_pdo.specs.Tpdos.{settings_of, tpdos_of};
@@ -18,6 +18,7 @@ ghost use Rattle.co_pdo.specs.Schedules.{
   with_events_among,
 };
 
+use crate::pdo_number::PdoNumber;
 use crate::pdos::has_pdo;
 use crate::places::Places;
 use crate::tpdo::{Occasion, Part, Tpdo};
@@ -26,7 +27,7 @@ use co_dict::{ObjectStore, Side};
 use std::alloc::{AllocError, Global};
 
 /// The numbers of TPDOs that are due, increasing.
-pub type Due = ArrayVec<u16, 512>;
+pub type Due = ArrayVec<PdoNumber, 512>;
 
 /// The TPDOs that the dictionary has, none of them started.
 pub(crate) fn tpdos_in<S: ObjectStore>(alloc: Global, store: &S) -> Result<Vec<Tpdo>, AllocError>
@@ -37,8 +38,9 @@ pub(crate) fn tpdos_in<S: ObjectStore>(alloc: Global, store: &S) -> Result<Vec<T
 {
     let mut tpdos = Vec::with_capacity(alloc, 512)?;
     for k in 0..512u16 {
-        if has_pdo(store, Side::Tpdo, k) {
-            tpdos.push_reserved(Tpdo::new(k));
+        let number = PdoNumber::of(k);
+        if has_pdo(store, Side::Tpdo, number) {
+            tpdos.push_reserved(Tpdo::new(number));
         }
     }
     Ok(tpdos)
@@ -98,8 +100,6 @@ pub(crate) fn all_happen<S: ObjectStore>(
         AllAfter tpdos.new
         (with_occasion (S.contents store.now) occasion logs) }
     ensures few { length sent.new.items ≤ length tpdos.old }
-    ensures small { (i e : ℕ) → i < length sent.new.items →
-        slice_index_or sent.new.items i e < 512 }
 {
     sent.clear();
     for i in 0..tpdos.len() {
@@ -135,8 +135,6 @@ pub(crate) fn all_happen_among<S: ObjectStore>(
         AllAfter tpdos.new
         (with_events_among numbers.now (S.contents store.now) logs) }
     ensures few { length sent.new.items ≤ length tpdos.old }
-    ensures small { (i e : ℕ) → i < length sent.new.items →
-        slice_index_or sent.new.items i e < 512 }
 {
     sent.clear();
     for i in 0..tpdos.len() {
@@ -165,8 +163,10 @@ pub(crate) fn all_start<S: ObjectStore>(tpdos: &mut [Tpdo], places: &[Places], s
 }
 
 /// The place of the TPDO with a number.
-pub(crate) fn place_of(tpdos: &[Tpdo], k: u16) -> Option<usize>
-    ensures { result ≡ position (λ t. t.number == k) tpdos.now }
+pub(crate) fn place_of(tpdos: &[Tpdo], k: PdoNumber) -> Option<usize>
+    ensures place { result ≡ position (λ t. t.number == k) tpdos.now }
+    ensures small { k < 512 }
 {
-    tpdos.iter().position(|tpdo| tpdo.number == k)
+    let number = k.get();
+    tpdos.iter().position(|tpdo| tpdo.number.get() == number)
 }

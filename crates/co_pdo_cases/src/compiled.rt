@@ -4,7 +4,7 @@ use crate::data::ROWS;
 use crate::device::{device, image_device};
 use arrayvec::ArrayVec;
 use co_dict::ObjectStore;
-use co_pdo::{PdoFault, Side};
+use co_pdo::{PdoFault, PdoNumber, Side};
 use co_pdo_compiled::{Compiled, apply_at, image_at};
 use std::test::Fail;
 
@@ -13,9 +13,9 @@ fn exchange<S: ObjectStore>(
     store: &mut S,
     bytes: &[u8],
 ) -> (Result<(), PdoFault>, ArrayVec<u8, 8>, ArrayVec<u8, 8>) {
-    let rpdo = Compiled::of(store, Side::Rpdo, 0);
-    let number = Compiled::of(store, Side::Tpdo, 0);
-    let limited = Compiled::of(store, Side::Tpdo, 1);
+    let rpdo = Compiled::of(store, Side::Rpdo, PdoNumber::of(0));
+    let number = Compiled::of(store, Side::Tpdo, PdoNumber::of(0));
+    let limited = Compiled::of(store, Side::Tpdo, PdoNumber::of(1));
     let answer = apply_at(store, &rpdo, bytes);
     (
         answer,
@@ -49,7 +49,7 @@ fn compiled_mappings(rt: HostRuntime) -> Result<(), Fail> {
         (Side::Tpdo, 1, 1, 2),
         (Side::Tpdo, 511, 0, 0),
     ] {
-        let compiled = Compiled::of(&store, side, k);
+        let compiled = Compiled::of(&store, side, PdoNumber::of(k));
         assert_eq!(rt; compiled.mapped().len(), count, "{side:?} {k}");
         assert_eq!(rt; compiled.width(), width, "{side:?} {k}");
     }

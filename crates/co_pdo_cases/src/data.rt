@@ -2,7 +2,9 @@
 
 use crate::device::device;
 use co_dict::ObjectStore;
-use co_pdo::{Mapped, Mapping, PdoFault, Side, apply, cob_id, has_pdo, image, is_active};
+use co_pdo::{
+    Mapped, Mapping, PdoFault, PdoNumber, Side, apply, cob_id, has_pdo, image, is_active,
+};
 use co_value::Key;
 use std::test::Fail;
 
@@ -40,19 +42,28 @@ fn mappings(rt: HostRuntime) -> Result<(), Fail> {
         (Side::Tpdo, 1, true, 0x285),
         (Side::Tpdo, 511, false, 0),
     ] {
-        assert_eq!(rt; has_pdo(&store, side, k), is_there, "{side:?} {k}");
-        assert_eq!(rt; is_active(&store, side, k), is_there, "{side:?} {k}");
-        assert_eq!(rt; cob_id(&store, side, k).0, word, "{side:?} {k}");
+        let number = PdoNumber::of(k);
+        assert_eq!(rt; has_pdo(&store, side, number), is_there, "{side:?} {k}");
+        assert_eq!(rt; is_active(&store, side, number), is_there, "{side:?} {k}");
+        assert_eq!(rt; cob_id(&store, side, number).0, word, "{side:?} {k}");
     }
     let number = Mapped::Entry(NUMBER, 4);
     let limited = Mapped::Entry(LIMITED, 2);
     assert_eq!(rt; number.width(), 4);
-    let rpdo = Mapping::read(&store, Side::Rpdo, 0);
+    let rpdo = Mapping::read(&store, Side::Rpdo, PdoNumber::of(0));
     assert_eq!(rt; rpdo.entries(), [number, limited].as_slice());
     assert_eq!(rt; rpdo.width(), 6);
-    let tpdo = Mapping::read(&store, Side::Tpdo, 1);
+    let tpdo = Mapping::read(&store, Side::Tpdo, PdoNumber::of(1));
     assert_eq!(rt; tpdo.entries(), [limited].as_slice());
-    assert!(rt; Mapping::read(&store, Side::Tpdo, 511).entries().is_empty());
+    assert!(rt; Mapping::read(&store, Side::Tpdo, PdoNumber::of(511)).entries().is_empty());
+    Ok(())
+}
+
+#[test]
+fn numbers(rt: HostRuntime) -> Result<(), Fail> {
+    assert_eq!(rt; PdoNumber::new(511), Some(PdoNumber::of(511)));
+    assert_eq!(rt; PdoNumber::new(512), None);
+    assert_eq!(rt; PdoNumber::of(511).get(), 511);
     Ok(())
 }
 
@@ -60,11 +71,11 @@ fn mappings(rt: HostRuntime) -> Result<(), Fail> {
 fn data(rt: HostRuntime) -> Result<(), Fail> {
     let mut store = device(rt.alloc())?;
     for (bytes, answer, sent) in ROWS {
-        let rpdo = Mapping::read(&store, Side::Rpdo, 0);
+        let rpdo = Mapping::read(&store, Side::Rpdo, PdoNumber::of(0));
         assert_eq!(rt; apply(&mut store, &rpdo, bytes), answer, "{bytes:?}");
-        let number = Mapping::read(&store, Side::Tpdo, 0);
+        let number = Mapping::read(&store, Side::Tpdo, PdoNumber::of(0));
         assert_eq!(rt; image(&store, &number).as_slice(), &sent[..4]);
-        let limited = Mapping::read(&store, Side::Tpdo, 1);
+        let limited = Mapping::read(&store, Side::Tpdo, PdoNumber::of(1));
         assert_eq!(rt; image(&store, &limited).as_slice(), &sent[4..]);
     }
     Ok(())

@@ -7,7 +7,7 @@
 
 use crate::device::{device, image_device, write};
 use co_dict_list::ListStore;
-use co_pdo::{CobId, Due, Part, Schedule};
+use co_pdo::{CobId, Due, Part, PdoNumber, Schedule};
 use std::alloc::Global;
 use std::test::Fail;
 
@@ -43,7 +43,7 @@ fn writes_as_said(store: &mut ListStore, place: &str, rest: &str) -> Result<bool
 fn due_at(schedule: &mut Schedule, store: &ListStore, call: u8) -> u8 {
     let mut due = Due::new();
     match call {
-        b'e' => return if schedule.on_event(store, 0) {
+        b'e' => return if schedule.on_event(store, PdoNumber::of(0)) {
             b'0'
         } else {
             b'.'
@@ -55,8 +55,8 @@ fn due_at(schedule: &mut Schedule, store: &ListStore, call: u8) -> u8 {
     }
     match due.as_slice() {
         [] => b'.',
-        [0] => b'0',
-        [1] => b'1',
+        [number] if number.get() == 0 => b'0',
+        [number] if number.get() == 1 => b'1',
         _ => b'*',
     }
 }
@@ -64,9 +64,9 @@ fn due_at(schedule: &mut Schedule, store: &ListStore, call: u8) -> u8 {
 /// Starts what a letter says; false for other letters.
 fn starts(schedule: &mut Schedule, store: &ListStore, call: u8) -> bool {
     match call {
-        b's' => schedule.start(store, 0, Part::Whole),
+        b's' => schedule.start(store, PdoNumber::of(0), Part::Whole),
         b'u' => schedule.start_all(store),
-        b'r' => schedule.start(store, 1, Part::Timer),
+        b'r' => schedule.start(store, PdoNumber::of(1), Part::Timer),
         _ => return false,
     }
     true
@@ -108,7 +108,7 @@ fn cob_ids(rt: HostRuntime) -> Result<(), Fail> {
     let store = image_device(rt.alloc())?;
     let schedule = Schedule::new(rt.alloc(), &store)?;
     for (k, word) in [(0, 0x185), (1, 0x285), (511, 0)] {
-        assert_eq!(rt; schedule.cob_id(&store, k), CobId(word), "{k}");
+        assert_eq!(rt; schedule.cob_id(&store, PdoNumber::of(k)), CobId(word), "{k}");
     }
     Ok(())
 }

@@ -1,6 +1,6 @@
 //! A compiled mapping.
 
-ghost use Rattle.std.specs.Prelude.{◌≡◌, ◌≤◌, ◌<◌, true, length};
+ghost use Rattle.std.specs.Prelude.{◌≡◌, ◌≤◌, true, length};
 ghost use Rattle.std.specs.List.{list_any};
 ghost use Rattle.co_pdo.specs.Mappings.{mapping_of, total_of, all_there};
 ghost use Rattle.co_pdo_compiled.specs.CompiledMappings.{mapping_in, is_limited, IsCompiledForm, HasParts};
@@ -8,7 +8,7 @@ ghost use Rattle.co_pdo_compiled.specs.CompiledMappings.{mapping_in, is_limited,
 use crate::part::Part;
 use arrayvec::ArrayVec;
 use co_dict::{ObjectStore, Side};
-use co_pdo::{Mapped, Mapping};
+use co_pdo::{Mapped, Mapping, PdoNumber};
 use std::marker::Model;
 
 /// What a PDO maps, in the order of its data, with the places and the rows of the entries (CiA 301, 7.5.2.36,
@@ -56,9 +56,8 @@ fn parts_of<S: ObjectStore>(store: &S, entries: &[Mapped]) -> ArrayVec<Part, 8>
 }
 
 impl Compiled {
-    /// The compiled form of what PDO k, 0 to 511, of a side maps: of `Mapping::read` as the dictionary is now.
-    pub fn of<S: ObjectStore>(store: &S, side: Side, k: u16) -> Compiled
-        requires { k < 512 }
+    /// The compiled form of what PDO k of a side maps: of `Mapping::read` as the dictionary is now.
+    pub fn of<S: ObjectStore>(store: &S, side: Side, k: PdoNumber) -> Compiled
         ensures { IsCompiledForm (S.description store.now)
             (mapping_of side (S.description store.now) (S.contents store.now) k) result }
     {

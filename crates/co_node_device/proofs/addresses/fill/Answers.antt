@@ -1,9 +1,10 @@
 use Rattle.std.proofs.Common.{ap, sym, ◌∙◌, arith}
 use Rattle.std.specs.Prelude.{ℕ, Option, None}
+use Rattle.std.specs.List.{find, range_with_len}
 use Rattle.std.specs.Option.{option_or}
 use Rattle.co_node_model.specs.Rpdos.{is_rpdo_with}
 use Rattle.co_node_device.specs.AddressTables.{number_if}
-use Rattle.co_node_device.proofs.Finds.{find_more, below_entered, found_to_the_end}
+use Rattle.co_node_device.proofs.Finds.{find_more, found_to_the_end}
 use Rattle.co_node_device.proofs.addresses.fill.Goals as goal
 
 pub loop-number-preserved : goal.loop-number-preserved
@@ -12,10 +13,9 @@ loop-number-preserved g c =
     let contents = g.S.ObjectStore.contents c.args.store.now in
     let number = c.loop-number.number in
     record {
-      below = λ id d within. below_entered _ _ (is_rpdo_with contents id number) number (c.enter.ensures id d within)
-          (omega arith) (i.below id d within);
       first = λ id within. c.enter.ensures id None within
-          ∙ ap (λ (o : Option ℕ). option_or o (number_if (is_rpdo_with contents id number) number)) (i.first id within)
+          ∙ ap (λ (o : Option ℕ). option_or o (number_if (is_rpdo_with contents id c.of-k.result) c.of-k.result)) (i.first id within)
+          ∙ ap (λ (n : ℕ). option_or (find (is_rpdo_with contents id) (range_with_len 0 number)) (number_if (is_rpdo_with contents id n) n)) c.of-k.ensures
           ∙ sym (find_more (is_rpdo_with contents id) number);
     }
 

@@ -1,4 +1,4 @@
-use Rattle.std.proofs.Common.{sym, ◌∙◌, arith}
+use Rattle.std.proofs.Common.{sym, ap, ◌∙◌, arith}
 use Rattle.co_pdo.specs.Mappings.{has_pdo}
 use Rattle.co_node_device.proofs.Tables.{covers_more}
 use Rattle.co_node_device.proofs.mapping_table.count_of.Goals as goal
@@ -12,7 +12,7 @@ loop-k-preserved g c = let i = c.loop-k.invariant in elim c.if-has_pdo.branch [
   })
   | else-has_pdo w ↦ rw w.count-is (record {
     covers = covers_more (has_pdo c.args.side (g.S.ObjectStore.description c.args.store.now).rows) c.loop-k.k c.loop-k.count i.covers
-        (sym c.has_pdo.ensures ∙ w.if-has_pdo.false);
+        (ap (has_pdo c.args.side (g.S.ObjectStore.description c.args.store.now).rows) (sym c.of-number.ensures) ∙ sym c.has_pdo.ensures ∙ w.if-has_pdo.false);
     few = omega arith;
   })
 ]

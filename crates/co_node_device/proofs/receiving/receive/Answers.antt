@@ -1,7 +1,7 @@
 use Rattle.co_node_model.specs.Moments.{channels}
 use Rattle.co_node_model.specs.Addresses.{address_at}
 use Rattle.co_node_model.specs.Sdo.{channel_logs}
-use Rattle.co_node_model.specs.Inputs.{Written, ChangedAt}
+use Rattle.co_node_model.specs.Inputs.{Written, EventOn, ChangedAt}
 use Rattle.co_node_device.proofs.Receptions.{at_address, event_frames, event_channels, write_queues}
 use Rattle.co_node_device.proofs.receiving.receive.Goals as goal
 
@@ -29,18 +29,22 @@ pub returns-in-Write-clause-emergencies : goal.returns-in-Write-clause-emergenci
 returns-in-Write-clause-emergencies g c = λ k history log before addressed stands.
     rw c.in-Write.is (write_queues k history c.args.emergencies.now log c.in-Write.key c.in-Write.bytes.now stands)
 
+pub returns-in-Event-clause-channels : goal.returns-in-Event-clause-channels
+returns-in-Event-clause-channels g c = λ k history before addressed.
+    rw c.in-Event.is (event_channels k history _ c.args.bank.now (EventOn c.in-Event.number) before.channels)
+
 pub returns-in-Changed-clause-channels : goal.returns-in-Changed-clause-channels
 returns-in-Changed-clause-channels g c = λ k history before addressed.
     rw c.in-Changed.is (event_channels k history _ c.args.bank.now (ChangedAt c.in-Changed.key) before.channels)
 
 pub returns-in-Frame-clause-marks : goal.returns-in-Frame-clause-marks
 returns-in-Frame-clause-marks g c = rw c.in-Frame.is (λ k history before addressed.
-    (at_address c.args.frame.now c.in-Frame.address (address_at k history c.args.frame.now.id) addressed (c.take_frame.ensures.received k history before)).marks)
+    (at_address c.args.frame.now c.args.address (address_at k history c.args.frame.now.id) addressed (c.take_frame.ensures.received k history before)).marks)
 
 pub returns-in-Frame-clause-contents : goal.returns-in-Frame-clause-contents
 returns-in-Frame-clause-contents g c = rw c.in-Frame.is (λ k history before addressed.
-    (at_address c.args.frame.now c.in-Frame.address (address_at k history c.args.frame.now.id) addressed (c.take_frame.ensures.received k history before)).contents)
+    (at_address c.args.frame.now c.args.address (address_at k history c.args.frame.now.id) addressed (c.take_frame.ensures.received k history before)).contents)
 
 pub returns-in-Frame-clause-channels : goal.returns-in-Frame-clause-channels
 returns-in-Frame-clause-channels g c = rw c.in-Frame.is (λ k history before addressed.
-    (at_address c.args.frame.now c.in-Frame.address (address_at k history c.args.frame.now.id) addressed (c.take_frame.ensures.received k history before)).channels)
+    (at_address c.args.frame.now c.args.address (address_at k history c.args.frame.now.id) addressed (c.take_frame.ensures.received k history before)).channels)

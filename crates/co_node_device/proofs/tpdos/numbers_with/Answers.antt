@@ -1,4 +1,4 @@
-use Rattle.std.proofs.Common.{sym, ◌∙◌, arith}
+use Rattle.std.proofs.Common.{sym, ap, ◌∙◌, arith}
 use Rattle.co_node_model.specs.Tpdos.{is_mapped_into}
 use Rattle.co_node_device.proofs.Numbers.{one_more, no_more, few_pushed, all_numbers}
 use Rattle.co_node_device.proofs.tpdos.numbers_with.Goals as goal
@@ -13,12 +13,12 @@ loop-number-preserved g c =
       | then-is_mapped_into w ↦ rw w.numbers-is (record {
         few = few_pushed c.loop-number.numbers.items _ _ _ w.push.ensures.items i.few;
         numbers = one_more p c.loop-number.number c.loop-number.numbers.items _ w.push.ensures.items
-            (sym c.is_mapped_into.ensures ∙ w.if-is_mapped_into.true) i.numbers;
+            (ap p (sym c.of-k.ensures) ∙ sym c.is_mapped_into.ensures ∙ w.if-is_mapped_into.true) i.numbers;
       })
       | else-is_mapped_into w ↦ rw w.numbers-is (record {
         few = omega arith;
         numbers = no_more p c.loop-number.number c.loop-number.numbers.items
-            (sym c.is_mapped_into.ensures ∙ w.if-is_mapped_into.false) i.numbers;
+            (ap p (sym c.of-k.ensures) ∙ sym c.is_mapped_into.ensures ∙ w.if-is_mapped_into.false) i.numbers;
       })
     ]
 

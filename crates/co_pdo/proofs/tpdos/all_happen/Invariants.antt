@@ -13,7 +13,6 @@ use Rattle.co_pdo.proofs.tpdos.all_happen.Given as goal
 abbrev pub invariant-loop-i : goal.invariant-loop-i
 invariant-loop-i g l = record {
   few : length l.sent.items ≤ l.i;
-  small : (j e : ℕ) → j < length l.sent.items → get_or l.sent.items j e < 512;
   numbers : map (λ t. t.number) l.tpdos ≡ map (λ t. t.number) l.fn.tpdos;
   rest : (j : ℕ) (d : Tpdo) → l.i ≤ j → get_or l.tpdos j d ≡ get_or l.fn.tpdos j d;
   due : (logs : ℕ → Log) → ArePlaces (g.S.ObjectStore.description l.fn.store) (map (λ t. t.number) l.fn.tpdos) l.fn.places → AllAfter l.fn.tpdos logs → AllCurrentAfter (g.S.ObjectStore.contents l.fn.store) logs

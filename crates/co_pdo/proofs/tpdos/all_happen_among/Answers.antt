@@ -1,7 +1,6 @@
 use Rattle.std.proofs.Common.{◌≡◌, cond, [], ◌∷◌, ◌++◌, set, ap, ◌∙◌, arith}
 use Rattle.co_pdo.specs.Schedules.{with_events_among}
 use Rattle.co_pdo.proofs.Lists.{appended_true, appended_false, few_more, rest_set, numbers_set, placed_here, happened_among, done_set, due_more, due_to_the_end, done_to_the_end}
-use Rattle.co_pdo.proofs.Small.{small_here, small_more}
 use Rattle.co_pdo.proofs.tpdos.all_happen_among.Goals as goal
 use Rattle.co_pdo.proofs.tpdos.all_happen_among.Goals.{then-happens_among, else-happens_among}
 
@@ -18,9 +17,6 @@ loop-i-preserved g c =
     ] in
     rw changed (record {
       few = few_more _ _ _ _ _ i.few answered;
-      small = small_more _ _ _ _ answered
-          (small_here c.args.tpdos.now c.loop-i.tpdos c.loop-i.i _ c.happens_among.new.self c.loop-i-test.true i.rest
-          c.happens_among.ensures.number c.requires.table.small) i.small;
       numbers = numbers_set c.loop-i.tpdos c.loop-i.i c.happens_among.new.self _ c.happens_among.ensures.number ∙ i.numbers;
       rest = rest_set c.args.tpdos.now c.loop-i.tpdos _ _ i.rest;
       due = λ logs placed all current. due_more c.args.tpdos.now c.loop-i.tpdos c.loop-i.i _ c.loop-i-test.true i.rest _ _ c.happens_among.new.self c.happens_among.result c.loop-i.auto.tpdos

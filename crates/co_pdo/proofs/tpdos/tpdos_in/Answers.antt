@@ -1,4 +1,4 @@
-use Rattle.std.proofs.Common.{◌≡◌, ◌<◌, [], refl, sym, ◌∙◌, arith}
+use Rattle.std.proofs.Common.{◌≡◌, ◌<◌, [], refl, sym, ap, ◌∙◌, arith}
 use Rattle.co_pdo.specs.Tpdos.{has_tpdo, tpdo_numbers}
 use Rattle.co_pdo.specs.Countdowns.{IsAfter}
 use Rattle.co_pdo.proofs.Built.{numbers_at_the_end, numbers_pushed, numbers_kept, each_pushed}
@@ -10,14 +10,14 @@ loop-k-preserved g c = let i = c.loop-k.invariant in let p = has_tpdo (g.S.Objec
   | then-has_pdo w ↦ rw w.tpdos-is (record {
     room = w.push_reserved.ensures.capacity ∙ i.room;
     few = omega (arith, w.push_reserved.ensures.len);
-    numbers = numbers_pushed p c.loop-k.k c.loop-k.tpdos.items _ _ w.new.ensures.number w.push_reserved.ensures.items (sym c.has_pdo.ensures ∙ w.if-has_pdo.true) i.numbers;
+    numbers = numbers_pushed p c.loop-k.k c.loop-k.tpdos.items _ _ (w.new.ensures.number ∙ c.of-number.ensures) w.push_reserved.ensures.items (ap p (sym c.of-number.ensures) ∙ sym c.has_pdo.ensures ∙ w.if-has_pdo.true) i.numbers;
     after = each_pushed (λ t. IsAfter t []) c.loop-k.tpdos.items _ _ w.push_reserved.ensures.items w.new.ensures.after i.after;
-    small = each_pushed (λ t. t.number < 512) c.loop-k.tpdos.items _ _ w.push_reserved.ensures.items (omega (arith, w.new.ensures.number)) i.small;
+    small = each_pushed (λ t. t.number < 512) c.loop-k.tpdos.items _ _ w.push_reserved.ensures.items (omega (arith, w.new.ensures.number, c.of-number.ensures)) i.small;
   })
   | else-has_pdo w ↦ rw w.tpdos-is (record {
     room = i.room;
     few = omega arith;
-    numbers = numbers_kept p c.loop-k.k c.loop-k.tpdos.items _ refl (sym c.has_pdo.ensures ∙ w.if-has_pdo.false) i.numbers;
+    numbers = numbers_kept p c.loop-k.k c.loop-k.tpdos.items _ refl (ap p (sym c.of-number.ensures) ∙ sym c.has_pdo.ensures ∙ w.if-has_pdo.false) i.numbers;
     after = i.after;
     small = i.small;
   })

@@ -23,72 +23,72 @@ found {d} {entries} {parts} id address is k inputs ns = is k (moments k inputs) 
 
 pub returns-in-Nmt-clause-frames : goal.returns-in-Nmt-clause-frames
 returns-in-Nmt-clause-frames g c = λ k inputs ns.
-    c.take.ensures.frames k inputs ns (sym c.in-Nmt.is ∙ found _ _ c.find_address-address.ensures.address k inputs ns)
+    c.take.ensures.frames k inputs ns (sym c.in-Nmt.is ∙ found _ _ c.find_address-address.ensures k inputs ns)
 
 pub returns-in-Nmt-clause-few : goal.returns-in-Nmt-clause-few
 returns-in-Nmt-clause-few g c = λ k inputs ns.
-    c.take.ensures.few k inputs ns (sym c.in-Nmt.is ∙ found _ _ c.find_address-address.ensures.address k inputs ns)
+    c.take.ensures.few k inputs ns (sym c.in-Nmt.is ∙ found _ _ c.find_address-address.ensures k inputs ns)
 
 pub returns-in-Nmt-clause-stands : goal.returns-in-Nmt-clause-stands
 returns-in-Nmt-clause-stands g c = λ k inputs ns.
-    c.take.ensures.stands k inputs ns (sym c.in-Nmt.is ∙ found _ _ c.find_address-address.ensures.address k inputs ns)
+    c.take.ensures.stands k inputs ns (sym c.in-Nmt.is ∙ found _ _ c.find_address-address.ensures k inputs ns)
 
 pub returns-in-Sync-clause-frames : goal.returns-in-Sync-clause-frames
 returns-in-Sync-clause-frames g c = λ k inputs ns.
-    c.take-in-Sync.ensures.frames k inputs ns (sym c.in-Sync.is ∙ found _ _ c.find_address-address.ensures.address k inputs ns)
+    c.take-in-Sync.ensures.frames k inputs ns (sym c.in-Sync.is ∙ found _ _ c.find_address-address.ensures k inputs ns)
 
 pub returns-in-Sync-clause-few : goal.returns-in-Sync-clause-few
 returns-in-Sync-clause-few g c = λ k inputs ns.
-    c.take-in-Sync.ensures.few k inputs ns (sym c.in-Sync.is ∙ found _ _ c.find_address-address.ensures.address k inputs ns)
+    c.take-in-Sync.ensures.few k inputs ns (sym c.in-Sync.is ∙ found _ _ c.find_address-address.ensures k inputs ns)
 
 pub returns-in-Sync-clause-stands : goal.returns-in-Sync-clause-stands
 returns-in-Sync-clause-stands g c = λ k inputs ns.
-    c.take-in-Sync.ensures.stands k inputs ns (sym c.in-Sync.is ∙ found _ _ c.find_address-address.ensures.address k inputs ns)
+    c.take-in-Sync.ensures.stands k inputs ns (sym c.in-Sync.is ∙ found _ _ c.find_address-address.ensures k inputs ns)
 
 pub returns-in-Channel-clause-frames : goal.returns-in-Channel-clause-frames
 returns-in-Channel-clause-frames g c = λ k inputs ns.
-    c.take-in-Channel.ensures.frames k inputs ns (sym c.in-Channel.is ∙ found _ _ c.find_address-address.ensures.address k inputs ns)
+    c.take-in-Channel.ensures.frames k inputs ns (sym c.in-Channel.is ∙ found _ _ c.find_address-address.ensures k inputs ns)
 
 pub returns-in-Channel-clause-few : goal.returns-in-Channel-clause-few
 returns-in-Channel-clause-few g c = λ k inputs ns.
-    c.take-in-Channel.ensures.few k inputs ns (sym c.in-Channel.is ∙ found _ _ c.find_address-address.ensures.address k inputs ns)
+    c.take-in-Channel.ensures.few k inputs ns (sym c.in-Channel.is ∙ found _ _ c.find_address-address.ensures k inputs ns)
 
 pub returns-in-Channel-clause-stands : goal.returns-in-Channel-clause-stands
 returns-in-Channel-clause-stands g c = λ k inputs ns.
-    c.take-in-Channel.ensures.stands k inputs ns (sym c.in-Channel.is ∙ found _ _ c.find_address-address.ensures.address k inputs ns)
+    c.take-in-Channel.ensures.stands k inputs ns (sym c.in-Channel.is ∙ found _ _ c.find_address-address.ensures k inputs ns)
 
 pub returns-in-Rpdo-clause-frames : goal.returns-in-Rpdo-clause-frames
 returns-in-Rpdo-clause-frames g c = λ k inputs ns.
-    c.take-in-Rpdo.ensures.frames k inputs ns (sym c.in-Rpdo.is ∙ found _ _ c.find_address-address.ensures.address k inputs ns)
+    c.take-in-Rpdo.ensures.frames k inputs ns (sym c.in-Rpdo.is ∙ found _ _ c.find_address-address.ensures k inputs ns)
 
 pub returns-in-Rpdo-clause-few : goal.returns-in-Rpdo-clause-few
 returns-in-Rpdo-clause-few g c = λ k inputs ns.
-    c.take-in-Rpdo.ensures.few k inputs ns (sym c.in-Rpdo.is ∙ found _ _ c.find_address-address.ensures.address k inputs ns)
+    c.take-in-Rpdo.ensures.few k inputs ns (sym c.in-Rpdo.is ∙ found _ _ c.find_address-address.ensures k inputs ns)
 
 pub returns-in-Rpdo-clause-stands : goal.returns-in-Rpdo-clause-stands
 returns-in-Rpdo-clause-stands g c = λ k inputs ns.
-    c.take-in-Rpdo.ensures.stands k inputs ns (sym c.in-Rpdo.is ∙ found _ _ c.find_address-address.ensures.address k inputs ns)
+    c.take-in-Rpdo.ensures.stands k inputs ns (sym c.in-Rpdo.is ∙ found _ _ c.find_address-address.ensures k inputs ns)
 
 pub returns-in-ErrorControl-clause-frames : goal.returns-in-ErrorControl-clause-frames
 returns-in-ErrorControl-clause-frames g c = λ k inputs ns.
-    c.take-in-ErrorControl.ensures.frames k inputs ns (sym c.in-ErrorControl.is ∙ found _ _ c.find_address-address.ensures.address k inputs ns)
+    c.take-in-ErrorControl.ensures.frames k inputs ns (sym c.in-ErrorControl.is ∙ found _ _ c.find_address-address.ensures k inputs ns)
 
 pub returns-in-ErrorControl-clause-few : goal.returns-in-ErrorControl-clause-few
 returns-in-ErrorControl-clause-few g c = λ k inputs ns.
-    c.take-in-ErrorControl.ensures.few k inputs ns (sym c.in-ErrorControl.is ∙ found _ _ c.find_address-address.ensures.address k inputs ns)
+    c.take-in-ErrorControl.ensures.few k inputs ns (sym c.in-ErrorControl.is ∙ found _ _ c.find_address-address.ensures k inputs ns)
 
 pub returns-in-ErrorControl-clause-stands : goal.returns-in-ErrorControl-clause-stands
 returns-in-ErrorControl-clause-stands g c = λ k inputs ns.
-    c.take-in-ErrorControl.ensures.stands k inputs ns (sym c.in-ErrorControl.is ∙ found _ _ c.find_address-address.ensures.address k inputs ns)
+    c.take-in-ErrorControl.ensures.stands k inputs ns (sym c.in-ErrorControl.is ∙ found _ _ c.find_address-address.ensures k inputs ns)
 
 pub returns-in-Nobody-clause-frames : goal.returns-in-Nobody-clause-frames
 returns-in-Nobody-clause-frames g c = λ k inputs ns.
-    c.take-in-Nobody.ensures.frames k inputs ns (sym c.in-Nobody.is ∙ found _ _ c.find_address-address.ensures.address k inputs ns)
+    c.take-in-Nobody.ensures.frames k inputs ns (sym c.in-Nobody.is ∙ found _ _ c.find_address-address.ensures k inputs ns)
 
 pub returns-in-Nobody-clause-few : goal.returns-in-Nobody-clause-few
 returns-in-Nobody-clause-few g c = λ k inputs ns.
-    c.take-in-Nobody.ensures.few k inputs ns (sym c.in-Nobody.is ∙ found _ _ c.find_address-address.ensures.address k inputs ns)
+    c.take-in-Nobody.ensures.few k inputs ns (sym c.in-Nobody.is ∙ found _ _ c.find_address-address.ensures k inputs ns)
 
 pub returns-in-Nobody-clause-stands : goal.returns-in-Nobody-clause-stands
 returns-in-Nobody-clause-stands g c = λ k inputs ns.
-    c.take-in-Nobody.ensures.stands k inputs ns (sym c.in-Nobody.is ∙ found _ _ c.find_address-address.ensures.address k inputs ns)
+    c.take-in-Nobody.ensures.stands k inputs ns (sym c.in-Nobody.is ∙ found _ _ c.find_address-address.ensures k inputs ns)

@@ -1,0 +1,63 @@
+//! The number of a PDO.
+
+ghost use Rattle.std.specs.Prelude.{◌≡◌, ◌<◌, ◌≤◌, MatchOption};
+
+use std::marker::Model;
+
+/// The number of a PDO of either side, 0 to 511: k of 1400h + k and of 1800h + k (CiA 301, 7.5.2.35 and 7.5.2.37).
+/// Contracts see the number. The default is 0.
+#[derive(Clone, Copy, Debug, PartialEq, Eq, Hash)]
+pub struct PdoNumber {
+    number: u16,
+}
+
+impl Model for PdoNumber {
+    ghost use Rattle.std.specs.Prelude.{ℕ, ◌<◌};
+
+    ghost Value = { ℕ };
+
+    ghost view = { λ n. n.number };
+
+    ghost invariant = { λ n. n.number < 512 };
+
+    ghost inverse = { λ number. record { number = number } };
+}
+
+impl PdoNumber {
+    /// The PDO number that a number is; `None` from 512 on, where there is no PDO.
+    pub fn new(number: u16) -> Option<PdoNumber>
+        ensures { MatchOption result (512 ≤ number) (λ k. (k ≡ number) × (number < 512)) }
+    {
+        if number < 512 {
+            Some(PdoNumber { number })
+        } else {
+            None
+        }
+    }
+
+    /// The PDO number that a number below 512 is.
+    pub fn of(number: u16) -> PdoNumber
+        requires { number < 512 }
+        ensures { result ≡ number }
+    {
+        PdoNumber { number }
+    }
+
+    /// The number.
+    pub fn get(self) -> u16
+        ensures value { result ≡ self }
+        ensures small { self < 512 }
+    {
+        self.number
+    }
+}
+
+impl Default for PdoNumber {
+    ghost use Rattle.std.specs.Prelude.{◌≡◌};
+
+    ghost is_default = { λ k. k ≡ 0 };
+
+    fn default() -> PdoNumber {
+        PdoNumber { number: 0 }
+    }
+}
