@@ -36,10 +36,10 @@
 extern "C" {
 #endif
 
-#define BAFOKUN_VERSION "0.2.1"
+#define BAFOKUN_VERSION "0.3.0"
 #define BAFOKUN_VERSION_MAJOR 0
-#define BAFOKUN_VERSION_MINOR 2
-#define BAFOKUN_VERSION_PATCH 1
+#define BAFOKUN_VERSION_MINOR 3
+#define BAFOKUN_VERSION_PATCH 0
 
 /* No input gives more frames: an array of so many has room for all. */
 #define BAFOKUN_MOST_FRAMES 514
