@@ -1,0 +1,4 @@
+pub mod Examples
+mod OrderLemmas
+pub mod Plain
+mod TypeLemmas
