@@ -32,6 +32,14 @@ fn config_of(device: &DeviceWords) -> Config<'static> {
     }
 }
 
+/// The form in which a dictionary is shown.
+fn format_of(shown_as: ShownAs) -> Format {
+    match shown_as {
+        ShownAs::Columns => Format::Text,
+        ShownAs::Markdown => Format::Markdown,
+    }
+}
+
 /// Does what the words ask for.
 fn carry_out_task<O: Write, E: Write>(
     rt: &HostRuntime,
@@ -68,13 +76,7 @@ fn carry_out_task<O: Write, E: Write>(
             sheet,
             node,
             shown_as,
-        } => {
-            let format = match shown_as {
-                ShownAs::Columns => Format::Text,
-                ShownAs::Markdown => Format::Markdown,
-            };
-            show_file(rt, sheet, format, node, out, err)
-        }
+        } => show_file(rt, sheet, format_of(shown_as), node, out, err),
     }
 }
 

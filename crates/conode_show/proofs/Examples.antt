@@ -11,7 +11,7 @@ use Rattle.conode_show.specs.declared.meaning.Meaning.TheVariants.{PdoCobId, Cob
 use Rattle.conode_show.specs.Numbers.{hex_text, in_parentheses, number_text}
 use Rattle.conode_show.specs.Texts.{plain_text}
 use Rattle.conode_show.specs.Layout.{Part, placed, line_of}
-use Rattle.conode_show.specs.Values.{sum_text, known_text, quoted, value_text}
+use Rattle.conode_show.specs.Values.{sum_text, known_text, quoted, value_text, unnumbered_text}
 use Rattle.conode_show.specs.Meanings.{meaning_text, identifier_text, cob_id_text, pdo_cob_id_text, sync_text, transmission_text, counted_syncs, tenths_text, pdo_inhibit_text, event_timer_text, emcy_inhibit_text, consumer_text, producer_text, mapped_text}
 use Rattle.conode_show.specs.Entries.{type_name}
 
@@ -64,11 +64,11 @@ unfolding value_text known_text plain_text is_utf8 chars encode
 no_number = refl
 
 string : value_text None (Some VisibleString) (codes "a b") ≡ codes "\"a b\""
-unfolding value_text quoted plain_text is_utf8 chars encode
+unfolding value_text unnumbered_text quoted plain_text is_utf8 chars encode
 string = refl
 
 octets : value_text None (Some OctetString) (codes "00A1FF") ≡ codes "00A1FF"
-unfolding value_text plain_text is_utf8 chars encode
+unfolding value_text unnumbered_text plain_text is_utf8 chars encode
 octets = refl
 
 -- ---- texts

@@ -4,8 +4,8 @@ use Rattle.std.specs.Option.{option_map_or, option_or}
 use Rattle.std.specs.Result.{result_ok}
 use Rattle.std.specs.Fmt.{signed_decimal}
 use Rattle.co_value.specs.declared.data_type.DataType.{DataType}
-use Rattle.co_value.specs.declared.data_type.DataType.TheVariants.{Unsigned32, VisibleString}
-use Rattle.co_value.specs.Types.{width_of}
+use Rattle.co_value.specs.declared.data_type.DataType.TheVariants.{Unsigned32}
+use Rattle.co_value.specs.Types.{code_of, width_of}
 use Rattle.co_sheet_text.specs.Sections.{TextSection, Property, property_at}
 use Rattle.co_sheet_text.specs.Properties.{number_at}
 use Rattle.co_sheet.specs.Entries.{data_type_with}
@@ -36,12 +36,16 @@ known_text given width value other = plain_text value
 unfoldable pub quoted : List ℕ → List ℕ
 quoted value = 34 ∷ plain_text value ++ 34 ∷ []
 
+-- a value of a type that isn't numeric
+unfoldable pub unnumbered_text : DataType → List ℕ → List ℕ
+unnumbered_text t value = if code_of t == 0x09 then quoted value else plain_text value
+
 -- the value of a text at a type
 unfoldable pub value_text : Option ℕ → Option DataType → List ℕ → List ℕ
 value_text given None value = plain_text value
-value_text given (Some VisibleString) value = quoted value
 value_text given (Some t) value =
-    option_map_or (λ width. known_text given width value (numeric_value t value)) (width_of t) (plain_text value)
+    option_map_or (λ width. known_text given width value (numeric_value t value)) (width_of t)
+    (unnumbered_text t value)
 
 -- the type that a section states, where its code is one of those that are supported
 abbrev pub type_of : TextSection → Option DataType

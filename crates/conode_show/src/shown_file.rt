@@ -17,7 +17,7 @@ use crate::ordering::order;
 use crate::sections::node_for;
 use co_sheet::GREATEST_SIZE;
 use co_sheet_rows::{FaultKind, SheetFault};
-use co_sheet_text::{ParsedText, TextFault, TextFaultKind};
+use co_sheet_text::{ParsedText, TextFault, TextFaultKind, TextSection};
 use conode_io::{CmdFault, file_text, flushed, hand_over, no_text, out_of_memory, stopped};
 use std::alloc::{AllocError, Global};
 use std::io::Write;
@@ -66,7 +66,21 @@ fn read_sections(alloc: Global, text: &[u8]) -> Result<ParsedText<'_>, SheetFaul
     }
 }
 
-// the document of sections
+// the document of sections, which it puts in order
+fn ordered_document(
+    alloc: Global,
+    format: Format,
+    node: Option<u8>,
+    sections: &mut [TextSection],
+) -> Result<Vec<u8>, AllocError>
+    ensures { IfOk result (λ text. text.items
+        ≡ document format node (ordered (map section_view sections.old))) }
+{
+    order(alloc, sections)?;
+    document(alloc, format, node, sections)
+}
+
+// the document of a text's sections
 fn document_of(
     alloc: Global,
     format: Format,
@@ -78,8 +92,7 @@ fn document_of(
 {
     let mut sections = parsed.sections(alloc)?;
     let node = node_for(node, sections.as_slice());
-    order(alloc, sections.as_mut_slice())?;
-    document(alloc, format, node, sections.as_slice())
+    ordered_document(alloc, format, node, sections.as_mut_slice())
 }
 
 #[tactic(auto, unfolding(crate::specs::Shown::fault_line))]

@@ -21,6 +21,7 @@ ghost use Rattle.conode_show.specs.Values.{
   small_number,
   sum_text,
   type_of,
+  unnumbered_text,
   value_of,
   value_text,
   word_of,
@@ -136,6 +137,22 @@ fn push_quoted(text: &mut String, value: &[u8]) -> Result<(), AllocError>
     push_words(text, "\"")
 }
 
+/// The code of VISIBLE_STRING (CiA 301, 7.4.7.1).
+const VISIBLE_STRING: u16 = 0x09;
+
+// a value of a type that isn't numeric
+#[tactic(auto, unfolding(crate::specs::Values::unnumbered_text))]
+fn push_unnumbered(text: &mut String, data_type: DataType, value: &[u8]) -> Result<(), AllocError>
+    ensures { OnOk result (string_bytes text.new
+        ≡ string_bytes text.old ++ unnumbered_text data_type value.now) }
+{
+    if data_type.code() == VISIBLE_STRING {
+        push_quoted(text, value)
+    } else {
+        push_plain(text, value)
+    }
+}
+
 // the value of a text at a type
 #[tactic(auto, unfolding(crate::specs::Values::value_text))]
 fn push_value(
@@ -150,12 +167,9 @@ fn push_value(
     let Some(data_type) = data_type else {
         return push_plain(text, value);
     };
-    if data_type == DataType::VisibleString {
-        return push_quoted(text, value);
-    }
     match data_type.width() {
         Some(width) => push_known(text, node, width, value, numeric_value(data_type, value)),
-        None => push_plain(text, value),
+        None => push_unnumbered(text, data_type, value),
     }
 }
 
