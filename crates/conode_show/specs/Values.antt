@@ -1,5 +1,5 @@
 -- The values that a sheet states (CiA 306, object description, device configuration file).
-use Rattle.std.specs.Prelude.{ℕ, ◌+◌, ◌==◌, Bool, true, false, if◌then◌else◌, List, [], ◌∷◌, ◌++◌, ℤ, pos, negsuc, codes, Option, Some, None, is_some, option_map, option_and_then, unwrap_or, ◌&&◌, ◌||◌}
+use Rattle.std.specs.Prelude.{ℕ, ◌+◌, ◌==◌, true, false, if◌then◌else◌, List, [], ◌∷◌, ◌++◌, ℤ, pos, negsuc, codes, Option, Some, None, is_some, option_map, option_and_then, unwrap_or, ◌&&◌, ◌||◌}
 use Rattle.std.specs.Option.{option_map_or, option_or}
 use Rattle.std.specs.Result.{result_ok}
 use Rattle.std.specs.Fmt.{signed_decimal}
@@ -9,7 +9,7 @@ use Rattle.co_value.specs.Types.{code_of, width_of}
 use Rattle.co_sheet_text.specs.Sections.{TextSection, Property, property_at}
 use Rattle.co_sheet_text.specs.Properties.{number_at}
 use Rattle.co_sheet.specs.Entries.{data_type_with}
-use Rattle.co_sheet.specs.Limits.{Default, absent, number, node_id, text, pairs, numeric_default, number_at_type}
+use Rattle.co_sheet.specs.Limits.{Default, absent, number, node_id, numeric_default, number_at_type}
 use Rattle.conode_show.specs.declared.values.Word.{Word}
 use Rattle.conode_show.specs.Numbers.{hex_text, number_text, if_small}
 use Rattle.conode_show.specs.Texts.{plain_text}
