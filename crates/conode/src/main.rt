@@ -1,5 +1,5 @@
 //! A CANopen device node on the command line: checks data sheets, decodes CAN traces as `candump -L` writes them, plays
-//! one to the device of a data sheet, and lets an SDO client download to it.
+//! one to the device of a data sheet, lets an SDO client download to it, and shows object dictionaries.
 #![tactic(auto)]
 
 use co_dict_build::Limits;
@@ -9,7 +9,8 @@ use conode_decode::decode_files;
 use conode_io::{CmdFault, stopped};
 use conode_loop::loop_files;
 use conode_replay::{replay_files, replay_stored};
-use conode_words::{DeviceWords, DictionaryWords, Task, task};
+use conode_show::{Format, show_file};
+use conode_words::{DeviceWords, DictionaryWords, ShownAs, Task, task};
 use std::io::{BufWriter, Write};
 use std::process::ExitCode;
 use std::{env, io};
@@ -28,6 +29,14 @@ fn config_of(device: &DeviceWords) -> Config<'static> {
     Config {
         limits: limits_of(&device.dictionary),
         time: device.time,
+    }
+}
+
+/// The form in which a dictionary is shown.
+fn format_of(shown_as: ShownAs) -> Format {
+    match shown_as {
+        ShownAs::Columns => Format::Text,
+        ShownAs::Markdown => Format::Markdown,
     }
 }
 
@@ -63,6 +72,11 @@ fn carry_out_task<O: Write, E: Write>(
             let config = config_of(&device);
             loop_files(rt, sheet, key, bytes, node, mode, &config, out, err)
         }
+        Task::Show {
+            sheet,
+            node,
+            shown_as,
+        } => show_file(rt, sheet, format_of(shown_as), node, out, err),
     }
 }
 

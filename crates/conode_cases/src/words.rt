@@ -12,6 +12,8 @@ decode --sheet s t --node=1 => decode
 replay s - --node 5 --time 0 => replay
 loop s 2001:00 05 --node=127 --mode block => loop
 loop s 2001:00 05 --node 5 --mode fast => status 2
+show s --node=5 --format markdown => show
+show s --format html => status 2
 replay s t => replay
 loop s 2001:00 05 => loop
 replay s --node 5 => status 2
@@ -40,6 +42,7 @@ fn command_lines(rt: HostRuntime) -> Result<(), Fail> {
                 Some(Task::Decode { .. }) => "decode",
                 Some(Task::Replay { .. }) => "replay",
                 Some(Task::LoopBack { .. }) => "loop",
+                Some(Task::Show { .. }) => "show",
                 None => "nothing",
             },
             Err(error) => match error.exit_code() {

@@ -7,7 +7,8 @@ use Rattle.clap.proofs.OnLiterals.{clap_on_literals}
 use Rattle.co_sdo_client.specs.declared.mode.Mode.TheVariants.{Plain, Block}
 use Rattle.conode_words.specs.declared.tasks.DeviceWords.{DeviceWords}
 use Rattle.conode_words.specs.declared.tasks.DictionaryWords.{DictionaryWords}
-use Rattle.conode_words.specs.Tasks.{Asked, check, decode, replay, loop_back, asked_of, conode_command, task_fault}
+use Rattle.conode_words.specs.declared.tasks.ShownAs.TheVariants.{Columns, Markdown}
+use Rattle.conode_words.specs.Tasks.{Asked, check, decode, replay, loop_back, show, asked_of, conode_command, task_fault}
 
 abbrev asked : List Text → Option Asked
 asked words = asked_of (subcommand_of conode_command (codes "conode" ∷ words))
@@ -167,3 +168,24 @@ loop_in_segments = refl
 loop_without_bytes : task_fault (codes "conode" ∷ codes "loop" ∷ codes "s" ∷ codes "k" ∷ codes "--node" ∷ codes "5" ∷ []) ≡ kind.MissingRequiredArgument ∷ []
 unfolding clap_on_literals
 loop_without_bytes = refl
+
+show_of_a_sheet : asked (codes "show" ∷ codes "a" ∷ []) ≡ Some (show (record { sheet = codes "a"; node = None; shown_as = Columns }))
+unfolding clap_on_literals
+show_of_a_sheet = refl
+
+show_with_options : asked (codes "show" ∷ codes "--format" ∷ codes "markdown" ∷ codes "a" ∷ codes "--node" ∷ codes "127" ∷ [])
+    ≡ Some (show (record { sheet = codes "a"; node = Some 127; shown_as = Markdown }))
+unfolding clap_on_literals
+show_with_options = refl
+
+show_in_another_format : task_fault (codes "conode" ∷ codes "show" ∷ codes "a" ∷ codes "--format" ∷ codes "html" ∷ []) ≡ kind.InvalidValue ∷ []
+unfolding clap_on_literals
+show_in_another_format = refl
+
+show_as_text : task_fault (codes "conode" ∷ codes "show" ∷ codes "a" ∷ codes "--format" ∷ codes "text" ∷ []) ≡ []
+unfolding clap_on_literals
+show_as_text = refl
+
+show_for_node_128 : task_fault (codes "conode" ∷ codes "show" ∷ codes "a" ∷ codes "--node" ∷ codes "128" ∷ []) ≡ kind.ValueValidation ∷ []
+unfolding clap_on_literals
+show_for_node_128 = refl

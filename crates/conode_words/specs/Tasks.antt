@@ -13,7 +13,9 @@ use Rattle.co_sdo_client.specs.declared.mode.Mode.TheVariants.{Plain, Segmented,
 use Rattle.conode_words.specs.declared.tasks.DeviceWords.{DeviceWords}
 use Rattle.conode_words.specs.declared.tasks.DictionaryWords.{DictionaryWords}
 use Rattle.conode_words.specs.declared.tasks.Task.{Task}
-use Rattle.conode_words.specs.declared.tasks.Task.TheVariants.{Check, Decode, Replay, LoopBack}
+use Rattle.conode_words.specs.declared.tasks.Task.TheVariants.{Check, Decode, Replay, LoopBack, Show}
+use Rattle.conode_words.specs.declared.tasks.ShownAs.{ShownAs}
+use Rattle.conode_words.specs.declared.tasks.ShownAs.TheVariants.{Columns, Markdown}
 
 -- a word that has to be there
 abbrev pub wanted : Text → Rule
@@ -80,6 +82,19 @@ loop_command =
     with_rooms (with_rule (with_rule (with_rule (with_rule (with_rule (new_app (codes "loop"))
     (wanted (codes "SHEET"))) (wanted (codes "KEY"))) (wanted (codes "HEX"))) node_option) mode_option)
 
+-- `--format FORMAT`
+abbrev pub format_option : Rule
+format_option = record (new_rule (codes "format")) {
+  long = Some (codes "format");
+  value_names = 1;
+  defaults = codes "text" ∷ [];
+}
+
+-- `show SHEET [--node N] [--format FORMAT]`
+abbrev pub show_command : App
+show_command =
+    with_rule (with_rule (with_rule (new_app (codes "show")) (wanted (codes "SHEET"))) node_option) format_option
+
 -- a command with `--version`
 abbrev pub versioned : App → App
 versioned app = record app { top = record app.top { has_version = true } }
@@ -87,8 +102,8 @@ versioned app = record app { top = record app.top { has_version = true } }
 -- the program's command
 abbrev pub conode_command : App
 conode_command =
-    with_subcommand (with_subcommand (with_subcommand (with_subcommand (versioned (new_app (codes "conode")))
-    check_command.top) decode_command.top) replay_command.top) loop_command.top
+    with_subcommand (with_subcommand (with_subcommand (with_subcommand (with_subcommand (versioned (new_app (codes "conode")))
+    check_command.top) decode_command.top) replay_command.top) loop_command.top) show_command.top
 
 -- what the words after `check` ask for: texts and numbers
 pub record AskedCheck : Type 0 where
@@ -115,12 +130,19 @@ pub record AskedLoop : Type 0 where
   pub mode : Mode
   pub device : DeviceWords
 
+-- what the words after `show` ask for
+pub record AskedShow : Type 0 where
+  pub sheet : Text
+  pub node : Option ℕ
+  pub shown_as : ShownAs
+
 -- what the words ask for
 pub data Asked : Type 0 where
   check : AskedCheck → Asked
   decode : AskedDecode → Asked
   replay : AskedReplay → Asked
   loop_back : AskedLoop → Asked
+  show : AskedShow → Asked
 
 -- what a task asks for
 abbrev pub asked_by : Task → Asked
@@ -131,6 +153,7 @@ asked_by (Replay sheet trace device) =
     replay (record { sheet = sheet.now; trace = trace.now; device = device })
 asked_by (LoopBack sheet key bytes mode device) =
     loop_back (record { sheet = sheet.now; key = key.now; bytes = bytes.now; mode = mode; device = device })
+asked_by (Show sheet node form) = show (record { sheet = sheet.now; node = node; shown_as = form })
 
 -- the number that a word is, of so many bits: decimal digits, perhaps after a plus
 abbrev pub number_of_bits : ℕ → Text → Option ℕ
@@ -196,13 +219,31 @@ asked_loop rows =
     (asked_device rows)) (mode_for rows)) (first_of (codes "HEX") rows)) (first_of (codes "KEY") rows))
     (first_of (codes "SHEET") rows)
 
+-- the form that a word names
+abbrev pub shown_as : Text → Option ShownAs
+shown_as word =
+    if bytes_eq word (codes "text") then Some Columns
+    else (if bytes_eq word (codes "markdown") then Some Markdown else None)
+
+-- the form of matches
+abbrev pub format_for : List Row → Option ShownAs
+format_for rows = option_and_then shown_as (first_of (codes "format") rows)
+
+-- what the matches of `show` ask for
+abbrev pub asked_show : List Row → Option Asked
+asked_show rows =
+    option_and_then (λ sheet. option_map (λ form.
+    show (record { sheet = sheet; node = number_for 8 (codes "node") rows; shown_as = form }))
+    (format_for rows)) (first_of (codes "SHEET") rows)
+
 -- what the matches of a subcommand ask for
 abbrev pub asked_in : Text → List Row → Option Asked
 asked_in name rows =
     if bytes_eq name (codes "check") then asked_check rows
     else (if bytes_eq name (codes "decode") then asked_decode rows
     else (if bytes_eq name (codes "replay") then asked_replay rows
-    else (if bytes_eq name (codes "loop") then asked_loop rows else None)))
+    else (if bytes_eq name (codes "loop") then asked_loop rows
+    else (if bytes_eq name (codes "show") then asked_show rows else None))))
 
 -- what the matches of the program's command ask for; nothing without a subcommand
 abbrev pub asked_of : Option (Text × List Row) → Option Asked
@@ -212,10 +253,16 @@ asked_of matches = option_and_then (λ m. asked_in m.0 m.1) matches
 abbrev pub has_other_mode : Option (Text × List Row) → Bool
 has_other_mode matches = option_map_or (λ m. bytes_eq m.0 (codes "loop") && is_none (mode_for m.1)) matches false
 
--- why matches are refused for their mode
-abbrev pub mode_fault : Option (Text × List Row) → Kinds
-mode_fault matches = if has_other_mode matches then InvalidValue ∷ [] else []
+-- the matches of `show` have a form that is none
+abbrev pub has_other_format : Option (Text × List Row) → Bool
+has_other_format matches = option_map_or (λ m. bytes_eq m.0 (codes "show") && is_none (format_for m.1)) matches false
 
--- why words are refused: by the rules of the command, or for their mode
+-- why matches are refused for their mode, or for their form
+abbrev pub mode_fault : Option (Text × List Row) → Kinds
+mode_fault matches =
+    if has_other_mode matches then InvalidValue ∷ []
+    else (if has_other_format matches then InvalidValue ∷ [] else [])
+
+-- why words are refused: by the rules of the command, or for their mode or form
 abbrev pub task_fault : List Text → Kinds
 task_fault words = or_else (fault_of conode_command words) (mode_fault (subcommand_of conode_command words))

@@ -13,10 +13,14 @@ ghost use Rattle.conode_words.specs.Tasks.{
   asked_loop,
   asked_of,
   asked_replay,
+  asked_show,
   check_command,
   conode_command,
   decode_command,
   domains_option,
+  format_for,
+  format_option,
+  has_other_format,
   has_other_mode,
   loop_command,
   mode_fault,
@@ -28,6 +32,8 @@ ghost use Rattle.conode_words.specs.Tasks.{
   numbered,
   replay_command,
   sheet_option,
+  show_command,
+  shown_as,
   strings_option,
   task_fault,
   time_option,
@@ -36,7 +42,7 @@ ghost use Rattle.conode_words.specs.Tasks.{
 };
 
 use crate::help;
-use crate::tasks::{DeviceWords, DictionaryWords, Task};
+use crate::tasks::{DeviceWords, DictionaryWords, ShownAs, Task};
 use clap::builder::ValueParser;
 use clap::error::ErrorKind;
 use clap::{Arg, ArgMatches, Command, Error};
@@ -227,6 +233,36 @@ fn loop_command<'a>(alloc: Global) -> Result<Command<'a>, AllocError>
     with_rooms(alloc, command)
 }
 
+fn format_arg<'a>(alloc: Global) -> Arg<'a>
+    ensures rule { rule_of result ≡ format_option }
+    ensures local { result.global ≡ false }
+{
+    Arg::new(alloc, "format")
+        .long("format")
+        .value_name("FORMAT")
+        .default_value("text")
+        .help("How to show it: text or markdown")
+}
+
+fn show_command<'a>(alloc: Global) -> Result<Command<'a>, AllocError>
+    ensures shape { IfOk result (λ command. app_of command ≡ show_command) }
+    ensures local { IfOk result (λ command. (out-Command command).has_globals ≡ false) }
+{
+    let sheet = wanted(
+        alloc,
+        "SHEET",
+        "The data sheet to show (EDS or DCF, CiA 306)",
+    );
+    let node = numbered(alloc, "node", 1, 127).help("Show what $NODEID is for node-ID 1 to 127");
+    let format = format_arg(alloc);
+    Command::new(alloc, "show")
+        .about("Shows the object dictionary of a data sheet as people read it")
+        .after_help(help::SHOWN)
+        .arg(sheet)?
+        .arg(node)?
+        .arg(format)
+}
+
 fn conode_command<'a>(alloc: Global) -> Result<Command<'a>, AllocError>
     ensures { IfOk result (λ command. app_of command ≡ conode_command) }
 {
@@ -234,6 +270,7 @@ fn conode_command<'a>(alloc: Global) -> Result<Command<'a>, AllocError>
     let decode = decode_command(alloc)?;
     let replay = replay_command(alloc)?;
     let looped = loop_command(alloc)?;
+    let show = show_command(alloc)?;
     Command::new(alloc, "conode")
         .version(help::VERSION)
         .about("Checks data sheets of CANopen devices, decodes and answers CAN traces")
@@ -241,7 +278,8 @@ fn conode_command<'a>(alloc: Global) -> Result<Command<'a>, AllocError>
         .subcommand(check)?
         .subcommand(decode)?
         .subcommand(replay)?
-        .subcommand(looped)
+        .subcommand(looped)?
+        .subcommand(show)
 }
 
 // the number of an option, of 8 bits
@@ -363,6 +401,40 @@ fn asked_loop<'a>(found: &ArgMatches<'a>) -> Option<Task<'a>>
     })
 }
 
+// the form that a word names
+fn shown_as(word: &str) -> Option<ShownAs>
+    ensures { result ≡ shown_as word.now }
+{
+    if word == "text" {
+        Some(ShownAs::Columns)
+    } else if word == "markdown" {
+        Some(ShownAs::Markdown)
+    } else {
+        None
+    }
+}
+
+#[tactic(auto, using(crate::proofs::TaskLemmas::first_in_rows))]
+fn format_for(found: &ArgMatches<'_>) -> Option<ShownAs>
+    ensures { result ≡ format_for (rows_of (found_of found.now)) }
+{
+    shown_as(found.get_str("format")?)
+}
+
+// what the words after `show` ask for
+#[tactic(auto, using(crate::proofs::TaskLemmas::first_in_rows))]
+fn asked_show<'a>(found: &ArgMatches<'a>) -> Option<Task<'a>>
+    ensures { option_map asked_by result ≡ asked_show (rows_of (found_of found.now)) }
+{
+    let sheet = found.get_str("SHEET")?;
+    let shown_as = format_for(found)?;
+    Some(Task::Show {
+        sheet,
+        node: number_u8(found, "node"),
+        shown_as,
+    })
+}
+
 // what the words after the name of a subcommand ask for
 fn asked_in<'a>(name: &str, found: &ArgMatches<'a>) -> Option<Task<'a>>
     ensures { option_map asked_by result ≡ asked_in name.now (rows_of (found_of found.now)) }
@@ -375,6 +447,8 @@ fn asked_in<'a>(name: &str, found: &ArgMatches<'a>) -> Option<Task<'a>>
         asked_replay(found)
     } else if name == "loop" {
         asked_loop(found)
+    } else if name == "show" {
+        asked_show(found)
     } else {
         None
     }
@@ -390,6 +464,16 @@ fn has_other_mode(matches: &ArgMatches<'_>) -> bool
     }
 }
 
+// whether the words name a form that is none
+fn has_other_format(matches: &ArgMatches<'_>) -> bool
+    ensures { result ≡ has_other_format (subcommand_rows_of matches.now) }
+{
+    match matches.subcommand() {
+        Some((name, found)) => name == "show" && format_for(found).is_none(),
+        None => false,
+    }
+}
+
 fn asked_of<'a>(matches: &ArgMatches<'a>) -> Option<Task<'a>>
     ensures { option_map asked_by result ≡ asked_of (subcommand_rows_of matches.now) }
 {
@@ -397,7 +481,7 @@ fn asked_of<'a>(matches: &ArgMatches<'a>) -> Option<Task<'a>>
     asked_in(name, found)
 }
 
-// what words that the command takes ask for, unless they name a mode that is none
+// what words that the command takes ask for, unless they name a mode or a form that is none
 fn task_of<'a>(
     command: &mut Command<'a>,
     matches: &ArgMatches<'a>,
@@ -408,6 +492,9 @@ fn task_of<'a>(
 {
     if has_other_mode(matches) {
         return Err(command.error(ErrorKind::InvalidValue, help::MODES)?);
+    }
+    if has_other_format(matches) {
+        return Err(command.error(ErrorKind::InvalidValue, help::FORMATS)?);
     }
     Ok(asked_of(matches))
 }

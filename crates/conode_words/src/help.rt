@@ -128,6 +128,26 @@ are wrong, or there is no node-ID.";
 /// What is said of a mode that is none.
 pub const MODES: &str = "invalid value for '--mode <MODE>': plain, segmented or block";
 
+/// What is said of a form that is none.
+pub const FORMATS: &str = "invalid value for '--format <FORMAT>': text or markdown";
+
+/// What `show` prints.
+pub const SHOWN: &str = "\
+Prints the object dictionary of a sheet: a line for each entry, by index and
+sub-index, with its name, type, access, whether it may be mapped into a PDO, its
+default (of a DCF its value, and the default beside it) and its limits. Then
+each PDO in words, with what it maps, and SDO channels, SYNC, EMCY and
+heartbeats. Numbers are in both bases, as `1000 (3E8h)`. With --node, or in a
+DCF with a node-ID, `$NODEID+600h` has its value beside it.
+
+  conode show sensor.eds > new.txt; diff old.txt new.txt
+
+A sheet with a fault is shown too, a value that can't be read as it is written:
+`check` finds faults. Where a line by itself is at fault, as `fault 2 BadLine
+line 7`, that is all that is printed.
+
+Status: 0 if the dictionary is shown, 1 if not, 2 if the words are wrong.";
+
 /// What `decode` prints.
 pub const DECODED: &str = "\
 Prints a line for each data frame with an 11-bit identifier: the number of its

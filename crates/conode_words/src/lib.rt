@@ -6,4 +6,4 @@ mod help;
 mod tasks;
 
 pub use command_line::task;
-pub use tasks::{DeviceWords, DictionaryWords, Task};
+pub use tasks::{DeviceWords, DictionaryWords, ShownAs, Task};

@@ -22,6 +22,15 @@ pub struct DeviceWords {
     pub time: u16,
 }
 
+/// The form in which a dictionary is shown.
+#[derive(Clone, Copy, Debug, PartialEq, Eq)]
+pub enum ShownAs {
+    /// In columns.
+    Columns,
+    /// As tables and headings of Markdown.
+    Markdown,
+}
+
 /// What the program is asked to do.
 #[derive(Clone, Copy, Debug, PartialEq, Eq)]
 pub enum Task<'a> {
@@ -62,5 +71,14 @@ pub enum Task<'a> {
         mode: Mode,
         /// The device.
         device: DeviceWords,
+    },
+    /// To show the object dictionary of a data sheet.
+    Show {
+        /// The sheet's path.
+        sheet: &'a str,
+        /// The node-ID that `$NODEID` is, 1 to 127; `None`: the one that the sheet itself has, if any.
+        node: Option<u8>,
+        /// In which form.
+        shown_as: ShownAs,
     },
 }

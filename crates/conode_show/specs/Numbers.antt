@@ -1,0 +1,29 @@
+-- Numbers in both bases.
+use Rattle.std.specs.Prelude.{ℕ, ◌*◌, ◌^◌, Bool, true, false, nat_lt, if◌then◌else◌, List, [], ◌++◌, ℤ, pos, negsuc, codes, Option, Some, None}
+use Rattle.std.specs.Option.{option_map_or}
+use Rattle.std.specs.Fmt.{digits, signed_decimal}
+use Rattle.co_value.specs.Numbers.{bits_of}
+
+-- hexadecimal digits, as many as the number needs, and `h`
+unfoldable pub hex_text : ℕ → List ℕ
+hex_text number = digits 16 true number ++ codes "h"
+
+-- a number of at most 64 bits
+abbrev pub if_small : ℕ → Option ℕ
+if_small number = if nat_lt number (2 ^ 64) then Some number else None
+
+-- 0 to 9, whose digits are the same in both bases
+abbrev pub is_one_digit : ℤ → Bool
+is_one_digit (pos n) = nat_lt n 10
+is_one_digit (negsuc n) = false
+
+-- a number in hexadecimal digits in parentheses
+unfoldable pub in_parentheses : Option ℕ → List ℕ
+in_parentheses number = option_map_or (λ n. codes " (" ++ hex_text n ++ codes ")") number []
+
+-- a number of a type of so many bytes: decimal, and in hexadecimal digits where these differ, a negative one in two's
+-- complement, as `1000 (3E8h)`, `-100 (FF9Ch)`
+unfoldable pub number_text : ℕ → ℤ → List ℕ
+number_text width number =
+    signed_decimal number
+    ++ (if is_one_digit number then [] else in_parentheses (if_small (bits_of (8 * width) number)))

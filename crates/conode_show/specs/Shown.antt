@@ -1,0 +1,24 @@
+-- What is written of a text.
+use Rattle.std.specs.Prelude.{ℕ, nat_lt, List, [], ◌∷◌, ◌++◌, length, if◌then◌else◌, Option, Some}
+use Rattle.std.specs.Option.{option_map_or}
+use Rattle.co_sheet_rows.specs.declared.fault.FaultKind.TheVariants.{TooLarge}
+use Rattle.co_sheet_rows.specs.declared.fault.SheetFault.{SheetFault}
+use Rattle.co_sheet_rows.specs.FaultTexts.{fault_text}
+use Rattle.co_sheet.specs.Accepted.{first_bad_line, sections_in}
+use Rattle.co_sheet.specs.Faults.{fault_at}
+use Rattle.conode_show.specs.declared.format.Format.{Format}
+use Rattle.conode_show.specs.Document.{document, node_for, ordered}
+
+-- why a text can't be shown: its size, or the first line that is at fault by itself
+abbrev pub unreadable : List ℕ → Option SheetFault
+unreadable text = if nat_lt 1048576 (length text) then Some (fault_at 0 TooLarge) else first_bad_line text
+
+-- the line of a fault
+unfoldable pub fault_line : SheetFault → List ℕ
+fault_line fault = fault_text fault ++ 10 ∷ []
+
+-- the document of a text's sections, or why it can't be shown
+unfoldable pub shown : Format → Option ℕ → List ℕ → List ℕ
+shown format node text =
+    option_map_or fault_line (unreadable text)
+    (document format (node_for node (sections_in text)) (ordered (sections_in text)))

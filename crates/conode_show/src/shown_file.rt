@@ -1,0 +1,170 @@
+//! The file of a data sheet, shown.
+
+ghost use Rattle.std.specs.Prelude.{◌≡◌, ◌⊎◌, ◌≤◌, length, map, is_none, IfOk, IfErr, OnOk, Err, Some, None, string_bytes};
+ghost use Rattle.std.specs.Io.KnownBytes.{Appends, Keeps};
+ghost use Rattle.std.specs.Process.{exit_status};
+ghost use Rattle.co_sheet_rows.specs.OutOfMemory.{out_of_memory};
+ghost use Rattle.co_sheet_text.specs.Views.{section_view};
+ghost use Rattle.co_sheet.specs.Accepted.{first_bad_line, sections_in};
+ghost use Rattle.co_sheet.specs.Faults.{line_fault_kind, sheet_fault};
+ghost use Rattle.conode_io.specs.Written.{AppendsFront};
+ghost use Rattle.conode_show.specs.Document.{document, node_for, ordered};
+ghost use Rattle.conode_show.specs.Shown.{fault_line, shown, unreadable};
+
+use crate::document::document;
+use crate::format::Format;
+use crate::ordering::order;
+use crate::sections::node_for;
+use co_sheet::GREATEST_SIZE;
+use co_sheet_rows::{FaultKind, SheetFault};
+use co_sheet_text::{ParsedText, TextFault, TextFaultKind, TextSection};
+use conode_io::{CmdFault, file_text, flushed, hand_over, no_text, out_of_memory, stopped};
+use std::alloc::{AllocError, Global};
+use std::io::Write;
+use std::process::ExitCode;
+use std::rt::Files;
+
+fn line_fault_kind(kind: TextFaultKind) -> FaultKind
+    ensures { result ≡ line_fault_kind kind }
+{
+    match kind {
+        TextFaultKind::TooLarge => FaultKind::TooLarge,
+        TextFaultKind::BadLine => FaultKind::BadLine,
+        TextFaultKind::KeyOutsideSection => FaultKind::KeyOutsideSection,
+        TextFaultKind::DuplicateSection => FaultKind::DuplicateSection,
+        TextFaultKind::DuplicateKey => FaultKind::DuplicateKey,
+        TextFaultKind::Memory => FaultKind::Memory,
+    }
+}
+
+// a fault of a line as one of the sheet
+fn sheet_fault(fault: TextFault) -> SheetFault
+    ensures { result ≡ sheet_fault fault }
+{
+    SheetFault {
+        kind: line_fault_kind(fault.kind),
+        line: fault.line,
+    }
+}
+
+// the sections of a text, or why it can't be shown
+fn read_sections(alloc: Global, text: &[u8]) -> Result<ParsedText<'_>, SheetFault>
+    ensures ok { IfOk result (λ sections. (unreadable text.now ≡ None)
+        × (sections ≡ sections_in text.now)) }
+    ensures err { IfErr result (λ fault. (fault ≡ out_of_memory)
+        ⊎ (unreadable text.now ≡ Some fault)) }
+{
+    if text.len() > GREATEST_SIZE {
+        return Err(SheetFault {
+            kind: FaultKind::TooLarge,
+            line: 0,
+        });
+    }
+    match co_sheet_text::sections_in(alloc, text) {
+        Ok(sections) => Ok(sections),
+        Err(fault) => Err(sheet_fault(fault)),
+    }
+}
+
+// the document of sections, which it puts in order
+fn ordered_document(
+    alloc: Global,
+    format: Format,
+    node: Option<u8>,
+    sections: &mut [TextSection],
+) -> Result<Vec<u8>, AllocError>
+    ensures { IfOk result (λ text. text.items
+        ≡ document format node (ordered (map section_view sections.old))) }
+{
+    order(alloc, sections)?;
+    document(alloc, format, node, sections)
+}
+
+// the document of a text's sections
+fn document_of(
+    alloc: Global,
+    format: Format,
+    node: Option<u8>,
+    parsed: &ParsedText<'_>,
+) -> Result<Vec<u8>, AllocError>
+    ensures { IfOk result (λ text. text.items
+        ≡ document format (node_for node parsed.now) (ordered parsed.now)) }
+{
+    let mut sections = parsed.sections(alloc)?;
+    let node = node_for(node, sections.as_slice());
+    ordered_document(alloc, format, node, sections.as_mut_slice())
+}
+
+#[tactic(auto, unfolding(crate::specs::Shown::fault_line))]
+fn fault_text(alloc: Global, fault: SheetFault) -> Result<String, AllocError>
+    ensures { IfOk result (λ text. string_bytes text ≡ fault_line fault) }
+{
+    let mut text = String::new(alloc);
+    text.push_str(fault.text().as_str())?;
+    text.push('\n')?;
+    Ok(text)
+}
+
+/// Shows the object dictionary of a data sheet (CiA 306): an entry in each line, by index and sub-index, then its PDOs and
+/// the other services of the communication profile in words. Where the text is too large, or a line is at fault by
+/// itself, it is the line of that fault. Whether the dictionary is shown.
+///
+/// All is written at once: after `Memory` nothing has been written, after `Write` a part of it.
+#[tactic(auto, unfolding(crate::specs::Shown::shown))]
+pub fn show<W: Write>(
+    alloc: Global,
+    text: &[u8],
+    format: Format,
+    node: Option<u8>,
+    writer: &mut W,
+) -> Result<bool, CmdFault>
+    ensures readable { IfOk result (λ is_shown. is_shown ≡ is_none (unreadable text.now)) }
+    ensures text { OnOk result (Appends (W.contents writer.old) (W.contents writer.new)
+        (shown format node text.now)) }
+    ensures write { result ≡ Err CmdFault.Write →
+        AppendsFront (W.contents writer.old) (W.contents writer.new)
+        (shown format node text.now) }
+    ensures memory { result ≡ Err CmdFault.Memory →
+        Keeps (W.contents writer.old) (W.contents writer.new) }
+    ensures err { IfErr result (λ fault. (fault ≡ CmdFault.Write) ⊎ (fault ≡ CmdFault.Memory)) }
+{
+    match read_sections(alloc, text) {
+        Ok(parsed) => {
+            let text = document_of(alloc, format, node, &parsed)?;
+            hand_over(text.as_slice(), writer)?;
+            Ok(true)
+        }
+        Err(fault) if fault.kind == FaultKind::Memory => Err(CmdFault::Memory),
+        Err(fault) => {
+            let line = fault_text(alloc, fault)?;
+            hand_over(line.as_bytes(), writer)?;
+            Ok(false)
+        }
+    }
+}
+
+/// Shows the data sheet of a path, as `show` does. Where not all of it could be written, `out` has why, or where `out`
+/// can't be written `err`. A file that can't be read is named on `err`. The status is 0 where the dictionary is shown,
+/// else 1.
+pub fn show_file<R: Files + AllocGlobal, O: Write, E: Write>(
+    rt: &R,
+    path: &str,
+    format: Format,
+    node: Option<u8>,
+    out: &mut O,
+    err: &mut E,
+) -> ExitCode
+    ensures { (exit_status result ≡ 0) ⊎ (exit_status result ≡ 1) }
+{
+    let text = match file_text(rt, path) {
+        Ok(text) => text,
+        Err(fault) => return no_text(fault, path, out, err),
+    };
+    let outcome = show(rt.alloc(), text.as_slice(), format, node, out);
+    match flushed(out, outcome) {
+        Ok(true) => ExitCode::SUCCESS,
+        Ok(false) => ExitCode::FAILURE,
+        Err(CmdFault::Memory) => out_of_memory(out),
+        Err(fault) => stopped(fault, out, err).status(),
+    }
+}
