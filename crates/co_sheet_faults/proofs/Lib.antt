@@ -1,9 +1,0 @@
-mod Examples
-mod LineLemmas
-mod SubLemmas
-mod SoundLemmas
-mod CompleteLemmas
-mod KindLemmas
-mod AllLemmas
-mod EntryOrderLemmas
-mod CollectedLemmas

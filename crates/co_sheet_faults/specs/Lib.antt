@@ -1,7 +1,1 @@
-pub mod LinesAtFault
-pub mod Soundness
-pub mod AllChecks
-pub mod AllFaults
-pub mod FaultLaws
 pub mod FaultWords
-pub mod private

@@ -1,9 +1,9 @@
-//! All faults of an electronic data sheet (CiA 306): each line at fault, and what each check finds in what can be read.
+//! A stand-in.
 #![tactic(auto)]
 
-mod laws;
+mod find;
 mod words;
 
 pub use co_sheet::{FaultKind, SheetFault};
-pub use laws::{all_faults, emptied_lines};
+pub use find::find_faults;
 pub use words::{fix_of, meaning_of, subject_of};

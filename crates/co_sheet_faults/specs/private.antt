@@ -1,2 +1,0 @@
--- What the crate's own functions promise one another; no public contract rests on these.
-pub mod Collected
