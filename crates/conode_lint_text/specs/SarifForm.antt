@@ -71,17 +71,11 @@ driver_member version rules =
 unfoldable pub tool_member : List ℕ → List Rule → List Token
 tool_member version rules = object_begin (codes "tool") ++ driver_member version rules ++ end_object ∷ []
 
--- which version of SARIF it is
-unfoldable pub version_members : List Token
-version_members =
-    text_member (codes "$schema") (codes "https://json.schemastore.org/sarif-2.1.0.json")
-    ++ text_member (codes "version") (codes "2.1.0")
-
 -- what comes before the results, and what after them
 unfoldable pub log_head : List ℕ → List Rule → List Token
 log_head version rules =
     begin_object
-    ∷ (version_members ++ array_begin (codes "runs") ++ begin_object ∷ (tool_member version rules
+    ∷ (text_member (codes "version") (codes "2.1.0") ++ array_begin (codes "runs") ++ begin_object ∷ (tool_member version rules
     ++ text_member (codes "columnKind") (codes "unicodeCodePoints") ++ array_begin (codes "results")))
 
 abbrev pub log_end : List Token

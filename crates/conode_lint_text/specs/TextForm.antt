@@ -32,11 +32,18 @@ place_text file finding =
 unfoldable pub label_text : Finding → List ℕ
 label_text finding = severity_name finding.severity ++ codes "[" ++ finding.name.now ++ codes "]:"
 
+-- the two in colours
+unfoldable pub place_part : Bool → List ℕ → Finding → List ℕ
+place_part colours file finding = coloured colours (codes "1") (place_text file finding)
+
+unfoldable pub label_part : Bool → Finding → List ℕ
+label_part colours finding =
+    coloured colours (severity_colour finding.severity) (label_text finding)
+
 -- the place, the label and what is wrong
 unfoldable pub head_line : Bool → List ℕ → Finding → List ℕ
 head_line colours file finding =
-    coloured colours (codes "1") (place_text file finding) ++ codes " "
-    ++ coloured colours (severity_colour finding.severity) (label_text finding) ++ codes " "
+    place_part colours file finding ++ codes " " ++ label_part colours finding ++ codes " "
     ++ message_of finding ++ 10 ∷ []
 
 -- the line itself, where one is to blame

@@ -18,7 +18,6 @@ ghost use Rattle.conode_lint_text.specs.SarifForm.{
   rules_member,
   tool_member,
   uri_member,
-  version_members,
 };
 
 use crate::characters::{characters_of, push_utf8};
@@ -210,15 +209,6 @@ fn put_tool(
     writer.end_object()
 }
 
-#[tactic(auto, unfolding(crate::specs::SarifForm::version_members))]
-fn put_version(writer: &mut Writer) -> Result<(), AllocError>
-    ensures { OnOk result (writer.new.tokens ≡ writer.old.tokens ++ version_members) }
-{
-    let schema = "https://json.schemastore.org/sarif-2.1.0.json";
-    put_text(writer, "$schema", schema)?;
-    put_text(writer, "version", "2.1.0")
-}
-
 /// Writes what comes before the results: the tool with its rules.
 #[tactic(auto, unfolding(crate::specs::SarifForm::log_head))]
 pub fn put_log_head(
@@ -231,7 +221,7 @@ pub fn put_log_head(
         (writer.new.tokens ≡ writer.old.tokens ++ log_head version.now rules.now) }
 {
     writer.begin_object()?;
-    put_version(writer)?;
+    put_text(writer, "version", "2.1.0")?;
     begin_array(writer, "runs")?;
     writer.begin_object()?;
     put_tool(alloc, writer, version, rules)?;

@@ -9,6 +9,8 @@ ghost use Rattle.conode_lint_text.specs.TextForm.{
   severity_colour,
   place_text,
   label_text,
+  place_part,
+  label_part,
   head_line,
   quoted_line,
   help_line,
@@ -93,7 +95,38 @@ fn push_label(text: &mut String, finding: &Finding<'_>) -> Result<(), AllocError
     text.push_str("]:")
 }
 
-#[tactic(auto, unfolding(crate::specs::TextForm::head_line, crate::specs::TextForm::coloured))]
+#[tactic(auto, unfolding(crate::specs::TextForm::place_part, crate::specs::TextForm::coloured))]
+fn push_place_part(
+    text: &mut String,
+    colours: bool,
+    file: &[char],
+    finding: &Finding<'_>,
+    characters: &[char],
+) -> Result<(), AllocError>
+    requires { characters.now ≡ characters_of finding.now.text.now }
+    ensures { OnOk result (string_bytes text.new
+        ≡ string_bytes text.old ++ place_part colours file.now finding.now) }
+{
+    begin_colour(text, colours, "1")?;
+    push_place(text, file, finding, characters)?;
+    end_colour(text, colours)
+}
+
+#[tactic(auto, unfolding(crate::specs::TextForm::label_part, crate::specs::TextForm::coloured))]
+fn push_label_part(
+    text: &mut String,
+    colours: bool,
+    finding: &Finding<'_>,
+) -> Result<(), AllocError>
+    ensures { OnOk result
+        (string_bytes text.new ≡ string_bytes text.old ++ label_part colours finding.now) }
+{
+    begin_colour(text, colours, severity_colour(finding.severity))?;
+    push_label(text, finding)?;
+    end_colour(text, colours)
+}
+
+#[tactic(auto, unfolding(crate::specs::TextForm::head_line))]
 fn push_head(
     text: &mut String,
     colours: bool,
@@ -105,13 +138,9 @@ fn push_head(
     ensures { OnOk result (string_bytes text.new
         ≡ string_bytes text.old ++ head_line colours file.now finding.now) }
 {
-    begin_colour(text, colours, "1")?;
-    push_place(text, file, finding, characters)?;
-    end_colour(text, colours)?;
+    push_place_part(text, colours, file, finding, characters)?;
     text.push_str(" ")?;
-    begin_colour(text, colours, severity_colour(finding.severity))?;
-    push_label(text, finding)?;
-    end_colour(text, colours)?;
+    push_label_part(text, colours, finding)?;
     text.push_str(" ")?;
     push_message(text, finding)?;
     text.push_str("\n")
