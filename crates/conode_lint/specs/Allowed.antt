@@ -1,6 +1,6 @@
 -- Which findings pass, and how many others there are.
-use Rattle.std.specs.Prelude.{ℕ, Bool, true, false, ◌||◌, if◌then◌else◌, List, [], ◌∷◌, length, take, drop, option_to_list, codes, Option, Some, None}
-use Rattle.std.specs.List.{flat_map, list_any}
+use Rattle.std.specs.Prelude.{ℕ, Bool, true, false, nat_lt, if◌then◌else◌, List, [], ◌∷◌, length, take, drop, option_to_list, codes, Option, Some, None}
+use Rattle.std.specs.List.{flat_map}
 use Rattle.std.specs.Str.{bytes_eq}
 use Rattle.co_sheet_text.specs.Text.{trim}
 use Rattle.conode_lint_text.specs.declared.finding.Severity.{Severity}
@@ -15,24 +15,21 @@ allow_words = codes "; lint: allow "
 -- the name that a line lets pass
 unfoldable pub name_in : List ℕ → Option (List ℕ)
 name_in line =
-    if bytes_eq (take 14 (trim line)) allow_words then Some (trim (drop 14 (trim line))) else None
+    let text = trim line in
+    if nat_lt (length text) 14 then None
+    else (if bytes_eq (take 14 text) allow_words then Some (trim (drop 14 text)) else None)
 
 -- the names that lines let pass
 abbrev pub names_in : List (List ℕ) → List (List ℕ)
 names_in lines = flat_map (λ line. option_to_list (name_in line)) lines
 
--- a name is among others
-abbrev pub is_among : List ℕ → List (List ℕ) → Bool
-is_among name names = list_any (λ one. bytes_eq one name) names
+-- the mark, unless its name passes
+abbrev pub kept_of : (List ℕ → Bool) → Mark → List Mark
+kept_of passes mark = if passes (words.name_of mark.subject) then [] else mark ∷ []
 
--- the marks that don't pass
-abbrev pub kept_of : List (List ℕ) → List (List ℕ) → Mark → List Mark
-kept_of given in_sheet mark =
-    if is_among (words.name_of mark.subject) given || is_among (words.name_of mark.subject) in_sheet
-    then [] else mark ∷ []
-
-abbrev pub kept : List (List ℕ) → List (List ℕ) → List Mark → List Mark
-kept given in_sheet marks = flat_map (kept_of given in_sheet) marks
+-- the marks whose names don't pass
+abbrev pub kept : (List ℕ → Bool) → List Mark → List Mark
+kept passes marks = flat_map (kept_of passes) marks
 
 -- how many marks are errors
 abbrev pub is_error : Severity → Bool

@@ -1,8 +1,10 @@
 //! The names of findings that pass.
 
-ghost use Rattle.std.specs.Prelude.{◌≡◌, map, IfOk};
+ghost use Rattle.std.specs.Prelude.{◌≡◌, ◌||◌, map, IfOk};
+ghost use Rattle.std.specs.List.{list_any};
 ghost use Rattle.std.specs.Option.{option_map};
-ghost use Rattle.conode_lint.specs.Allowed.{is_among, kept, name_in, names_in};
+ghost use Rattle.std.specs.Str.{bytes_eq};
+ghost use Rattle.conode_lint.specs.Allowed.{kept, name_in, names_in};
 
 use crate::mark::Mark;
 use crate::words::name_of;
@@ -44,13 +46,13 @@ pub(crate) fn names_in<'a>(alloc: Global, lines: &[&'a [u8]]) -> Result<Vec<&'a 
 }
 
 fn is_among(name: &[u8], names: &[&[u8]]) -> bool
-    ensures { result ≡ is_among name.now (map (λ one. one.now) names.now) }
+    ensures { result ≡ list_any (λ one. bytes_eq one.now name.now) names.now }
 {
     names.iter().any(|one| *one == name)
 }
 
 fn is_given(name: &str, names: &[&str]) -> bool
-    ensures { result ≡ is_among name.now (map (λ one. one.now) names.now) }
+    ensures { result ≡ list_any (λ one. bytes_eq one.now name.now) names.now }
 {
     names.iter().any(|one| *one == name)
 }
@@ -62,8 +64,9 @@ pub(crate) fn kept(
     given: &[&str],
     in_sheet: &[&[u8]],
 ) -> Result<Vec<Mark>, AllocError>
-    ensures { IfOk result (λ made. made.items ≡ kept (map (λ one. one.now) given.now)
-        (map (λ one. one.now) in_sheet.now) marks.now) }
+    ensures { IfOk result (λ made. made.items ≡ kept (λ name.
+        list_any (λ one. bytes_eq one.now name) given.now
+        || list_any (λ one. bytes_eq one.now name) in_sheet.now) marks.now) }
 {
     let mut left = Vec::new(alloc);
     for mark in marks {

@@ -1,6 +1,7 @@
 //! The data sheets of a folder.
 
 use conode_io::CmdFault;
+use std::alloc::{AllocError, Global};
 use std::rt::Files;
 use std::{fs, io};
 

@@ -4,10 +4,10 @@
 
 mod allowed;
 mod build_words;
+mod files;
 mod folder;
 mod format_words;
 mod lines;
-mod lint_files;
 mod linted_text;
 mod mark;
 mod marks;
@@ -15,7 +15,7 @@ mod report;
 mod rules;
 mod words;
 
-pub use lint_files::{LintOptions, lint_files};
+pub use files::{LintOptions, lint_files};
 pub use linted_text::{Linted, lint_text};
 pub use marks::Checks;
 pub use report::{Counts, Form, Report};

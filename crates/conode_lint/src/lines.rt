@@ -1,6 +1,6 @@
 //! The lines of a text.
 
-ghost use Rattle.std.specs.Prelude.{◌≡◌, map, IfOk};
+ghost use Rattle.std.specs.Prelude.{◌≡◌, map, take, IfOk};
 ghost use Rattle.conode_lint.specs.Found.{line_at, text_lines};
 
 use co_sheet_text::without_mark;
@@ -20,6 +20,16 @@ pub(crate) fn text_lines(alloc: Global, text: &[u8]) -> Result<Vec<&[u8]>, Alloc
     Ok(lines)
 }
 
+// at most the first 512 bytes of a line
+fn first_bytes(line: &[u8]) -> &[u8]
+    ensures { result.now ≡ take 512 line.now }
+{
+    match line.split_at_checked(512) {
+        Some((first, _)) => first,
+        None => line,
+    }
+}
+
 /// A line by its number, from 1, at most its first 512 bytes; empty where there is none.
 #[tactic(auto, unfolding(crate::specs::Found::line_at))]
 pub(crate) fn line_at<'a>(lines: &[&'a [u8]], number: usize) -> &'a [u8]
@@ -28,6 +38,5 @@ pub(crate) fn line_at<'a>(lines: &[&'a [u8]], number: usize) -> &'a [u8]
     if number == 0 || number > lines.len() {
         return &[];
     }
-    let line = lines[number - 1];
-    &line[..line.len().min(512)]
+    first_bytes(lines[number - 1])
 }

@@ -82,22 +82,27 @@ fn error_count(marks: &[Mark]) -> usize
     count
 }
 
+// the marks whose findings are printed
+fn first_marks(marks: &[Mark]) -> &[Mark]
+    ensures { result.now ≡ take 1000 marks.now }
+{
+    match marks.split_at_checked(MOST) {
+        Some((first, _)) => first,
+        None => marks,
+    }
+}
+
 // the findings of marks of which none passes
-fn linted<'a>(alloc: Global, lines: &[&'a [u8]], marks: &[Mark]) -> Result<Linted<'a>, AllocError>
+fn made_of<'a>(alloc: Global, lines: &[&'a [u8]], marks: &[Mark]) -> Result<Linted<'a>, AllocError>
     ensures findings { IfOk result (λ made. map seen made.findings.items
         ≡ map (finding_of (map (λ line. line.now) lines.now)) (take 1000 marks.now)) }
     ensures errors { IfOk result (λ made. made.errors ≡ error_count marks.now) }
     ensures warnings { IfOk result (λ made. made.warnings ≡ length marks.now - made.errors) }
     ensures more { IfOk result (λ made. made.more ≡ length marks.now - 1000) }
 {
-    let shown = if marks.len() > MOST {
-        &marks[..MOST]
-    } else {
-        marks
-    };
     let errors = error_count(marks);
     Ok(Linted {
-        findings: findings_of(alloc, lines, shown)?,
+        findings: findings_of(alloc, lines, first_marks(marks))?,
         errors,
         warnings: marks.len().saturating_sub(errors),
         more: marks.len().saturating_sub(MOST),
@@ -115,5 +120,5 @@ pub fn lint_text<'a>(
     let found = marks_of(alloc, text, lines.as_slice(), checks)?;
     let in_sheet = names_in(alloc, lines.as_slice())?;
     let marks = kept(alloc, found.as_slice(), checks.allowed, in_sheet.as_slice())?;
-    linted(alloc, lines.as_slice(), marks.as_slice())
+    made_of(alloc, lines.as_slice(), marks.as_slice())
 }

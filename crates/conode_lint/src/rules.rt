@@ -72,7 +72,7 @@ fn rule_of(subject: Subject) -> Rule<'static> {
 }
 
 /// All kinds of findings. On an `Err` memory ran out.
-pub(crate) fn rules(alloc: Global) -> Result<Vec<Rule<'static>>, AllocError> {
+pub(crate) fn all_rules(alloc: Global) -> Result<Vec<Rule<'static>>, AllocError> {
     let mut rules = Vec::new(alloc);
     rules.push(rule_of(Subject::Format(OtherFormat::Xml)))?;
     for kind in FAULTS {

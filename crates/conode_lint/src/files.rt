@@ -7,7 +7,7 @@ use crate::folder::{is_folder, sheets_in};
 use crate::linted_text::lint_text;
 use crate::marks::Checks;
 use crate::report::{Counts, Form, Report};
-use crate::rules::{rules, unknown_name};
+use crate::rules::{all_rules, unknown_name};
 use co_sheet::{StreamFault, read_text};
 use conode_io::{CmdFault, cannot_read, file_text, flushed, hand_over, stopped};
 use std::alloc::Global;
@@ -179,7 +179,7 @@ fn lint_all<R: Files + AllocGlobal + Input + Clone + Drop, O: Write, E: Write>(
     err: &mut E,
 ) -> Result<u8, CmdFault> {
     let alloc = rt.alloc();
-    let rules = rules(alloc)?;
+    let rules = all_rules(alloc)?;
     if let Some(name) = unknown_name(rules.as_slice(), options.checks.allowed) {
         let _ = writeln!(err, "no finding has the name {name}");
         return Ok(2);
