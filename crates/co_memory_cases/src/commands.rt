@@ -14,6 +14,7 @@ use co_value::Key;
 use conode_check::check;
 use conode_decode::decode;
 use conode_io::CmdFault;
+use conode_lint::{Checks, lint_text};
 use conode_loop::loop_back;
 use conode_replay::replay;
 use conode_words::{Task, task};
@@ -63,6 +64,20 @@ pub(crate) fn checked(
     match check(alloc, sheet.as_bytes(), node_id, &LIMITS, out) {
         Ok(is_good) => right_if(is_good && out.as_slice() == written.as_bytes()),
         Err(fault) => refused_if(ended_early(fault, out.as_slice(), written)),
+    }
+}
+
+// A data sheet that is linted, without an error.
+pub(crate) fn linted(alloc: Global, sheet: &str) -> Outcome {
+    let checks = Checks {
+        node: Some(5),
+        limits: LIMITS,
+        all: true,
+        allowed: &[],
+    };
+    match lint_text(alloc, sheet.as_bytes(), &checks) {
+        Ok(found) => right_if(found.errors == 0 && found.more == 0),
+        Err(_) => Outcome::Refused,
     }
 }
 

@@ -13,7 +13,7 @@ mod sheet;
 mod transfers;
 
 use crate::after_build::{are_right, script_of};
-use crate::commands::{checked, decoded, looped, replayed, words_read};
+use crate::commands::{checked, decoded, linted, looped, replayed, words_read};
 use crate::minimal::minimal;
 use crate::outcome::{Outcome, refused_if, right_if};
 use crate::sheet::SHEET;
@@ -64,13 +64,14 @@ enum Call {
     NodeIdZero,
     TooLarge,
     Check,
+    Lint,
     Decode,
     Replay,
     LoopBack,
     Task,
 }
 
-const CALLS: [Call; 19] = [
+const CALLS: [Call; 20] = [
     Call::ReadText,
     Call::Read,
     Call::ReadFaulty,
@@ -86,6 +87,7 @@ const CALLS: [Call; 19] = [
     Call::NodeIdZero,
     Call::TooLarge,
     Call::Check,
+    Call::Lint,
     Call::Decode,
     Call::Replay,
     Call::LoopBack,
@@ -110,6 +112,7 @@ impl Call {
             Call::NodeIdZero => "builds with node-ID 0",
             Call::TooLarge => "read of a sheet that is too large",
             Call::Check => "check",
+            Call::Lint => "lint",
             Call::Decode => "decode",
             Call::Replay => "replay",
             Call::LoopBack => "loop_back",
@@ -253,6 +256,7 @@ fn outcome_of(call: Call, given: &Given<'_, '_>, out: &mut Vec<u8>) -> Outcome {
         Call::NodeIdZero => node_id_refused(alloc, sheet),
         Call::TooLarge => size_refused(alloc, too_large),
         Call::Check => checked(alloc, SHEET, Some(5), CHECKED, out),
+        Call::Lint => linted(alloc, SHEET),
         Call::Decode => decoded(alloc, sheet, out),
         Call::Replay => replayed(alloc, sheet, out),
         Call::LoopBack => looped(alloc, sheet, out),

@@ -1,5 +1,5 @@
-//! A CANopen device node on the command line: checks data sheets, decodes CAN traces as `candump -L` writes them, plays
-//! one to the device of a data sheet, lets an SDO client download to it, and shows object dictionaries.
+//! A CANopen device node on the command line: checks, lints and shows data sheets, decodes CAN traces as `candump -L` writes
+//! them, plays one to the device of a data sheet, and lets an SDO client download to it.
 #![tactic(auto)]
 
 use co_dict_build::Limits;
@@ -7,11 +7,14 @@ use co_node::Config;
 use conode_check::check_file;
 use conode_decode::decode_files;
 use conode_io::{CmdFault, stopped};
+use conode_lint::{Checks, Form, LintOptions, lint_files};
 use conode_loop::loop_files;
 use conode_replay::{replay_files, replay_stored};
-use conode_show::{Format, show_file};
-use conode_words::{DeviceWords, DictionaryWords, ShownAs, Task, task};
-use std::io::{BufWriter, Write};
+use conode_show::{Format as ShowFormat, show_file};
+use conode_words::{
+    Colours, DeviceWords, DictionaryWords, Format, LintWords, ShownAs, Task, VERSION, task,
+};
+use std::io::{BufWriter, IsTerminal, Write};
 use std::process::ExitCode;
 use std::{env, io};
 
@@ -33,11 +36,62 @@ fn config_of(device: &DeviceWords) -> Config<'static> {
 }
 
 /// The form in which a dictionary is shown.
-fn format_of(shown_as: ShownAs) -> Format {
+fn format_of(shown_as: ShownAs) -> ShowFormat {
     match shown_as {
-        ShownAs::Columns => Format::Text,
-        ShownAs::Markdown => Format::Markdown,
+        ShownAs::Columns => ShowFormat::Text,
+        ShownAs::Markdown => ShowFormat::Markdown,
     }
+}
+
+/// Whether findings are written in colours: on a terminal, unless the environment has a NO_COLOR that isn't empty.
+fn has_colours(rt: &HostRuntime, colours: Colours) -> bool {
+    match colours {
+        Colours::Always => true,
+        Colours::Never => false,
+        Colours::Auto => {
+            let is_off = match env::var(rt, "NO_COLOR") {
+                Ok(value) => !value.is_empty(),
+                Err(_) => false,
+            };
+            rt.stdout().is_terminal() && !is_off
+        }
+    }
+}
+
+/// The form of what is written.
+fn form_of(rt: &HostRuntime, words: &LintWords<'_>) -> Form {
+    match words.format {
+        Format::Text => Form::Text {
+            colours: has_colours(rt, words.colours),
+        },
+        Format::Json => Form::Json,
+        Format::Sarif => Form::Sarif,
+    }
+}
+
+/// Lints the sheets that the words name.
+fn lint_sheets<O: Write, E: Write>(
+    rt: &HostRuntime,
+    words: &LintWords<'_>,
+    out: &mut O,
+    err: &mut E,
+) -> ExitCode {
+    let version = match VERSION.split_once(", ") {
+        Some((version, _)) => version,
+        None => VERSION,
+    };
+    let options = LintOptions {
+        checks: Checks {
+            node: words.dictionary.node,
+            limits: limits_of(&words.dictionary),
+            all: words.all,
+            allowed: words.allowed.as_slice(),
+        },
+        form: form_of(rt, words),
+        strict: words.strict,
+        version,
+    };
+    lint_files(rt, words.sheets.as_slice(), &options, out, err)
 }
 
 /// Does what the words ask for.
@@ -52,6 +106,7 @@ fn carry_out_task<O: Write, E: Write>(
             let limits = limits_of(&dictionary);
             check_file(rt, sheet, dictionary.node, &limits, out, err)
         }
+        Task::Lint(words) => lint_sheets(rt, &words, out, err),
         Task::Decode { trace, sheet, node } => decode_files(rt, trace, sheet, node, out, err),
         Task::Replay {
             sheet,

@@ -8,6 +8,12 @@ const ROWS: &str = "\
 check a => check
  => nothing
 check --node 127 a --strings=0 --domains 65535 => check
+lint a => lint
+lint a b --node 5 --strict --allow X - --allow=Y --format json --color never --all => lint
+lint --node 5 => status 2
+lint a --format xml => status 2
+lint a --color no => status 2
+lint a --strict --strict => status 2
 decode --sheet s t --node=1 => decode
 replay s - --node 5 --time 0 => replay
 loop s 2001:00 05 --node=127 --mode block => loop
@@ -39,6 +45,7 @@ fn command_lines(rt: HostRuntime) -> Result<(), Fail> {
         let asked = match task(rt.alloc(), words.as_slice()) {
             Ok(task) => match task {
                 Some(Task::Check { .. }) => "check",
+                Some(Task::Lint(_)) => "lint",
                 Some(Task::Decode { .. }) => "decode",
                 Some(Task::Replay { .. }) => "replay",
                 Some(Task::LoopBack { .. }) => "loop",

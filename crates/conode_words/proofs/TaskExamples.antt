@@ -1,5 +1,5 @@
 -- Command lines, evaluated.
-use Rattle.std.proofs.Common.{◌≡◌, ℕ, List, [], ◌∷◌, Option, Some, None, codes, refl, true}
+use Rattle.std.proofs.Common.{◌≡◌, ℕ, List, [], ◌∷◌, Option, Some, None, codes, refl, true, false}
 use Rattle.clap.specs.Words.{Text, fault_of, is_simple_and_free, subcommand_of}
 use Rattle.clap.specs.declared.error.kind.ErrorKind.{ErrorKind}
 use Rattle.clap.specs.declared.error.kind.ErrorKind.TheVariants as kind
@@ -8,7 +8,9 @@ use Rattle.co_sdo_client.specs.declared.mode.Mode.TheVariants.{Plain, Block}
 use Rattle.conode_words.specs.declared.tasks.DeviceWords.{DeviceWords}
 use Rattle.conode_words.specs.declared.tasks.DictionaryWords.{DictionaryWords}
 use Rattle.conode_words.specs.declared.tasks.ShownAs.TheVariants.{Columns, Markdown}
-use Rattle.conode_words.specs.Tasks.{Asked, check, decode, replay, loop_back, show, asked_of, conode_command, task_fault}
+use Rattle.conode_words.specs.declared.tasks.Colours.TheVariants.{Auto, Always}
+use Rattle.conode_words.specs.declared.tasks.Format.TheVariants.{Json, Text as AsText}
+use Rattle.conode_words.specs.Tasks.{Asked, check, lint, decode, replay, loop_back, show, asked_of, conode_command, task_fault}
 
 abbrev asked : List Text → Option Asked
 asked words = asked_of (subcommand_of conode_command (codes "conode" ∷ words))
@@ -31,6 +33,48 @@ all_options : asked (codes "check" ∷ codes "--node" ∷ codes "127" ∷ codes 
     ≡ Some (check (record { sheet = codes "a"; dictionary = dictionary (Some 127) 0 65535 }))
 unfolding clap_on_literals
 all_options = refl
+
+lint_of_a_sheet : asked (codes "lint" ∷ codes "a" ∷ [])
+    ≡ Some (lint (record {
+      sheets = codes "a" ∷ [];
+      allowed = [];
+      dictionary = dictionary None 16 889;
+      format = AsText;
+      colours = Auto;
+      strict = false;
+      all = false;
+    }))
+unfolding clap_on_literals
+lint_of_a_sheet = refl
+
+lint_with_all_options : asked (codes "lint" ∷ codes "a" ∷ codes "--allow" ∷ codes "x" ∷ codes "--strict" ∷ codes "-" ∷ codes "--node=127" ∷ codes "--format" ∷ codes "json" ∷ codes "--all" ∷ codes "--allow=y" ∷ codes "--color=always" ∷ codes "--strings=1" ∷ codes "--domains=2" ∷ [])
+    ≡ Some (lint (record {
+      sheets = codes "a" ∷ codes "-" ∷ [];
+      allowed = codes "x" ∷ codes "y" ∷ [];
+      dictionary = dictionary (Some 127) 1 2;
+      format = Json;
+      colours = Always;
+      strict = true;
+      all = true;
+    }))
+unfolding clap_on_literals
+lint_with_all_options = refl
+
+lint_of_nothing : fault_of conode_command (codes "conode" ∷ codes "lint" ∷ codes "--all" ∷ []) ≡ kind.MissingRequiredArgument ∷ []
+unfolding clap_on_literals
+lint_of_nothing = refl
+
+lint_in_another_format : task_fault (codes "conode" ∷ codes "lint" ∷ codes "a" ∷ codes "--format" ∷ codes "xml" ∷ []) ≡ kind.InvalidValue ∷ []
+unfolding clap_on_literals
+lint_in_another_format = refl
+
+lint_in_other_colours : task_fault (codes "conode" ∷ codes "lint" ∷ codes "a" ∷ codes "--color" ∷ codes "red" ∷ []) ≡ kind.InvalidValue ∷ []
+unfolding clap_on_literals
+lint_in_other_colours = refl
+
+lint_as_sarif : task_fault (codes "conode" ∷ codes "lint" ∷ codes "a" ∷ codes "--format" ∷ codes "sarif" ∷ codes "--color" ∷ codes "never" ∷ []) ≡ []
+unfolding clap_on_literals
+lint_as_sarif = refl
 
 decode_of_a_trace : asked (codes "decode" ∷ codes "t" ∷ []) ≡ Some (decode (record { trace = codes "t"; sheet = None; node = None }))
 unfolding clap_on_literals

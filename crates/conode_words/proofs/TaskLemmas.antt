@@ -1,18 +1,19 @@
 -- What clap makes of the program's command, and Rust's `parse` of a word.
-use Rattle.std.proofs.Common.{◌≡◌, ℕ, ◌^◌, Bool, true, false, List, [], ◌∷◌, Some, None, Result, Ok, Err, inl, inr, refl, sym, ap}
+use Rattle.std.proofs.Common.{◌≡◌, ℕ, ◌^◌, Bool, true, false, List, [], ◌∷◌, Some, None, Option, IsSomeAnd, Result, Ok, Err, inl, inr, refl, sym, ap}
 use Rattle.std.proofs.lemmas.Bool.{ltb-true, lt-ltb}
-use Rattle.std.specs.Prelude.{◌&&◌, nat_lt, length}
+use Rattle.std.specs.Prelude.{◌&&◌, nat_lt, length, option_map}
 use Rattle.std.specs.Result.{result_ok}
 use Rattle.std.specs.Char.{digit_value}
 use Rattle.std.specs.List.{list_all}
 use Rattle.std.specs.Str.Parse.{AllDigits, ParsesUnsigned, digits_value, without_leading_plus}
 use Rattle.clap.specs.Kinds.{Kinds, HasKind, or_else}
-use Rattle.clap.specs.Words.{Text, first_of, first_value, rows_of, is_simple, is_simple_and_free}
+use Rattle.clap.specs.Words.{Text, all_of, first_of, first_value, matched_of, raw_values, rows_of, is_simple, is_simple_and_free}
+use Rattle.clap.specs.declared.builder.range.ValueRange.{ValueRange}
 use Rattle.clap.specs.declared.error.Error.{Error}
 use Rattle.clap.specs.ValueTests.{is_numeral}
 use Rattle.clap.specs.declared.parser.matches.Found.{Found}
 use Rattle.clap.proofs.OnLiterals.{clap_on_literals}
-use Rattle.clap.proofs.WalkLemmas.{both, first_value-rows}
+use Rattle.clap.proofs.WalkLemmas.{both, first_value-rows, raw_values-rows}
 use Rattle.conode_words.specs.Tasks.{conode_command, number_of_bits}
 
 pub is_free_command : is_simple_and_free conode_command ≡ true
@@ -21,6 +22,14 @@ is_free_command = refl
 
 pub first_in_rows : (found : Found) (name : Text) → first_of name (rows_of found) ≡ first_value found name
 first_in_rows found name = sym (first_value-rows found name)
+
+-- a range that is there is the one that it has to be
+pub some_range : (given : Option ValueRange) (range : ValueRange) → IsSomeAnd given (λ r. r ≡ range) → given ≡ Some range
+some_range None range h = absurd h
+some_range (Some r) range h = ap Some h
+
+pub all_in_rows : (found : Found) (name : Text) → all_of name (rows_of found) ≡ option_map raw_values (matched_of found name)
+all_in_rows found name = sym (raw_values-rows found name)
 
 -- digits by the test, and by the statement
 digits_pass : (ds : List ℕ) → AllDigits 10 ds → list_all (λ d. nat_lt (digit_value d) 10) ds ≡ true
@@ -58,9 +67,9 @@ more_kinds [] more e (inl memory) = inl memory
 more_kinds [] more e (inr among) = absurd among
 more_kinds (k ∷ ks) more e has = has
 
--- where the rules of the command refuse nothing, the mode decides
-pub mode_decides : {Rows : Type 0} (fault : Rows → Kinds) (kinds : Kinds) (rows given : Rows) → kinds ≡ [] → given ≡ rows → fault given ≡ or_else kinds (fault rows)
-mode_decides fault kinds rows given none same = rw (none, same) refl
+-- where the rules of the command refuse nothing, the word decides
+pub word_decides : {Rows : Type 0} (fault : Rows → Kinds) (kinds : Kinds) (rows given : Rows) → kinds ≡ [] → given ≡ rows → fault given ≡ or_else kinds (fault rows)
+word_decides fault kinds rows given none same = rw (none, same) refl
 
 pub is_simple_command : is_simple conode_command ≡ true
 unfolding clap_on_literals

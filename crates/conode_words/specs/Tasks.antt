@@ -1,19 +1,25 @@
 -- What the words of a command line ask for.
-use Rattle.std.specs.Prelude.{◌^◌, ◌&&◌, true, false, ℕ, Bool, List, [], ◌∷◌, codes, Option, Some, None, nat_lt, is_none, option_map, option_and_then, if◌then◌else◌}
+use Rattle.std.specs.Prelude.{◌^◌, ◌&&◌, ◌||◌, true, false, ℕ, Bool, List, [], ◌∷◌, map, codes, Option, Some, None, nat_lt, is_none, option_map, option_and_then, if◌then◌else◌}
 use Rattle.std.specs.Option.{option_copied, option_map_or}
 use Rattle.std.specs.Str.{bytes_eq}
 use Rattle.std.specs.Str.Parse.{digits_value, without_leading_plus}
 use Rattle.clap.specs.ValueTests.{is_numeral}
 use Rattle.clap.specs.Kinds.{Kinds, or_else}
-use Rattle.clap.specs.Words.{App, Row, Rule, Text, fault_of, first_of, new_app, new_rule, subcommand_of, with_rule, with_subcommand}
+use Rattle.clap.specs.Lexer.{usize_max}
+use Rattle.clap.specs.Words.{App, Row, Rule, Text, all_of, fault_of, first_of, new_app, new_rule, subcommand_of, with_rule, with_subcommand}
+use Rattle.clap.specs.declared.builder.action.ArgAction.TheVariants.{Append, SetTrue}
 use Rattle.clap.specs.declared.builder.value_parser.ValueParser.TheVariants.{Unsigned}
 use Rattle.clap.specs.declared.error.kind.ErrorKind.TheVariants.{InvalidValue}
 use Rattle.co_sdo_client.specs.declared.mode.Mode.{Mode}
 use Rattle.co_sdo_client.specs.declared.mode.Mode.TheVariants.{Plain, Segmented, Block}
 use Rattle.conode_words.specs.declared.tasks.DeviceWords.{DeviceWords}
 use Rattle.conode_words.specs.declared.tasks.DictionaryWords.{DictionaryWords}
+use Rattle.conode_words.specs.declared.tasks.Colours.{Colours}
+use Rattle.conode_words.specs.declared.tasks.Colours.TheVariants.{Auto, Always, Never}
+use Rattle.conode_words.specs.declared.tasks.Format.{Format}
+use Rattle.conode_words.specs.declared.tasks.Format.TheVariants as format
 use Rattle.conode_words.specs.declared.tasks.Task.{Task}
-use Rattle.conode_words.specs.declared.tasks.Task.TheVariants.{Check, Decode, Replay, LoopBack, Show}
+use Rattle.conode_words.specs.declared.tasks.Task.TheVariants.{Check, Lint, Decode, Replay, LoopBack, Show}
 use Rattle.conode_words.specs.declared.tasks.ShownAs.{ShownAs}
 use Rattle.conode_words.specs.declared.tasks.ShownAs.TheVariants.{Columns, Markdown}
 
@@ -45,6 +51,37 @@ abbrev pub check_command : App
 check_command =
     with_rule (with_rule (with_rule (with_rule (new_app (codes "check"))
     (wanted (codes "SHEET"))) node_option) strings_option) domains_option
+
+-- words that have to be there, one at least
+abbrev pub many_wanted : Text → Rule
+many_wanted id =
+    record (wanted id) { range = Some (record { start_inclusive = 1; end_inclusive = usize_max }) }
+
+-- an option `--NAME` without a value; one with a word and what stands for it where it isn't used; and one that may
+-- be used again and again
+abbrev pub flag : Text → Rule
+flag name = record (new_rule name) { long = Some name; action = Some SetTrue }
+
+abbrev pub worded : Text → Text → Rule
+worded name default =
+    record (new_rule name) { long = Some name; value_names = 1; defaults = default ∷ [] }
+
+abbrev pub repeated : Text → Rule
+repeated name =
+    record (new_rule name) { long = Some name; value_names = 1; action = Some Append }
+
+-- `lint SHEET|DIR.. [--node N] [--strings N] [--domains N] [--format FORMAT] [--strict] [--all] [--allow NAME]..
+-- [--color WHEN]`
+abbrev pub lint_of_sheets : App
+lint_of_sheets =
+    with_rule (with_rule (with_rule (with_rule (new_app (codes "lint")) (many_wanted (codes "SHEET")))
+    node_option) strings_option) domains_option
+
+abbrev pub lint_command : App
+lint_command =
+    with_rule (with_rule (with_rule (with_rule (with_rule lint_of_sheets
+    (worded (codes "format") (codes "text"))) (flag (codes "strict"))) (flag (codes "all")))
+    (repeated (codes "allow"))) (worded (codes "color") (codes "auto"))
 
 -- `--sheet SHEET`, a path
 abbrev pub sheet_option : Rule
@@ -83,8 +120,8 @@ loop_command =
     (wanted (codes "SHEET"))) (wanted (codes "KEY"))) (wanted (codes "HEX"))) node_option) mode_option)
 
 -- `--format FORMAT`
-abbrev pub format_option : Rule
-format_option = record (new_rule (codes "format")) {
+abbrev pub shown_option : Rule
+shown_option = record (new_rule (codes "format")) {
   long = Some (codes "format");
   value_names = 1;
   defaults = codes "text" ∷ [];
@@ -93,7 +130,7 @@ format_option = record (new_rule (codes "format")) {
 -- `show SHEET [--node N] [--format FORMAT]`
 abbrev pub show_command : App
 show_command =
-    with_rule (with_rule (with_rule (new_app (codes "show")) (wanted (codes "SHEET"))) node_option) format_option
+    with_rule (with_rule (with_rule (new_app (codes "show")) (wanted (codes "SHEET"))) node_option) shown_option
 
 -- a command with `--version`
 abbrev pub versioned : App → App
@@ -102,13 +139,24 @@ versioned app = record app { top = record app.top { has_version = true } }
 -- the program's command
 abbrev pub conode_command : App
 conode_command =
-    with_subcommand (with_subcommand (with_subcommand (with_subcommand (with_subcommand (versioned (new_app (codes "conode")))
-    check_command.top) decode_command.top) replay_command.top) loop_command.top) show_command.top
+    with_subcommand (with_subcommand (with_subcommand (with_subcommand (with_subcommand (with_subcommand
+    (versioned (new_app (codes "conode"))) check_command.top) lint_command.top) decode_command.top)
+    replay_command.top) loop_command.top) show_command.top
 
 -- what the words after `check` ask for: texts and numbers
 pub record AskedCheck : Type 0 where
   pub sheet : Text
   pub dictionary : DictionaryWords
+
+-- what the words after `lint` ask for
+pub record AskedLint : Type 0 where
+  pub sheets : List Text
+  pub allowed : List Text
+  pub dictionary : DictionaryWords
+  pub format : Format
+  pub colours : Colours
+  pub strict : Bool
+  pub all : Bool
 
 -- what the words after `decode` ask for
 pub record AskedDecode : Type 0 where
@@ -139,6 +187,7 @@ pub record AskedShow : Type 0 where
 -- what the words ask for
 pub data Asked : Type 0 where
   check : AskedCheck → Asked
+  lint : AskedLint → Asked
   decode : AskedDecode → Asked
   replay : AskedReplay → Asked
   loop_back : AskedLoop → Asked
@@ -147,6 +196,16 @@ pub data Asked : Type 0 where
 -- what a task asks for
 abbrev pub asked_by : Task → Asked
 asked_by (Check sheet dictionary) = check (record { sheet = sheet.now; dictionary = dictionary })
+asked_by (Lint words) =
+    lint (record {
+      sheets = map (λ word. word.now) words.sheets.items;
+      allowed = map (λ word. word.now) words.allowed.items;
+      dictionary = words.dictionary;
+      format = words.format;
+      colours = words.colours;
+      strict = words.strict;
+      all = words.all;
+    })
 asked_by (Decode trace sheet node) =
     decode (record { trace = trace.now; sheet = option_copied sheet; node = node })
 asked_by (Replay sheet trace device) =
@@ -184,6 +243,53 @@ asked_check rows =
     option_and_then (λ sheet. option_map (λ dictionary.
     check (record { sheet = sheet; dictionary = dictionary }))
     (asked_dictionary rows)) (first_of (codes "SHEET") rows)
+
+-- all words of an option or of what has to be there
+abbrev pub words_for : Text → List Row → List Text
+words_for name rows = option_map_or (λ words. words) (all_of name rows) []
+
+-- whether a flag is used
+abbrev pub is_used : Text → List Row → Bool
+is_used name rows = option_map_or (λ word. bytes_eq word (codes "true")) (first_of name rows) false
+
+-- the format that a word names
+abbrev pub format_of : Text → Option Format
+format_of word =
+    if bytes_eq word (codes "text") then Some format.Text
+    else (if bytes_eq word (codes "json") then Some format.Json
+    else (if bytes_eq word (codes "sarif") then Some format.Sarif else None))
+
+-- when there are colours, as a word names it
+abbrev pub colours_of : Text → Option Colours
+colours_of word =
+    if bytes_eq word (codes "auto") then Some Auto
+    else (if bytes_eq word (codes "always") then Some Always
+    else (if bytes_eq word (codes "never") then Some Never else None))
+
+abbrev pub format_for : List Row → Option Format
+format_for rows = option_and_then format_of (first_of (codes "format") rows)
+
+abbrev pub colours_for : List Row → Option Colours
+colours_for rows = option_and_then colours_of (first_of (codes "color") rows)
+
+-- what the matches of `lint` ask for, with its sheets and what it allows
+abbrev pub asked_lint_of : List Text → List Text → List Row → Option Asked
+asked_lint_of sheets allowed rows =
+    option_and_then (λ dictionary. option_and_then (λ format. option_map (λ colours.
+    lint (record {
+      sheets = sheets;
+      allowed = allowed;
+      dictionary = dictionary;
+      format = format;
+      colours = colours;
+      strict = is_used (codes "strict") rows;
+      all = is_used (codes "all") rows;
+    }))
+    (colours_for rows)) (format_for rows)) (asked_dictionary rows)
+
+abbrev pub asked_lint : List Row → Option Asked
+asked_lint rows =
+    asked_lint_of (words_for (codes "SHEET") rows) (words_for (codes "allow") rows) rows
 
 -- what the matches of `decode` ask for
 abbrev pub asked_decode : List Row → Option Asked
@@ -226,43 +332,48 @@ shown_as word =
     else (if bytes_eq word (codes "markdown") then Some Markdown else None)
 
 -- the form of matches
-abbrev pub format_for : List Row → Option ShownAs
-format_for rows = option_and_then shown_as (first_of (codes "format") rows)
+abbrev pub shown_for : List Row → Option ShownAs
+shown_for rows = option_and_then shown_as (first_of (codes "format") rows)
 
 -- what the matches of `show` ask for
 abbrev pub asked_show : List Row → Option Asked
 asked_show rows =
     option_and_then (λ sheet. option_map (λ form.
     show (record { sheet = sheet; node = number_for 8 (codes "node") rows; shown_as = form }))
-    (format_for rows)) (first_of (codes "SHEET") rows)
+    (shown_for rows)) (first_of (codes "SHEET") rows)
 
--- what the matches of a subcommand ask for
-abbrev pub asked_in : Text → List Row → Option Asked
-asked_in name rows =
+-- what the matches of a subcommand other than `lint` ask for
+abbrev pub asked_other : Text → List Row → Option Asked
+asked_other name rows =
     if bytes_eq name (codes "check") then asked_check rows
     else (if bytes_eq name (codes "decode") then asked_decode rows
     else (if bytes_eq name (codes "replay") then asked_replay rows
     else (if bytes_eq name (codes "loop") then asked_loop rows
     else (if bytes_eq name (codes "show") then asked_show rows else None))))
 
+-- what the matches of a subcommand ask for
+abbrev pub asked_in : Text → List Row → Option Asked
+asked_in name rows = if bytes_eq name (codes "lint") then asked_lint rows else asked_other name rows
+
 -- what the matches of the program's command ask for; nothing without a subcommand
 abbrev pub asked_of : Option (Text × List Row) → Option Asked
 asked_of matches = option_and_then (λ m. asked_in m.0 m.1) matches
 
--- the matches of `loop` have a mode that is none
-abbrev pub has_other_mode : Option (Text × List Row) → Bool
-has_other_mode matches = option_map_or (λ m. bytes_eq m.0 (codes "loop") && is_none (mode_for m.1)) matches false
+-- the matches of a subcommand have a word that is none of those that it takes: the mode of `loop`, the format and
+-- the colours of `lint`, the form of `show`
+abbrev pub is_other : Text → List Row → Bool
+is_other name rows =
+    if bytes_eq name (codes "loop") then is_none (mode_for rows)
+    else (if bytes_eq name (codes "lint") then is_none (format_for rows) || is_none (colours_for rows)
+    else (if bytes_eq name (codes "show") then is_none (shown_for rows) else false))
 
--- the matches of `show` have a form that is none
-abbrev pub has_other_format : Option (Text × List Row) → Bool
-has_other_format matches = option_map_or (λ m. bytes_eq m.0 (codes "show") && is_none (format_for m.1)) matches false
+abbrev pub has_other_word : Option (Text × List Row) → Bool
+has_other_word matches = option_map_or (λ m. is_other m.0 m.1) matches false
 
--- why matches are refused for their mode, or for their form
-abbrev pub mode_fault : Option (Text × List Row) → Kinds
-mode_fault matches =
-    if has_other_mode matches then InvalidValue ∷ []
-    else (if has_other_format matches then InvalidValue ∷ [] else [])
+-- why matches are refused for such a word
+abbrev pub word_fault : Option (Text × List Row) → Kinds
+word_fault matches = if has_other_word matches then InvalidValue ∷ [] else []
 
--- why words are refused: by the rules of the command, or for their mode or form
+-- why words are refused: by the rules of the command, or for such a word
 abbrev pub task_fault : List Text → Kinds
-task_fault words = or_else (fault_of conode_command words) (mode_fault (subcommand_of conode_command words))
+task_fault words = or_else (fault_of conode_command words) (word_fault (subcommand_of conode_command words))

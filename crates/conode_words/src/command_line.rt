@@ -1,6 +1,7 @@
 //! The command line.
 
-ghost use Rattle.std.specs.Prelude.{◌≡◌, map, IfOk, option_map, false, [], codes};
+ghost use Rattle.std.specs.Prelude.{◌≡◌, map, IfOk, option_map, false, [], codes, is_some, Some};
+ghost use Rattle.clap.specs.Lexer.{usize_max};
 ghost use Rattle.clap.specs.Words.{FailsBy, app_of, found_of, rows_of, rule_of, subcommand_of, subcommand_rows_of};
 ghost use Rattle.clap.specs.declared.builder.command.Command.TheViews.{out-Command};
 ghost use Rattle.conode_words.specs.Tasks.{
@@ -10,42 +11,57 @@ ghost use Rattle.conode_words.specs.Tasks.{
   asked_device,
   asked_dictionary,
   asked_in,
+  asked_lint,
+  asked_lint_of,
   asked_loop,
   asked_of,
+  asked_other,
   asked_replay,
   asked_show,
   check_command,
+  colours_for,
+  colours_of,
   conode_command,
   decode_command,
   domains_option,
+  flag,
   format_for,
-  format_option,
-  has_other_format,
-  has_other_mode,
+  format_of,
+  has_other_word,
+  is_other,
+  is_used,
+  lint_command,
+  lint_of_sheets,
   loop_command,
-  mode_fault,
+  many_wanted,
   mode_for,
   mode_of,
   mode_option,
   node_option,
   number_for,
   numbered,
+  repeated,
   replay_command,
   sheet_option,
   show_command,
   shown_as,
+  shown_for,
+  shown_option,
   strings_option,
   task_fault,
   time_option,
   wanted,
   with_rooms,
+  word_fault,
+  worded,
+  words_for,
 };
 
 use crate::help;
-use crate::tasks::{DeviceWords, DictionaryWords, ShownAs, Task};
+use crate::tasks::{Colours, DeviceWords, DictionaryWords, Format, LintWords, ShownAs, Task};
 use clap::builder::ValueParser;
 use clap::error::ErrorKind;
-use clap::{Arg, ArgMatches, Command, Error};
+use clap::{Arg, ArgAction, ArgMatches, Command, Error};
 use co_sdo_client::Mode;
 use std::alloc::{AllocError, Global};
 
@@ -105,6 +121,110 @@ fn check_command<'a>(alloc: Global) -> Result<Command<'a>, AllocError>
         .arg(node)?
         .arg(strings)?
         .arg(domains)
+}
+
+// an argument with one value or more
+#[tactic(auto, using(crate::proofs::TaskLemmas::some_range))]
+fn many<'a>(arg: Arg<'a>) -> Arg<'a>
+    ensures { result ≡ record arg.entry {
+      num_vals = Some (record { start_inclusive = 1; end_inclusive = usize_max });
+    } }
+{
+    arg.num_args(1..)
+}
+
+// the paths of sheets and folders
+fn sheets_arg<'a>(alloc: Global) -> Arg<'a>
+    ensures rule { rule_of result ≡ many_wanted (codes "SHEET") }
+    ensures local { result.global ≡ false }
+{
+    Arg::new(alloc, "SHEET").required(true).num_args(1..).help(
+        "Data sheets (EDS, DCF) and folders of them, - for standard input",
+    )
+}
+
+// an option without a value
+fn flag<'a>(alloc: Global, name: &'a str, help: &'a str) -> Arg<'a>
+    ensures rule { rule_of result ≡ flag name.entry.now }
+    ensures local { result.global ≡ false }
+{
+    Arg::new(alloc, name)
+        .long(name)
+        .action(ArgAction::SetTrue)
+        .help(help)
+}
+
+// an option with a word, and what stands for it where it isn't used
+fn worded<'a>(alloc: Global, name: &'a str, value: &'a str, default: &'a str) -> Arg<'a>
+    ensures rule { rule_of result ≡ worded name.entry.now default.entry.now }
+    ensures local { result.global ≡ false }
+{
+    Arg::new(alloc, name)
+        .long(name)
+        .value_name(value)
+        .default_value(default)
+}
+
+fn shown_arg<'a>(alloc: Global) -> Arg<'a>
+    ensures rule { rule_of result ≡ worded (codes "format") (codes "text") }
+    ensures local { result.global ≡ false }
+{
+    worded(alloc, "format", "FORMAT", "text").help("Form: text, json or sarif")
+}
+
+fn colour_arg<'a>(alloc: Global) -> Arg<'a>
+    ensures rule { rule_of result ≡ worded (codes "color") (codes "auto") }
+    ensures local { result.global ≡ false }
+{
+    worded(alloc, "color", "WHEN", "auto").help("Colours: auto, always or never")
+}
+
+// the findings that pass
+fn allow_arg<'a>(alloc: Global) -> Arg<'a>
+    ensures rule { rule_of result ≡ repeated (codes "allow") }
+    ensures local { result.global ≡ false }
+{
+    Arg::new(alloc, "allow")
+        .long("allow")
+        .value_name("NAME")
+        .action(ArgAction::Append)
+        .help("Let findings of this name pass; may be given again")
+}
+
+// the command with the sheets and the dictionary's options
+fn lint_of_sheets<'a>(alloc: Global) -> Result<Command<'a>, AllocError>
+    ensures shape { IfOk result (λ command. app_of command ≡ lint_of_sheets) }
+    ensures local { IfOk result (λ command. (out-Command command).has_globals ≡ false) }
+{
+    let sheets = sheets_arg(alloc);
+    let node = numbered(alloc, "node", 1, 127).help("Also build dictionaries for node-ID 1 to 127");
+    let strings = strings_arg(alloc);
+    let domains = domains_arg(alloc);
+    Command::new(alloc, "lint")
+        .about("Finds all faults of data sheets, and what is suspicious in them")
+        .after_help(help::LINTED)
+        .arg(sheets)?
+        .arg(node)?
+        .arg(strings)?
+        .arg(domains)
+}
+
+fn lint_command<'a>(alloc: Global) -> Result<Command<'a>, AllocError>
+    ensures shape { IfOk result (λ command. app_of command ≡ lint_command) }
+    ensures local { IfOk result (λ command. (out-Command command).has_globals ≡ false) }
+{
+    let format = shown_arg(alloc);
+    let strict = flag(alloc, "strict", "Count warnings as errors");
+    let all = flag(alloc, "all", "Also give the warnings that are of taste");
+    let allow = allow_arg(alloc);
+    let colour = colour_arg(alloc);
+    let command = lint_of_sheets(alloc)?;
+    command
+        .arg(format)?
+        .arg(strict)?
+        .arg(all)?
+        .arg(allow)?
+        .arg(colour)
 }
 
 // the path of the trace
@@ -233,8 +353,8 @@ fn loop_command<'a>(alloc: Global) -> Result<Command<'a>, AllocError>
     with_rooms(alloc, command)
 }
 
-fn format_arg<'a>(alloc: Global) -> Arg<'a>
-    ensures rule { rule_of result ≡ format_option }
+fn shown_arg<'a>(alloc: Global) -> Arg<'a>
+    ensures rule { rule_of result ≡ shown_option }
     ensures local { result.global ≡ false }
 {
     Arg::new(alloc, "format")
@@ -254,7 +374,7 @@ fn show_command<'a>(alloc: Global) -> Result<Command<'a>, AllocError>
         "The data sheet to show (EDS or DCF, CiA 306)",
     );
     let node = numbered(alloc, "node", 1, 127).help("Show what $NODEID is for node-ID 1 to 127");
-    let format = format_arg(alloc);
+    let format = shown_arg(alloc);
     Command::new(alloc, "show")
         .about("Shows the object dictionary of a data sheet as people read it")
         .after_help(help::SHOWN)
@@ -267,6 +387,7 @@ fn conode_command<'a>(alloc: Global) -> Result<Command<'a>, AllocError>
     ensures { IfOk result (λ command. app_of command ≡ conode_command) }
 {
     let check = check_command(alloc)?;
+    let lint = lint_command(alloc)?;
     let decode = decode_command(alloc)?;
     let replay = replay_command(alloc)?;
     let looped = loop_command(alloc)?;
@@ -276,6 +397,7 @@ fn conode_command<'a>(alloc: Global) -> Result<Command<'a>, AllocError>
         .about("Checks data sheets of CANopen devices, decodes and answers CAN traces")
         .after_help(help::TRACES)
         .subcommand(check)?
+        .subcommand(lint)?
         .subcommand(decode)?
         .subcommand(replay)?
         .subcommand(looped)?
@@ -330,6 +452,111 @@ fn asked_check<'a>(found: &ArgMatches<'a>) -> Option<Task<'a>>
     let sheet = found.get_str("SHEET")?;
     let dictionary = dictionary_words(found)?;
     Some(Task::Check { sheet, dictionary })
+}
+
+// all words of an option
+#[tactic(auto, using(crate::proofs::TaskLemmas::all_in_rows))]
+fn words_for<'a>(
+    alloc: Global,
+    found: &ArgMatches<'a>,
+    name: &str,
+) -> Result<Vec<&'a str>, AllocError>
+    ensures { IfOk result (λ words. map (λ word. word.now) words.items
+        ≡ words_for name.now (rows_of (found_of found.now))) }
+{
+    let mut words = Vec::new(alloc);
+    if let Some(given) = found.get_strs(name) {
+        words.extend_from_slice(given)?;
+    }
+    Ok(words)
+}
+
+#[tactic(auto, using(crate::proofs::TaskLemmas::first_in_rows))]
+fn is_used(found: &ArgMatches<'_>, name: &str) -> bool
+    ensures { result ≡ is_used name.now (rows_of (found_of found.now)) }
+{
+    match found.get_str(name) {
+        Some(word) => word == "true",
+        None => false,
+    }
+}
+
+// the format that a word names
+fn format_of(word: &str) -> Option<Format>
+    ensures { result ≡ format_of word.now }
+{
+    if word == "text" {
+        Some(Format::Text)
+    } else if word == "json" {
+        Some(Format::Json)
+    } else if word == "sarif" {
+        Some(Format::Sarif)
+    } else {
+        None
+    }
+}
+
+// when there are colours, as a word names it
+fn colours_of(word: &str) -> Option<Colours>
+    ensures { result ≡ colours_of word.now }
+{
+    if word == "auto" {
+        Some(Colours::Auto)
+    } else if word == "always" {
+        Some(Colours::Always)
+    } else if word == "never" {
+        Some(Colours::Never)
+    } else {
+        None
+    }
+}
+
+#[tactic(auto, using(crate::proofs::TaskLemmas::first_in_rows))]
+fn format_for(found: &ArgMatches<'_>) -> Option<Format>
+    ensures { result ≡ format_for (rows_of (found_of found.now)) }
+{
+    format_of(found.get_str("format")?)
+}
+
+#[tactic(auto, using(crate::proofs::TaskLemmas::first_in_rows))]
+fn colours_for(found: &ArgMatches<'_>) -> Option<Colours>
+    ensures { result ≡ colours_for (rows_of (found_of found.now)) }
+{
+    colours_of(found.get_str("color")?)
+}
+
+// what the words after `lint` ask for, with its sheets and what it allows
+fn lint_of<'a>(
+    found: &ArgMatches<'a>,
+    sheets: Vec<&'a str>,
+    allowed: Vec<&'a str>,
+) -> Option<Task<'a>>
+    ensures { option_map asked_by result
+        ≡ asked_lint_of (map (λ word. word.now) sheets.entry.items)
+        (map (λ word. word.now) allowed.entry.items) (rows_of (found_of found.now)) }
+{
+    let dictionary = dictionary_words(found)?;
+    let format = format_for(found)?;
+    let colours = colours_for(found)?;
+    Some(Task::Lint(LintWords {
+        sheets,
+        allowed,
+        dictionary,
+        format,
+        colours,
+        strict: is_used(found, "strict"),
+        all: is_used(found, "all"),
+    }))
+}
+
+// what the words after `lint` ask for
+fn asked_lint<'a>(alloc: Global, found: &ArgMatches<'a>) -> Result<Option<Task<'a>>, AllocError>
+    ensures { IfOk result (λ task.
+        option_map asked_by task ≡ asked_lint (rows_of (found_of found.now))) }
+{
+    let sheets = words_for(alloc, found, "SHEET")?;
+    let allowed = words_for(alloc, found, "allow")?;
+    Ok(lint_of(found, sheets, allowed))
 }
 
 // what the words after `decode` ask for
@@ -415,8 +642,8 @@ fn shown_as(word: &str) -> Option<ShownAs>
 }
 
 #[tactic(auto, using(crate::proofs::TaskLemmas::first_in_rows))]
-fn format_for(found: &ArgMatches<'_>) -> Option<ShownAs>
-    ensures { result ≡ format_for (rows_of (found_of found.now)) }
+fn shown_for(found: &ArgMatches<'_>) -> Option<ShownAs>
+    ensures { result ≡ shown_for (rows_of (found_of found.now)) }
 {
     shown_as(found.get_str("format")?)
 }
@@ -427,7 +654,7 @@ fn asked_show<'a>(found: &ArgMatches<'a>) -> Option<Task<'a>>
     ensures { option_map asked_by result ≡ asked_show (rows_of (found_of found.now)) }
 {
     let sheet = found.get_str("SHEET")?;
-    let shown_as = format_for(found)?;
+    let shown_as = shown_for(found)?;
     Some(Task::Show {
         sheet,
         node: number_u8(found, "node"),
@@ -435,9 +662,9 @@ fn asked_show<'a>(found: &ArgMatches<'a>) -> Option<Task<'a>>
     })
 }
 
-// what the words after the name of a subcommand ask for
-fn asked_in<'a>(name: &str, found: &ArgMatches<'a>) -> Option<Task<'a>>
-    ensures { option_map asked_by result ≡ asked_in name.now (rows_of (found_of found.now)) }
+// what the words after the name of a subcommand other than `lint` ask for
+fn asked_other<'a>(name: &str, found: &ArgMatches<'a>) -> Option<Task<'a>>
+    ensures { option_map asked_by result ≡ asked_other name.now (rows_of (found_of found.now)) }
 {
     if name == "check" {
         asked_check(found)
@@ -454,49 +681,77 @@ fn asked_in<'a>(name: &str, found: &ArgMatches<'a>) -> Option<Task<'a>>
     }
 }
 
-// whether the words name a mode that is none
-fn has_other_mode(matches: &ArgMatches<'_>) -> bool
-    ensures { result ≡ has_other_mode (subcommand_rows_of matches.now) }
+// what the words after the name of a subcommand ask for
+fn asked_in<'a>(
+    alloc: Global,
+    name: &str,
+    found: &ArgMatches<'a>,
+) -> Result<Option<Task<'a>>, AllocError>
+    ensures { IfOk result (λ task.
+        option_map asked_by task ≡ asked_in name.now (rows_of (found_of found.now))) }
 {
-    match matches.subcommand() {
-        Some((name, found)) => name == "loop" && mode_for(found).is_none(),
-        None => false,
+    if name == "lint" {
+        asked_lint(alloc, found)
+    } else {
+        Ok(asked_other(name, found))
     }
 }
 
-// whether the words name a form that is none
-fn has_other_format(matches: &ArgMatches<'_>) -> bool
-    ensures { result ≡ has_other_format (subcommand_rows_of matches.now) }
+// what is said of a subcommand's word that is none of those that it takes
+fn other_of(name: &str, found: &ArgMatches<'_>) -> Option<&'static str>
+    ensures { is_some result ≡ is_other name.now (rows_of (found_of found.now)) }
+{
+    if name == "loop" {
+        if mode_for(found).is_none() {
+            return Some(help::MODES);
+        }
+    } else if name == "lint" {
+        if format_for(found).is_none() {
+            return Some(help::FORMATS);
+        }
+        if colours_for(found).is_none() {
+            return Some(help::COLOURS);
+        }
+    } else if name == "show" && shown_for(found).is_none() {
+        return Some(help::SHOWN_FORMS);
+    }
+    None
+}
+
+// what is said of a word that is none of those that its subcommand takes
+fn other_word(matches: &ArgMatches<'_>) -> Option<&'static str>
+    ensures { is_some result ≡ has_other_word (subcommand_rows_of matches.now) }
 {
     match matches.subcommand() {
-        Some((name, found)) => name == "show" && format_for(found).is_none(),
-        None => false,
+        Some((name, found)) => other_of(name, found),
+        None => None,
     }
 }
 
-fn asked_of<'a>(matches: &ArgMatches<'a>) -> Option<Task<'a>>
-    ensures { option_map asked_by result ≡ asked_of (subcommand_rows_of matches.now) }
+fn asked_of<'a>(alloc: Global, matches: &ArgMatches<'a>) -> Result<Option<Task<'a>>, AllocError>
+    ensures { IfOk result (λ task.
+        option_map asked_by task ≡ asked_of (subcommand_rows_of matches.now)) }
 {
-    let (name, found) = matches.subcommand()?;
-    asked_in(name, found)
+    match matches.subcommand() {
+        Some((name, found)) => asked_in(alloc, name, found),
+        None => Ok(None),
+    }
 }
 
-// what words that the command takes ask for, unless they name a mode or a form that is none
+// what words that the command takes ask for, unless one is none of those that its subcommand takes
 fn task_of<'a>(
+    alloc: Global,
     command: &mut Command<'a>,
     matches: &ArgMatches<'a>,
 ) -> Result<Option<Task<'a>>, Error>
     ensures ok { IfOk result (λ task.
         option_map asked_by task ≡ asked_of (subcommand_rows_of matches.now)) }
-    ensures fault { FailsBy (mode_fault (subcommand_rows_of matches.now)) result }
+    ensures fault { FailsBy (word_fault (subcommand_rows_of matches.now)) result }
 {
-    if has_other_mode(matches) {
-        return Err(command.error(ErrorKind::InvalidValue, help::MODES)?);
+    if let Some(text) = other_word(matches) {
+        return Err(command.error(ErrorKind::InvalidValue, text)?);
     }
-    if has_other_format(matches) {
-        return Err(command.error(ErrorKind::InvalidValue, help::FORMATS)?);
-    }
-    Ok(asked_of(matches))
+    Ok(asked_of(alloc, matches)?)
 }
 
 /// What the words ask for, the program's name first; `None` without a subcommand. The error has the text for the user,
@@ -508,7 +763,7 @@ pub fn task<'a>(alloc: Global, words: &'a [&'a str]) -> Result<Option<Task<'a>>,
 {
     let mut command = conode_command(alloc)?;
     match command.try_get_matches_from_mut(words) {
-        Ok(matches) => task_of(&mut command, &matches),
+        Ok(matches) => task_of(alloc, &mut command, &matches),
         Err(error) => Err(error),
     }
 }

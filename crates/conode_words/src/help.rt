@@ -92,6 +92,31 @@ Build faults, each with an index or an index and a sub-index:
                         over 16,777,216 bytes of room: lower --domains or
                         --strings";
 
+/// What `lint` prints.
+pub const LINTED: &str = "\
+Prints every fault of each sheet, where `check` prints the first, and warnings
+where a sheet is legal and suspicious: file, line and column (in characters),
+what is wrong, the line itself, and how to fix it; at most 1,000 a file. A
+folder stands for its *.eds and *.dcf, `-` for standard input.
+
+  conode lint motor.eds io/ --node 5
+
+The last line counts errors and warnings. With --node, faults of the sheet's
+dictionary for that node-ID are errors too; without it the node-ID of a device
+configuration file (DCF) counts.
+
+A finding passes with --allow NAME, or where its sheet has a comment
+`; lint: allow NAME`: NAME is what stands in brackets, as BadList.
+
+Status: 0 without errors, 1 with an error (with --strict also with a warning)
+or where the output can't be written, 2 if a file can't be read or the words are
+wrong.";
+
+/// What is said of a format and of colours that are none.
+pub const FORMATS: &str = "invalid value for '--format <FORMAT>': text, json or sarif";
+
+pub const COLOURS: &str = "invalid value for '--color <WHEN>': auto, always or never";
+
 /// What `replay` prints, and which node-ID its device has.
 pub const REPLAYED: &str = "\
 Makes the device of the sheet, plays the trace to it, and prints each frame that
@@ -128,8 +153,8 @@ are wrong, or there is no node-ID.";
 /// What is said of a mode that is none.
 pub const MODES: &str = "invalid value for '--mode <MODE>': plain, segmented or block";
 
-/// What is said of a form that is none.
-pub const FORMATS: &str = "invalid value for '--format <FORMAT>': text or markdown";
+/// What is said of a form of `show` that is none.
+pub const SHOWN_FORMS: &str = "invalid value for '--format <FORMAT>': text or markdown";
 
 /// What `show` prints.
 pub const SHOWN: &str = "\

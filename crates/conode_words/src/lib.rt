@@ -6,4 +6,5 @@ mod help;
 mod tasks;
 
 pub use command_line::task;
-pub use tasks::{DeviceWords, DictionaryWords, ShownAs, Task};
+pub use help::VERSION;
+pub use tasks::{Colours, DeviceWords, DictionaryWords, Format, LintWords, ShownAs, Task};

@@ -31,8 +31,45 @@ pub enum ShownAs {
     Markdown,
 }
 
-/// What the program is asked to do.
+/// How `lint` writes what it finds.
 #[derive(Clone, Copy, Debug, PartialEq, Eq)]
+pub enum Format {
+    /// As compilers print.
+    Text,
+    /// As one document of JSON.
+    Json,
+    /// As a log of SARIF 2.1.0.
+    Sarif,
+}
+
+/// When `lint` writes in colours.
+#[derive(Clone, Copy, Debug, PartialEq, Eq)]
+pub enum Colours {
+    /// On a terminal, unless the environment has NO_COLOR.
+    Auto,
+    Always,
+    Never,
+}
+
+/// What the words say of `lint`.
+#[derive(Debug, Drop)]
+pub struct LintWords<'a> {
+    /// The paths of sheets and folders, `-` for standard input.
+    pub sheets: Vec<&'a str>,
+    /// The names of the findings that pass.
+    pub allowed: Vec<&'a str>,
+    /// The dictionary that is to be built from each sheet.
+    pub dictionary: DictionaryWords,
+    pub format: Format,
+    pub colours: Colours,
+    /// Whether a warning counts as an error.
+    pub strict: bool,
+    /// Whether the warnings are given too that are left out otherwise.
+    pub all: bool,
+}
+
+/// What the program is asked to do.
+#[derive(Debug, Drop)]
 pub enum Task<'a> {
     /// To check a data sheet.
     Check {
@@ -41,6 +78,8 @@ pub enum Task<'a> {
         /// The dictionary that is to be built from it.
         dictionary: DictionaryWords,
     },
+    /// To find all faults of data sheets, and what is suspicious in them.
+    Lint(LintWords<'a>),
     /// To decode a trace.
     Decode {
         /// The trace's path.

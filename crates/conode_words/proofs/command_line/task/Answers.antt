@@ -2,8 +2,8 @@ use Rattle.std.proofs.Common.{◌≡◌, ◌∙◌, ap, subst, map, [], List, ru
 use Rattle.std.proofs.lemmas.Result.{IfOk-weaker}
 use Rattle.clap.specs.Kinds.{Kinds, FailsBy, HasKind}
 use Rattle.clap.specs.Words.{App, Text, app_of, fault_of, is_simple, is_simple_and_free, subcommand_of, subcommand_rows_of}
-use Rattle.conode_words.specs.Tasks.{asked_of, conode_command, mode_fault}
-use Rattle.conode_words.proofs.TaskLemmas.{is_free_command, is_simple_command, mode_decides, more_kinds}
+use Rattle.conode_words.specs.Tasks.{asked_of, conode_command, word_fault}
+use Rattle.conode_words.proofs.TaskLemmas.{is_free_command, is_simple_command, word_decides, more_kinds}
 use Rattle.conode_words.proofs.command_line.task.Goals as goal
 
 pub returns-in-Ok-clause-fault : goal.returns-in-Ok-clause-fault
@@ -12,7 +12,7 @@ returns-in-Ok-clause-fault c =
     let same : app_of c.in_ok-command.command ≡ conode_command = search rules in
     let none = subst (λ (a : App). fault_of a words ≡ []) same (c.in-Ok.ensures.kinds (ap is_simple_and_free same ∙ is_free_command)) in
     let found = subst (λ (a : App). subcommand_rows_of c.in-Ok.matches ≡ subcommand_of a words) same (c.in-Ok.ensures.ok.2 (ap is_simple same ∙ is_simple_command)).1 in
-    subst (λ (ks : Kinds). FailsBy ks c.task_of.result) (mode_decides mode_fault (fault_of conode_command words) (subcommand_of conode_command words) (subcommand_rows_of c.in-Ok.matches) none found) c.task_of.ensures.fault
+    subst (λ (ks : Kinds). FailsBy ks c.task_of.result) (word_decides word_fault (fault_of conode_command words) (subcommand_of conode_command words) (subcommand_rows_of c.in-Ok.matches) none found) c.task_of.ensures.fault
 
 pub returns-in-Ok-clause-ok : goal.returns-in-Ok-clause-ok
 returns-in-Ok-clause-ok c =
@@ -26,4 +26,4 @@ returns-clause-fault c =
     let words : List Text = map (λ word. word.now) c.args.words.now in
     let same : app_of c.in_ok-command.command ≡ conode_command = search rules in
     let kinds = subst (λ (a : App). HasKind (fault_of a words) c.in-Err.error) same (c.in-Err.ensures.kinds (ap is_simple_and_free same ∙ is_free_command)) in
-    more_kinds (fault_of conode_command words) (mode_fault (subcommand_of conode_command words)) c.in-Err.error kinds
+    more_kinds (fault_of conode_command words) (word_fault (subcommand_of conode_command words)) c.in-Err.error kinds

@@ -1,0 +1,15 @@
+-- Lists cut, and a line found.
+use Rattle.std.proofs.Common.{◌≡◌, ℕ, zero, suc, ◌-◌, ◌<◌, ◌≤◌, List, [], length, map, take, get_or, Bor, arith, sym, ap}
+use Rattle.std.proofs.lemmas.List.{get_or-map, take_all}
+use Rattle.conode_lint.specs.Found.{line_at}
+
+-- a list that is short stays as it is
+pub short_stays : {X : Type 0} (xs : List X) (n : ℕ) → length xs < n → xs ≡ take n xs
+short_stays xs n h = sym (take_all n xs (omega (arith, h)))
+
+-- a line that is there
+pub line_found : (lines : List (Bor (List ℕ))) (number : ℕ) (d : Bor (List ℕ)) → 0 < number → number ≤ length lines
+    → take 512 ((get_or lines (number - 1) d).now) ≡ line_at (map (λ line. line.now) lines) number
+unfolding line_at
+line_found lines zero d some within = absurd (omega (arith, some))
+line_found lines (suc n) d some within = ap (take 512) (sym (get_or-map (λ line. line.now) lines (suc n - 1) d [] (omega (arith, within))))

@@ -1,0 +1,43 @@
+-- Which findings pass, and how many others there are.
+use Rattle.std.specs.Prelude.{ℕ, Bool, true, false, nat_lt, if◌then◌else◌, List, [], ◌∷◌, length, take, drop, option_to_list, codes, Option, Some, None}
+use Rattle.std.specs.List.{flat_map}
+use Rattle.std.specs.Str.{bytes_eq}
+use Rattle.co_sheet_text.specs.Text.{trim}
+use Rattle.conode_lint_text.specs.declared.finding.Severity.{Severity}
+use Rattle.conode_lint_text.specs.declared.finding.Severity.TheVariants.{Error, Warning}
+use Rattle.conode_lint.specs.declared.mark.Mark.{Mark}
+use Rattle.conode_lint.specs.Words as words
+
+-- what a comment begins with that lets findings of a name pass
+abbrev pub allow_words : List ℕ
+allow_words = codes "; lint: allow "
+
+-- the name that a line lets pass
+unfoldable pub name_in : List ℕ → Option (List ℕ)
+name_in line =
+    let text = trim line in
+    if nat_lt (length text) 14 then None
+    else (if bytes_eq (take 14 text) allow_words then Some (trim (drop 14 text)) else None)
+
+-- the names that lines let pass
+abbrev pub names_in : List (List ℕ) → List (List ℕ)
+names_in lines = flat_map (λ line. option_to_list (name_in line)) lines
+
+-- the mark, unless its name passes
+abbrev pub kept_of : (List ℕ → Bool) → Mark → List Mark
+kept_of passes mark = if passes (words.name_of mark.subject) then [] else mark ∷ []
+
+-- the marks whose names don't pass
+abbrev pub kept : (List ℕ → Bool) → List Mark → List Mark
+kept passes marks = flat_map (kept_of passes) marks
+
+-- how many marks are errors
+abbrev pub is_error : Severity → Bool
+is_error Error = true
+is_error Warning = false
+
+abbrev pub error_of : Mark → List Mark
+error_of mark = if is_error (words.severity_of mark.subject) then mark ∷ [] else []
+
+abbrev pub error_count : List Mark → ℕ
+error_count marks = length (flat_map error_of marks)

@@ -1,0 +1,50 @@
+-- The words of a build fault for people.
+use Rattle.std.specs.Prelude.{List, [], ℕ, codes}
+use Rattle.co_dict_build.specs.declared.build_fault.BuildFault.{BuildFault}
+use Rattle.co_dict_build.specs.declared.build_fault.BuildFault.TheVariants.{NodeId, ValueRange, BadCobId, PdoPair, BadMapping, TooMany, Memory}
+use Rattle.conode_lint_text.specs.declared.finding.About.{About}
+use Rattle.conode_lint_text.specs.declared.finding.About.TheVariants.{Line, Object, Entry}
+
+-- the object or the entry that it is about
+abbrev pub build_about : BuildFault → About
+build_about NodeId = Line
+build_about (ValueRange key) = Entry key.index key.sub
+build_about (BadCobId key) = Entry key.index key.sub
+build_about (PdoPair index) = Object index
+build_about (BadMapping key) = Entry key.index key.sub
+build_about TooMany = Line
+build_about Memory = Line
+
+-- what is wrong
+abbrev pub build_meaning : BuildFault → List ℕ
+build_meaning NodeId = codes "the node-ID is none of 1 to 127"
+build_meaning (ValueRange key) =
+    codes "the default with $NODEID is outside the type or the limits for this node-ID"
+build_meaning (BadCobId key) =
+    codes "the COB-ID is reserved, belongs to an SDO channel or has wrong bits"
+build_meaning (PdoPair index) =
+    codes "the PDO lacks its other object, or a sub-index that it needs"
+build_meaning (BadMapping key) =
+    codes "it counts an entry that is missing or can't be mapped, a wrong length, or over 64 bits"
+build_meaning TooMany = codes "over 16,384 entries, or over 16,777,216 bytes of room"
+build_meaning Memory = codes "memory ran out"
+
+-- how it is fixed
+abbrev pub build_fix : BuildFault → List ℕ
+build_fix NodeId = codes "give a node-ID from 1 to 127"
+build_fix (ValueRange key) = codes "correct the default or the limits"
+build_fix (BadCobId key) = codes "give a free COB-ID"
+build_fix (PdoPair index) = codes "list or describe what is missing"
+build_fix (BadMapping key) = codes "correct the mapping, or set PDOMapping=1 for the entry"
+build_fix TooMany = codes "take objects out of the lists, or lower --domains or --strings"
+build_fix Memory = codes "run it again with more memory"
+
+-- where the standard says so
+abbrev pub build_subject : BuildFault → List ℕ
+build_subject NodeId = codes "CiA 301, node-ID"
+build_subject (ValueRange key) = codes "CiA 306-1, object description"
+build_subject (BadCobId key) = codes "CiA 301, restricted CAN-IDs"
+build_subject (PdoPair index) = codes "CiA 301, PDO communication and mapping parameter"
+build_subject (BadMapping key) = codes "CiA 301, PDO mapping parameter"
+build_subject TooMany = []
+build_subject Memory = []

@@ -1,0 +1,17 @@
+-- The words of a text that is no data sheet of CANopen.
+use Rattle.std.specs.Prelude.{List, ℕ, codes}
+use Rattle.conode_lint.specs.declared.mark.OtherFormat.{OtherFormat}
+use Rattle.conode_lint.specs.declared.mark.OtherFormat.TheVariants.{Xml, EtherNetIp}
+
+-- what it is
+abbrev pub format_meaning : OtherFormat → List ℕ
+format_meaning Xml = codes "this is XML, as an XDD (CiA 311) is, and no EDS"
+format_meaning EtherNetIp = codes "this is an EDS of EtherNet/IP, and none of CANopen"
+
+-- what to do
+abbrev pub format_fix : OtherFormat → List ℕ
+format_fix Xml = codes "export it as an EDS"
+format_fix EtherNetIp = codes "ask the vendor for the EDS of its CANopen device"
+
+abbrev pub format_subject : List ℕ
+format_subject = codes "CiA 306-1, structure of an EDS"

@@ -1,0 +1,59 @@
+-- The lines of a text, and what is found at them.
+use Rattle.std.specs.Prelude.{ℕ, ◌==◌, ◌-◌, Bool, ◌||◌, not, if◌then◌else◌, List, [], take, map, filter, get_or, length, codes}
+use Rattle.std.specs.List.{list_any}
+use Rattle.std.specs.Str.{bytes_eq}
+use Rattle.std.specs.Str.Lines.{lines}
+use Rattle.co_sheet_text.specs.Text.{without_mark}
+use Rattle.conode_lint_text.specs.declared.finding.About.{About}
+use Rattle.conode_lint_text.specs.declared.finding.Finding.{Finding}
+use Rattle.conode_lint_text.specs.declared.finding.Place.{Place}
+use Rattle.conode_lint_text.specs.declared.finding.Severity.{Severity}
+use Rattle.conode_lint.specs.declared.mark.Mark.{Mark}
+use Rattle.conode_lint.specs.Words as words
+
+-- the lines of a text, without a byte order mark
+abbrev pub text_lines : List ℕ → List (List ℕ)
+text_lines text = lines (without_mark text)
+
+-- a line by its number, from 1, at most its first 512 bytes; empty where there is none
+unfoldable pub line_at : List (List ℕ) → ℕ → List ℕ
+line_at lines number = if number == 0 then [] else take 512 (get_or lines (number - 1) [])
+
+-- a finding, with the texts that it has
+pub record Seen : Type 0 where
+  pub line : ℕ
+  pub place : Place
+  pub about : About
+  pub severity : Severity
+  pub name : List ℕ
+  pub meaning : List ℕ
+  pub fix : List ℕ
+  pub subject : List ℕ
+  pub text : List ℕ
+
+abbrev pub seen : Finding → Seen
+seen finding = record {
+  line = finding.line;
+  place = finding.place;
+  about = finding.about;
+  severity = finding.severity;
+  name = finding.name.now;
+  meaning = finding.meaning.now;
+  fix = finding.fix.now;
+  subject = finding.subject.now;
+  text = finding.text.now;
+}
+
+-- the finding of a mark, among these lines
+unfoldable pub finding_of : List (List ℕ) → Mark → Seen
+finding_of lines mark = record {
+  line = mark.line;
+  place = words.place_of mark.subject;
+  about = words.about_of mark.subject;
+  severity = words.severity_of mark.subject;
+  name = words.name_of mark.subject;
+  meaning = words.meaning_of mark;
+  fix = words.fix_of mark.subject;
+  subject = words.subject_of mark.subject;
+  text = line_at lines mark.line;
+}

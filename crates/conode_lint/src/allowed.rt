@@ -1,0 +1,79 @@
+//! The names of findings that pass.
+
+ghost use Rattle.std.specs.Prelude.{◌≡◌, ◌||◌, map, IfOk};
+ghost use Rattle.std.specs.List.{list_any};
+ghost use Rattle.std.specs.Option.{option_map};
+ghost use Rattle.std.specs.Str.{bytes_eq};
+ghost use Rattle.conode_lint.specs.Allowed.{kept, name_in, names_in};
+
+use crate::mark::Mark;
+use crate::words::name_of;
+use co_sheet_text::trim;
+use std::alloc::{AllocError, Global};
+
+/// What a comment begins with that lets findings of a name pass.
+const ALLOW: &[u8] = b"; lint: allow ";
+
+/// The name that a line lets pass, as `; lint: allow Unlisted`.
+#[tactic(auto, unfolding(crate::specs::Allowed::name_in))]
+fn name_in(line: &[u8]) -> Option<&[u8]>
+    ensures { option_map (λ name. name.now) result ≡ name_in line.now }
+{
+    let text = trim(line);
+    if text.len() < 14 {
+        return None;
+    }
+    let (words, name) = text.split_at(14);
+    if words == ALLOW {
+        Some(trim(name))
+    } else {
+        None
+    }
+}
+
+/// The names that the lines of a sheet let pass.
+pub(crate) fn names_in<'a>(alloc: Global, lines: &[&'a [u8]]) -> Result<Vec<&'a [u8]>, AllocError>
+    ensures { IfOk result (λ names. map (λ name. name.now) names.items
+        ≡ names_in (map (λ line. line.now) lines.now)) }
+{
+    let mut names = Vec::new(alloc);
+    for line in lines {
+        if let Some(name) = name_in(line) {
+            names.push(name)?;
+        }
+    }
+    Ok(names)
+}
+
+fn is_among(name: &[u8], names: &[&[u8]]) -> bool
+    ensures { result ≡ list_any (λ one. bytes_eq one.now name.now) names.now }
+{
+    names.iter().any(|one| *one == name)
+}
+
+fn is_given(name: &str, names: &[&str]) -> bool
+    ensures { result ≡ list_any (λ one. bytes_eq one.now name.now) names.now }
+{
+    names.iter().any(|one| *one == name)
+}
+
+/// The marks that don't pass by the words or by the sheet.
+pub(crate) fn kept(
+    alloc: Global,
+    marks: &[Mark],
+    given: &[&str],
+    in_sheet: &[&[u8]],
+) -> Result<Vec<Mark>, AllocError>
+    ensures { IfOk result (λ made. made.items ≡ kept (λ name.
+        list_any (λ one. bytes_eq one.now name) given.now
+        || list_any (λ one. bytes_eq one.now name) in_sheet.now) marks.now) }
+{
+    let mut left = Vec::new(alloc);
+    for mark in marks {
+        let name = name_of(mark.subject);
+        if !is_given(name, given) && !is_among(name.as_bytes(), in_sheet) {
+            left.push(*mark)?;
+        }
+    }
+    Ok(left)
+}

@@ -1,0 +1,208 @@
+//! Files, folders and standard input linted.
+
+ghost use Rattle.std.specs.Prelude.{◌≡◌};
+ghost use Rattle.conode_lint.specs.Statuses.{lint_status};
+
+use crate::folder::{is_folder, sheets_in};
+use crate::linted_text::lint_text;
+use crate::marks::Checks;
+use crate::report::{Counts, Form, Report};
+use crate::rules::{all_rules, unknown_name};
+use co_sheet::{StreamFault, read_text};
+use conode_io::{CmdFault, cannot_read, file_text, flushed, hand_over, stopped};
+use std::alloc::Global;
+use std::io::{Input, Write};
+use std::process::ExitCode;
+use std::rt::Files;
+
+/// What is asked of `lint`.
+#[derive(Clone, Copy, Debug)]
+pub struct LintOptions<'a> {
+    pub checks: Checks<'a>,
+    pub form: Form,
+    /// Whether a warning counts as an error.
+    pub strict: bool,
+    /// The program's version, which a log of SARIF names.
+    pub version: &'a str,
+}
+
+/// What was written and counted so far.
+#[derive(Drop)]
+struct Session {
+    report: Report,
+    counts: Counts,
+}
+
+impl Session {
+    // lints a text, and writes what is found in it
+    fn take_text<O: Write>(
+        &mut self,
+        alloc: Global,
+        name: &str,
+        text: &[u8],
+        options: &LintOptions<'_>,
+        out: &mut O,
+    ) -> Result<(), CmdFault> {
+        let linted = lint_text(alloc, text, &options.checks)?;
+        self.counts.add(&linted);
+        self.report.add(alloc, name, &linted)?;
+        hand_over(self.report.lines().as_bytes(), out)?;
+        self.report.drop_lines();
+        Ok(())
+    }
+
+    // names a file or a folder that can't be read, unless memory ran out
+    fn take_fault<E: Write>(
+        &mut self,
+        alloc: Global,
+        name: &str,
+        fault: CmdFault,
+        err: &mut E,
+    ) -> Result<(), CmdFault> {
+        if fault == CmdFault::Memory {
+            return Err(fault);
+        }
+        let _ = cannot_read(name, err);
+        self.counts.unread = self.counts.unread.saturating_add(1);
+        self.report.add_unread(alloc, name)?;
+        Ok(())
+    }
+
+    fn take_file<R: Files + AllocGlobal, O: Write, E: Write>(
+        &mut self,
+        rt: &R,
+        path: &str,
+        options: &LintOptions<'_>,
+        out: &mut O,
+        err: &mut E,
+    ) -> Result<(), CmdFault> {
+        match file_text(rt, path) {
+            Ok(text) => self.take_text(rt.alloc(), path, text.as_slice(), options, out),
+            Err(fault) => self.take_fault(rt.alloc(), path, fault, err),
+        }
+    }
+
+    fn take_folder<R: Files + AllocGlobal + Clone + Drop, O: Write, E: Write>(
+        &mut self,
+        rt: &R,
+        path: &str,
+        options: &LintOptions<'_>,
+        out: &mut O,
+        err: &mut E,
+    ) -> Result<(), CmdFault> {
+        match sheets_in(rt, path) {
+            Ok(sheets) => {
+                for sheet in &sheets {
+                    self.take_file(rt, sheet.as_str(), options, out, err)?;
+                }
+                Ok(())
+            }
+            Err(fault) => self.take_fault(rt.alloc(), path, fault, err),
+        }
+    }
+
+    fn take_input<R: AllocGlobal + Input, O: Write, E: Write>(
+        &mut self,
+        rt: &R,
+        options: &LintOptions<'_>,
+        out: &mut O,
+        err: &mut E,
+    ) -> Result<(), CmdFault> {
+        let mut text = Vec::new(rt.alloc());
+        match read_text(&mut rt.reader(), &mut text) {
+            Ok(()) => self.take_text(rt.alloc(), "-", text.as_slice(), options, out),
+            Err(StreamFault::Memory) => Err(CmdFault::Memory),
+            Err(_) => self.take_fault(rt.alloc(), "-", CmdFault::Read, err),
+        }
+    }
+
+    // a path's file, the sheets of its folder, or `-` for standard input
+    fn take_path<R: Files + AllocGlobal + Input + Clone + Drop, O: Write, E: Write>(
+        &mut self,
+        rt: &R,
+        path: &str,
+        options: &LintOptions<'_>,
+        out: &mut O,
+        err: &mut E,
+    ) -> Result<(), CmdFault> {
+        if path == "-" {
+            self.take_input(rt, options, out, err)
+        } else if is_folder(rt, path) {
+            self.take_folder(rt, path, options, out, err)
+        } else {
+            self.take_file(rt, path, options, out, err)
+        }
+    }
+}
+
+// lints all paths; how much was found
+fn lint_paths<R: Files + AllocGlobal + Input + Clone + Drop, O: Write, E: Write>(
+    rt: &R,
+    paths: &[&str],
+    report: Report,
+    options: &LintOptions<'_>,
+    out: &mut O,
+    err: &mut E,
+) -> Result<Counts, CmdFault> {
+    let mut session = Session {
+        report,
+        counts: Counts::NONE,
+    };
+    for path in paths {
+        session.take_path(rt, path, options, out, err)?;
+    }
+    let Session { report, counts } = session;
+    let last = report.end(&counts)?;
+    hand_over(last.as_slice(), out)?;
+    Ok(counts)
+}
+
+/// 2 where a file couldn't be read, else 1 with an error, or where warnings count with a warning, else 0.
+fn status_of(counts: &Counts, strict: bool) -> u8
+    ensures { result ≡ lint_status counts.now strict }
+{
+    if counts.unread > 0 {
+        2
+    } else if counts.errors > 0 || (strict && counts.warnings > 0) {
+        1
+    } else {
+        0
+    }
+}
+
+// the same, after the names that are to be allowed were looked at; the status
+fn lint_all<R: Files + AllocGlobal + Input + Clone + Drop, O: Write, E: Write>(
+    rt: &R,
+    paths: &[&str],
+    options: &LintOptions<'_>,
+    out: &mut O,
+    err: &mut E,
+) -> Result<u8, CmdFault> {
+    let alloc = rt.alloc();
+    let rules = all_rules(alloc)?;
+    if let Some(name) = unknown_name(rules.as_slice(), options.checks.allowed) {
+        let _ = writeln!(err, "no finding has the name {name}");
+        return Ok(2);
+    }
+    let report = Report::new(alloc, options.form, options.version, rules.as_slice())?;
+    let outcome = lint_paths(rt, paths, report, options, out, err);
+    let counts = flushed(out, outcome)?;
+    Ok(status_of(&counts, options.strict))
+}
+
+/// Lints files, the `*.eds` and `*.dcf` of folders, and standard input as `-`, and writes what is found to `out`. A file
+/// or a folder that can't be read is named on `err`, and the others are linted all the same. The status is 2 where one
+/// couldn't be read or a name that is to be allowed is none; else 1 with an error, where warnings count also with a
+/// warning, or where not all could be written; else 0.
+pub fn lint_files<R: Files + AllocGlobal + Input + Clone + Drop, O: Write, E: Write>(
+    rt: &R,
+    paths: &[&str],
+    options: &LintOptions<'_>,
+    out: &mut O,
+    err: &mut E,
+) -> ExitCode {
+    match lint_all(rt, paths, options, out, err) {
+        Ok(status) => ExitCode::from(status),
+        Err(fault) => stopped(fault, out, err).status(),
+    }
+}

@@ -1,0 +1,33 @@
+//! The words of a text that is no data sheet of CANopen.
+
+ghost use Rattle.std.specs.Prelude.{◌≡◌};
+ghost use Rattle.conode_lint.specs.FormatWords.{format_fix, format_meaning, format_subject};
+
+use crate::mark::OtherFormat;
+
+/// What it is, in one line.
+pub(crate) fn format_meaning(format: OtherFormat) -> &'static str
+    ensures { result.now ≡ format_meaning format }
+{
+    match format {
+        OtherFormat::Xml => "this is XML, as an XDD (CiA 311) is, and no EDS",
+        OtherFormat::EtherNetIp => "this is an EDS of EtherNet/IP, and none of CANopen",
+    }
+}
+
+/// What to do, in one line.
+pub(crate) fn format_fix(format: OtherFormat) -> &'static str
+    ensures { result.now ≡ format_fix format }
+{
+    match format {
+        OtherFormat::Xml => "export it as an EDS",
+        OtherFormat::EtherNetIp => "ask the vendor for the EDS of its CANopen device",
+    }
+}
+
+/// The subject of the standard.
+pub(crate) fn format_subject(_format: OtherFormat) -> &'static str
+    ensures { result.now ≡ format_subject }
+{
+    "CiA 306-1, structure of an EDS"
+}

@@ -1,0 +1,21 @@
+//! Data sheets linted: every fault of a sheet and what is suspicious in it, as findings, and the files that they are
+//! found in.
+#![tactic(auto)]
+
+mod allowed;
+mod build_words;
+mod files;
+mod folder;
+mod format_words;
+mod lines;
+mod linted_text;
+mod mark;
+mod marks;
+mod report;
+mod rules;
+mod words;
+
+pub use files::{LintOptions, lint_files};
+pub use linted_text::{Linted, lint_text};
+pub use marks::Checks;
+pub use report::{Counts, Form, Report};

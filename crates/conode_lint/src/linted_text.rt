@@ -1,0 +1,124 @@
+//! A text linted.
+
+ghost use Rattle.std.specs.Prelude.{◌≡◌, ◌+◌, ◌-◌, map, take, length, IfOk};
+ghost use Rattle.conode_lint.specs.Allowed.{error_count, is_error};
+ghost use Rattle.conode_lint.specs.Found.{finding_of, seen};
+
+use crate::allowed::{kept, names_in};
+use crate::lines::{line_at, text_lines};
+use crate::mark::Mark;
+use crate::marks::{Checks, marks_of};
+use crate::words::{about_of, fix_of, meaning_of, name_of, place_of, severity_of, subject_of};
+use conode_lint_text::{Finding, Severity};
+use std::alloc::{AllocError, Global};
+
+/// How many findings of a file are printed.
+const MOST: usize = 1000;
+
+/// What is found in a text.
+#[derive(Debug, Drop)]
+pub struct Linted<'a> {
+    /// The first 1,000, in the order of the lines.
+    pub findings: Vec<Finding<'a>>,
+    /// How many errors there are, those too that aren't among the findings.
+    pub errors: usize,
+    /// The same of warnings.
+    pub warnings: usize,
+    /// How many are not among the findings.
+    pub more: usize,
+}
+
+// the finding of a mark
+#[tactic(auto, unfolding(crate::specs::Found::finding_of))]
+fn finding_of<'a>(lines: &[&'a [u8]], mark: Mark) -> Finding<'a>
+    ensures { seen result ≡ finding_of (map (λ line. line.now) lines.now) mark }
+{
+    Finding {
+        line: mark.line,
+        place: place_of(mark.subject),
+        about: about_of(mark.subject),
+        severity: severity_of(mark.subject),
+        name: name_of(mark.subject),
+        meaning: meaning_of(mark),
+        fix: fix_of(mark.subject),
+        subject: subject_of(mark.subject),
+        text: line_at(lines, mark.line),
+    }
+}
+
+fn findings_of<'a>(
+    alloc: Global,
+    lines: &[&'a [u8]],
+    marks: &[Mark],
+) -> Result<Vec<Finding<'a>>, AllocError>
+    ensures { IfOk result (λ made. map seen made.items
+        ≡ map (finding_of (map (λ line. line.now) lines.now)) marks.now) }
+{
+    let mut findings = Vec::new(alloc);
+    for mark in marks {
+        findings.push(finding_of(lines, *mark))?;
+    }
+    Ok(findings)
+}
+
+fn is_error(severity: Severity) -> bool
+    ensures { result ≡ is_error severity }
+{
+    match severity {
+        Severity::Error => true,
+        Severity::Warning => false,
+    }
+}
+
+fn error_count(marks: &[Mark]) -> usize
+    ensures { result ≡ error_count marks.now }
+{
+    let mut count = 0;
+    for mark in marks {
+        if is_error(severity_of(mark.subject)) {
+            count += 1;
+        }
+    }
+    count
+}
+
+// the marks whose findings are printed
+fn first_marks(marks: &[Mark]) -> &[Mark]
+    ensures { result.now ≡ take 1000 marks.now }
+{
+    match marks.split_at_checked(MOST) {
+        Some((first, _)) => first,
+        None => marks,
+    }
+}
+
+// the findings of marks of which none passes
+fn made_of<'a>(alloc: Global, lines: &[&'a [u8]], marks: &[Mark]) -> Result<Linted<'a>, AllocError>
+    ensures findings { IfOk result (λ made. map seen made.findings.items
+        ≡ map (finding_of (map (λ line. line.now) lines.now)) (take 1000 marks.now)) }
+    ensures errors { IfOk result (λ made. made.errors ≡ error_count marks.now) }
+    ensures warnings { IfOk result (λ made. made.warnings ≡ length marks.now - made.errors) }
+    ensures more { IfOk result (λ made. made.more ≡ length marks.now - 1000) }
+{
+    let errors = error_count(marks);
+    Ok(Linted {
+        findings: findings_of(alloc, lines, first_marks(marks))?,
+        errors,
+        warnings: marks.len().saturating_sub(errors),
+        more: marks.len().saturating_sub(MOST),
+    })
+}
+
+/// Everything that is found in a text: each fault of the sheet, else why no dictionary can be built, and what is
+/// suspicious; without what the words or a comment let pass. On an `Err` memory ran out.
+pub fn lint_text<'a>(
+    alloc: Global,
+    text: &'a [u8],
+    checks: &Checks<'_>,
+) -> Result<Linted<'a>, AllocError> {
+    let lines = text_lines(alloc, text)?;
+    let found = marks_of(alloc, text, lines.as_slice(), checks)?;
+    let in_sheet = names_in(alloc, lines.as_slice())?;
+    let marks = kept(alloc, found.as_slice(), checks.allowed, in_sheet.as_slice())?;
+    made_of(alloc, lines.as_slice(), marks.as_slice())
+}

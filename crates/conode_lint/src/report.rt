@@ -1,0 +1,183 @@
+//! What is written of many files, in one of three forms.
+
+use crate::linted_text::Linted;
+use conode_lint_text::{
+    Rule, characters_of, push_finding, push_more, push_summary, put_document_end,
+    put_document_head, put_file, put_log_end, put_log_head, put_results,
+};
+use json::Writer;
+use percent_encoding::{AsciiSet, NON_ALPHANUMERIC, percent_encode};
+use std::alloc::{AllocError, Global};
+
+/// In which form findings are written.
+#[derive(Clone, Copy, Debug, PartialEq, Eq)]
+pub enum Form {
+    /// As compilers print, perhaps in colours.
+    Text { colours: bool },
+    /// As one document of JSON.
+    Json,
+    /// As a log of SARIF 2.1.0.
+    Sarif,
+}
+
+/// How much was found.
+#[derive(Clone, Copy, Debug, PartialEq, Eq)]
+pub struct Counts {
+    pub errors: usize,
+    pub warnings: usize,
+    /// How many files were read.
+    pub files: usize,
+    /// How many files and folders couldn't be read.
+    pub unread: usize,
+}
+
+impl Counts {
+    /// Nothing yet.
+    pub const NONE: Counts = Counts {
+        errors: 0,
+        warnings: 0,
+        files: 0,
+        unread: 0,
+    };
+
+    pub(crate) fn add(&mut self, linted: &Linted<'_>) {
+        self.errors = self.errors.saturating_add(linted.errors);
+        self.warnings = self.warnings.saturating_add(linted.warnings);
+        self.files = self.files.saturating_add(1);
+    }
+}
+
+/// What of a path a URI has as it is, beside letters and digits.
+fn kept_out() -> AsciiSet {
+    NON_ALPHANUMERIC
+        .remove(b'-')
+        .remove(b'.')
+        .remove(b'_')
+        .remove(b'~')
+        .remove(b'/')
+}
+
+// the URI of a path: a reference for a relative one
+fn push_uri(uri: &mut String, path: &str) -> Result<(), AllocError> {
+    if path.starts_with('/') {
+        uri.push_str("file://")?;
+    }
+    percent_encode(path.as_bytes(), kept_out()).append_to(uri)
+}
+
+// appends the lines of a file's findings
+fn push_file(
+    alloc: Global,
+    text: &mut String,
+    colours: bool,
+    name: &str,
+    linted: &Linted<'_>,
+) -> Result<(), AllocError> {
+    let file = characters_of(alloc, name.as_bytes())?;
+    for finding in &linted.findings {
+        push_finding(alloc, text, colours, file.as_slice(), finding)?;
+    }
+    if linted.more > 0 {
+        push_more(text, file.as_slice(), linted.more)?;
+    }
+    Ok(())
+}
+
+/// What is written of files: the lines that weren't handed over yet, or the tokens of JSON so far.
+#[derive(Drop)]
+pub struct Report {
+    form: Form,
+    text: String,
+    writer: Writer,
+}
+
+impl Report {
+    /// A report of no file yet. On an `Err` memory ran out, as of the other calls.
+    pub fn new(
+        alloc: Global,
+        form: Form,
+        version: &str,
+        rules: &[Rule<'_>],
+    ) -> Result<Report, AllocError> {
+        let mut writer = Writer::new(Vec::new(alloc));
+        match form {
+            Form::Text { .. } => {}
+            Form::Json => put_document_head(&mut writer)?,
+            Form::Sarif => put_log_head(alloc, &mut writer, version, rules)?,
+        }
+        Ok(Report {
+            form,
+            text: String::new(alloc),
+            writer,
+        })
+    }
+
+    /// Adds what was found in a file.
+    pub fn add(
+        &mut self,
+        alloc: Global,
+        name: &str,
+        linted: &Linted<'_>,
+    ) -> Result<(), AllocError> {
+        match self.form {
+            Form::Text { colours } => push_file(alloc, &mut self.text, colours, name, linted),
+            Form::Json => {
+                let counts = (linted.errors, linted.warnings, linted.more);
+                let findings = linted.findings.as_slice();
+                put_file(alloc, &mut self.writer, name, true, counts, findings)
+            }
+            Form::Sarif => {
+                let mut uri = String::new(alloc);
+                push_uri(&mut uri, name)?;
+                let findings = linted.findings.as_slice();
+                put_results(alloc, &mut self.writer, uri.as_str(), findings)
+            }
+        }
+    }
+
+    /// Adds a file or a folder that can't be read.
+    pub fn add_unread(&mut self, alloc: Global, name: &str) -> Result<(), AllocError> {
+        match self.form {
+            Form::Json => put_file(alloc, &mut self.writer, name, false, (0, 0, 0), &[]),
+            Form::Text { .. } | Form::Sarif => Ok(()),
+        }
+    }
+
+    /// The lines that can be handed over now; in JSON and SARIF there are none before the end.
+    pub fn lines(&self) -> &str {
+        self.text.as_str()
+    }
+
+    /// Drops the lines that were handed over.
+    pub fn drop_lines(&mut self) {
+        self.text.clear();
+    }
+
+    /// Ends the report: the bytes that are to be handed over at last.
+    pub fn end(self, counts: &Counts) -> Result<Vec<u8>, AllocError> {
+        let Report {
+            form,
+            mut text,
+            mut writer,
+        } = self;
+        match form {
+            Form::Text { .. } => {
+                push_summary(&mut text, counts.errors, counts.warnings, counts.files)?;
+                Ok(text.into_bytes())
+            }
+            Form::Json => {
+                put_document_end(&mut writer, counts.errors, counts.warnings)?;
+                with_line_feed(writer.into_inner())
+            }
+            Form::Sarif => {
+                put_log_end(&mut writer)?;
+                with_line_feed(writer.into_inner())
+            }
+        }
+    }
+}
+
+fn with_line_feed(mut bytes: Vec<u8>) -> Result<Vec<u8>, AllocError> {
+    bytes.push(b'\n')?;
+    Ok(bytes)
+}

@@ -1,0 +1,50 @@
+-- What a finding is made of, in texts.
+use Rattle.std.specs.Prelude.{ℕ, ◌+◌, ◌==◌, nat_lt, Bool, not, if◌then◌else◌, List, [], ◌∷◌, ◌++◌, length, drop, codes}
+use Rattle.std.specs.List.{position_or_len}
+use Rattle.co_text.specs.Printed.{digits_text}
+use Rattle.conode_lint_text.specs.Characters.{blanks, characters_of}
+use Rattle.conode_lint_text.specs.declared.finding.About.{About}
+use Rattle.conode_lint_text.specs.declared.finding.About.TheVariants.{Line, Object, Entry}
+use Rattle.conode_lint_text.specs.declared.finding.Finding.{Finding}
+use Rattle.conode_lint_text.specs.declared.finding.Place.{Place}
+use Rattle.conode_lint_text.specs.declared.finding.Place.TheVariants.{Beginning, Value}
+use Rattle.conode_lint_text.specs.declared.finding.Severity.{Severity}
+use Rattle.conode_lint_text.specs.declared.finding.Severity.TheVariants.{Error, Warning}
+
+-- how severe it is
+abbrev pub severity_name : Severity → List ℕ
+severity_name Error = codes "error"
+severity_name Warning = codes "warning"
+
+-- where a value begins: past `=` and blanks; without `=` where the line begins
+abbrev pub value_place : List ℕ → ℕ
+value_place characters =
+    let equals = position_or_len (λ c. c == 61) characters in
+    if nat_lt equals (length characters)
+    then equals + 1 + blanks (drop (equals + 1) characters) else blanks characters
+
+-- a place in a line, in characters before it
+unfoldable pub place_in : Place → List ℕ → ℕ
+place_in Beginning characters = blanks characters
+place_in Value characters = value_place characters
+
+-- the column, from 1; 0 where no line is to blame
+unfoldable pub column_of : Finding → ℕ
+column_of finding =
+    if finding.line == 0 then 0 else place_in finding.place (characters_of finding.text.now) + 1
+
+-- what it is about, where the line alone doesn't say it: `1A00: `, `1A00:00: `
+abbrev pub about_text : About → List ℕ
+about_text Line = []
+about_text (Object index) = digits_text 16 4 index ++ codes ": "
+about_text (Entry index sub_index) =
+    digits_text 16 4 index ++ codes ":" ++ digits_text 16 2 sub_index ++ codes ": "
+
+-- what is wrong
+unfoldable pub message_of : Finding → List ℕ
+message_of finding = about_text finding.about ++ finding.meaning.now
+
+-- how it is fixed, and the subject of the standard that says so
+unfoldable pub help_of : List ℕ → List ℕ → List ℕ
+help_of fix subject =
+    fix ++ (if length subject == 0 then [] else codes " (" ++ subject ++ codes ")")

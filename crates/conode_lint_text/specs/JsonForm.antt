@@ -1,0 +1,73 @@
+-- Findings as one document of JSON, in tokens (RFC 8259).
+use Rattle.std.specs.Prelude.{ℕ, Bool, List, [], ◌∷◌, ◌++◌, map, codes, decimal}
+use Rattle.std.specs.List.{flat_map}
+use Rattle.json.specs.Token.{Token, begin_object, end_object, begin_array, end_array, key, string, number, boolean}
+use Rattle.conode_lint_text.specs.Characters.{characters_of, in_utf8}
+use Rattle.conode_lint_text.specs.Findings.{column_of, message_of, severity_name}
+use Rattle.conode_lint_text.specs.declared.finding.Finding.{Finding}
+
+-- a line in UTF-8
+abbrev pub utf8_of : List ℕ → List ℕ
+utf8_of line = in_utf8 (characters_of line)
+
+-- a member that is a text, and one that is a number
+unfoldable pub text_member : List ℕ → List ℕ → List Token
+text_member name text = key name ∷ string text ∷ []
+
+unfoldable pub number_member : List ℕ → ℕ → List Token
+number_member name count = key name ∷ number (decimal count) ∷ []
+
+unfoldable pub flag_member : List ℕ → Bool → List Token
+flag_member name is = key name ∷ boolean is ∷ []
+
+-- the beginning of a member that is an object, and of one that is an array
+unfoldable pub object_begin : List ℕ → List Token
+object_begin name = key name ∷ begin_object ∷ []
+
+unfoldable pub array_begin : List ℕ → List Token
+array_begin name = key name ∷ begin_array ∷ []
+
+unfoldable pub place_members : Finding → List Token
+place_members finding =
+    number_member (codes "line") finding.line
+    ++ number_member (codes "column") (column_of finding)
+    ++ text_member (codes "severity") (severity_name finding.severity)
+
+unfoldable pub word_members : Finding → List Token
+word_members finding =
+    text_member (codes "name") finding.name.now
+    ++ text_member (codes "meaning") (message_of finding)
+    ++ text_member (codes "text") (utf8_of finding.text.now)
+    ++ text_member (codes "fix") finding.fix.now
+    ++ text_member (codes "subject") finding.subject.now
+
+-- a finding
+unfoldable pub finding_tokens : Finding → List Token
+finding_tokens finding =
+    begin_object ∷ (place_members finding ++ word_members finding ++ end_object ∷ [])
+
+-- how many errors and warnings there are
+unfoldable pub count_members : ℕ → ℕ → List Token
+count_members errors warnings =
+    number_member (codes "errors") errors ++ number_member (codes "warnings") warnings
+
+-- a file before its findings: whether it could be read, how many errors and warnings it has, and how many of them
+-- aren't given
+unfoldable pub file_members : List ℕ → Bool → ℕ → ℕ → ℕ → List Token
+file_members name is_read errors warnings more =
+    text_member (codes "file") name ++ flag_member (codes "read") is_read
+    ++ count_members errors warnings ++ number_member (codes "more") more
+
+-- a file with its findings
+unfoldable pub file_tokens : List ℕ → Bool → ℕ → ℕ → ℕ → List Finding → List Token
+file_tokens name is_read errors warnings more findings =
+    begin_object ∷ (file_members name is_read errors warnings more
+    ++ array_begin (codes "findings") ++ flat_map finding_tokens findings
+    ++ (end_array ∷ end_object ∷ []))
+
+-- what comes before the files, and what after them
+unfoldable pub document_head : List Token
+document_head = begin_object ∷ (number_member (codes "version") 1 ++ array_begin (codes "files"))
+
+unfoldable pub document_end : ℕ → ℕ → List Token
+document_end errors warnings = end_array ∷ (count_members errors warnings ++ end_object ∷ [])

@@ -1,0 +1,82 @@
+-- Findings as a log of SARIF 2.1.0 (OASIS), in tokens.
+use Rattle.std.specs.Prelude.{ℕ, ◌==◌, if◌then◌else◌, List, [], ◌∷◌, ◌++◌, codes}
+use Rattle.std.specs.List.{flat_map}
+use Rattle.json.specs.Token.{Token, begin_object, end_object, end_array}
+use Rattle.conode_lint_text.specs.Findings.{column_of, help_of, message_of, severity_name}
+use Rattle.conode_lint_text.specs.JsonForm.{array_begin, number_member, object_begin, text_member, utf8_of}
+use Rattle.conode_lint_text.specs.declared.finding.Finding.{Finding}
+use Rattle.conode_lint_text.specs.declared.finding.Rule.{Rule}
+use Rattle.conode_lint_text.specs.declared.finding.Severity.{Severity}
+
+-- a member that is a message: an object with a text
+unfoldable pub message_member : List ℕ → List ℕ → List Token
+message_member name text = object_begin name ++ text_member (codes "text") text ++ end_object ∷ []
+
+-- the level of a rule's results
+unfoldable pub level_member : Severity → List Token
+level_member severity =
+    object_begin (codes "defaultConfiguration") ++ text_member (codes "level") (severity_name severity)
+    ++ end_object ∷ []
+
+-- a rule, with its help
+unfoldable pub rule_tokens : Rule → List Token
+rule_tokens rule =
+    begin_object ∷ (text_member (codes "id") rule.name.now
+    ++ message_member (codes "shortDescription") rule.meaning.now
+    ++ message_member (codes "help") (help_of rule.fix.now rule.subject.now)
+    ++ level_member rule.severity ++ end_object ∷ [])
+
+-- where a line is to blame, its region
+unfoldable pub region_members : Finding → List Token
+region_members finding =
+    if finding.line == 0 then []
+    else object_begin (codes "region") ++ number_member (codes "startLine") finding.line
+    ++ number_member (codes "startColumn") (column_of finding)
+    ++ message_member (codes "snippet") (utf8_of finding.text.now) ++ end_object ∷ []
+
+-- the file, by its URI
+unfoldable pub uri_member : List ℕ → List Token
+uri_member uri =
+    object_begin (codes "artifactLocation") ++ text_member (codes "uri") uri ++ end_object ∷ []
+
+-- the file and the region
+unfoldable pub location_tokens : List ℕ → Finding → List Token
+location_tokens uri finding =
+    begin_object ∷ (object_begin (codes "physicalLocation") ++ uri_member uri
+    ++ region_members finding ++ (end_object ∷ end_object ∷ []))
+
+-- where a result is
+unfoldable pub locations_member : List ℕ → Finding → List Token
+locations_member uri finding =
+    array_begin (codes "locations") ++ location_tokens uri finding ++ end_array ∷ []
+
+-- a result
+unfoldable pub result_tokens : List ℕ → Finding → List Token
+result_tokens uri finding =
+    begin_object ∷ (text_member (codes "ruleId") finding.name.now
+    ++ text_member (codes "level") (severity_name finding.severity)
+    ++ message_member (codes "message") (message_of finding)
+    ++ locations_member uri finding ++ end_object ∷ [])
+
+-- the rules
+unfoldable pub rules_member : List Rule → List Token
+rules_member rules = array_begin (codes "rules") ++ flat_map rule_tokens rules ++ end_array ∷ []
+
+-- the tool that made the log: its name, its version and its rules
+unfoldable pub driver_member : List ℕ → List Rule → List Token
+driver_member version rules =
+    object_begin (codes "driver") ++ text_member (codes "name") (codes "conode")
+    ++ text_member (codes "version") version ++ rules_member rules ++ end_object ∷ []
+
+unfoldable pub tool_member : List ℕ → List Rule → List Token
+tool_member version rules = object_begin (codes "tool") ++ driver_member version rules ++ end_object ∷ []
+
+-- what comes before the results, and what after them
+unfoldable pub log_head : List ℕ → List Rule → List Token
+log_head version rules =
+    begin_object
+    ∷ (text_member (codes "version") (codes "2.1.0") ++ array_begin (codes "runs") ++ begin_object ∷ (tool_member version rules
+    ++ text_member (codes "columnKind") (codes "unicodeCodePoints") ++ array_begin (codes "results")))
+
+abbrev pub log_end : List Token
+log_end = end_array ∷ end_object ∷ end_array ∷ end_object ∷ []

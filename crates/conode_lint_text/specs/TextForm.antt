@@ -1,0 +1,78 @@
+-- Findings as compilers print them.
+use Rattle.std.specs.Prelude.{ℕ, ◌==◌, Bool, if◌then◌else◌, List, [], ◌∷◌, ◌++◌, codes, decimal}
+use Rattle.conode_lint_text.specs.Characters.{characters_of, shown_all}
+use Rattle.conode_lint_text.specs.Findings.{column_of, help_of, message_of, severity_name}
+use Rattle.conode_lint_text.specs.declared.finding.Finding.{Finding}
+use Rattle.conode_lint_text.specs.declared.finding.Severity.{Severity}
+use Rattle.conode_lint_text.specs.declared.finding.Severity.TheVariants.{Error, Warning}
+
+-- what begins a colour on a terminal (ECMA-48, SGR), by its numbers, and what ends it; without colours nothing
+unfoldable pub begin_colour : Bool → List ℕ → List ℕ
+begin_colour colours numbers = if colours then 27 ∷ codes "[" ++ numbers ++ codes "m" else []
+
+unfoldable pub end_colour : Bool → List ℕ
+end_colour colours = if colours then 27 ∷ codes "[0m" else []
+
+unfoldable pub coloured : Bool → List ℕ → List ℕ → List ℕ
+coloured colours numbers text = begin_colour colours numbers ++ text ++ end_colour colours
+
+-- red for errors, magenta for warnings
+abbrev pub severity_colour : Severity → List ℕ
+severity_colour Error = codes "1;31"
+severity_colour Warning = codes "1;35"
+
+-- the file, and where a line is to blame its number and the column
+unfoldable pub place_text : List ℕ → Finding → List ℕ
+place_text file finding =
+    shown_all file ++ codes ":"
+    ++ (if finding.line == 0 then []
+    else decimal finding.line ++ codes ":" ++ decimal (column_of finding) ++ codes ":")
+
+-- `error[BadList]:`
+unfoldable pub label_text : Finding → List ℕ
+label_text finding = severity_name finding.severity ++ codes "[" ++ finding.name.now ++ codes "]:"
+
+-- the two in colours
+unfoldable pub place_part : Bool → List ℕ → Finding → List ℕ
+place_part colours file finding = coloured colours (codes "1") (place_text file finding)
+
+unfoldable pub label_part : Bool → Finding → List ℕ
+label_part colours finding =
+    coloured colours (severity_colour finding.severity) (label_text finding)
+
+-- the place, the label and what is wrong
+unfoldable pub head_line : Bool → List ℕ → Finding → List ℕ
+head_line colours file finding =
+    place_part colours file finding ++ codes " " ++ label_part colours finding ++ codes " "
+    ++ message_of finding ++ 10 ∷ []
+
+-- the line itself, where one is to blame
+unfoldable pub quoted_line : Finding → List ℕ
+quoted_line finding =
+    if finding.line == 0 then []
+    else codes "    " ++ shown_all (characters_of finding.text.now) ++ 10 ∷ []
+
+-- how it is fixed
+unfoldable pub help_line : Bool → Finding → List ℕ
+help_line colours finding =
+    codes "  " ++ coloured colours (codes "1;36") (codes "help:") ++ codes " "
+    ++ help_of finding.fix.now finding.subject.now ++ 10 ∷ []
+
+-- all lines of a finding; the file is a list of characters
+unfoldable pub finding_lines : Bool → List ℕ → Finding → List ℕ
+finding_lines colours file finding =
+    head_line colours file finding ++ quoted_line finding ++ help_line colours finding
+
+-- the line of a file whose further findings aren't printed
+unfoldable pub more_line : List ℕ → ℕ → List ℕ
+more_line file count = shown_all file ++ codes ": " ++ decimal count ++ codes " more\n"
+
+-- a number of things, as `1 error`, `2 errors`
+unfoldable pub counted : ℕ → List ℕ → List ℕ
+counted count thing = decimal count ++ codes " " ++ thing ++ (if count == 1 then [] else codes "s")
+
+-- the last line: `2 errors, 1 warning in 3 files`
+unfoldable pub summary_line : ℕ → ℕ → ℕ → List ℕ
+summary_line errors warnings files =
+    counted errors (codes "error") ++ codes ", " ++ counted warnings (codes "warning") ++ codes " in "
+    ++ counted files (codes "file") ++ 10 ∷ []

@@ -1,0 +1,60 @@
+//! What `lint` finds.
+
+/// How severe a finding is.
+#[derive(Clone, Copy, Debug, PartialEq, Eq)]
+pub enum Severity {
+    /// A fault: the sheet is refused, or no dictionary can be built of it.
+    Error,
+    /// The sheet is legal, and suspicious.
+    Warning,
+}
+
+/// Which part of its line a finding is about.
+#[derive(Clone, Copy, Debug, PartialEq, Eq)]
+pub enum Place {
+    /// All of it, from the first character that is no blank.
+    Beginning,
+    /// The value, after `=`.
+    Value,
+}
+
+/// What a finding is about, where the line alone doesn't say it.
+#[derive(Clone, Copy, Debug, PartialEq, Eq)]
+pub enum About {
+    /// The line.
+    Line,
+    /// An object, by its index.
+    Object(u16),
+    /// An entry, by its index and its sub-index.
+    Entry(u16, u8),
+}
+
+/// What is found at a line of a file.
+#[derive(Clone, Copy, Debug)]
+pub struct Finding<'a> {
+    /// From 1; 0 where no line is to blame.
+    pub line: usize,
+    pub place: Place,
+    pub about: About,
+    pub severity: Severity,
+    /// The name of its kind, as `BadList`.
+    pub name: &'a str,
+    /// What is wrong.
+    pub meaning: &'a str,
+    /// How it is fixed.
+    pub fix: &'a str,
+    /// The subject of the standard that says so; empty where none does.
+    pub subject: &'a str,
+    /// The line as it is in the file, without its end.
+    pub text: &'a [u8],
+}
+
+/// A kind of finding, as a log of SARIF lists it.
+#[derive(Clone, Copy, Debug)]
+pub struct Rule<'a> {
+    pub name: &'a str,
+    pub severity: Severity,
+    pub meaning: &'a str,
+    pub fix: &'a str,
+    pub subject: &'a str,
+}

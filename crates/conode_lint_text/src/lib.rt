@@ -1,0 +1,17 @@
+//! The findings of `lint`, as text for people, as JSON and as SARIF.
+#![tactic(auto)]
+
+mod characters;
+mod column;
+mod finding;
+mod json_form;
+mod members;
+mod sarif_form;
+mod text_form;
+mod words;
+
+pub use characters::{characters_of, push_utf8};
+pub use finding::{About, Finding, Place, Rule, Severity};
+pub use json_form::{put_document_end, put_document_head, put_file};
+pub use sarif_form::{put_log_end, put_log_head, put_results};
+pub use text_form::{push_finding, push_more, push_summary};

@@ -1,0 +1,61 @@
+//! The words of a finding.
+
+ghost use Rattle.std.specs.Prelude.{◌≡◌, ◌++◌, OnOk, string_bytes};
+ghost use Rattle.conode_lint_text.specs.Findings.{about_text, help_of, message_of, severity_name};
+
+use crate::finding::{About, Finding, Severity};
+use co_text::{push_byte, push_u16};
+use std::alloc::AllocError;
+
+/// How severe it is, in a word.
+pub(crate) fn severity_name(severity: Severity) -> &'static str
+    ensures { result.now ≡ severity_name severity }
+{
+    match severity {
+        Severity::Error => "error",
+        Severity::Warning => "warning",
+    }
+}
+
+fn push_about(text: &mut String, about: About) -> Result<(), AllocError>
+    ensures { OnOk result (string_bytes text.new ≡ string_bytes text.old ++ about_text about) }
+{
+    match about {
+        About::Line => Ok(()),
+        About::Object(index) => {
+            push_u16(text, index)?;
+            text.push_str(": ")
+        }
+        About::Entry(index, sub_index) => {
+            push_u16(text, index)?;
+            text.push_str(":")?;
+            push_byte(text, sub_index)?;
+            text.push_str(": ")
+        }
+    }
+}
+
+/// Appends what is wrong. On an `Err` memory ran out.
+#[tactic(auto, unfolding(crate::specs::Findings::message_of))]
+pub(crate) fn push_message(text: &mut String, finding: &Finding<'_>) -> Result<(), AllocError>
+    ensures { OnOk result
+        (string_bytes text.new ≡ string_bytes text.old ++ message_of finding.now) }
+{
+    push_about(text, finding.about)?;
+    text.push_str(finding.meaning)
+}
+
+/// Appends how it is fixed, and the subject of the standard that says so. On an `Err` memory ran out.
+#[tactic(auto, unfolding(crate::specs::Findings::help_of))]
+pub(crate) fn push_help(text: &mut String, fix: &str, subject: &str) -> Result<(), AllocError>
+    ensures { OnOk result
+        (string_bytes text.new ≡ string_bytes text.old ++ help_of fix.now subject.now) }
+{
+    text.push_str(fix)?;
+    if subject.is_empty() {
+        return Ok(());
+    }
+    text.push_str(" (")?;
+    text.push_str(subject)?;
+    text.push_str(")")
+}
