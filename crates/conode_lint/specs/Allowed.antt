@@ -1,6 +1,7 @@
 -- Which findings pass, and how many others there are.
-use Rattle.std.specs.Prelude.{ℕ, Bool, true, false, nat_lt, if◌then◌else◌, List, [], ◌∷◌, length, take, drop, option_to_list, codes, Option, Some, None}
-use Rattle.std.specs.List.{flat_map}
+use denote.Ref.{Bor}
+use Rattle.std.specs.Prelude.{ℕ, Bool, true, false, nat_lt, ◌||◌, if◌then◌else◌, List, [], ◌∷◌, length, take, drop, option_to_list, codes, Option, Some, None}
+use Rattle.std.specs.List.{flat_map, list_any}
 use Rattle.std.specs.Str.{bytes_eq}
 use Rattle.co_sheet_text.specs.Text.{trim}
 use Rattle.conode_lint_text.specs.declared.finding.Severity.{Severity}
@@ -22,6 +23,11 @@ name_in line =
 -- the names that lines let pass
 abbrev pub names_in : List (List ℕ) → List (List ℕ)
 names_in lines = flat_map (λ line. option_to_list (name_in line)) lines
+
+-- a name passes: by the words or by the sheet
+unfoldable pub passes_by : List (Bor (List ℕ)) → List (Bor (List ℕ)) → List ℕ → Bool
+passes_by given in_sheet name =
+    list_any (λ one. bytes_eq one.now name) given || list_any (λ one. bytes_eq one.now name) in_sheet
 
 -- the mark, unless its name passes
 abbrev pub kept_of : (List ℕ → Bool) → Mark → List Mark

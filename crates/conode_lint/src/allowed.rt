@@ -1,10 +1,10 @@
 //! The names of findings that pass.
 
-ghost use Rattle.std.specs.Prelude.{◌≡◌, ◌||◌, map, IfOk};
+ghost use Rattle.std.specs.Prelude.{◌≡◌, map, IfOk};
 ghost use Rattle.std.specs.List.{list_any};
 ghost use Rattle.std.specs.Option.{option_map};
 ghost use Rattle.std.specs.Str.{bytes_eq};
-ghost use Rattle.conode_lint.specs.Allowed.{kept, name_in, names_in};
+ghost use Rattle.conode_lint.specs.Allowed.{kept, name_in, names_in, passes_by};
 
 use crate::mark::Mark;
 use crate::words::name_of;
@@ -57,6 +57,13 @@ fn is_given(name: &str, names: &[&str]) -> bool
     names.iter().any(|one| *one == name)
 }
 
+#[tactic(auto, unfolding(crate::specs::Allowed::passes_by))]
+fn passes(name: &str, given: &[&str], in_sheet: &[&[u8]]) -> bool
+    ensures { result ≡ passes_by given.now in_sheet.now name.now }
+{
+    is_given(name, given) || is_among(name.as_bytes(), in_sheet)
+}
+
 /// The marks that don't pass by the words or by the sheet.
 pub(crate) fn kept(
     alloc: Global,
@@ -64,14 +71,12 @@ pub(crate) fn kept(
     given: &[&str],
     in_sheet: &[&[u8]],
 ) -> Result<Vec<Mark>, AllocError>
-    ensures { IfOk result (λ made. made.items ≡ kept (λ name.
-        list_any (λ one. bytes_eq one.now name) given.now
-        || list_any (λ one. bytes_eq one.now name) in_sheet.now) marks.now) }
+    ensures { IfOk result (λ made.
+        made.items ≡ kept (passes_by given.now in_sheet.now) marks.now) }
 {
     let mut left = Vec::new(alloc);
     for mark in marks {
-        let name = name_of(mark.subject);
-        if !is_given(name, given) && !is_among(name.as_bytes(), in_sheet) {
+        if !passes(name_of(mark.subject), given, in_sheet) {
             left.push(*mark)?;
         }
     }
