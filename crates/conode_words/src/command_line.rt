@@ -165,7 +165,7 @@ fn worded<'a>(alloc: Global, name: &'a str, value: &'a str, default: &'a str) ->
         .default_value(default)
 }
 
-fn shown_arg<'a>(alloc: Global) -> Arg<'a>
+fn format_arg<'a>(alloc: Global) -> Arg<'a>
     ensures rule { rule_of result ≡ worded (codes "format") (codes "text") }
     ensures local { result.global ≡ false }
 {
@@ -213,7 +213,7 @@ fn lint_command<'a>(alloc: Global) -> Result<Command<'a>, AllocError>
     ensures shape { IfOk result (λ command. app_of command ≡ lint_command) }
     ensures local { IfOk result (λ command. (out-Command command).has_globals ≡ false) }
 {
-    let format = shown_arg(alloc);
+    let format = format_arg(alloc);
     let strict = flag(alloc, "strict", "Count warnings as errors");
     let all = flag(alloc, "all", "Also give the warnings that are of taste");
     let allow = allow_arg(alloc);
