@@ -144,10 +144,10 @@ with_data description rpdos d = record d {
 abbrev pub frames_kept : Device → List KeptFrame
 frames_kept d = filter_map (λ n. numbered n (d.kept n)) (range_with_len 0 512)
 
--- ---- the emergency of an input, by the state and the entries at its end
+-- ---- the end of an input
 
--- the oldest that waits is sent, unless the device is stopped, 1014:00 has no valid COB-ID, the input aborted a transfer whose
--- time was over, or an inhibit time hasn't elapsed (7.2.7, 7.5.2.17, 7.5.2.18)
+-- an emergency is sent at the end of an input: the oldest that waits, unless the device is stopped, 1014:00 has no valid
+-- COB-ID, the input aborted a transfer whose time was over, or an inhibit time hasn't elapsed (7.2.7, 7.5.2.17, 7.5.2.18)
 abbrev pub emergency_at_end : Bool → Device → Option Emergency
 emergency_at_end aborted d =
     if (not (is_state Stopped d.state) && is_valid (number_at d.entries emergency_key) && not aborted) && list_all is_past d.sendings
