@@ -379,6 +379,66 @@ static void test_small_arrays(void)
     bafokun_free(&node);
 }
 
+/* Many ticks at once end with the first that sends frames, and are those that single ticks would be. */
+static void test_ticks(void)
+{
+    bafokun_node node = BAFOKUN_EMPTY;
+    bafokun_fault fault;
+    bafokun_frame frames[3];
+    const char *text = sheet_with("1017=100");
+    uint32_t elapsed = 77;
+    check(bafokun_build(&node, text, strlen(text), 5, &config, &fault), "ticks", "build");
+    check(bafokun_boot(&node, frames, 3) == 1, "ticks", "boot");
+    check(bafokun_ticks(&node, 0, &elapsed, frames, 3) == 0 && elapsed == 0, "ticks", "none");
+    check(bafokun_sent(&node, 0, frames, 3) == 0, "ticks", "none gives nothing");
+    check(bafokun_ticks(&node, 99, &elapsed, frames, 3) == 0 && elapsed == 99, "ticks", "before the heartbeat");
+    check(bafokun_ticks(&node, 1, &elapsed, frames, 3) == 1 && elapsed == 1, "ticks", "the last sends it");
+    check(are_frames(frames, 1, "705#7F"), "ticks", "the heartbeat");
+    memset(frames, 0xEE, sizeof frames);
+    check(bafokun_ticks(&node, UINT32_MAX, &elapsed, frames, 0) == 1 && elapsed == 100, "ticks", "they end there, room for none");
+    check(frames[0].id == 0xEEEE, "ticks", "nothing is written");
+    check(bafokun_sent(&node, 0, frames, 3) == 1 && are_frames(frames, 1, "705#7F"), "ticks", "the frame afterwards");
+    check(run_line(&node, "605#2B17100000000000 = 585#6017100000000000"), "ticks", "no heartbeat any more");
+    check(bafokun_ticks(&node, 100000, &elapsed, frames, 3) == 0 && elapsed == 100000, "ticks", "nothing is due");
+    bafokun_free(&node);
+    check(bafokun_ticks(&node, 7, &elapsed, frames, 3) == 0 && elapsed == 7, "ticks", "of an empty place");
+}
+
+/* The words of the faults and abort codes: none is too long for the array, and an array with less room has a 0 at its end. */
+static void test_texts(void)
+{
+    bafokun_fault fault = { 59, BAFOKUN_FAULT_SHEET, 9, 0, 0 };
+    char text[128], few[6];
+    int stage, number;
+    memset(text, '#', sizeof text);
+    check(bafokun_abort_text(0x06020000, text, sizeof text) == 14, "texts", "length");
+    check(memcmp(text, "no such object\0#", 16) == 0, "texts", "no such object");
+    check(bafokun_abort_text(0x06020001, text, sizeof text) == 0 && text[0] == 0 && text[1] == 'o', "texts", "no abort code");
+    memset(few, '#', sizeof few);
+    check(bafokun_abort_text(0x06020000, few, 5) == 14 && memcmp(few, "no s\0#", 6) == 0, "texts", "room for four");
+    check(bafokun_abort_text(0x06020000, few, 1) == 14 && memcmp(few, "\0o s\0#", 6) == 0, "texts", "room for the 0");
+    check(bafokun_abort_text(0x06020000, few + 1, 0) == 14 && few[1] == 'o', "texts", "no room");
+    check(bafokun_fault_text(&fault, text, sizeof text) < sizeof text, "texts", "BadList");
+    check(strcmp(text, "SupportedObjects and the keys don't agree, or an index is above 0xFFFF") == 0, "texts", text);
+    check(bafokun_fault_fix(&fault, text, sizeof text) < sizeof text, "texts", "BadList is fixed");
+    check(strcmp(text, "number the keys 1, 2, 3 without a gap or leading zeros, and count them") == 0, "texts", text);
+    fault.number = 6;
+    bafokun_fault_text(&fault, text, sizeof text);
+    check(strcmp(text, "the listed object has no section") == 0, "texts", text);
+    fault.line = 0;
+    bafokun_fault_text(&fault, text, sizeof text);
+    check(strcmp(text, "there is no section [MandatoryObjects]") == 0, "texts", text);
+    for (stage = 0; stage <= 3; stage++)
+        for (number = 0; number <= 21; number++) {
+            size_t is_fault = (stage == BAFOKUN_FAULT_SHEET && number >= 1 && number <= 20)
+                || (stage == BAFOKUN_FAULT_DEVICE && number >= 1 && number <= 7);
+            fault.stage = (uint16_t)stage;
+            fault.number = (uint16_t)number;
+            check((bafokun_fault_text(&fault, text, sizeof text) > 0) == is_fault && strlen(text) < 127, "texts", text);
+            check((bafokun_fault_fix(&fault, text, sizeof text) > 0) == is_fault && strlen(text) < 127, "texts", text);
+        }
+}
+
 static void test_empty_place(void)
 {
     bafokun_node node = BAFOKUN_EMPTY;
@@ -444,6 +504,8 @@ int main(int argc, char **argv)
     test_faults();
     test_reset();
     test_small_arrays();
+    test_ticks();
+    test_texts();
     test_empty_place();
     test_refused_memory();
     free(sheet);

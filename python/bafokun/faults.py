@@ -61,7 +61,7 @@ _BUILD = {
     1: ("NodeId", "the node-ID isn't one of 1 to 127", "give one of these"),
     2: (
         "ValueRange",
-        "the default is a sum with $NODEID that is outside the type or the limits for this node-ID",
+        "the default is a sum with $NODEID outside the type or the limits for this node-ID",
         "correct the number or the limit",
     ),
     3: (
@@ -76,7 +76,7 @@ _BUILD = {
     ),
     5: (
         "BadMapping",
-        "the PDO counts a missing entry, or one that it can't map, a wrong length, or more than 64 bits",
+        "the PDO counts a missing or unmappable entry, a wrong length, or more than 64 bits",
         "set PDOMapping=1 for the entry, correct the words, or lower the count",
     ),
     6: (

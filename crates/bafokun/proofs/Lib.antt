@@ -1,1 +1,3 @@
 pub mod AsBox
+pub mod Terminated
+pub mod Ticks

@@ -1,8 +1,7 @@
 -- The device that a place has, and what an input gives.
 use Rattle.std.specs.Prelude.{◌≡◌, ℕ, ◌≤◌, List, [], ◌∷◌, length, Option, Some, None}
 use Rattle.co_frame.specs.FrameContent.{FrameContent}
-use Rattle.co_node_model.specs.declared.input.AppEvent.{AppEvent}
-use Rattle.co_node_model.specs.Inputs.{InputView, Inputs, Framed, Ticked, Applied, app_view}
+use Rattle.co_node_model.specs.Inputs.{InputView, Inputs}
 use Rattle.co_node_model.specs.Moments.{Constants}
 use Rattle.co_node_model.specs.Device.{prescribed, frame_bound}
 use Rattle.co_node_model.specs.Heartbeats.{boot_up}
@@ -32,12 +31,6 @@ frames_of (Some held) = held.sent.items
 -- the frames that the last input of its device gave
 abbrev pub sent_of : Handle → List FrameContent
 sent_of place = frames_of place.seal.value
-
--- a frame, else an event of the application, else a tick
-abbrev pub given : Option FrameContent → Option AppEvent → InputView
-given (Some frame) event = Framed frame
-given None (Some event) = Applied (app_view event)
-given None None = Ticked
 
 -- after one more input
 pub record Gave (k : Constants) (before : Inputs) (input : InputView) (held : Held) : Type 0 where

@@ -3,3 +3,5 @@ pub mod Builds
 pub mod Devices
 pub mod Frames
 pub mod Seals
+pub mod Texts
+pub mod Ticks

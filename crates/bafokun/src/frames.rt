@@ -1,9 +1,10 @@
 //! CAN frames as C has them.
 
-ghost use Rattle.std.specs.Prelude.{◌≡◌, IfSome, Some, None};
+ghost use Rattle.std.specs.Prelude.{◌≡◌, ◌≤◌, IfSome, Some, None, length};
 ghost use Rattle.bafokun.specs.Frames.{ArePut, IsCan, c_frame, content_of};
 
 use co_frame::Frame;
+use co_value::PackedBytes;
 
 /// A CAN data frame, 12 bytes without padding: `struct bafokun_frame`.
 #[repr(C)]
@@ -23,12 +24,10 @@ impl CanFrame {
         ensures { result ≡ c_frame frame.now }
     {
         let data = frame.bytes();
-        let mut bytes = [0; 8];
-        bytes[..data.len()].copy_from_slice(data);
         CanFrame {
             id: frame.id(),
             length: data.len() as u16,
-            bytes,
+            bytes: packed(data).padded(),
         }
     }
 
@@ -38,14 +37,27 @@ impl CanFrame {
         ensures is { IfSome result (λ _. IsCan self.now) }
         ensures none { result ≡ None → IsCan self.now → ⊥ }
     {
-        if self.length > 8 {
+        if self.id > 0x7FF || self.length > 8 {
             return None;
         }
-        match Frame::new(self.id, &self.bytes[..self.length as usize]) {
-            Ok(frame) => Some(frame),
-            Err(_) => None,
-        }
+        Some(Frame::packed(self.id, &packed(&self.bytes[..self.length as usize])))
     }
+}
+
+// At most eight bytes. Those of SDO are eight: they come in two halves, since four bytes are read without a call.
+#[inline(always)]
+fn packed(bytes: &[u8]) -> PackedBytes
+    requires { length bytes.now ≤ 8 }
+    ensures { result ≡ bytes.now }
+{
+    let mut packed = PackedBytes::new();
+    if bytes.len() == 8 {
+        packed.append(&bytes[..4]);
+        packed.append(&bytes[4..]);
+    } else {
+        packed.append(bytes);
+    }
+    packed
 }
 
 /// Puts frames into an array, as many as it has room for.

@@ -1,6 +1,6 @@
 //! The place of a device in a C program.
 
-ghost use Rattle.std.specs.Prelude.{◌≡◌, Some, None, option_map};
+ghost use Rattle.std.specs.Prelude.{◌≡◌, Some, None, length, option_map};
 ghost use Rattle.bafokun.specs.Seals.{alone};
 
 use crate::frames::{CanFrame, put};
@@ -23,9 +23,10 @@ pub struct Handle {
 }
 
 impl Handle {
-    ghost use Rattle.co_node_model.specs.Inputs.{Inputs};
+    ghost use Rattle.co_node_model.specs.Inputs.{Inputs, Framed, Ticked, Applied, app_view};
     ghost use Rattle.co_node_model.specs.Moments.{Constants};
-    ghost use Rattle.bafokun.specs.Devices.{Gives, IsDevice, IsEmpty, IsQuiet, given};
+    ghost use Rattle.bafokun.specs.Devices.{Gives, IsDevice, IsEmpty, IsQuiet};
+    ghost use Rattle.bafokun.specs.Frames.{ArePut};
 
     fn empty(alloc: Global) -> Handle
         ensures { IsEmpty result }
@@ -64,25 +65,71 @@ impl Handle {
         replace(self, Handle::empty(alloc)).into_box(alloc)
     }
 
-    /// One input, whose frames go into the array, as many as it has room for. It gives how many there are.
-    pub(crate) fn step(
+    /// A device again after an input, whose frames go into the array, as many as it has room for. It gives how many there are.
+    #[inline(always)]
+    pub(crate) fn give(&mut self, held: Box<Held>, frames: &mut [CanFrame]) -> usize
+        ensures back { self.new.seal.value ≡ Some held.value }
+        ensures put { ArePut held.value.sent.items frames.old frames.new }
+        ensures count { result ≡ length held.value.sent.items }
+    {
+        put(&held.sent, frames);
+        let count = held.sent.len();
+        *self = Handle::of(held);
+        count
+    }
+
+    /// A frame is received. What is sent goes into the array, as many frames as it has room for; it gives how many there are.
+    #[inline(always)]
+    pub(crate) fn take_frame(
         &mut self,
         alloc: Global,
-        frame: Option<Frame>,
-        event: Option<AppEvent<'_>>,
+        frame: &Frame,
         frames: &mut [CanFrame],
     ) -> usize
         ensures gives { (k : Constants) (before : Inputs) → IsDevice k self.old before →
-            Gives k before (given frame event.entry) self.new frames.old frames.new result }
+            Gives k before (Framed frame.now) self.new frames.old frames.new result }
         ensures empty { IsEmpty self.old → IsQuiet self.new frames.old frames.new result }
     {
         match self.take(alloc) {
             Some(mut held) => {
-                held.step(frame, event);
-                put(&held.sent, frames);
-                let count = held.sent.len();
-                *self = Handle::of(held);
-                count
+                held.take_frame(frame);
+                self.give(held, frames)
+            }
+            None => 0,
+        }
+    }
+
+    /// 1 ms elapsed. What is sent goes into the array as by `take_frame`.
+    #[inline(always)]
+    pub(crate) fn tick(&mut self, alloc: Global, frames: &mut [CanFrame]) -> usize
+        ensures gives { (k : Constants) (before : Inputs) → IsDevice k self.old before →
+            Gives k before Ticked self.new frames.old frames.new result }
+        ensures empty { IsEmpty self.old → IsQuiet self.new frames.old frames.new result }
+    {
+        match self.take(alloc) {
+            Some(mut held) => {
+                held.tick();
+                self.give(held, frames)
+            }
+            None => 0,
+        }
+    }
+
+    /// The application did something. What is sent goes into the array as by `take_frame`.
+    pub(crate) fn take_event(
+        &mut self,
+        alloc: Global,
+        event: AppEvent<'_>,
+        frames: &mut [CanFrame],
+    ) -> usize
+        ensures gives { (k : Constants) (before : Inputs) → IsDevice k self.old before →
+            Gives k before (Applied (app_view event.entry)) self.new frames.old frames.new result }
+        ensures empty { IsEmpty self.old → IsQuiet self.new frames.old frames.new result }
+    {
+        match self.take(alloc) {
+            Some(mut held) => {
+                held.take_event(event);
+                self.give(held, frames)
             }
             None => 0,
         }

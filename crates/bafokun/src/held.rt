@@ -1,14 +1,15 @@
 //! What C holds a device by.
 
-ghost use Rattle.std.specs.Prelude.{◌≡◌, [], ◌∷◌};
-ghost use Rattle.co_node_model.specs.Inputs.{Inputs};
+ghost use Rattle.std.specs.Prelude.{◌≡◌, [], ◌∷◌, true, false};
+ghost use Rattle.co_node_model.specs.Inputs.{Inputs, Framed, Ticked, Applied, app_view};
 ghost use Rattle.co_node_model.specs.Moments.{Constants};
 ghost use Rattle.co_node_model.specs.Heartbeats.{boot_up};
 ghost use Rattle.co_node.specs.Nodes.{Stands};
-ghost use Rattle.bafokun.specs.Devices.{Gave, given};
+ghost use Rattle.bafokun.specs.Devices.{Gave};
+ghost use Rattle.bafokun.specs.Ticks.{GaveTicks};
 
 use co_frame::{Frame, Outbox};
-use co_node::{AppEvent, Input, Node};
+use co_node::{AppEvent, Node};
 
 /// A device, and the frames that its last input gave.
 #[derive(Drop)]
@@ -18,16 +19,54 @@ pub struct Held {
 }
 
 impl Held {
-    /// One input: a frame; else an event of the application; else a tick.
-    pub(crate) fn step(&mut self, frame: Option<Frame>, event: Option<AppEvent<'_>>)
+    /// A frame is received.
+    #[inline(always)]
+    pub(crate) fn take_frame(&mut self, frame: &Frame)
         ensures { (k : Constants) (before : Inputs) → Stands k self.old.node before →
-            Gave k before (given frame event.entry) self.new }
+            Gave k before (Framed frame.now) self.new }
     {
-        match (frame, event) {
-            (Some(frame), _) => self.node.step(Input::Frame(frame), &mut self.sent),
-            (None, Some(event)) => self.node.step(Input::App(event), &mut self.sent),
-            (None, None) => self.node.step(Input::Tick, &mut self.sent),
+        self.node.take_frame(frame, &mut self.sent);
+    }
+
+    /// 1 ms elapsed.
+    #[inline(always)]
+    pub(crate) fn tick(&mut self)
+        ensures { (k : Constants) (before : Inputs) → Stands k self.old.node before →
+            Gave k before Ticked self.new }
+    {
+        self.node.tick(&mut self.sent);
+    }
+
+    /// So many ms elapsed at most: they end with the first one that gives frames. It gives how many there were.
+    pub(crate) fn ticks(&mut self, most: u32) -> u32
+        ensures { (k : Constants) (before : Inputs) → Stands k self.old.node before →
+            GaveTicks k before most result self.new }
+    {
+        self.sent.clear();
+        for i in 0..most {
+            self.tick();
+            if self.has_sent() {
+                return i + 1;
+            }
         }
+        most
+    }
+
+    // Whether the last input gave frames.
+    #[inline(always)]
+    fn has_sent(&self) -> bool
+        ensures yes { result ≡ true → self.now.sent.items ≡ [] → ⊥ }
+        ensures no { result ≡ false → self.now.sent.items ≡ [] }
+    {
+        !self.sent.is_empty()
+    }
+
+    /// The application did something.
+    pub(crate) fn take_event(&mut self, event: AppEvent<'_>)
+        ensures { (k : Constants) (before : Inputs) → Stands k self.old.node before →
+            Gave k before (Applied (app_view event.entry)) self.new }
+    {
+        self.node.take_event(event, &mut self.sent);
     }
 
     /// The boot-up.

@@ -15,8 +15,9 @@ ghost use Rattle.co_node_model.specs.Inputs.{
 ghost use Rattle.co_node_model.specs.Moments.{Constants};
 ghost use Rattle.bafokun.specs.Devices.{Gives, GivesBootUp, IsDevice, IsEmpty, IsQuiet};
 ghost use Rattle.bafokun.specs.Frames.{IsCan, content_of};
+ghost use Rattle.bafokun.specs.Ticks.{GivesTicks};
 
-use crate::frames::{CanFrame, put};
+use crate::frames::CanFrame;
 use crate::handle::Handle;
 use co_node::AppEvent;
 use co_value::Key;
@@ -32,10 +33,7 @@ pub extern "C" fn bafokun_boot(alloc: Global, node: &mut Handle, frames: &mut [C
     match node.take(alloc) {
         Some(mut held) => {
             held.boot();
-            put(&held.sent, frames);
-            let count = held.sent.len();
-            *node = Handle::of(held);
-            count
+            node.give(held, frames)
         }
         None => 0,
     }
@@ -58,7 +56,7 @@ pub extern "C" fn bafokun_take(
     ensures untouched { (IsCan frame.now → ⊥) → frames.new ≡ frames.old }
 {
     match frame.read() {
-        Some(frame) => node.step(alloc, Some(frame), None, frames),
+        Some(frame) => node.take_frame(alloc, &frame, frames),
         None => 0,
     }
 }
@@ -72,7 +70,36 @@ pub extern "C" fn bafokun_tick(alloc: Global, node: &mut Handle, frames: &mut [C
         Gives k before Ticked node.new frames.old frames.new result }
     ensures empty { IsEmpty node.old → IsQuiet node.new frames.old frames.new result }
 {
-    node.step(alloc, None, None, frames)
+    node.tick(alloc, frames)
+}
+
+/// Many ms elapsed, at most so many: the ticks end with the first one that sends frames, so that these are sent before the
+/// next. `elapsed` is how many there were, all where none sends any; the frames of the last one are put and counted as by
+/// `bafokun_tick`. Where there is no device all elapse and nothing happens. C owes what `bafokun_tick` says, and that the
+/// array and `elapsed` are apart.
+#[unsafe(no_mangle)]
+pub extern "C" fn bafokun_ticks(
+    alloc: Global,
+    node: &mut Handle,
+    most: u32,
+    elapsed: &mut u32,
+    frames: &mut [CanFrame],
+) -> usize
+    ensures gives { (k : Constants) (before : Inputs) → IsDevice k node.old before →
+        GivesTicks k before most elapsed.new node.new frames.old frames.new result }
+    ensures empty { IsEmpty node.old → IsQuiet node.new frames.old frames.new result }
+    ensures all { IsEmpty node.old → elapsed.new ≡ most }
+{
+    match node.take(alloc) {
+        Some(mut held) => {
+            *elapsed = held.ticks(most);
+            node.give(held, frames)
+        }
+        None => {
+            *elapsed = most;
+            0
+        }
+    }
 }
 
 /// The application writes an entry, also one that a client may only read. C owes what `bafokun_tick` says, and as many
@@ -95,7 +122,7 @@ pub extern "C" fn bafokun_write(
         index,
         sub: sub_index,
     };
-    node.step(alloc, None, Some(AppEvent::Write(key, bytes)), frames)
+    node.take_event(alloc, AppEvent::Write(key, bytes), frames)
 }
 
 /// An event on a TPDO, by its number from 0. C owes what `bafokun_tick` says.
@@ -110,7 +137,7 @@ pub extern "C" fn bafokun_event(
         Gives k before (Applied (EventOn tpdo)) node.new frames.old frames.new result }
     ensures empty { IsEmpty node.old → IsQuiet node.new frames.old frames.new result }
 {
-    node.step(alloc, None, Some(AppEvent::Event(tpdo)), frames)
+    node.take_event(alloc, AppEvent::Event(tpdo), frames)
 }
 
 /// The value of an entry changed: an event on each active TPDO that maps it. C owes what `bafokun_tick` says.
@@ -131,7 +158,7 @@ pub extern "C" fn bafokun_changed(
         index,
         sub: sub_index,
     };
-    node.step(alloc, None, Some(AppEvent::Changed(key)), frames)
+    node.take_event(alloc, AppEvent::Changed(key), frames)
 }
 
 /// An error: its emergency error code, the bits that it sets in the error register besides bit 0, and the
@@ -150,12 +177,7 @@ pub extern "C" fn bafokun_raise(
         node.new frames.old frames.new result }
     ensures empty { IsEmpty node.old → IsQuiet node.new frames.old frames.new result }
 {
-    node.step(
-        alloc,
-        None,
-        Some(AppEvent::Raise(code, bits, *manufacturer)),
-        frames,
-    )
+    node.take_event(alloc, AppEvent::Raise(code, bits, *manufacturer), frames)
 }
 
 /// Errors have ended: these bits of the error register are cleared. C owes what `bafokun_tick` says.
@@ -170,5 +192,5 @@ pub extern "C" fn bafokun_clear(
         Gives k before (Applied (Cleared bits)) node.new frames.old frames.new result }
     ensures empty { IsEmpty node.old → IsQuiet node.new frames.old frames.new result }
 {
-    node.step(alloc, None, Some(AppEvent::Clear(bits)), frames)
+    node.take_event(alloc, AppEvent::Clear(bits), frames)
 }

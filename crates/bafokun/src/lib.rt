@@ -9,15 +9,17 @@ mod inputs;
 mod parts;
 mod questions;
 mod seal;
+mod texts;
 
 pub use build::{Fault, Settings, bafokun_build};
 pub use frames::CanFrame;
 pub use handle::Handle;
 pub use inputs::{
     bafokun_boot, bafokun_changed, bafokun_clear, bafokun_event, bafokun_raise, bafokun_take,
-    bafokun_tick, bafokun_write,
+    bafokun_tick, bafokun_ticks, bafokun_write,
 };
 pub use questions::{
     bafokun_answer, bafokun_free, bafokun_held, bafokun_node_id, bafokun_sent, bafokun_state,
     bafokun_value,
 };
+pub use texts::{bafokun_abort_text, bafokun_fault_fix, bafokun_fault_text};

@@ -82,8 +82,8 @@ pub extern "C" fn bafokun_value(
     }
 }
 
-// Copies bytes, as many as there is room for.
-fn copy(value: &[u8], bytes: &mut [u8])
+/// Copies bytes, as many as there is room for.
+pub(crate) fn copy(value: &[u8], bytes: &mut [u8])
     ensures { IsCopied value.now bytes.old bytes.new }
 {
     for i in 0..value.len().min(bytes.len()) {

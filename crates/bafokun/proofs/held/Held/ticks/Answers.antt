@@ -1,0 +1,35 @@
+use Rattle.std.proofs.Common.{◌≡◌, ◌+◌, true, false, [], sym, ◌∙◌, rules, arith}
+use Rattle.bafokun.specs.Ticks.{after_ticks, given_last}
+use Rattle.bafokun.proofs.Ticks.{one_more_given, one_more_stands, up_to_next}
+use Rattle.bafokun.proofs.held.Held.ticks.Goals as goal
+
+pub returns-then-has_sent : goal.returns-then-has_sent
+returns-then-has_sent c = λ k before stands.
+    let inv = c.loop-i.invariant in
+    let yes : c.has_sent.result ≡ true = search rules in
+    let gave = c.tick.ensures k (after_ticks c.loop-i.i before) (inv.stands k before stands) in
+    let sent : c.tick.new.self.sent.items ≡ given_last k before (c.loop-i.i + 1) =
+    gave.sent ∙ sym (one_more_given k before c.loop-i.i) in
+    record {
+      ticks = record {
+        within = omega arith;
+        quiet = λ n below. inv.quiet k before stands n (omega arith);
+        early = λ fewer none. c.has_sent.ensures.yes yes (sent ∙ none);
+      };
+      stands = one_more_stands k before c.loop-i.i c.tick.new.self.node gave.stands;
+      sent = sent;
+    }
+
+pub loop-i-preserved : goal.loop-i-preserved
+loop-i-preserved c =
+    let inv = c.loop-i.invariant in
+    let no : c.has_sent.result ≡ false = search rules in
+    let empty : c.tick.new.self.sent.items ≡ [] = c.has_sent.ensures.no no in
+    record {
+      empty = empty;
+      stands = λ k before stands. one_more_stands k before c.loop-i.i c.tick.new.self.node
+          (c.tick.ensures k (after_ticks c.loop-i.i before) (inv.stands k before stands)).stands;
+      quiet = λ k before stands. up_to_next (λ n. given_last k before n ≡ []) c.loop-i.i (inv.quiet k before stands)
+          (one_more_given k before c.loop-i.i
+          ∙ sym (c.tick.ensures k (after_ticks c.loop-i.i before) (inv.stands k before stands)).sent ∙ empty);
+    }

@@ -1,0 +1,2 @@
+pub mod AbortReasons
+pub mod BuildFaultWords
