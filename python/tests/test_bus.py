@@ -20,6 +20,8 @@ SENSOR = ROOT / "examples" / "temperature-sensor.eds"
 class Bus(unittest.TestCase):
     def setUp(self):
         self.node = bafokun.Node.from_sheet(SENSOR, 5)
+        # however late a busy machine is, none comes between
+        self.node["Producer heartbeat time"] = 0
         self.bus, self.tool = (can.Bus(self.id(), interface="virtual") for _ in range(2))
 
     def tearDown(self):
