@@ -20,6 +20,8 @@ SENSOR = ROOT / "examples" / "temperature-sensor.eds"
 class Bus(unittest.TestCase):
     def setUp(self):
         self.node = bafokun.Node.from_sheet(SENSOR, 5)
+        # however late a busy machine is, none comes between
+        self.node["Producer heartbeat time"] = 0
         self.bus, self.tool = (can.Bus(self.id(), interface="virtual") for _ in range(2))
 
     def tearDown(self):
@@ -53,12 +55,14 @@ class Bus(unittest.TestCase):
             self.node["AI input PV 1"] = 215
             self.send(0x605, "4030710100000000")
             self.assertEqual(self.next(), "585#4B307101D7000000")
-            # the heartbeat time becomes 50 ms
+            # the heartbeat time becomes 50 ms: the clock is never ahead, and late on a busy machine
+            begin = time.monotonic()
             self.send(0x605, "2B17100032000000")
             self.assertEqual(self.next(), "585#6017100000000000")
-            begin = time.monotonic()
             self.assertEqual([self.next() for _ in range(20)], ["705#7F"] * 20)
-            self.assertGreater(time.monotonic() - begin, 0.9)
+            self.assertGreater(time.monotonic() - begin, 0.99)
+        while self.tool.recv(0):
+            pass
         self.assertIsNone(self.tool.recv(0.1))
 
     def test_run(self):
