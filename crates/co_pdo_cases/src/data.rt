@@ -55,7 +55,11 @@ fn mappings(rt: HostRuntime) -> Result<(), Fail> {
     assert_eq!(rt; rpdo.width(), 6);
     let tpdo = Mapping::read(&store, Side::Tpdo, PdoNumber::of(1));
     assert_eq!(rt; tpdo.entries(), [limited].as_slice());
-    assert!(rt; Mapping::read(&store, Side::Tpdo, PdoNumber::of(511)).entries().is_empty());
+    assert!(rt;
+        Mapping::read(&store, Side::Tpdo, PdoNumber::of(511))
+            .entries()
+            .is_empty()
+    );
     Ok(())
 }
 

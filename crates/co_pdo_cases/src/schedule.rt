@@ -108,7 +108,11 @@ fn cob_ids(rt: HostRuntime) -> Result<(), Fail> {
     let store = image_device(rt.alloc())?;
     let schedule = Schedule::new(rt.alloc(), &store)?;
     for (k, word) in [(0, 0x185), (1, 0x285), (511, 0)] {
-        assert_eq!(rt; schedule.cob_id(&store, PdoNumber::of(k)), CobId(word), "{k}");
+        assert_eq!(rt;
+            schedule.cob_id(&store, PdoNumber::of(k)),
+            CobId(word),
+            "{k}"
+        );
     }
     Ok(())
 }
