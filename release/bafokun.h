@@ -15,7 +15,8 @@
  *
  * What holds of every call:
  * - No pointer is NULL, also where the count beside it is 0. An array has as many elements as its count says.
- * - What a call writes (node, frames, bytes, length, fault, abort_code) is apart from all else that the call is given.
+ * - What a call writes (node, frames, bytes, length, fault, abort_code, elapsed, text) is apart from all else that the call is
+ *   given.
  * - A node is in one call at a time, and no call comes from a signal handler.
  * - A node begins as BAFOKUN_EMPTY and only the calls below write it. It may be moved, not copied. While it is empty, calls
  *   do nothing and give 0.
@@ -36,10 +37,10 @@
 extern "C" {
 #endif
 
-#define BAFOKUN_VERSION "0.2.1"
+#define BAFOKUN_VERSION "0.3.0"
 #define BAFOKUN_VERSION_MAJOR 0
-#define BAFOKUN_VERSION_MINOR 2
-#define BAFOKUN_VERSION_PATCH 1
+#define BAFOKUN_VERSION_MINOR 3
+#define BAFOKUN_VERSION_PATCH 0
 
 /* No input gives more frames: an array of so many has room for all. */
 #define BAFOKUN_MOST_FRAMES 514
@@ -118,6 +119,17 @@ size_t bafokun_take(bafokun_node *node, const bafokun_frame *frame, bafokun_fram
 /* 1 ms elapsed. */
 size_t bafokun_tick(bafokun_node *node, bafokun_frame *frames, size_t room);
 
+/*
+ * Many ms elapsed, at most so many, as where a program wakes up late: the ticks end with the first one that sends frames, so
+ * that these are sent before the next. elapsed is how many there were: all, where none sends any.
+ *
+ *     for (; late > 0; late -= elapsed)
+ *         send(frames, bafokun_ticks(&node, late, &elapsed, frames, BAFOKUN_MOST_FRAMES));
+ *
+ * Of an empty node all elapse, and nothing happens.
+ */
+size_t bafokun_ticks(bafokun_node *node, uint32_t most, uint32_t *elapsed, bafokun_frame *frames, size_t room);
+
 /* The application writes an entry, also one that a client may only read: all its bytes, as many as its type has. */
 size_t bafokun_write(bafokun_node *node, uint16_t index, uint8_t sub_index, const uint8_t *bytes, size_t length,
                      bafokun_frame *frames, size_t room);
@@ -163,6 +175,20 @@ uint8_t bafokun_answer(bafokun_node *node, uint32_t *abort_code);
 
 /* How many bytes are held for the transfer of an SDO channel: at most 889 more than the entry has room for. */
 size_t bafokun_held(bafokun_node *node, uint8_t channel);
+
+/*
+ * Words for people, in English, which need no node. They are put into text with a 0 after them, and are cut where there is less
+ * room; with room 0 nothing is written. The result is how long all words are, without the 0: less than 128.
+ */
+
+/* What is wrong, of a fault as bafokun_build has written it; no words for BAFOKUN_FAULT_NONE. */
+size_t bafokun_fault_text(const bafokun_fault *fault, char *text, size_t room);
+
+/* And how it is fixed. */
+size_t bafokun_fault_fix(const bafokun_fault *fault, char *text, size_t room);
+
+/* What an SDO abort code means (CiA 301, 7.2.4.3.17); no words for a code that the standard doesn't have. */
+size_t bafokun_abort_text(uint32_t code, char *text, size_t room);
 
 #ifdef __cplusplus
 }
