@@ -32,6 +32,26 @@ chek => status 2
 check --help => status 0
 help check => status 0";
 
+fn task_name(task: &Option<Task<'_>>) -> &'static str {
+    match task {
+        Some(Task::Check { .. }) => "check",
+        Some(Task::Lint(_)) => "lint",
+        Some(Task::Decode { .. }) => "decode",
+        Some(Task::Replay { .. }) => "replay",
+        Some(Task::LoopBack { .. }) => "loop",
+        Some(Task::Show { .. }) => "show",
+        None => "nothing",
+    }
+}
+
+fn status_name(status: i32) -> &'static str {
+    match status {
+        0 => "status 0",
+        2 => "status 2",
+        _ => "another status",
+    }
+}
+
 #[test]
 fn command_lines(rt: HostRuntime) -> Result<(), Fail> {
     for row in ROWS.lines() {
@@ -43,20 +63,8 @@ fn command_lines(rt: HostRuntime) -> Result<(), Fail> {
             }
         }
         let asked = match task(rt.alloc(), words.as_slice()) {
-            Ok(task) => match task {
-                Some(Task::Check { .. }) => "check",
-                Some(Task::Lint(_)) => "lint",
-                Some(Task::Decode { .. }) => "decode",
-                Some(Task::Replay { .. }) => "replay",
-                Some(Task::LoopBack { .. }) => "loop",
-                Some(Task::Show { .. }) => "show",
-                None => "nothing",
-            },
-            Err(error) => match error.exit_code() {
-                0 => "status 0",
-                2 => "status 2",
-                _ => "another status",
-            },
+            Ok(task) => task_name(&task),
+            Err(error) => status_name(error.exit_code()),
         };
         assert_eq!(rt; asked, wanted, "for {line}");
     }
