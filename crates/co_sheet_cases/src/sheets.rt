@@ -1,6 +1,7 @@
 //! Whole data sheets.
 
 mod cuts;
+mod faults;
 mod large_sheet;
 mod out_of_memory;
 

@@ -1,8 +1,10 @@
 //! Memory that is refused, in reading a large sheet and one at fault. These tests take no memory of their own, so in a
 //! run where an allocation is refused it is one of the reader's.
 
+use super::faults::{DAMAGED, damage};
 use super::large_sheet::large_sheet;
 use co_sheet::{FaultKind, SheetFault, read};
+use co_sheet_faults::{find_faults, read_sections};
 use std::test::Fail;
 
 /// A list whose last check alone finds a fault.
@@ -60,6 +62,40 @@ fn at_fault(rt: HostRuntime) -> Result<(), Fail> {
             is_refused = true;
         } else {
             assert_eq!(rt; fault, missing);
+        }
+    }
+    Ok(())
+}
+
+#[test]
+fn all_faults(rt: HostRuntime) -> Result<(), Fail> {
+    let mut is_refused = false;
+    for _ in 0..3 {
+        match find_faults(rt.alloc(), DAMAGED) {
+            Ok(found) => assert!(rt; found.as_slice() == damage().as_slice()),
+            Err(_) => {
+                assert!(rt; !is_refused);
+                is_refused = true;
+            }
+        }
+    }
+    Ok(())
+}
+
+#[test]
+fn sections(rt: HostRuntime) -> Result<(), Fail> {
+    let mut is_refused = false;
+    for _ in 0..3 {
+        match read_sections(rt.alloc(), DAMAGED) {
+            Ok(parsed) => assert!(rt;
+                parsed
+                    .sections(rt.alloc())
+                    .is_ok_and(|sections| sections.len() == 3)
+            ),
+            Err(_) => {
+                assert!(rt; !is_refused);
+                is_refused = true;
+            }
         }
     }
     Ok(())

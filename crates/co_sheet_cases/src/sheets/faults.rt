@@ -1,0 +1,70 @@
+//! All faults of a text, and what can be read in spite of them.
+
+use co_sheet_faults::{FaultKind, SheetFault, find_faults, read_sections};
+use co_sheet_text::SectionKind;
+use std::test::Fail;
+
+/// A text with a byte order mark, CR LF, and faults of lines, lists, objects and entries.
+pub(crate) const DAMAGED: &[u8] = b"\xEF\xBB\xBF\
+; a comment\r\n\
+[MandatoryObjects]\r\n\
+SupportedObjects=4\r\n\
+1=0x1000\r\n\
+2=0x1001\r\n\
+3=0x1019\r\n\
+4=0x1001\r\n\
+[1000\r\n\
+DataType=7\r\n\
+[1001]\r\n\
+DataType=5\r\n\
+AccessType=none\r\n\
+HighLimit=0x100\r\n\
+DefaultValue=010\r\n\
+defaultvalue=1\r\n";
+
+fn at(line: usize, kind: FaultKind) -> SheetFault {
+    SheetFault { kind, line }
+}
+
+/// Its faults, in order.
+pub(crate) fn damage() -> [SheetFault; 8] {
+    [
+        at(4, FaultKind::MissingSection),
+        at(6, FaultKind::MissingSection),
+        at(7, FaultKind::ListedTwice),
+        at(8, FaultKind::BadLine),
+        at(12, FaultKind::BadAccess),
+        at(13, FaultKind::BadLimits),
+        at(14, FaultKind::AmbiguousNumber),
+        at(15, FaultKind::DuplicateKey),
+    ]
+}
+
+#[test]
+fn damaged(rt: HostRuntime) -> Result<(), Fail> {
+    let found = find_faults(rt.alloc(), DAMAGED)?;
+    assert!(rt; found.as_slice() == damage().as_slice());
+    Ok(())
+}
+
+#[test]
+fn without_lists(rt: HostRuntime) -> Result<(), Fail> {
+    let found = find_faults(rt.alloc(), b"[1000]")?;
+    assert!(rt; found.as_slice() == [at(0, FaultKind::MissingSection)].as_slice());
+    Ok(())
+}
+
+#[test]
+fn sections(rt: HostRuntime) -> Result<(), Fail> {
+    let parsed = read_sections(rt.alloc(), DAMAGED)?;
+    let sections = parsed.sections(rt.alloc())?;
+    assert_eq!(rt; sections.len(), 3);
+    let bad = sections.as_slice().get(1).ok_or("no bad section")?;
+    assert_eq!(rt; bad.kind, SectionKind::PassedOver);
+    assert_eq!(rt; bad.line, 8);
+    assert!(rt; bad.properties.is_empty());
+    let last = sections.last().ok_or("no section")?;
+    assert_eq!(rt; last.kind, SectionKind::Object(0x1001));
+    assert_eq!(rt; last.properties.len(), 4);
+    Ok(())
+}
