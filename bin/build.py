@@ -2,8 +2,9 @@
 """Proves crates with the Rattle kit, as many side by side as processors and memory allow, and builds what is made of them, for
 every x86-64 processor.
 
-    build.py conode [-- WORD..]    the program, crates/conode/out/release/conode, which then runs on the words
-    build.py bafokun               the static library for C, crates/bafokun/out/release/libbafokun.a
+    build.py conode [-- WORD..]          the program, crates/conode/out/release/conode, which then runs on the words
+    build.py bafokun                     the static library for C, crates/bafokun/out/release/libbafokun.a
+    build.py bafokun --target TRIPLE     the same for another processor, crates/bafokun/out/TRIPLE/libbafokun.a
 
 A crate is proved again where a file of its own or a library below it is newer. What is proved stays so when this is interrupted.
 It says how long it will take, by the processor seconds that each crate took when it was last measured and by how fast this machine
@@ -24,7 +25,9 @@ ROOT = os.path.dirname(os.path.dirname(os.path.realpath(__file__)))
 MEASURED = f"{ROOT}/release/proving.txt"
 MEASURED_HERE = f"{ROOT}/crates/conode/out/proving.txt"
 # The oldest x86-64 processor: rt builds for a later one.
-CPU = "--cpu=x86-64"
+CPU = ["--cpu=x86-64"]
+# The other processors that the library is built for, by the kit's name of the target.
+TARGETS = ["aarch64-unknown-linux-gnu"]
 # The speed of a machine on which the measured seconds hold.
 SPEED = 16000
 # Of a crate that wasn't measured: the seconds, those for each line of code, and the memory.
@@ -34,10 +37,10 @@ GAIN = 0.8
 
 
 class Crate:
-    """A line of crates.txt."""
+    """A line of crates.txt, and the processor that it is built for, where it isn't x86-64."""
 
     def __init__(self, name, words, uses):
-        self.name, self.uses = name, uses
+        self.name, self.uses, self.target = name, uses, None
         self.folder = f"{ROOT}/crates/{name}"
         self.is_program = os.path.isfile(f"{self.folder}/src/main.rt")
         self.is_archive = "staticlib" in words
@@ -48,7 +51,9 @@ class Crate:
         """The path of what is built of the crate."""
         if self.is_program:
             return f"{self.folder}/out/release/{self.name}"
-        return f"{self.folder}/out/" + (f"release/lib{self.name}.a" if self.is_archive else f"rlib/{self.name}.rlib")
+        if self.is_archive:
+            return f"{self.folder}/out/{self.target or 'release'}/lib{self.name}.a"
+        return f"{self.folder}/out/rlib/{self.name}.rlib"
 
     def sources(self):
         """The crate's files and folders."""
@@ -81,7 +86,8 @@ class Crate:
         words += ["--links", f"{self.name}=", "--jobs", str(jobs)]
         if self.is_program or self.is_archive:
             words += ["--crate-type", "staticlib"] * self.is_archive
-            return [*words, CPU, "--toolchain", f"{kit}/toolchain", "--backend", "llvm", "-o", self.object()]
+            words += ["--target", self.target] if self.target else CPU
+            return [*words, "--toolchain", f"{kit}/toolchain", "--backend", "llvm", "-o", self.object()]
         return [*words, "--statements", "-o", self.made()]
 
     def object(self):
@@ -101,8 +107,8 @@ class Crate:
         return status
 
 
-def read_crates(wanted):
-    """The crates of the repository that one stands on and then itself, lowest first."""
+def read_crates(wanted, target):
+    """The crates of the repository that one stands on and then itself, lowest first; that one for a target."""
     crates, found = {}, []
     with open(f"{ROOT}/crates.txt", encoding="utf-8") as lines:
         for line in lines:
@@ -123,6 +129,9 @@ def read_crates(wanted):
 
     if wanted not in crates:
         raise ValueError(f"there is no crate {wanted}")
+    crates[wanted].target = target
+    if target and not crates[wanted].is_archive:
+        raise ValueError(f"{wanted} is no static library, and is built for x86-64 alone")
     visit(crates[wanted])
     return found
 
@@ -350,13 +359,13 @@ def lock(crates):
     return held
 
 
-def run(wanted, rest):
+def run(wanted, target, rest):
     rt = shutil.which("rt")
     if not rt:
         say("the Rattle kit's command rt is not on the PATH")
         return 1
     page = subprocess.run([rt, "doc"], stdout=subprocess.PIPE, check=True, text=True).stdout.strip()
-    crates = read_crates(wanted)
+    crates = read_crates(wanted, target)
     for number in (signal.SIGTERM, signal.SIGHUP):
         signal.signal(number, lambda number, _: sys.exit(128 + number))
     held = lock(crates)
@@ -371,11 +380,15 @@ def run(wanted, rest):
 
 
 def main(words):
+    target = None
+    if words[1:2] == ["--target"] and words[2:3] and words[2] in TARGETS:
+        target = words[2]
+        del words[1:3]
     if not words or words[0].startswith("-") or words[1:2] not in ([], ["--"]):
-        print("usage: build.py CRATE [-- WORD..]", file=sys.stderr)
+        print(f"usage: build.py CRATE [--target {'|'.join(TARGETS)}] [-- WORD..]", file=sys.stderr)
         return 2
     try:
-        return run(words[0], words[1:])
+        return run(words[0], target, words[1:])
     except KeyboardInterrupt:
         return 130
     except OSError as error:
