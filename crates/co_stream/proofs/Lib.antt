@@ -1,5 +1,6 @@
 pub mod LineLemmas
 pub mod PieceLemmas
 pub mod ReadingLemmas
+pub mod Readers
 pub mod TextLemmas
 pub mod Examples

@@ -108,3 +108,14 @@ pub no_line : (old : Option (List ℕ)) (ended last_ended : Bool) (part piece la
     → Keeps (known_bytes ended [] before) (known_bytes last_ended last after) → last_ended ≡ true → last ≡ [] → part ++ piece ≡ [] → IsAtEnd old
 no_line old ended last_ended part piece last before after came kept e f none =
     nothing_came old (subst (Consumes old (Some [])) none (all_came old ended last_ended part piece last before after came kept e f))
+
+-- a piece without a line feed goes to the line, and another one comes
+pub more_came : (old : Option (List ℕ)) (ended next_ended : Bool) (part piece next : List ℕ) (before after : Option (List ℕ)) → Consumes old (known_bytes ended piece before) part
+    → Keeps (known_bytes ended [] before) (known_bytes next_ended next after) → Consumes old (known_bytes next_ended next after) (part ++ piece)
+more_came old ended next_ended part piece next before after came kept =
+    Consumes-kept _ _ _ (part ++ piece) (Consumes-trans _ _ _ part piece came (known-taken ended piece piece [] before (sym (append-nil piece)))) kept
+
+-- no byte is to come after the end
+pub past_end : (ended : Bool) (piece : List ℕ) (after : Option (List ℕ)) → ended ≡ true → piece ≡ [] → IsAtEnd (known_bytes ended piece after)
+past_end true piece after e none = none
+past_end false piece after e none = cc

@@ -1,4 +1,5 @@
 pub mod Faults
+pub mod Asked
 pub mod Lines
 pub mod Readings
 pub mod Texts

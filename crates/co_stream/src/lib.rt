@@ -1,6 +1,7 @@
 //! Texts that come in pieces: lines one at a time in constant memory, and a whole text in memory.
 #![tactic(auto)]
 
+mod ask;
 mod asks;
 mod fault;
 mod line_buffer;

@@ -5,7 +5,7 @@ ghost use Rattle.std.specs.Io.KnownBytes.{Keeps, IsAtEnd};
 ghost use Rattle.std.specs.Str.Lines.{strip_carriage_return};
 ghost use Rattle.co_stream.specs.declared.fault.AskFault.TheVariants as ask;
 ghost use Rattle.co_stream.specs.Lines.{has_line_feed, IsTooLong, GivesLine};
-ghost use Rattle.co_stream.specs.Readings.{known_bytes, most_bytes, LosesPartOfLine};
+ghost use Rattle.co_stream.specs.Readings.{known_bytes, most_bytes, Gave, LosesPartOfLine};
 
 use crate::asks::Asks;
 use crate::fault::{AskFault, LineFault};
@@ -26,7 +26,7 @@ impl LineCutter {
     pub(crate) fn new() -> Self
         ensures piece { result.piece ≡ [] }
         ensures ended { result.ended ≡ false }
-        ensures asks { result.asks ≡ 16777216 }
+        ensures asks { result.asks ≡ record { left = 16777216; failed = false } }
     {
         LineCutter {
             line: LineBuffer::new(),
@@ -55,19 +55,22 @@ impl LineCutter {
     fn refill<R: Read>(&mut self, reader: &mut R) -> Result<bool, AskFault>
         requires { self.old.piece ≡ [] }
         ensures line { self.new.line ≡ self.old.line }
-        ensures bytes { OnOk result
-            (Keeps (known_bytes self.old.ended self.old.piece (R.remaining reader.old))
-            (known_bytes self.new.ended self.new.piece (R.remaining reader.new))) }
+        ensures bytes { OnOk result (Gave self.old.ended self.new.ended
+            (R.remaining reader.old) (R.remaining reader.new)
+            (λ had has. Keeps (known_bytes self.old.ended self.old.piece had)
+            (known_bytes self.new.ended self.new.piece has))) }
         ensures end { result ≡ Ok false → (self.new.piece ≡ []) × (self.new.ended ≡ true) }
         ensures err { IfErr result (λ _. Keeps (R.remaining reader.old) (R.remaining reader.new)
-            × (self.old.ended ≡ false)) }
+            × (self.old.ended ≡ false) × (self.new.ended ≡ false)) }
         ensures ended { self.old.ended ≡ true →
             (reader.new ≡ reader.old) × (self.new.ended ≡ true) }
-        ensures asked { self.new.asks ≤ self.old.asks }
-        ensures counted { result ≡ Ok true → self.new.asks < self.old.asks }
-        ensures few { OnOk result (most_bytes self.new.asks self.new.piece
-            ≤ most_bytes self.old.asks self.old.piece) }
-        ensures never_ends { IfErr result (λ fault. fault ≡ ask.NeverEnds → self.new.asks ≡ 0) }
+        ensures asked { self.new.asks.left ≤ self.old.asks.left }
+        ensures counted { result ≡ Ok true → self.new.asks.left < self.old.asks.left }
+        ensures few { OnOk result (most_bytes self.new.asks.left self.new.piece
+            ≤ most_bytes self.old.asks.left self.old.piece) }
+        ensures failed { IfErr result (λ fault. fault ≡ ask.Read → self.new.asks.failed ≡ true) }
+        ensures never_ends { IfErr result (λ fault. fault ≡ ask.NeverEnds →
+            self.new.asks.left ≡ 0) }
     {
         if self.ended {
             return Ok(false);
@@ -79,26 +82,34 @@ impl LineCutter {
 
     /// Finds the next line. `false` where there is none.
     pub(crate) fn advance<R: Read>(&mut self, reader: &mut R) -> Result<bool, LineFault>
-        ensures line { result ≡ Ok true → GivesLine
-            (known_bytes self.old.ended self.old.piece (R.remaining reader.old))
-            (known_bytes self.new.ended self.new.piece (R.remaining reader.new))
-            (strip_carriage_return self.new.line) }
-        ensures end { result ≡ Ok false →
-            IsAtEnd (known_bytes self.old.ended self.old.piece (R.remaining reader.old))
+        ensures line { result ≡ Ok true → Gave self.old.ended self.new.ended
+            (R.remaining reader.old) (R.remaining reader.new)
+            (λ had has. GivesLine (known_bytes self.old.ended self.old.piece had)
+            (known_bytes self.new.ended self.new.piece has)
+            (strip_carriage_return self.new.line)) }
+        ensures end { result ≡ Ok false → Gave self.old.ended self.new.ended
+            (R.remaining reader.old) (R.remaining reader.new)
+            (λ had has. IsAtEnd (known_bytes self.old.ended self.old.piece had)
+            × IsAtEnd (known_bytes self.new.ended self.new.piece has))
             × (self.new.piece ≡ []) × (self.new.ended ≡ true) }
         ensures too_long { IfErr result (λ fault. fault ≡ LineFault.TooLong →
-            IfSome (known_bytes self.old.ended self.old.piece (R.remaining reader.old)) IsTooLong) }
-        ensures within { IfErr result (λ fault. fault ≢ LineFault.TooLong → LosesPartOfLine
-            (known_bytes self.old.ended self.old.piece (R.remaining reader.old))
-            (R.remaining reader.new)) }
+            Gave self.old.ended self.new.ended (R.remaining reader.old) (R.remaining reader.new)
+            (λ had has.
+            IfSome (known_bytes self.old.ended self.old.piece had) IsTooLong)) }
+        ensures within { IfErr result (λ fault. fault ≢ LineFault.TooLong →
+            Gave self.old.ended self.new.ended (R.remaining reader.old) (R.remaining reader.new)
+            (λ had has.
+            LosesPartOfLine (known_bytes self.old.ended self.old.piece had) has)) }
         ensures held { has_line_feed self.old.piece ≡ true → reader.new ≡ reader.old }
         ensures ended { self.old.ended ≡ true →
             (reader.new ≡ reader.old) × (self.new.ended ≡ true) }
-        ensures asked { self.new.asks ≤ self.old.asks }
-        ensures fewer { result ≡ Ok true → most_bytes self.new.asks self.new.piece
-            < most_bytes self.old.asks self.old.piece }
+        ensures asked { self.new.asks.left ≤ self.old.asks.left }
+        ensures fewer { result ≡ Ok true → most_bytes self.new.asks.left self.new.piece
+            < most_bytes self.old.asks.left self.old.piece }
+        ensures failed { IfErr result (λ fault. fault ≡ LineFault.Read →
+            self.new.asks.failed ≡ true) }
         ensures never_ends { IfErr result (λ fault. fault ≡ LineFault.NeverEnds →
-            self.new.asks ≡ 0) }
+            self.new.asks.left ≡ 0) }
     {
         self.line.clear();
         while !self.piece.move_line(&mut self.line)? {

@@ -29,8 +29,8 @@ use crate::line_cutter::LineCutter;
 use std::io::Read;
 use std::marker::Model;
 
-/// Reads a text line by line, in constant memory: it holds a line of at most 512 bytes, and a piece of at most 8,192.
-/// In its life it asks 16,777,216 times at most, each time for at most 8,192 bytes.
+/// Reads a text line by line, in constant memory: it holds a line of at most 512 bytes, and a piece of at most 512.
+/// In its life it asks 16,777,216 times at most, each time for at most 512 bytes.
 #[derive(Drop)]
 pub struct LineReader {
     cutter: LineCutter,
@@ -46,7 +46,8 @@ impl Model for LineReader {
       rest = r.cutter.piece;
       ended = r.cutter.ended;
       fault = r.fault;
-      asks = r.cutter.asks;
+      asks = r.cutter.asks.left;
+      failed = r.cutter.asks.failed;
     } };
 }
 

@@ -5,7 +5,8 @@ ghost use Rattle.std.specs.Io.KnownBytes.{Consumes, Keeps, IsAtEnd};
 ghost use Rattle.co_stream.specs.Lines.{has_line_feed, BeginsTooLong, EndsAt};
 ghost use Rattle.co_stream.specs.Readings.{most_bytes};
 
-use crate::asks::{Asks, ask};
+use crate::ask::ask;
+use crate::asks::Asks;
 use crate::fault::{AskFault, LineFault};
 use crate::line_buffer::LineBuffer;
 use co_text::split_at_first;
@@ -15,11 +16,11 @@ use std::marker::Model;
 
 const LINE_FEED: u8 = b'\n';
 
-/// What a reader gave at once, at most 8,192 bytes, without what is taken of it already. Contracts see the bytes that
+/// What a reader gave at once, at most 512 bytes, without what is taken of it already. Contracts see the bytes that
 /// are left.
 #[derive(Drop)]
 pub(crate) struct Piece {
-    bytes: [u8; 8192],
+    bytes: [u8; 512],
     start: usize,
     end: usize,
     // where the last line that ends among the bytes ends, found once for all of them
@@ -34,7 +35,7 @@ impl Model for Piece {
 
     ghost view = { λ piece. drop piece.start (take piece.end piece.bytes) };
 
-    ghost invariant = { λ piece. (piece.start ≤ piece.end) × (piece.end ≤ 8192)
+    ghost invariant = { λ piece. (piece.start ≤ piece.end) × (piece.end ≤ 512)
         × EndsAt piece.lines_end (take piece.end piece.bytes) };
 }
 
@@ -54,7 +55,7 @@ impl Piece {
         ensures { result ≡ [] }
     {
         Piece {
-            bytes: [0; 8192],
+            bytes: [0; 512],
             start: 0,
             end: 0,
             lines_end: 0,
@@ -86,10 +87,13 @@ impl Piece {
             (Consumes (R.remaining reader.old) (R.remaining reader.new) self.new) }
         ensures end { result ≡ Ok false → (self.new ≡ []) × IsAtEnd (R.remaining reader.new) }
         ensures err { OnErr result (Keeps (R.remaining reader.old) (R.remaining reader.new)) }
-        ensures asked { asks.new ≤ asks.old }
-        ensures counted { OnOk result (asks.new < asks.old) }
-        ensures few { OnOk result (most_bytes asks.new self.new ≤ most_bytes asks.old []) }
-        ensures never_ends { IfErr result (λ fault. fault ≡ AskFault.NeverEnds → asks.new ≡ 0) }
+        ensures asked { asks.new.left ≤ asks.old.left }
+        ensures counted { OnOk result (asks.new.left < asks.old.left) }
+        ensures few { OnOk result
+            (most_bytes asks.new.left self.new ≤ most_bytes asks.old.left []) }
+        ensures failed { IfErr result (λ fault. fault ≡ AskFault.Read → asks.new.failed ≡ true) }
+        ensures never_ends { IfErr result (λ fault. fault ≡ AskFault.NeverEnds →
+            asks.new.left ≡ 0) }
     {
         self.start = 0;
         self.end = 0;

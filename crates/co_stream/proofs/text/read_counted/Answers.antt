@@ -2,7 +2,7 @@ use Rattle.std.proofs.Common.{rules, ◌≡◌, [], take, subst, arith, append-n
 use Rattle.std.specs.Io.KnownBytes.{Consumes}
 use Rattle.std.proofs.KnownBytes.{Consumes-trans}
 use Rattle.co_stream.proofs.TextLemmas.{whole_text, first_bytes}
-use Rattle.co_stream.proofs.text.read_text.Goals as goal
+use Rattle.co_stream.proofs.text.read_counted.Goals as goal
 
 pub returns-then-count-eq0-clause-text : goal.returns-then-count-eq0-clause-text
 returns-then-count-eq0-clause-text g c =
