@@ -6,14 +6,11 @@ ghost use Rattle.co_sheet.specs.SheetViews.{row_view};
 ghost use Rattle.co_dict_build.specs.Capacities.{limits_view};
 ghost use Rattle.co_dict_build.specs.SheetRows.{IsReady};
 ghost use Rattle.co_dict_build.specs.Built.{entry_of};
-ghost use Rattle.co_dict_build.specs.ListedEntries.{are_increasing};
-ghost use Rattle.co_dict_image.specs.Slots.{entries_in, are_lined, keys_of};
+ghost use Rattle.co_dict_image.specs.Slots.{entries_in, are_lined};
 
 use crate::slot::Slot;
 use co_dict_build::{Limits, entry_of_row};
 use co_sheet::EntryRow;
-use co_value::Key;
-use indexmap::IndexSet;
 use std::alloc::{AllocError, Global};
 
 /// The slots of all rows, in their order, and the initial bytes.
@@ -71,16 +68,4 @@ pub(crate) fn image_of_rows(
         slots,
         initial: bytes,
     })
-}
-
-/// The keys of slots, numbered in their order.
-pub(crate) fn numbered(alloc: Global, slots: &[Slot]) -> Result<IndexSet<Key>, AllocError>
-    requires { are_increasing (keys_of slots.now) ≡ true }
-    ensures { IfOk result (λ numbers. numbers.keys ≡ keys_of slots.now) }
-{
-    let mut numbers = IndexSet::with_capacity(alloc, slots.len())?;
-    for slot in slots {
-        numbers.insert(slot.key)?;
-    }
-    Ok(numbers)
 }

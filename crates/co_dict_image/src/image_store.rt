@@ -1,6 +1,7 @@
 //! A store that keeps all values in one piece of memory.
 
 ghost use Rattle.std.specs.Prelude.{◌≡◌, ◌≤◌, ◌<◌, true, length, position, fold, max, IfOk, IfErr, None};
+ghost use Rattle.std.specs.Box.{boxed_slice_items};
 ghost use Rattle.std.proofs.Props.{props};
 ghost use Rattle.co_value.specs.Keys.{same_key};
 ghost use Rattle.co_value.specs.Numbers.{AreBytes};
@@ -11,37 +12,38 @@ ghost use Rattle.co_dict_build.specs.Built.{plan_of, built_description, built_co
 ghost use Rattle.co_dict_build.specs.BuildFaults.{build_fault, IsBuildFault};
 ghost use Rattle.co_dict_image.specs.Slots.{are_lined, keys_of};
 
-use crate::image::{image_of_rows, numbered};
+use crate::image::image_of_rows;
+use crate::key_numbers::KeyNumbers;
 use crate::slot::Slot;
 use co_dict::{Area, ObjectStore, Row};
 use co_dict_build::{BuildFault, FromRows, Limits, build_store};
 use co_sheet::{EntryRow, Sheet};
 use co_value::Key;
-use indexmap::IndexSet;
 use std::alloc::{AllocError, Global};
+use std::boxed::BoxedSlice;
 
 /// An object dictionary as an image: the values of all entries in one piece of memory, each with room for its capacity,
 /// and the initial ones in a second, at the same places. An entry is found by a table of hashed keys, or by its place
-/// without a search. Nothing of it takes memory after the build.
+/// without a search. All memory is asked for by the build: a boxed slice never grows.
 #[derive(Drop)]
 pub struct ImageStore {
     node_id: u8,
     // whether the dummy entries 0002h to 0007h may be mapped
     dummies: [bool; 6],
     // the keys in the order of the slots, which is increasing
-    numbers: IndexSet<Key>,
-    slots: Vec<Slot>,
-    values: Vec<u8>,
-    initial: Vec<u8>,
+    numbers: KeyNumbers,
+    slots: BoxedSlice<Slot>,
+    values: BoxedSlice<u8>,
+    initial: BoxedSlice<u8>,
     ghost first_node: { 1 ≤ node_id },
     ghost last_node: { node_id ≤ 127 },
     ghost six: { length dummies ≡ 6 },
-    ghost numbered: { numbers.keys ≡ keys_of slots.items } by { Prim.hlevel props },
-    ghost increasing: { are_increasing (keys_of slots.items) ≡ true },
-    ghost lined: { are_lined 0 slots.items (length values.items) ≡ true },
-    ghost same: { length initial.items ≡ length values.items },
-    ghost bytes: { AreBytes values.items } by { Prim.hlevel props },
-    ghost initial_bytes: { AreBytes initial.items } by { Prim.hlevel props },
+    ghost numbered: { numbers ≡ keys_of (boxed_slice_items slots) } by { Prim.hlevel props },
+    ghost increasing: { are_increasing (keys_of (boxed_slice_items slots)) ≡ true },
+    ghost lined: { are_lined 0 (boxed_slice_items slots) (length (boxed_slice_items values)) ≡ true },
+    ghost same: { length (boxed_slice_items initial) ≡ length (boxed_slice_items values) },
+    ghost bytes: { AreBytes (boxed_slice_items values) } by { Prim.hlevel props },
+    ghost initial_bytes: { AreBytes (boxed_slice_items initial) } by { Prim.hlevel props },
 }
 
 // The greatest capacity of these slots; 0 where there is none.
@@ -76,35 +78,37 @@ impl ImageStore {
 
     // Where the slot of a key is.
     fn position(&self, key: Key) -> Option<usize>
-        ensures { result ≡ position (same_key key) (keys_of self.now.slots.items) }
+        ensures { result ≡ position (same_key key) (keys_of (boxed_slice_items self.now.slots)) }
     {
-        self.numbers.get_index_of(&key)
+        self.numbers.get(key)
     }
 
     // Sets the bytes of the entry of a slot: one copy, into memory that it has.
     #[inline(always)]
     fn put(&mut self, at: usize, bytes: &[u8])
-        requires within { at < length self.old.slots.items }
+        requires within { at < length (boxed_slice_items self.old.slots) }
         requires fitting { (d : ListedEntry) →
             fits (slice_index_or (entries_of self.old) at d).row (length bytes.now) ≡ true }
         ensures entries { (d : ListedEntry) →
             entries_of self.new ≡ filled_at (entries_of self.old) at d bytes.now }
         ensures node { self.new.node_id ≡ self.old.node_id }
         ensures dummies { self.new.dummies ≡ self.old.dummies }
-        ensures keys { keys_of self.new.slots.items ≡ keys_of self.old.slots.items }
+        ensures keys { keys_of (boxed_slice_items self.new.slots)
+            ≡ keys_of (boxed_slice_items self.old.slots) }
     {
         self.slots[at].fill(&mut self.values, bytes);
     }
 
     // Restores the initial bytes of the entry of a slot: one copy, into memory that it has.
     fn restore(&mut self, at: usize)
-        requires within { at < length self.old.slots.items }
+        requires within { at < length (boxed_slice_items self.old.slots) }
         ensures entries { (d : ListedEntry) → entries_of self.new
             ≡ filled_at (entries_of self.old) at d
             (slice_index_or (entries_of self.old) at d).initial }
         ensures node { self.new.node_id ≡ self.old.node_id }
         ensures dummies { self.new.dummies ≡ self.old.dummies }
-        ensures keys { keys_of self.new.slots.items ≡ keys_of self.old.slots.items }
+        ensures keys { keys_of (boxed_slice_items self.new.slots)
+            ≡ keys_of (boxed_slice_items self.old.slots) }
     {
         self.slots[at].restore(&mut self.values, &self.initial);
     }
@@ -115,10 +119,11 @@ impl ObjectStore for ImageStore {
     ghost use Rattle.co_dict_image.specs.Slots.{entries_in};
 
     ghost description = { λ store. description_in store.node_id store.dummies
-        (entries_in store.values.items store.initial.items store.slots.items) };
+        (entries_in (boxed_slice_items store.values) (boxed_slice_items store.initial)
+        (boxed_slice_items store.slots)) };
 
-    ghost contents = { λ store.
-        contents_in (entries_in store.values.items store.initial.items store.slots.items) };
+    ghost contents = { λ store. contents_in (entries_in (boxed_slice_items store.values)
+        (boxed_slice_items store.initial) (boxed_slice_items store.slots)) };
 
     fn node_id(&self) -> u8 {
         self.node_id
@@ -183,8 +188,10 @@ impl ObjectStore for ImageStore {
     ghost use Rattle.co_dict_image.specs.LawfulImages.{are_entries};
 
     ghost lawful = { λ store. lawful_list store.node_id store.dummies
-        (entries_in store.values.items store.initial.items store.slots.items)
-        (are_entries store.values.items store.initial.items store.slots.items
+        (entries_in (boxed_slice_items store.values) (boxed_slice_items store.initial)
+        (boxed_slice_items store.slots))
+        (are_entries (boxed_slice_items store.values) (boxed_slice_items store.initial)
+        (boxed_slice_items store.slots)
         store.lined store.same store.bytes store.initial_bytes)
         store.first_node store.last_node store.six };
 }
@@ -198,15 +205,15 @@ impl FromRows for ImageStore {
         dummies: [bool; 6],
     ) -> Result<ImageStore, AllocError> {
         let image = image_of_rows(alloc, node_id, limits, rows)?;
-        let numbers = numbered(alloc, &image.slots)?;
-        let values = Vec::from_slice(alloc, &image.initial)?;
+        let numbers = KeyNumbers::of(alloc, &image.slots)?;
+        let values = BoxedSlice::from_slice(alloc, &image.initial)?;
         Ok(ImageStore {
             node_id,
             dummies,
             numbers,
-            slots: image.slots,
+            slots: image.slots.into_boxed_slice(),
             values,
-            initial: image.initial,
+            initial: image.initial.into_boxed_slice(),
         })
     }
 }

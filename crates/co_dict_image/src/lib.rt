@@ -3,6 +3,7 @@
 
 mod image;
 mod image_store;
+mod key_numbers;
 mod slot;
 
 pub use image_store::ImageStore;

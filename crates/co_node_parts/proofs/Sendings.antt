@@ -1,12 +1,12 @@
 -- What is left of the inhibit times of some sendings, and several emergencies that are queued at once.
-use Rattle.std.proofs.Common.{◌≡◌, ℕ, ◌+◌, ◌-◌, ◌<◌, ◌≤◌, Bool, true, false, leb, eqb, List, [], ◌∷◌, ◌++◌, length, refl, sym, ap, ◌∙◌, arith}
+use Rattle.std.proofs.Common.{◌≡◌, ℕ, ◌+◌, ◌-◌, ◌<◌, ◌≤◌, Bool, true, false, leb, eqb, List, [], ◌∷◌, ◌++◌, refl, sym, ap, ◌∙◌, arith}
 use Rattle.std.specs.Prelude.{◌&&◌, max, map, slice_get, None}
 use Rattle.std.specs.List.{list_all}
 use Rattle.std.proofs.lemmas.Bool.Decides.{nat_tests}
 use Rattle.co_frame.specs.InhibitTimes.{in_ms}
 use Rattle.co_frame.specs.declared.emergency.Emergency.{Emergency}
 use Rattle.co_node_parts.specs.declared.emergencies.EmergencyEvent.TheVariants.{Queue}
-use Rattle.co_node_parts.specs.EmergencyQueues.{Sending, older, is_past, inhibit_left, EmergencyLog, sendings, queue_of, is_inhibit_over, emergency_due, Noted, with_queued, Pending, EmergenciesStand}
+use Rattle.co_node_parts.specs.EmergencyQueues.{Sending, older, is_past, inhibit_left, EmergencyLog, sendings, queue_of, is_inhibit_over, emergency_due, Noted, with_queued}
 
 one_past : (n age rest : ℕ) (b : Bool) → eqb rest 0 ≡ b → eqb (max (n - age) rest) 0 ≡ leb n age && b
 one_past n age rest true e = grind (arith, nat_tests)

@@ -35,14 +35,16 @@ taken_at count EmptyAll log = []
 taken_at count Sync log = all_kept count log
 taken_at count Quiet log = []
 
--- the frames in some slots, and those that the last event took
+-- the frames in some slots, those that the last event took, and how many of these there is memory for
 pub record SlotContent : Type 0 where
   pub slots : List (Option FrameContent)
   pub taken : List KeptFrame
+  pub room : ℕ
 
--- there are so many slots, and each has what its log gives
+-- there are so many slots, memory for a frame of each, and each has what its log gives
 pub record SlotsStand (count : ℕ) (content : SlotContent) (log : SlotLog) : Type 0 where
   pub size : length content.slots ≡ count
+  pub room : content.room ≡ count
   pub all : (k : ℕ) (d : Option FrameContent) → k < count
       → slice_index_or content.slots k d ≡ kept_of k log
 

@@ -1,12 +1,13 @@
 //! The RPDO frames that wait for a SYNC.
 
-ghost use Rattle.std.specs.Prelude.{◌≡◌, ℕ, ◌<◌, ◌≤◌, [], ◌∷◌, length, slice_set, Option, None, IfOk, vec_capacity};
+ghost use Rattle.std.specs.Prelude.{◌≡◌, ℕ, ◌<◌, ◌≤◌, [], ◌∷◌, length, slice_set, take, Option, None, IfOk};
 ghost use Rattle.std.specs.List.{filter_map, range_with_len, slice_index_or};
 ghost use Rattle.co_frame.specs.FrameContent.{FrameContent};
 ghost use Rattle.co_node_parts.specs.RpdoSlots.{AreEmptyFrom, SlotLog, SlotsStand, taken_at, numbered};
 
 use co_frame::Frame;
 use std::alloc::{AllocError, Global};
+use std::boxed::BoxedSlice;
 use std::marker::Model;
 
 /// A frame of an RPDO.
@@ -58,50 +59,64 @@ fn empty_all(slots: &mut [Option<Frame>], used: usize)
     }
 }
 
-/// Appends all frames, in increasing number. None is in a slot from `used` on.
-fn collect(slots: &[Option<Frame>], used: usize, taken: &mut Vec<KeptFrame>)
+/// Puts all frames at the front of `taken`, in increasing number, and gives how many they are. None is in a slot from
+/// `used` on.
+fn collect(slots: &[Option<Frame>], used: usize, taken: &mut [KeptFrame]) -> usize
     requires numbers { length slots.now < 65536 }
     requires used { AreEmptyFrom used slots.now }
     requires within { used ≤ length slots.now }
-    requires empty { taken.old.items ≡ [] }
-    requires room { length slots.now ≤ vec_capacity taken.old }
-    ensures taken { taken.new.items ≡
+    requires room { length slots.now ≤ length taken.old }
+    ensures taken { take result taken.new ≡
         filter_map (λ k. numbered k (slice_index_or slots.now k None))
         (range_with_len 0 (length slots.now)) }
-    ensures capacity { vec_capacity taken.new ≡ vec_capacity taken.old }
+    ensures few { result ≤ length taken.old }
 {
+    let mut count = 0;
     for k in 0..used {
         match slots[k] {
-            Some(frame) => taken.push_reserved(KeptFrame {
-                number: k as u16,
-                frame,
-            }),
+            Some(frame) => {
+                taken[count] = KeptFrame {
+                    number: k as u16,
+                    frame,
+                };
+                count += 1;
+            }
             None => {}
         }
     }
+    count
 }
 
-/// A slot for each RPDO, with the last frame that waits for a SYNC (CiA 301, 7.2.2.2 and 7.5.2.35). It
-/// asks for no memory after `new`.
+/// A slot for each RPDO, with the last frame that waits for a SYNC (CiA 301, 7.2.2.2 and 7.5.2.35). All memory is asked
+/// for by `new`: contracts see how many frames may be taken at once, and no call changes it.
 #[derive(Drop)]
 pub struct RpdoSlots {
-    slots: Vec<Option<Frame>>,
-    taken: Vec<KeptFrame>,
+    slots: BoxedSlice<Option<Frame>>,
+    // as many as there are slots; the first `count` are the frames that the last event took
+    taken: BoxedSlice<KeptFrame>,
+    count: usize,
     // no slot from here on has a frame, so that a SYNC looks at few of them
     used: usize,
 }
 
 impl Model for RpdoSlots {
-    ghost use Rattle.std.specs.Prelude.{◌<◌, ◌≤◌, length, vec_capacity};
+    ghost use Rattle.std.specs.Prelude.{◌≡◌, ◌<◌, ◌≤◌, length, take};
+    ghost use Rattle.std.specs.Box.{boxed_slice_items};
     ghost use Rattle.co_node_parts.specs.RpdoSlots.{AreEmptyFrom, SlotContent};
 
     ghost Value = { SlotContent };
 
-    ghost view = { λ s. record { slots = s.slots.items; taken = s.taken.items } };
+    ghost view = { λ s. record {
+      slots = boxed_slice_items s.slots;
+      taken = take s.count (boxed_slice_items s.taken);
+      room = length (boxed_slice_items s.taken);
+    } };
 
-    ghost invariant = { λ s. (length s.slots.items < 65536)
-        × (length s.slots.items ≤ vec_capacity s.taken)
-        × (s.used ≤ length s.slots.items) × AreEmptyFrom s.used s.slots.items };
+    ghost invariant = { λ s. (length (boxed_slice_items s.slots) < 65536)
+        × (length (boxed_slice_items s.taken) ≡ length (boxed_slice_items s.slots))
+        × (s.count ≤ length (boxed_slice_items s.taken))
+        × (s.used ≤ length (boxed_slice_items s.slots))
+        × AreEmptyFrom s.used (boxed_slice_items s.slots) };
 }
 
 impl RpdoSlots {
@@ -111,10 +126,15 @@ impl RpdoSlots {
         ensures { IfOk result (λ slots. SlotsStand count slots []) }
     {
         let slots = vec![in alloc; None; usize::from(count)]?;
-        let taken = Vec::with_capacity(alloc, usize::from(count))?;
+        let nothing = KeptFrame {
+            number: 0,
+            frame: Frame::default(),
+        };
+        let taken = vec![in alloc; nothing; usize::from(count)]?;
         Ok(RpdoSlots {
-            slots,
-            taken,
+            slots: slots.into_boxed_slice(),
+            taken: taken.into_boxed_slice(),
+            count: 0,
             used: 0,
         })
     }
@@ -124,7 +144,7 @@ impl RpdoSlots {
     pub fn taken(&self) -> &[KeptFrame]
         ensures { result.now ≡ self.now.taken }
     {
-        &self.taken
+        &self.taken[..self.count]
     }
 
     /// Takes note of an event. What it takes is in `taken` until the next one.
@@ -134,8 +154,9 @@ impl RpdoSlots {
             self.new.taken ≡ taken_at count event log }
         ensures stands { (count : ℕ) (log : SlotLog) → SlotsStand count self.old log →
             SlotsStand count self.new (event ∷ log) }
+        ensures room { self.new.room ≡ self.old.room }
     {
-        self.taken.clear();
+        self.count = 0;
         match event {
             SlotEvent::Keep(k, frame) => {
                 put(&mut self.slots, k, Some(frame));
@@ -148,7 +169,7 @@ impl RpdoSlots {
                 self.used = 0;
             }
             SlotEvent::Sync => {
-                collect(&self.slots, self.used, &mut self.taken);
+                self.count = collect(&self.slots, self.used, &mut self.taken);
                 empty_all(&mut self.slots, self.used);
                 self.used = 0;
             }

@@ -33,10 +33,11 @@ use crate::tpdos::{
 };
 use co_dict::{CobId, ObjectStore, Side};
 use std::alloc::{AllocError, Global};
+use std::boxed::BoxedSlice;
 use std::marker::Model;
 
 /// Which TPDOs are due, by their transmission types, inhibit times and event timers (CiA 301, 7.2.2 and 7.5.2.37). It
-/// counts for the TPDOs that the dictionary has, and asks for no memory after `new`.
+/// counts for the TPDOs that the dictionary has. All memory is asked for by `new`.
 ///
 /// Each call has the contents of the dictionary then, and reads them by their places, which `new` looks up. What the
 /// dictionary says of a TPDO has to be current when a SYNC, an event or a tick comes: after a write of its COB-ID,
@@ -45,19 +46,23 @@ use std::marker::Model;
 /// count begins.
 #[derive(Drop)]
 pub struct Schedule {
-    tpdos: Vec<Tpdo>,
+    tpdos: BoxedSlice<Tpdo>,
     // of each TPDO where the dictionary has what it says of it, apart from what each tick counts
-    places: Vec<Places>,
+    places: BoxedSlice<Places>,
 }
 
 impl Model for Schedule {
+    ghost use Rattle.std.specs.Box.{boxed_slice_items};
     ghost use Rattle.co_pdo.specs.Schedules.{Timetable, IsTimetable};
 
     ghost Value = { Timetable };
 
-    ghost view = { λ s. record { tpdos = s.tpdos.items; places = s.places.items } };
+    ghost view = { λ s. record {
+      tpdos = boxed_slice_items s.tpdos;
+      places = boxed_slice_items s.places;
+    } };
 
-    ghost invariant = { λ s. IsTimetable s.tpdos.items s.places.items };
+    ghost invariant = { λ s. IsTimetable (boxed_slice_items s.tpdos) (boxed_slice_items s.places) };
 }
 
 impl Schedule {
@@ -67,7 +72,10 @@ impl Schedule {
     {
         let tpdos = tpdos_in(alloc, store)?;
         let places = places_in(alloc, store, &tpdos)?;
-        Ok(Schedule { tpdos, places })
+        Ok(Schedule {
+            tpdos: tpdos.into_boxed_slice(),
+            places: places.into_boxed_slice(),
+        })
     }
 
     /// How many TPDOs the dictionary has, at most 512.

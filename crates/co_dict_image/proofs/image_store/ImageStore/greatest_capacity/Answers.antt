@@ -20,9 +20,9 @@ is_greatest values initial slots size e increasing =
 pub returns-clause-greatest : goal.returns-clause-greatest
 returns-clause-greatest c =
     let s = c.args.self.now in
-    is_greatest s.values.items s.initial.items s.slots.items _ (c.greatest_capacity.ensures ∙ ap most_in c.deref.ensures.value) s.increasing
+    is_greatest s.values.items.items s.initial.items.items s.slots.items.items _ (c.greatest_capacity.ensures ∙ ap most_in c.deref.ensures.value) s.increasing
 
 pub returns-clause-enough : goal.returns-clause-enough
 returns-clause-enough c = λ key.
     let s = c.args.self.now in
-    room_within _ _ (is_greatest s.values.items s.initial.items s.slots.items _ (c.greatest_capacity.ensures ∙ ap most_in c.deref.ensures.value) s.increasing) key
+    room_within _ _ (is_greatest s.values.items.items s.initial.items.items s.slots.items.items _ (c.greatest_capacity.ensures ∙ ap most_in c.deref.ensures.value) s.increasing) key

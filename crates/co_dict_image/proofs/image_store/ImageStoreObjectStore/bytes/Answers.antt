@@ -12,19 +12,19 @@ pub returns-in_err-at : goal.returns-in_err-at
 returns-in_err-at c =
     let s = c.args.self.now in
     ap (option_map (λ bytes. bytes.now)) c.from_residual.ensures
-    ∙ part_at-no_place (λ e. e.bytes) (entries_of s) c.args.key (c.in_err-at.ensures ∙ number_is_place s.values.items s.initial.items s.slots.items c.args.key)
+    ∙ part_at-no_place (λ e. e.bytes) (entries_of s) c.args.key (c.in_err-at.ensures ∙ number_is_place s.values.items.items s.initial.items.items s.slots.items.items c.args.key)
 
 pub bytes-requires : goal.bytes-requires
 bytes-requires c =
     let s = c.args.self.now in
     let slot = c.index.result.now in
     subst (λ (l : List ℕ). slot.start + slot.row.capacity ≤ length l) (sym c.deref.ensures.value)
-    (room_at s.values.items s.slots.items c.in_ok-at.at slot s.lined (slot_within s.slots.items c.args.key c.in_ok-at.at c.in_ok-at.ensures) c.index.ensures)
+    (room_at s.values.items.items s.slots.items.items c.in_ok-at.at slot s.lined (slot_within s.slots.items.items c.args.key c.in_ok-at.at c.in_ok-at.ensures) c.index.ensures)
 
 pub returns : goal.returns
 returns c =
     let s = c.args.self.now in
     let slot = c.index.result.now in
     ap Some (c.bytes.ensures ∙ ap (λ (l : List ℕ). take slot.size (drop slot.start l)) c.deref.ensures.value)
-    ∙ ap (λ v. Some v.bytes) (entry_at_slot s.values.items s.initial.items s.slots.items c.in_ok-at.at slot c.index.ensures)
-    ∙ part_at-place (λ e. e.bytes) (entries_of s) c.args.key c.in_ok-at.at (entry_in s.values.items s.initial.items slot) (c.in_ok-at.ensures ∙ number_is_place s.values.items s.initial.items s.slots.items c.args.key)
+    ∙ ap (λ v. Some v.bytes) (entry_at_slot s.values.items.items s.initial.items.items s.slots.items.items c.in_ok-at.at slot c.index.ensures)
+    ∙ part_at-place (λ e. e.bytes) (entries_of s) c.args.key c.in_ok-at.at (entry_in s.values.items.items s.initial.items.items slot) (c.in_ok-at.ensures ∙ number_is_place s.values.items.items s.initial.items.items s.slots.items.items c.args.key)

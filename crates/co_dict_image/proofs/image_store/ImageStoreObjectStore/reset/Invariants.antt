@@ -10,5 +10,5 @@ invariant-loop-at l =
       up_to : AreResetUpTo l.area (entries_of l.fn.self) (entries_of l.self) l.at;
       node : l.self.node_id ≡ l.fn.self.node_id;
       dummies : l.self.dummies ≡ l.fn.self.dummies;
-      slots : length l.self.slots.items ≡ length l.fn.self.slots.items;
+      slots : length l.self.slots.items.items ≡ length l.fn.self.slots.items.items;
     }

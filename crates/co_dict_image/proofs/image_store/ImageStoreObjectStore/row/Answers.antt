@@ -9,11 +9,11 @@ use Rattle.co_dict_image.proofs.image_store.ImageStoreObjectStore.row.Goals as g
 pub returns-in_err-at : goal.returns-in_err-at
 returns-in_err-at c =
     let s = c.args.self.now in
-    c.from_residual.ensures ∙ part_at-no_place (λ e. e.row) (entries_of s) c.args.key (c.in_err-at.ensures ∙ number_is_place s.values.items s.initial.items s.slots.items c.args.key)
+    c.from_residual.ensures ∙ part_at-no_place (λ e. e.row) (entries_of s) c.args.key (c.in_err-at.ensures ∙ number_is_place s.values.items.items s.initial.items.items s.slots.items.items c.args.key)
 
 pub returns : goal.returns
 returns c =
     let s = c.args.self.now in
     let slot = c.index.result.now in
-    ap (λ v. Some v.row) (entry_at_slot s.values.items s.initial.items s.slots.items c.in_ok-at.at slot c.index.ensures)
-    ∙ part_at-place (λ e. e.row) (entries_of s) c.args.key c.in_ok-at.at (entry_in s.values.items s.initial.items slot) (c.in_ok-at.ensures ∙ number_is_place s.values.items s.initial.items s.slots.items c.args.key)
+    ap (λ v. Some v.row) (entry_at_slot s.values.items.items s.initial.items.items s.slots.items.items c.in_ok-at.at slot c.index.ensures)
+    ∙ part_at-place (λ e. e.row) (entries_of s) c.args.key c.in_ok-at.at (entry_in s.values.items.items s.initial.items.items slot) (c.in_ok-at.ensures ∙ number_is_place s.values.items.items s.initial.items.items s.slots.items.items c.args.key)

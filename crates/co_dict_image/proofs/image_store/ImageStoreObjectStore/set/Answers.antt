@@ -9,21 +9,21 @@ use Rattle.co_dict_image.proofs.image_store.ImageStoreObjectStore.set.Goals as g
 pub unreachable-requires : goal.unreachable-requires
 unreachable-requires c =
     let s = c.args.self.now in
-    takes-no_place (entries_of s) c.args.key (length c.args.bytes.now) c.requires (c.in_default.ensures ∙ number_is_place s.values.items s.initial.items s.slots.items c.args.key)
+    takes-no_place (entries_of s) c.args.key (length c.args.bytes.now) c.requires (c.in_default.ensures ∙ number_is_place s.values.items.items s.initial.items.items s.slots.items.items c.args.key)
 
 pub put-requires-clause-within : goal.put-requires-clause-within
-put-requires-clause-within c = slot_within c.args.self.now.slots.items c.args.key c.in-Some.at c.in-Some.ensures
+put-requires-clause-within c = slot_within c.args.self.now.slots.items.items c.args.key c.in-Some.at c.in-Some.ensures
 
 pub put-requires-clause-fitting : goal.put-requires-clause-fitting
 put-requires-clause-fitting c d =
     let s = c.args.self.now in
-    fits_at-place (entries_of s) c.args.key c.in-Some.at d (length c.args.bytes.now) c.requires (c.in-Some.ensures ∙ number_is_place s.values.items s.initial.items s.slots.items c.args.key)
+    fits_at-place (entries_of s) c.args.key c.in-Some.at d (length c.args.bytes.now) c.requires (c.in-Some.ensures ∙ number_is_place s.values.items.items s.initial.items.items s.slots.items.items c.args.key)
 
 pub returns-clause-contents : goal.returns-clause-contents
 returns-clause-contents c =
     let s = c.args.self.now in
     ap contents_in (c.put.ensures.entries (blank c.args.key))
-    ∙ contents_in-with_bytes (entries_of s) c.in-Some.at (blank c.args.key) c.args.key c.args.bytes.now (c.in-Some.ensures ∙ number_is_place s.values.items s.initial.items s.slots.items c.args.key)
+    ∙ contents_in-with_bytes (entries_of s) c.in-Some.at (blank c.args.key) c.args.key c.args.bytes.now (c.in-Some.ensures ∙ number_is_place s.values.items.items s.initial.items.items s.slots.items.items c.args.key)
 
 pub returns-clause-description : goal.returns-clause-description
 returns-clause-description c =

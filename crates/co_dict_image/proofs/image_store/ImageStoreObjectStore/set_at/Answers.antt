@@ -12,19 +12,19 @@ none = blank (record { index = 0; sub = 0 })
 pub put-requires-clause-within : goal.put-requires-clause-within
 put-requires-clause-within c =
     let s = c.args.self.now in
-    subst (λ n. c.args.place < n) (entries_len s.values.items s.initial.items s.slots.items) (within_by_place s.node_id s.dummies (entries_of s) c.args.place (length c.args.bytes.now) c.requires)
+    subst (λ n. c.args.place < n) (entries_len s.values.items.items s.initial.items.items s.slots.items.items) (within_by_place s.node_id s.dummies (entries_of s) c.args.place (length c.args.bytes.now) c.requires)
 
 pub put-requires-clause-fitting : goal.put-requires-clause-fitting
 put-requires-clause-fitting c d =
     let s = c.args.self.now in
-    fits_by_place (entries_of s) (entries_increase s.values.items s.initial.items s.slots.items s.increasing) s.node_id s.dummies c.args.place d (length c.args.bytes.now)
+    fits_by_place (entries_of s) (entries_increase s.values.items.items s.initial.items.items s.slots.items.items s.increasing) s.node_id s.dummies c.args.place d (length c.args.bytes.now)
     (within_by_place s.node_id s.dummies (entries_of s) c.args.place (length c.args.bytes.now) c.requires) c.requires
 
 pub returns-clause-contents : goal.returns-clause-contents
 returns-clause-contents c =
     let s = c.args.self.now in
     ap contents_in (c.put.ensures.entries none)
-    ∙ written_by_place (entries_of s) (entries_increase s.values.items s.initial.items s.slots.items s.increasing) s.node_id s.dummies c.args.place none c.args.bytes.now
+    ∙ written_by_place (entries_of s) (entries_increase s.values.items.items s.initial.items.items s.slots.items.items s.increasing) s.node_id s.dummies c.args.place none c.args.bytes.now
     (within_by_place s.node_id s.dummies (entries_of s) c.args.place (length c.args.bytes.now) c.requires)
 
 pub returns-clause-description : goal.returns-clause-description
