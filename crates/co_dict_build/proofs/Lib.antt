@@ -5,7 +5,7 @@ pub mod EntryBytes
 mod Faults
 pub mod GreatestCapacity
 mod InitialLemmas
-mod Roomless
+pub mod Roomless
 mod ListExamples
 mod PairLaws
 pub mod Numbering
@@ -13,6 +13,6 @@ mod Pairs
 pub mod Places
 pub mod Plans
 mod Ranges
-mod Readiness
+pub mod Readiness
 mod RowExamples
 pub mod Search

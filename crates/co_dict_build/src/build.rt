@@ -32,11 +32,15 @@ use crate::limits::Limits;
 use co_dict::ObjectStore;
 use co_sheet::{EntryRow, Sheet};
 use cob_ids::bad_cob_id;
+pub use cob_ids::{is_bad_cob_id, is_channel_key};
 pub use entries::{entries_of_rows, entry_of_row};
 use mappings::bad_mapping;
+pub use mappings::is_bad_mapping;
+pub use pdo_pairs::is_unpaired;
 use pdo_pairs::unpaired;
-use room::is_too_many;
+pub use room::is_too_many;
 use std::alloc::{AllocError, Global};
+pub use value_range::is_sum_outside;
 use value_range::value_out_of_range;
 
 fn word_fault<S: ObjectStore>(store: &S, rows: &[EntryRow<'_>]) -> Option<BuildFault>
@@ -163,8 +167,8 @@ fn build_rows<S: FromRows + Drop>(
     }
 }
 
-// which of the dummy entries 0002h to 0007h may be mapped
-fn usable_dummies(sheet: &Sheet<'_>) -> [bool; 6]
+/// Which of the dummy entries 0002h to 0007h a data sheet lets be mapped (CiA 306, dummy usage).
+pub fn usable_dummies(sheet: &Sheet<'_>) -> [bool; 6]
     ensures { result ≡ dummies_of sheet.now }
 {
     [

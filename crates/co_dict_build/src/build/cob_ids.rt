@@ -34,7 +34,8 @@ fn is_word_key(key: Key) -> bool
     key == keys::EMERGENCY_COB_ID || (is_communication(key.index) && key.sub == PDO_COB_ID)
 }
 
-fn is_channel_key(key: Key) -> bool
+/// Whether an entry is a COB-ID word of an SDO channel (CiA 301, 7.5.2.33).
+pub fn is_channel_key(key: Key) -> bool
     ensures { result ≡ is_channel_key key }
 {
     IndexRange::SDO_SERVER.contains(key.index) && matches!(key.sub, 1..=2)
@@ -87,9 +88,9 @@ fn is_bad_word<S: ObjectStore>(store: &S, word: CobId) -> bool
     !(word.0 == 0 || is_good_word(store, word))
 }
 
-// whether an entry begins with a COB-ID word that it may not have
+/// Whether an entry begins with a COB-ID word that it may not have (CiA 301, 7.5.2): `BuildFault::BadCobId`.
 #[tactic(auto, using(crate::proofs::CobIdKeys::word_type))]
-fn is_bad_cob_id<S: ObjectStore>(store: &S, key: Key) -> bool
+pub fn is_bad_cob_id<S: ObjectStore>(store: &S, key: Key) -> bool
     ensures { result ≡ is_bad_cob_id (S.description store.now).node (S.contents store.now) key }
 {
     if is_sync_key(key) {

@@ -30,7 +30,9 @@ fn is_bad_count<S: ObjectStore>(store: &S, side: Side, index: u16) -> bool
     count != 0 && check_count(store, side, index, count).is_err()
 }
 
-fn is_bad_mapping<S: ObjectStore>(store: &S, key: Key) -> bool
+/// Whether an entry is the count of a mapping that can't be as it begins (CiA 301, 7.5.2.36, 7.5.2.38):
+/// `BuildFault::BadMapping`.
+pub fn is_bad_mapping<S: ObjectStore>(store: &S, key: Key) -> bool
     ensures { result ≡ is_bad_mapping (S.description store.now) (S.contents store.now) key }
 {
     key.sub == 0

@@ -43,7 +43,9 @@ fn is_lone_mapping<S: ObjectStore>(store: &S, index: u16) -> bool
     is_mapping(index) && !(has_object(store, index - 0x200) && has_sub(store, index, 0))
 }
 
-fn is_unpaired<S: ObjectStore>(store: &S, index: u16) -> bool
+/// Whether an object is one of a PDO, and has no partner, or is without an entry that a PDO needs (CiA 301, 7.5.2.35 to
+/// 7.5.2.38): `BuildFault::PdoPair`.
+pub fn is_unpaired<S: ObjectStore>(store: &S, index: u16) -> bool
     ensures { result ≡ is_unpaired (S.description store.now).rows index }
 {
     is_lone_communication(store, index) || is_lone_mapping(store, index)

@@ -28,7 +28,9 @@ fn is_allowed(row: &EntryRow<'_>, value: i128) -> bool
         && is_at_most(Some(value), row.high)
 }
 
-fn is_sum_outside(node_id: u8, row: &EntryRow<'_>) -> bool
+/// Whether the default of an entry is a sum with `$NODEID` that is outside its type or its limits (CiA 306):
+/// `BuildFault::ValueRange`.
+pub fn is_sum_outside(node_id: u8, row: &EntryRow<'_>) -> bool
     ensures { result ≡ is_sum_outside node_id (row_view row.now) (row_view row.now).default }
 {
     match row.default {
