@@ -161,12 +161,12 @@ decode_asked : asked (codes "decode" ∷ codes "t" ∷ []) ≡ asked_after decod
 unfolding clap_on_literals
 decode_asked = refl
 
-replay_asked : asked (codes "replay" ∷ codes "s" ∷ codes "t" ∷ []) 
+replay_asked : asked (codes "replay" ∷ codes "s" ∷ codes "t" ∷ [])
     ≡ Some (replay (record { sheet = codes "s"; trace = codes "t"; device = device None 16 889 1000 }))
 unfolding clap_on_literals
 replay_asked = refl
 
-loop_asked : asked (codes "loop" ∷ codes "s" ∷ codes "k" ∷ codes "-" ∷ []) 
+loop_asked : asked (codes "loop" ∷ codes "s" ∷ codes "k" ∷ codes "-" ∷ [])
     ≡ Some (loop_back (record { sheet = codes "s"; key = codes "k"; bytes = codes "-"; mode = Plain; device = device None 16 889 1000 }))
 unfolding clap_on_literals
 loop_asked = refl
