@@ -97,11 +97,7 @@ abbrev pub time_option : Rule
 time_option = numbered (codes "time") 0 65535 (codes "1000" ∷ [])
 
 abbrev pub mode_option : Rule
-mode_option = record (new_rule (codes "mode")) {
-  long = Some (codes "mode");
-  value_names = 1;
-  defaults = codes "plain" ∷ [];
-}
+mode_option = worded (codes "mode") (codes "plain")
 
 -- a command with the room of strings and domains, and the time
 abbrev pub with_rooms : App → App
@@ -121,11 +117,7 @@ loop_command =
 
 -- `--format FORMAT`
 abbrev pub shown_option : Rule
-shown_option = record (new_rule (codes "format")) {
-  long = Some (codes "format");
-  value_names = 1;
-  defaults = codes "text" ∷ [];
-}
+shown_option = worded (codes "format") (codes "text")
 
 -- `show SHEET [--node N] [--format FORMAT]`
 abbrev pub show_command : App

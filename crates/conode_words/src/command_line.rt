@@ -65,14 +65,12 @@ use clap::{Arg, ArgAction, ArgMatches, Command, Error};
 use co_sdo_client::Mode;
 use std::alloc::{AllocError, Global};
 
-// the path of the sheet
-fn sheet_arg<'a>(alloc: Global) -> Arg<'a>
-    ensures rule { rule_of result ≡ wanted (codes "SHEET") }
+// a word that has to be there
+fn wanted<'a>(alloc: Global, name: &'a str, help: &'a str) -> Arg<'a>
+    ensures rule { rule_of result ≡ wanted name.entry.now }
     ensures local { result.global ≡ false }
 {
-    Arg::new(alloc, "SHEET")
-        .required(true)
-        .help("The data sheet to check (EDS, CiA 306)")
+    Arg::new(alloc, name).required(true).help(help)
 }
 
 // an option with a number from `low` to `high`
@@ -108,7 +106,7 @@ fn check_command<'a>(alloc: Global) -> Result<Command<'a>, AllocError>
     ensures shape { IfOk result (λ command. app_of command ≡ check_command) }
     ensures local { IfOk result (λ command. (out-Command command).has_globals ≡ false) }
 {
-    let sheet = sheet_arg(alloc);
+    let sheet = wanted(alloc, "SHEET", "The data sheet to check (EDS, CiA 306)");
     let node = numbered(alloc, "node", 1, 127).help(
         "Also build its dictionary for node-ID 1 to 127",
     );
@@ -227,16 +225,6 @@ fn lint_command<'a>(alloc: Global) -> Result<Command<'a>, AllocError>
         .arg(colour)
 }
 
-// the path of the trace
-fn trace_arg<'a>(alloc: Global) -> Arg<'a>
-    ensures rule { rule_of result ≡ wanted (codes "TRACE") }
-    ensures local { result.global ≡ false }
-{
-    Arg::new(alloc, "TRACE")
-        .required(true)
-        .help("The CAN trace to decode, as `candump -L` writes it")
-}
-
 // the path of the sheet that has the names
 fn sheet_option<'a>(alloc: Global) -> Arg<'a>
     ensures rule { rule_of result ≡ sheet_option }
@@ -252,7 +240,11 @@ fn decode_command<'a>(alloc: Global) -> Result<Command<'a>, AllocError>
     ensures shape { IfOk result (λ command. app_of command ≡ decode_command) }
     ensures local { IfOk result (λ command. (out-Command command).has_globals ≡ false) }
 {
-    let trace = trace_arg(alloc);
+    let trace = wanted(
+        alloc,
+        "TRACE",
+        "The CAN trace to decode, as `candump -L` writes it",
+    );
     let sheet = sheet_option(alloc);
     let node = numbered(alloc, "node", 1, 127).help("Name the entries of node-ID 1 to 127 alone");
     Command::new(alloc, "decode")
@@ -261,14 +253,6 @@ fn decode_command<'a>(alloc: Global) -> Result<Command<'a>, AllocError>
         .arg(trace)?
         .arg(sheet)?
         .arg(node)
-}
-
-// a word that has to be there
-fn wanted<'a>(alloc: Global, name: &'a str, help: &'a str) -> Arg<'a>
-    ensures rule { rule_of result ≡ wanted name.entry.now }
-    ensures local { result.global ≡ false }
-{
-    Arg::new(alloc, name).required(true).help(help)
 }
 
 // the node-ID of a device
@@ -294,11 +278,7 @@ fn mode_arg<'a>(alloc: Global) -> Arg<'a>
     ensures rule { rule_of result ≡ mode_option }
     ensures local { result.global ≡ false }
 {
-    Arg::new(alloc, "mode")
-        .long("mode")
-        .value_name("MODE")
-        .default_value("plain")
-        .help("How to transfer: plain, segmented or block")
+    worded(alloc, "mode", "MODE", "plain").help("How to transfer: plain, segmented or block")
 }
 
 // a command with the options of a device's rooms and its time
@@ -357,11 +337,7 @@ fn shown_arg<'a>(alloc: Global) -> Arg<'a>
     ensures rule { rule_of result ≡ shown_option }
     ensures local { result.global ≡ false }
 {
-    Arg::new(alloc, "format")
-        .long("format")
-        .value_name("FORMAT")
-        .default_value("text")
-        .help("How to show it: text or markdown")
+    worded(alloc, "format", "FORMAT", "text").help("How to show it: text or markdown")
 }
 
 fn show_command<'a>(alloc: Global) -> Result<Command<'a>, AllocError>

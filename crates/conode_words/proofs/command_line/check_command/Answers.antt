@@ -12,11 +12,11 @@ none = new_app (codes "check")
 pub returns-clause-shape : goal.returns-clause-shape
 returns-clause-shape c =
     let new : app_of c.after_help.result ≡ none = search rules in
-    let sheet : rule_of c.sheet_arg-sheet.result ≡ wanted (codes "SHEET") = c.sheet_arg-sheet.ensures.rule in
+    let sheet : rule_of c.wanted-sheet.result ≡ wanted (codes "SHEET") = c.wanted-sheet.ensures.rule in
     let node : rule_of c.help-node.result ≡ node_option = search rules in
     let strings : rule_of c.strings_arg-strings.result ≡ strings_option = c.strings_arg-strings.ensures.rule in
     let domains : rule_of c.domains_arg-domains.result ≡ domains_option = c.domains_arg-domains.ensures.rule in
-    let one = c.in_ok-arg.ensures.shape c.sheet_arg-sheet.ensures.local ∙ ap₂ with_rule new sheet in
+    let one = c.in_ok-arg.ensures.shape c.wanted-sheet.ensures.local ∙ ap₂ with_rule new sheet in
     let two = c.in_ok-arg-2.ensures.shape (search rules) ∙ ap₂ with_rule one node in
     let three = c.in_ok-arg-3.ensures.shape (search rules) ∙ ap₂ with_rule two strings in
     IfOk-weaker c.arg-4.result _ _ (λ r h. h.shape (search rules) ∙ ap₂ with_rule three domains) c.arg-4.ensures
@@ -24,7 +24,7 @@ returns-clause-shape c =
 pub returns-clause-local : goal.returns-clause-local
 returns-clause-local c =
     let new : (out-Command c.after_help.result).has_globals ≡ false = search rules in
-    let sheet : c.sheet_arg-sheet.result.global ≡ false = c.sheet_arg-sheet.ensures.local in
+    let sheet : c.wanted-sheet.result.global ≡ false = c.wanted-sheet.ensures.local in
     let node : c.help-node.result.global ≡ false = search rules in
     let strings : c.strings_arg-strings.result.global ≡ false = c.strings_arg-strings.ensures.local in
     let domains : c.domains_arg-domains.result.global ≡ false = c.domains_arg-domains.ensures.local in

@@ -12,10 +12,10 @@ none = new_app (codes "decode")
 pub returns-clause-shape : goal.returns-clause-shape
 returns-clause-shape c =
     let new : app_of c.after_help.result ≡ none = search rules in
-    let trace : rule_of c.trace_arg-trace.result ≡ wanted (codes "TRACE") = c.trace_arg-trace.ensures.rule in
+    let trace : rule_of c.wanted-trace.result ≡ wanted (codes "TRACE") = c.wanted-trace.ensures.rule in
     let sheet : rule_of c.sheet_option-sheet.result ≡ sheet_option = c.sheet_option-sheet.ensures.rule in
     let node : rule_of c.help-node.result ≡ node_option = search rules in
-    let one = c.in_ok-arg.ensures.shape c.trace_arg-trace.ensures.local ∙ ap₂ with_rule new trace in
+    let one = c.in_ok-arg.ensures.shape c.wanted-trace.ensures.local ∙ ap₂ with_rule new trace in
     let two = c.in_ok-arg-2.ensures.shape c.sheet_option-sheet.ensures.local ∙ ap₂ with_rule one sheet in
     IfOk-weaker c.arg-3.result _ _ (λ r h. h.shape (search rules) ∙ ap₂ with_rule two node) c.arg-3.ensures
 
@@ -24,6 +24,6 @@ returns-clause-local c =
     let new : (out-Command c.after_help.result).has_globals ≡ false = search rules in
     let node : c.help-node.result.global ≡ false = search rules in
     let either : Bool → Bool → Bool = λ a b. a || b in
-    let one = c.in_ok-arg.ensures.globals ∙ ap₂ either new c.trace_arg-trace.ensures.local in
+    let one = c.in_ok-arg.ensures.globals ∙ ap₂ either new c.wanted-trace.ensures.local in
     let two = c.in_ok-arg-2.ensures.globals ∙ ap₂ either one c.sheet_option-sheet.ensures.local in
     IfOk-weaker c.arg-3.result _ _ (λ r h. h.globals ∙ ap₂ either two node) c.arg-3.ensures
