@@ -12,8 +12,8 @@ use Rattle.co_node.specs.declared.node.Node.{Node}
 use Rattle.co_node.specs.Nodes.{Stands, description_of, entries_of}
 
 of_store : (store : ImageStore) → IsDictionary (description_of store) (entries_of store)
-of_store store = lawful_list store.node_id store.dummies (entries_in store.values.items store.initial.items store.slots.items)
-    (are_entries store.values.items store.initial.items store.slots.items store.lined store.same store.bytes store.initial_bytes)
+of_store store = lawful_list store.node_id store.dummies (entries_in store.values.items.items store.initial.items.items store.slots.items.items)
+    (are_entries store.values.items.items store.initial.items.items store.slots.items.items store.lined store.same store.bytes store.initial_bytes)
     store.first_node store.last_node store.six
 
 pub stand_on : (k : Constants) (node : Node) (before : Inputs) → Stands k node before → IsDictionary k.description (contents_of k before)

@@ -4,5 +4,6 @@ pub mod Greatest
 pub mod Held
 pub mod Dictionaries
 pub mod Refused
+pub mod Memory
 mod Begins
 mod BuiltExamples

@@ -5,3 +5,4 @@ pub mod Built
 pub mod Served
 pub mod Held
 pub mod Refused
+pub mod Memory

@@ -1,5 +1,6 @@
 -- A device made from a data sheet.
 use Rattle.std.specs.Prelude.{ℕ, fold, max}
+use Rattle.std.specs.Box.{boxed_slice_items}
 use Rattle.co_dict.specs.Rows.{Contents, capacity_at}
 use Rattle.co_dict.specs.Stores.{Description}
 use Rattle.co_sheet.specs.Content.{SheetContent}
@@ -33,10 +34,10 @@ built_constants plan time = node_constants plan (greatest_capacity (built_descri
 
 -- the description and the contents of its dictionary
 abbrev pub description_of : ImageStore → Description
-description_of store = description_in store.node_id store.dummies (entries_in store.values.items store.initial.items store.slots.items)
+description_of store = description_in store.node_id store.dummies (entries_in (boxed_slice_items store.values) (boxed_slice_items store.initial) (boxed_slice_items store.slots))
 
 abbrev pub entries_of : ImageStore → Contents
-entries_of store = contents_in (entries_in store.values.items store.initial.items store.slots.items)
+entries_of store = contents_in (entries_in (boxed_slice_items store.values) (boxed_slice_items store.initial) (boxed_slice_items store.slots))
 
 -- this device stands after these inputs, the newest first
 abbrev pub Stands : Constants → Node → Inputs → Type 0

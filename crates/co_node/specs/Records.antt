@@ -9,13 +9,6 @@ pub record Recorded : Type 0 where
   pub frame_room : ℕ
   pub input_room : ℕ
 
--- no more is recorded than there was to be room for, which there is
-pub record IsRecord (frame_capacity input_capacity : ℕ) (r : Recorded) : Type 0 where
-  pub frames : length r.frames ≤ r.frame_room
-  pub ends : length r.ends ≤ r.input_room
-  pub frames_reserved : r.frame_room ≤ frame_capacity
-  pub ends_reserved : r.input_room ≤ input_capacity
-
 -- there is room for one more input with so many frames
 pub record HasRoom (frames : ℕ) (r : Recorded) : Type 0 where
   pub input : length r.ends < r.input_room

@@ -14,6 +14,7 @@ ghost use Rattle.co_node_model.specs.Heartbeats.{boot_up};
 ghost use Rattle.co_node_model.specs.Device.{after_all, all_frames, app_after, contents_of, frame_bound, held_of, prescribed, room_of, state_of};
 ghost use Rattle.co_node.specs.Built.{IsBuilt};
 ghost use Rattle.co_node.specs.Held.{HoldsWithin};
+ghost use Rattle.co_node.specs.Memory.{memory_of};
 ghost use Rattle.co_node.specs.Nodes.{Stands, built_constants, greatest_capacity, node_constants, planned};
 ghost use Rattle.co_node.specs.Records.{HasRoom};
 ghost use Rattle.co_node.specs.Refused.{AsForNobody};
@@ -93,6 +94,8 @@ impl Node {
             length outbox.new.items ≤ frame_bound k before (Framed frame.now) }
         ensures held { (k : Constants) (before : Inputs) → Stands k self.old before →
             HoldsWithin k (Framed frame.now ∷ before) }
+        ensures memory { (k : Constants) (before : Inputs) → Stands k self.old before →
+            memory_of self.new ≡ memory_of self.old }
     {
         self.device.take_frame(frame, outbox);
     }
@@ -108,6 +111,8 @@ impl Node {
             length outbox.new.items ≤ frame_bound k before Ticked }
         ensures held { (k : Constants) (before : Inputs) → Stands k self.old before →
             HoldsWithin k (Ticked ∷ before) }
+        ensures memory { (k : Constants) (before : Inputs) → Stands k self.old before →
+            memory_of self.new ≡ memory_of self.old }
     {
         self.device.tick(outbox);
     }
@@ -127,6 +132,8 @@ impl Node {
             (code : ℕ) →
             event_refusal k.description (contents_of k before) (app_view event.entry) ≡ Some code →
             AsForNobody k self.new outbox.new.items before (app_view event.entry) code }
+        ensures memory { (k : Constants) (before : Inputs) → Stands k self.old before →
+            memory_of self.new ≡ memory_of self.old }
     {
         self.device.take_event(event, outbox);
     }
@@ -142,6 +149,8 @@ impl Node {
             length outbox.new.items ≤ frame_bound k before (input_view input.entry) }
         ensures held { (k : Constants) (before : Inputs) → Stands k self.old before →
             HoldsWithin k (input_view input.entry ∷ before) }
+        ensures memory { (k : Constants) (before : Inputs) → Stands k self.old before →
+            memory_of self.new ≡ memory_of self.old }
     {
         let frame = match input {
             Input::Frame(frame) => frame,
@@ -247,6 +256,8 @@ impl Node {
             result < length inputs.now → HasRoom (most_frames k) kept.new → ⊥ }
         ensures frame_room { kept.new.frame_room ≡ kept.old.frame_room }
         ensures input_room { kept.new.input_room ≡ kept.old.input_room }
+        ensures memory { (k : Constants) (before : Inputs) → Stands k self.old before →
+            memory_of self.new ≡ memory_of self.old }
     {
         let most = self.device.most_frames();
         let mut sent = Outbox::new();

@@ -1,32 +1,50 @@
 //! The frames that many inputs give, and where those of each end.
 
-ghost use Rattle.std.specs.Prelude.{◌≡◌, [], length, true, false, IfOk};
+ghost use Rattle.std.specs.Prelude.{◌≡◌, ◌+◌, ◌≤◌, ◌++◌, [], length, take, true, false, IfOk};
 ghost use Rattle.co_node.specs.Records.{HasRoom, with_input};
 
 use co_frame::Frame;
 use std::alloc::{AllocError, Global};
+use std::boxed::BoxedSlice;
 use std::marker::Model;
 
-/// The frames that many inputs gave, and after how many of them those of each input end. It has room for so many frames and
-/// so many inputs, and asks for no memory after `new`.
+/// The frames that many inputs gave, and after how many of them those of each input end. All memory is asked for by `new`:
+/// contracts see how many frames and inputs it has room for, which no call changes.
 #[derive(Drop)]
 pub struct Record {
-    frames: Vec<Frame>,
-    ends: Vec<usize>,
-    // as asked for: a Vec may have more
-    frame_room: usize,
-    input_room: usize,
+    // as many as there is room for; the first `frame_count` are recorded
+    frames: BoxedSlice<Frame>,
+    frame_count: usize,
+    // the same of the inputs
+    ends: BoxedSlice<usize>,
+    input_count: usize,
 }
 
 impl Model for Record {
-    ghost use Rattle.std.specs.Prelude.{vec_capacity};
-    ghost use Rattle.co_node.specs.Records.{Recorded, IsRecord};
+    ghost use Rattle.std.specs.Prelude.{◌≤◌, length, take};
+    ghost use Rattle.std.specs.Box.{boxed_slice_items};
+    ghost use Rattle.co_node.specs.Records.{Recorded};
 
     ghost Value = { Recorded };
 
-    ghost view = { λ r. record { frames = r.frames.items; ends = r.ends.items; frame_room = r.frame_room; input_room = r.input_room } };
+    ghost view = { λ r. record {
+      frames = take r.frame_count (boxed_slice_items r.frames);
+      ends = take r.input_count (boxed_slice_items r.ends);
+      frame_room = length (boxed_slice_items r.frames);
+      input_room = length (boxed_slice_items r.ends);
+    } };
 
-    ghost invariant = { λ r. IsRecord (vec_capacity r.frames) (vec_capacity r.ends) (record { frames = r.frames.items; ends = r.ends.items; frame_room = r.frame_room; input_room = r.input_room }) };
+    ghost invariant = { λ r. (r.frame_count ≤ length (boxed_slice_items r.frames))
+        × (r.input_count ≤ length (boxed_slice_items r.ends)) };
+}
+
+/// Copies frames to a place that has room for them.
+fn copy_at(to: &mut [Frame], start: usize, frames: &[Frame])
+    requires { start + length frames.now ≤ length to.old }
+    ensures front { take (start + length frames.now) to.new ≡ take start to.old ++ frames.now }
+    ensures len { length to.new ≡ length to.old }
+{
+    to[start..start + frames.len()].copy_from_slice(frames);
 }
 
 impl Record {
@@ -35,11 +53,13 @@ impl Record {
         ensures { IfOk result (λ r. r ≡
             record { frames = []; ends = []; frame_room = frames; input_room = inputs }) }
     {
+        let cells = vec![in alloc; Frame::default(); frames]?;
+        let ends = vec![in alloc; 0; inputs]?;
         Ok(Record {
-            frames: Vec::with_capacity(alloc, frames)?,
-            ends: Vec::with_capacity(alloc, inputs)?,
-            frame_room: frames,
-            input_room: inputs,
+            frames: cells.into_boxed_slice(),
+            frame_count: 0,
+            ends: ends.into_boxed_slice(),
+            input_count: 0,
         })
     }
 
@@ -47,22 +67,22 @@ impl Record {
     pub fn clear(&mut self)
         ensures { self.new ≡ record self.old { frames = []; ends = [] } }
     {
-        self.frames.clear();
-        self.ends.clear();
+        self.frame_count = 0;
+        self.input_count = 0;
     }
 
     /// The frames of all inputs, in order.
     pub fn frames(&self) -> &[Frame]
         ensures { result.now ≡ self.now.frames }
     {
-        &self.frames
+        &self.frames[..self.frame_count]
     }
 
     /// For each input after how many frames its own end.
     pub fn ends(&self) -> &[usize]
         ensures { result.now ≡ self.now.ends }
     {
-        &self.ends
+        &self.ends[..self.input_count]
     }
 
     /// Whether there is room for one more input with so many frames.
@@ -70,22 +90,22 @@ impl Record {
         ensures yes { result ≡ true → HasRoom frames self.now }
         ensures no { result ≡ false → HasRoom frames self.now → ⊥ }
     {
-        self.ends.len() < self.input_room && frames <= self.frame_room - self.frames.len()
+        self.input_count < self.ends.len() && frames <= self.frames.len() - self.frame_count
     }
 
     /// Appends the frames of an input, where there is room for them; else nothing happens.
     pub(crate) fn add(&mut self, frames: &[Frame])
-        ensures added { HasRoom (length frames.now) self.old → self.new ≡ with_input frames.now self.old }
+        ensures added { HasRoom (length frames.now) self.old →
+            self.new ≡ with_input frames.now self.old }
         ensures frame_room { self.new.frame_room ≡ self.old.frame_room }
         ensures input_room { self.new.input_room ≡ self.old.input_room }
     {
         if !self.has_room(frames.len()) {
             return;
         }
-        match self.frames.extend_from_slice(frames) {
-            Ok(()) => {}
-            Err(_) => unreachable!(),
-        }
-        self.ends.push_reserved(self.frames.len());
+        copy_at(&mut self.frames, self.frame_count, frames);
+        self.frame_count += frames.len();
+        self.ends[self.input_count] = self.frame_count;
+        self.input_count += 1;
     }
 }

@@ -74,7 +74,7 @@ not_covered : (side : Side) (d : Description) (n k : ℕ) → Covers side d n �
 not_covered side d n k covers below past = by_test (has_pdo side d.rows k) refl
   where
     by_test : (b : Bool) → has_pdo side d.rows k ≡ b → has_pdo side d.rows k ≡ false
-    by_test true h = let within : k < n = covers k below h in absurd (omega (arith, within, past))
+    by_test true h = let within : k < n = covers.all k below h in absurd (omega (arith, within, past))
     by_test false h = h
 
 pub nothing_past : (side : Side) (d : Description) (contents : Contents) (table : List (List Part)) (k : ℕ) → IsMappingTable side d contents table

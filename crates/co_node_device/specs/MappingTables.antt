@@ -1,5 +1,5 @@
 -- The compiled mappings of the PDOs of a side, at some contents of the dictionary (CiA 301, 7.5.2.36 and 7.5.2.38).
-use Rattle.std.specs.Prelude.{ℕ, ◌<◌, List, length, ◌≡◌, true, ◌≤◌}
+use Rattle.std.specs.Prelude.{ℕ, ◌+◌, ◌<◌, List, length, ◌≡◌, true, ◌≤◌}
 use Rattle.std.specs.List.{slice_index_or}
 use Rattle.co_dict.specs.declared.side.Side.{Side}
 use Rattle.co_dict.specs.Rows.{Contents}
@@ -15,9 +15,10 @@ abbrev pub AreForms : Side → Description → Contents → List (List Part) →
 AreForms side d contents table = (k : ℕ) (parts : List Part) → k < length table
     → IsCompiledForm d (mapping_of side d contents k) (slice_index_or table k parts)
 
--- each PDO that the dictionary has is in the table
-abbrev pub Covers : Side → Description → ℕ → Type 0
-Covers side d count = (k : ℕ) → k < 512 → has_pdo side d.rows k ≡ true → k < count
+-- so many PDOs go up to the last one that the dictionary has, and no further
+pub record Covers (side : Side) (d : Description) (count : ℕ) : Type 0 where
+  pub all : (k : ℕ) → k < 512 → has_pdo side d.rows k ≡ true → k < count
+  pub last : (k : ℕ) → k + 1 ≡ count → has_pdo side d.rows k ≡ true
 
 -- a table of a dictionary at some contents
 pub record IsMappingTable (side : Side) (d : Description) (contents : Contents) (table : List (List Part)) : Type 0 where

@@ -24,6 +24,7 @@ loop-input-init c = record {
   few = λ k before stands. omega (arith, zero-mul (most_frames k));
   held = λ k before stands. holds_first k before c.args.self.now (map input_view c.args.inputs.now) stands;
   roomy = λ k before stands n below. absurd (omega arith);
+  memory = λ k before stands. refl;
   stands = λ k before stands. stands;
 }
 
@@ -58,5 +59,6 @@ loop-input-preserved c =
           (room_after k before (take c.loop-input.taken (map input_view c.args.inputs.now)) c.args.kept.now c.loop-input.kept _
           (c.most_frames-most.ensures.most k before stands) (inv.frames k before stands) (inv.ends k before stands)
           inv.frame_room inv.input_room (c.has_room.ensures.yes yes));
+      memory = λ k before stands. c.step.ensures.memory k _ (inv.stands k before stands) ∙ inv.memory k before stands;
       stands = λ k before stands. stands_more k before _ _ (input_view c.in-Some.input) c.step.new.self next (c.step.ensures.stands k _ (inv.stands k before stands));
     }

@@ -3,6 +3,7 @@ use Rattle.co_node_model.specs.Inputs.{Inputs, input_view}
 use Rattle.co_node_model.specs.Moments.{Constants}
 use Rattle.co_node_model.specs.Device.{after_all, all_frames}
 use Rattle.co_node.specs.Held.{HoldsWithin}
+use Rattle.co_node.specs.Memory.{memory_of}
 use Rattle.co_node.specs.Nodes.{Stands}
 use Rattle.co_node.specs.Records.{HasRoom}
 use Rattle.co_node.specs.Runs.{all_ends, most_frames, recorded_after}
@@ -25,6 +26,7 @@ invariant-loop-input l = record {
       HoldsWithin k (after_all before (take n (map input_view l.inputs)));
   roomy : (k : Constants) (before : Inputs) → Stands k l.fn.self before → (n : ℕ) → n < l.taken →
       HasRoom (most_frames k) (recorded_after k before (take n (map input_view l.inputs)) l.fn.kept);
+  memory : (k : Constants) (before : Inputs) → Stands k l.fn.self before → memory_of l.self ≡ memory_of l.fn.self;
   stands : (k : Constants) (before : Inputs) → Stands k l.fn.self before →
       Stands k l.self (after_all before (take l.taken (map input_view l.inputs)));
 }
