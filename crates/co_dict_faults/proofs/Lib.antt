@@ -1,0 +1,8 @@
+mod EachLemmas
+mod FirstLemmas
+mod FoundLemmas
+pub mod MappingLemmas
+mod OrderLemmas
+mod ReasonCounts
+mod ReasonLemmas
+mod RowLemmas

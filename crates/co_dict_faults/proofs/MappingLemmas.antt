@@ -1,0 +1,30 @@
+-- The counted words of a mapping, one after another.
+use Rattle.std.proofs.Common.{◌≡◌, ℕ, suc, ◌+◌, ◌-◌, ◌<◌, ◌≤◌, List, ◌∷◌, ◌++◌, refl, sym, ap, ◌∙◌, append_assoc, arith}
+use Rattle.std.proofs.lemmas.List.Sums.{sum_by-cons}
+use Rattle.std.specs.Prelude.{flat_map, sum_by}
+use Rattle.std.specs.List.{range_with_len}
+use Rattle.co_dict_faults.specs.declared.mapping_fault.MappingFault.{MappingFault}
+
+-- the next sub-index is the first of those left
+next_sub : (f : ℕ → List MappingFault) (earlier count : ℕ) → earlier < count
+    → flat_map f (range_with_len (earlier + 1) (count - earlier)) ≡ f (earlier + 1) ++ flat_map f (range_with_len (earlier + 1 + 1) (count - (earlier + 1)))
+next_sub f earlier count less =
+    let rest : count - earlier ≡ suc (count - (earlier + 1)) = omega arith in
+    ap (λ n. flat_map f (range_with_len (earlier + 1) n)) rest
+
+-- its faults are added
+pub sub_added : (f : ℕ → List MappingFault) (found next whole : List MappingFault) (earlier count : ℕ) → earlier < count
+    → next ≡ found ++ f (earlier + 1)
+    → found ++ flat_map f (range_with_len (earlier + 1) (count - earlier)) ≡ whole
+    → next ++ flat_map f (range_with_len (earlier + 1 + 1) (count - (earlier + 1))) ≡ whole
+sub_added f found next whole earlier count less is h =
+    let left = flat_map f (range_with_len (earlier + 1 + 1) (count - (earlier + 1))) in
+    ap (λ items. items ++ left) is
+    ∙ append_assoc found (f (earlier + 1)) left
+    ∙ ap (λ all. found ++ all) (sym (next_sub f earlier count less)) ∙ h
+
+-- its width is added
+pub width_added : (f : ℕ → ℕ) (word total all : ℕ) (left rest : List ℕ) → left ≡ word ∷ rest → total + sum_by f left ≡ all → total + f word + sum_by f rest ≡ all
+width_added f word total all left rest next h =
+    let split : sum_by f left ≡ f word + sum_by f rest = ap (sum_by f) next ∙ sum_by-cons f word rest in
+    omega (arith, split, h)

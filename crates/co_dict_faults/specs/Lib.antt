@@ -1,0 +1,4 @@
+pub mod AllBuildFaults
+pub mod BuildFaultLaws
+pub mod MappingReasons
+pub mod SoundPlans
