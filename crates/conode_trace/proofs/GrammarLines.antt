@@ -18,6 +18,7 @@ use Rattle.std.proofs.lemmas.Bool.{and_parts}
 use Rattle.co_text.proofs.Tests.{by_test}
 use Rattle.conode_trace.proofs.GrammarRuns.{if_some, past_run-is, run_passed}
 use Rattle.conode_trace.proofs.GrammarFields.{stamp_is, stamp_spelled, identifier_is, identifier_spelled}
+use Rattle.conode_trace.proofs.GrammarEvents.{event_is, event_spelled}
 use Rattle.conode_trace.proofs.GrammarBodies.{blank_digit, body_is, body_spelled}
 
 -- ---- what follows a run doesn't go on with it
@@ -125,7 +126,8 @@ line_is said line (few, inl (e, skipped)) =
 line_is said line (few, inr (inl frame)) =
     let small : ltb 512 (length line) ≡ false = grind (arith, nat_tests) in
     rw (small, not_skipped said line frame, not_event said line frame) (frame_line_is said line frame)
-line_is said line (few, inr (inr (event, read, e))) =
+line_is said line (few, inr (inr (event, spelled, e))) =
+    let read = event_is event line spelled in
     let small : ltb 512 (length line) ≡ false = grind (arith, nat_tests) in
     let begins = event_begins line event read in
     rw (small, event_not_skipped line begins, begins, read, e) refl
@@ -175,9 +177,9 @@ skipped_spelled (x ∷ xs) e =
     let some : eqb (length (x ∷ xs)) 0 ≡ false = grind (arith, nat_tests) in
     inr (xs, ap (λ (b : ℕ). b ∷ xs) (eqb-true x 59 (rw some at e)))
 
-event_spelled : (line : List ℕ) (found : Option EventLine) (said : TraceLine) → event_in (words line) ≡ found → option_map Event found ≡ Some said → IsEventLine said line
-event_spelled line None said read e = cc
-event_spelled line (Some event) said read e = (event, read, let same : Event event ≡ said = cc in sym same)
+line_of_event : (line : List ℕ) (found : Option EventLine) (said : TraceLine) → event_in (words line) ≡ found → option_map Event found ≡ Some said → IsEventLine said line
+line_of_event line None said read e = cc
+line_of_event line (Some event) said read e = (event, event_spelled event line read, let same : Event event ≡ said = cc in sym same)
 
 pub line_spelled : (line : List ℕ) → IfSome (line_in line) (λ said. SpellsLine said line)
 unfolding line_in
@@ -188,5 +190,5 @@ line_spelled line = by_test (ltb 512 (length line))
     by_test (is_skipped line)
     (λ skipped. rw (short, skipped) (few, inl (refl, skipped_spelled line skipped)))
     (λ not_one. by_test (begins_as_event line)
-    (λ event. rw (short, not_one, event) (if_some (option_map Event (event_in (words line))) (λ said e. (few, inr (inr (event_spelled line (event_in (words line)) said refl e))))))
+    (λ event. rw (short, not_one, event) (if_some (option_map Event (event_in (words line))) (λ said e. (few, inr (inr (line_of_event line (event_in (words line)) said refl e))))))
     (λ other. rw (short, not_one, other) (if_some (frame_line_in line) (λ said e. (few, inr (inl (frame_line_spelled line said few e))))))))

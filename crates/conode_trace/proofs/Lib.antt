@@ -5,6 +5,7 @@ pub mod FewBytes
 pub mod FewPairs
 pub mod GrammarBodies
 pub mod GrammarFields
+pub mod GrammarEvents
 pub mod GrammarLines
 pub mod GrammarRuns
 pub mod HexDigitTable

@@ -1,15 +1,18 @@
--- The grammar of a frame line, as `candump -L` writes it: a line is the join of its parts. Reading is apart from it.
-use Rattle.std.specs.Prelude.{◌≡◌, ℕ, ◌+◌, ◌*◌, ◌/◌, ◌<◌, ◌≤◌, Bool, true, ◌⊎◌, List, [], ◌∷◌, ◌++◌, length, Some}
+-- The grammar of a frame line, as `candump -L` writes it, and of an event line: a line is the join of its parts. Reading is
+-- apart from it.
+use Rattle.std.specs.Prelude.{◌≡◌, ℕ, ◌+◌, ◌*◌, ◌/◌, ◌<◌, ◌≤◌, Bool, true, ◌⊎◌, List, [], ◌∷◌, ◌++◌, length, Some, codes}
 use Rattle.std.specs.List.{list_all}
 use Rattle.conode_trace.specs.declared.trace_line.TraceLine.{TraceLine}
 use Rattle.conode_trace.specs.declared.trace_line.TraceLine.TheVariants.{Skipped, Event}
 use Rattle.conode_trace.specs.declared.event_line.EventLine.{EventLine}
+use Rattle.conode_trace.specs.declared.event_line.EventLine.TheVariants.{Ticks, App}
+use Rattle.conode_trace.specs.declared.event_line.AppLine.TheVariants as app
+use Rattle.co_value.specs.declared.key.Key.{Key}
 use Rattle.conode_trace.specs.declared.frame_fields.Identifier.{Identifier}
 use Rattle.conode_trace.specs.declared.frame_fields.Identifier.TheVariants.{Base, Extended}
 use Rattle.conode_trace.specs.declared.frame_fields.Body.{Body}
 use Rattle.conode_trace.specs.declared.frame_fields.Body.TheVariants.{Bytes, Other}
 use Rattle.co_text.specs.Texts.{is_blank, is_digit, is_hex_digit, decimal_value, hex_pair}
-use Rattle.conode_trace.specs.Events.{words, event_in}
 use Rattle.conode_trace.specs.FrameLines.{is_name_byte, three_digits, line_of}
 
 -- from least to most bytes that all pass
@@ -96,9 +99,54 @@ pub record SpellsFrameLine (said : TraceLine) (line : List ℕ) : Type 0 where
 abbrev pub IsSkipped : List ℕ → Type 0
 IsSkipped line = (line ≡ []) ⊎ ((rest : List ℕ) × (line ≡ 59 ∷ rest))
 
--- an event line: its words are the event
+-- ---- event lines, this project's own
+
+-- a number from least to most in decimal digits, one at least; zeros may lead
+pub record SpellsNumber (least most number : ℕ) (text : List ℕ) : Type 0 where
+  pub digits : list_all is_digit text ≡ true
+  pub some : 0 < length text
+  pub value : number ≡ decimal_value text
+  pub low : least ≤ number
+  pub high : number ≤ most
+
+-- a number of two bytes in four digits, the high byte first
+abbrev pub SpellsWord : ℕ → List ℕ → Type 0
+SpellsWord number text = (high : ℕ) × (low : ℕ) × SpellsPairs (high ∷ low ∷ []) text × (number ≡ 256 * high + low)
+
+-- KEY: an index in four digits, a colon, and a sub-index in two
+pub record SpellsKey (key : Key) (text : List ℕ) : Type 0 where
+  pub index_text : List ℕ
+  pub sub_text : List ℕ
+  pub index_spelled : SpellsWord key.index index_text
+  pub sub_spelled : SpellsPairs (key.sub ∷ []) sub_text
+  pub joined : text ≡ index_text ++ 58 ∷ sub_text
+
+-- HEX: pairs of digits, one at least, or `-` for none
+abbrev pub SpellsHex : List ℕ → List ℕ → Type 0
+SpellsHex bytes text = ((bytes ≡ []) × (text ≡ codes "-")) ⊎ ((0 < length text) × SpellsPairs bytes text)
+
+-- the name of an event, and after a space its words, with a space between two: `!tick N`, `!event K`, `!changed KEY`,
+-- `!clear BITS`, `!write KEY HEX`, `!raise CODE BITS EXTRA`
+abbrev pub SpellsEvent : EventLine → List ℕ → Type 0
+SpellsEvent (Ticks count) line =
+    (number : List ℕ) × SpellsNumber 1 86400000 count number × (line ≡ codes "!tick " ++ number)
+SpellsEvent (App (app.Event k)) line =
+    (number : List ℕ) × SpellsNumber 0 65535 k number × (line ≡ codes "!event " ++ number)
+SpellsEvent (App (app.Changed key)) line =
+    (word : List ℕ) × SpellsKey key word × (line ≡ codes "!changed " ++ word)
+SpellsEvent (App (app.Clear bits)) line =
+    (word : List ℕ) × SpellsPairs (bits ∷ []) word × (line ≡ codes "!clear " ++ word)
+SpellsEvent (App (app.Write key bytes)) line =
+    (first : List ℕ) × (second : List ℕ) × SpellsKey key first × SpellsHex bytes second
+    × (line ≡ codes "!write " ++ (first ++ 32 ∷ second))
+SpellsEvent (App (app.Raise code bits extra)) line =
+    (first : List ℕ) × (second : List ℕ) × (third : List ℕ)
+    × SpellsWord code first × SpellsPairs (bits ∷ []) second × SpellsPairs extra third × (length extra ≡ 5)
+    × (line ≡ codes "!raise " ++ (first ++ 32 ∷ (second ++ 32 ∷ third)))
+
+-- an event line
 abbrev pub IsEventLine : TraceLine → List ℕ → Type 0
-IsEventLine said line = (event : EventLine) × (event_in (words line) ≡ Some event) × (said ≡ Event event)
+IsEventLine said line = (event : EventLine) × SpellsEvent event line × (said ≡ Event event)
 
 -- a line of a trace, of at most 512 bytes, and what it says
 abbrev pub SpellsLine : TraceLine → List ℕ → Type 0
