@@ -1,16 +1,15 @@
 -- What is asked for is what the fields say, and the fields say one thing at most.
-use Rattle.std.proofs.Common.{◌≡◌, ℕ, Bool, true, false, List, Option, Some, None, IfSome, IsSomeAnd, codes, refl, sym, ap, subst, ◌∙◌}
+use Rattle.std.proofs.Common.{◌≡◌, Bool, true, false, List, Option, Some, None, IfSome, IsSomeAnd, codes, refl, sym, ap, subst, ◌∙◌}
 use Rattle.std.specs.Prelude.{option_and_then, option_map}
 use Rattle.std.specs.Str.{bytes_eq}
 use Rattle.std.proofs.lemmas.Option.{option_and_then_some}
 use Rattle.std.proofs.lemmas.Slice.Eq.{bytes_eq-Decides}
 use Rattle.clap.specs.Words.{Row, Text, first_of}
-use Rattle.co_sdo_client.specs.declared.mode.Mode.{Mode}
 use Rattle.conode_words.specs.declared.tasks.DeviceWords.{DeviceWords}
 use Rattle.conode_words.specs.declared.tasks.DictionaryWords.{DictionaryWords}
 use Rattle.conode_words.specs.declared.tasks.Task.{Task}
-use Rattle.conode_words.specs.Fields.{AsksFor, GivesDevice, GivesDictionary, IsChoice, IsNumber, IsWord}
-use Rattle.conode_words.specs.Tasks.{Asked, asked_by, asked_check, asked_decode, asked_device, asked_dictionary, asked_in, asked_lint, asked_lint_of, asked_loop, asked_of, asked_replay, asked_show, check, colours_of, colours_for, decode, format_of, format_for, lint, loop_back, mode_for, mode_of, number_for, number_of_bits, replay, show, shown_as, shown_for, words_for}
+use Rattle.conode_words.specs.Fields.{AsksFor, GivesDevice, GivesDictionary}
+use Rattle.conode_words.specs.Tasks.{Asked, asked_by, asked_check, asked_decode, asked_device, asked_dictionary, asked_in, asked_lint, asked_loop, asked_of, asked_replay, asked_show, check, colours_of, colours_for, decode, format_of, format_for, lint, loop_back, mode_for, mode_of, number_for, number_of_bits, replay, show, shown_as, shown_for}
 
 by_test : {P : Type 0} (b : Bool) → (b ≡ true → P) → (b ≡ false → P) → P
 by_test true then otherwise = then refl

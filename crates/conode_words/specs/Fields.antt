@@ -1,7 +1,6 @@
 -- Which word and which option gives which field of what is asked for.
 use Rattle.std.specs.Prelude.{◌≡◌, ℕ, List, codes, Option, Some, IsSomeAnd}
 use Rattle.clap.specs.Words.{Row, Text, first_of}
-use Rattle.co_sdo_client.specs.declared.mode.Mode.{Mode}
 use Rattle.conode_words.specs.declared.tasks.DeviceWords.{DeviceWords}
 use Rattle.conode_words.specs.declared.tasks.DictionaryWords.{DictionaryWords}
 use Rattle.conode_words.specs.Tasks.{Asked, check, lint, decode, replay, loop_back, show, colours_of, format_of, is_used, mode_of, number_for, number_of_bits, shown_as, words_for}
