@@ -144,7 +144,7 @@ fn carry_out<O: Write, E: Write>(
 ) -> ExitCode {
     match task(rt.alloc(), words) {
         Ok(Some(task)) => carry_out_task(rt, task, out, err),
-        Ok(None) => replay_stored(rt.alloc(), &mut rt.reader(), out, err),
+        Ok(None) => replay_stored(rt.alloc(), rt.reader(), out, err),
         Err(error) => {
             let _ = error.print(rt);
             ExitCode::from(error.exit_code() as u8)

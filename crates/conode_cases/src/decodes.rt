@@ -3,6 +3,7 @@
 use crate::fakes::{LineFeeds, Narrow, Source, expect_lines, lines_of};
 use conode_decode::{decode, decode_files, decode_input};
 use conode_io::{CmdFault, Ending};
+use conode_lines::AnyRead;
 use std::fs;
 use std::io::{Input, Read};
 use std::process::{Abort, ExitCode};
@@ -28,7 +29,7 @@ fn ends_and_bad_lines(rt: HostRuntime) -> Result<(), Fail> {
         let trace = lines_of(rt.alloc(), trace)?;
         let mut out = Vec::new(rt.alloc());
         let mut err = Vec::new(rt.alloc());
-        let ending = decode_input(
+        let ending = decode_input::<&[u8], AnyRead, Vec<u8>, Vec<u8>>(
             rt.alloc(),
             &mut trace.as_bytes(),
             None,

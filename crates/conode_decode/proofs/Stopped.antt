@@ -1,17 +1,49 @@
 -- What a writer holds where decoding stopped and said why.
-use Rattle.std.proofs.Common.{◌≡◌, ℕ, List, Option, None, Some, IfSome, Result, Ok, Err, inl, inr, ap, subst}
+use Rattle.std.proofs.Common.{◌≡◌, ℕ, List, Option, None, Some, IfSome, Result, Ok, Err, inl, inr, ⊎_elim, ap, subst}
 use Rattle.std.specs.Prelude.{◌⊎◌, IfErr, OnOk}
 use Rattle.std.specs.List.{flat_map}
 use Rattle.std.specs.Io.KnownBytes.{Appends, Keeps}
 use Rattle.std.proofs.KnownBytes.{Appends-kept}
 use Rattle.conode_io.specs.declared.fault.CmdFault.{CmdFault}
-use Rattle.conode_io.specs.declared.fault.CmdFault.TheVariants.{Read, Write, NeverEnds}
+use Rattle.conode_io.specs.declared.fault.CmdFault.TheVariants.{Read, Write, BadLine, Memory, NeverEnds}
 use Rattle.conode_io.specs.Endings.{stopped_line, SomeStopped, WritesStopped}
 use Rattle.conode_io.specs.Written.{WritesFrontOrLines, WritesLines, WritesSome}
 use Rattle.conode_io.proofs.StoppedLemmas.{some_stopped, stopped_after}
 use Rattle.conode_lines.specs.TraceTexts.{FailsWithinLine}
+use Rattle.conode_decode.specs.Names.{Names}
+use Rattle.conode_decode.specs.DecodedTraces.{Decoded, lines_of, trace_lines}
 
--- its line follows what was written
+-- ---- how decoding ended, by its result
+
+second : (known : Option (List ℕ)) (P Q : List ℕ → Type 0) → IfSome known (λ text. P text × Q text) → IfSome known Q
+second None P Q h = tt
+second (Some text) P Q h = h.1
+
+module _ (names : Names) (known rest old mid : Option (List ℕ)) where
+  pub lines_before : (outcome : Result (Unit {0}) CmdFault) (number : ℕ) → outcome ≡ Err (BadLine number) → Decoded names known rest old mid outcome → IfSome known (λ text. WritesLines old mid (trace_lines names text))
+  lines_before outcome number is h = second known _ (λ text. WritesLines old mid (trace_lines names text)) (subst (λ (r : Result (Unit {0}) CmdFault). Decoded names known rest old mid r) is h)
+
+  pub lines_made : (outcome : Result (Unit {0}) CmdFault) → outcome ≡ Err Memory → Decoded names known rest old mid outcome → IfSome known (λ text. WritesSome old mid (trace_lines names text))
+  lines_made outcome is h = subst (λ (r : Result (Unit {0}) CmdFault). Decoded names known rest old mid r) is h
+
+  pub lines_written : (outcome : Result (Unit {0}) CmdFault) → outcome ≡ Err Write → Decoded names known rest old mid outcome → IfSome known (λ text. WritesFrontOrLines old mid (trace_lines names text))
+  lines_written outcome is h = subst (λ (r : Result (Unit {0}) CmdFault). Decoded names known rest old mid r) is h
+
+  pub lines_whole : (outcome : Result (Unit {0}) CmdFault) → Decoded names known rest old mid outcome → OnOk outcome (IfSome known (λ text. WritesLines old mid (trace_lines names text)))
+  lines_whole (Ok done) h = second known _ (λ text. WritesLines old mid (trace_lines names text)) h
+  lines_whole (Err fault) h = tt
+
+  pub lines_within : (outcome : Result (Unit {0}) CmdFault) → Decoded names known rest old mid outcome
+      → IfErr outcome (λ own. (own ≡ Read) ⊎ (own ≡ NeverEnds) → FailsWithinLine known rest (λ taken. WritesLines old mid (lines_of names taken)))
+  lines_within (Ok done) h = tt
+  lines_within (Err Read) h = λ which. h
+  lines_within (Err NeverEnds) h = λ which. h
+  lines_within (Err Write) h = λ which. ⊎_elim (λ e. absurd cc) (λ e. absurd cc) which
+  lines_within (Err Memory) h = λ which. ⊎_elim (λ e. absurd cc) (λ e. absurd cc) which
+  lines_within (Err (BadLine number)) h = λ which. ⊎_elim (λ e. absurd cc) (λ e. absurd cc) which
+
+-- ---- its line follows what was written
+
 module _ (old mid kept new : Option (List ℕ)) (fault : CmdFault) (flushed : Keeps mid kept) (last : Appends kept new (stopped_line fault)) where
   pub some_known_stopped : (lines : List ℕ → List (List ℕ)) (known : Option (List ℕ)) → IfSome known (λ text. WritesSome old mid (lines text)) → IfSome known (λ text. SomeStopped old new (lines text) fault)
   some_known_stopped lines None some = tt

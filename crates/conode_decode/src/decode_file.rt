@@ -8,14 +8,15 @@ ghost use Rattle.conode_decode.specs.DecodedTraces.{lines_of, names_in, trace_li
 ghost use Rattle.conode_io.specs.Endings.{SomeStopped, WritesStopped};
 ghost use Rattle.conode_io.specs.Written.{WritesFrontOrLines, WritesLines};
 
-use crate::decoded_trace::decode;
+use crate::decoded_trace::decode_from;
 use co_sheet::{Sheet, read};
 use conode_io::{
     CmdFault, Ending, cannot_read, faulty_sheet, file_text, flushed, no_text, stopped,
 };
+use conode_lines::{BufferedRead, Waits};
 use std::alloc::Global;
 use std::fs;
-use std::io::{Input, Read, Write};
+use std::io::{BufReader, Input, Read, Write};
 use std::process::ExitCode;
 use std::rt::Files;
 
@@ -24,7 +25,7 @@ const STANDARD_INPUT: &str = "-";
 
 /// Decodes an input, a trace, on `out`, and says why it stopped where it did: on `out`, after what was decoded before,
 /// or where that can't be written on `err`.
-pub fn decode_input<R: Read, O: Write, E: Write>(
+pub fn decode_input<R: Read, P: Waits<R>, O: Write, E: Write>(
     alloc: Global,
     input: &mut R,
     sheet: Option<&Sheet<'_>>,
@@ -68,11 +69,30 @@ pub fn decode_input<R: Read, O: Write, E: Write>(
     ensures write_said { result ≡ Ending.Said CmdFault.Write →
         WritesStopped (E.contents err.old) (E.contents err.new) [] CmdFault.Write }
 {
-    let outcome = decode(alloc, input, sheet, node, out);
+    let outcome = decode_from::<R, P, O>(alloc, input, sheet, node, out);
     match flushed(out, outcome) {
         Ok(()) => Ending::Whole,
         Err(fault) => stopped(fault, out, err),
     }
+}
+
+// decodes a trace through a buffer, so that few bytes cost few calls of the system
+fn decode_buffered<R: Read + Drop, O: Write, E: Write>(
+    alloc: Global,
+    input: R,
+    sheet: Option<&Sheet<'_>>,
+    node: Option<u8>,
+    out: &mut O,
+    err: &mut E,
+) -> ExitCode
+    ensures { (exit_status result ≡ 0) ⊎ (exit_status result ≡ 1) }
+{
+    let Ok(mut input) = BufReader::new(alloc, input) else {
+        return stopped(CmdFault::Memory, out, err).status();
+    };
+    decode_input::<BufReader<R>, BufferedRead, O, E>(
+        alloc, &mut input, sheet, node, out, err,
+    ).status()
 }
 
 // decodes the trace of a path, or where that is `-` standard input
@@ -87,10 +107,10 @@ fn decode_trace<R: Files + AllocGlobal + Input, O: Write, E: Write>(
     ensures { (exit_status result ≡ 0) ⊎ (exit_status result ≡ 1) }
 {
     if path == STANDARD_INPUT {
-        return decode_input(rt.alloc(), &mut rt.reader(), sheet, node, out, err).status();
+        return decode_buffered(rt.alloc(), rt.reader(), sheet, node, out, err);
     }
     match fs::open(rt, path) {
-        Ok(mut file) => decode_input(rt.alloc(), &mut file, sheet, node, out, err).status(),
+        Ok(file) => decode_buffered(rt.alloc(), file, sheet, node, out, err),
         Err(_) => cannot_read(path, err),
     }
 }

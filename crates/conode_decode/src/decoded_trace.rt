@@ -1,9 +1,11 @@
 //! A trace decoded: each frame with what it says.
 
-ghost use Rattle.std.specs.Prelude.{◌≡◌, ◌⊎◌, ℕ, OnOk, IfErr, IfSome, Err, Some, None};
+ghost use Rattle.std.specs.Prelude.{◌≡◌, ◌⊎◌, ℕ, Bool, true, false, [], OnOk, IfErr, IfSome, Err, Some, None};
 ghost use Rattle.std.specs.Option.{option_copied};
 ghost use Rattle.conode_decode.specs.Names.{names_view};
-ghost use Rattle.conode_lines.specs.TraceTexts.{trace_in, FailsWithinLine};
+ghost use Rattle.co_stream.specs.Nexts.{new_reader};
+ghost use Rattle.co_stream.specs.Readings.{Gave};
+ghost use Rattle.conode_lines.specs.TraceTexts.{trace_in, FailsWithinLine, GaveText};
 ghost use Rattle.conode_decode.specs.DecodedTraces.{names_in, said_lines, trace_lines, lines_of, Decoded};
 ghost use Rattle.conode_io.specs.Written.{WritesFront, WritesFrontOrLines, WritesLines, WritesSome};
 
@@ -12,7 +14,7 @@ use crate::names::Names;
 use co_sheet::Sheet;
 use co_stream::LineReader;
 use conode_io::{CmdFault, hand_over};
-use conode_lines::{let_out, line_fault};
+use conode_lines::{AnyRead, Waits, let_out, line_fault};
 use conode_trace::{BadLine, TimedLine, TraceLine, TraceProgress};
 use std::alloc::Global;
 use std::io::{Read, Write};
@@ -42,22 +44,27 @@ fn write_line<W: Write>(
     hand_over(text.as_bytes(), writer)
 }
 
-// decodes line by line
-fn decode_lines<R: Read, W: Write>(
+// decodes line by line, with a line reader that has read nothing
+fn decode_all<R: Read, P: Waits<R>, W: Write>(
     alloc: Global,
+    lines: &mut LineReader,
     reader: &mut R,
     names: Names<'_, '_>,
     writer: &mut W,
 ) -> Result<(), CmdFault>
-    ensures { Decoded (names_view names.entry) (R.remaining reader.old) (R.remaining reader.new)
-        (W.contents writer.old) (W.contents writer.new) result }
+    requires { lines.old ≡ new_reader }
+    ensures gave { (ended : Bool) × Gave false ended
+        (R.remaining reader.old) (R.remaining reader.new) (λ had has.
+        Decoded (names_view names.entry) had has
+        (W.contents writer.old) (W.contents writer.new) result) }
+    ensures read { result ≡ Err CmdFault.Read → lines.new.failed ≡ true }
+    ensures never_ends { result ≡ Err CmdFault.NeverEnds → lines.new.asks ≡ 0 }
 {
     let mut text = String::new(alloc);
-    let mut lines = LineReader::new();
     let mut progress = TraceProgress::new();
     // its invariant goes by the label
     'trace: loop {
-        let_out(&lines, writer)?;
+        let_out::<R, P, W>(lines, reader, writer)?;
         match lines.next(reader) {
             Ok(Some(line)) => match progress.read(line) {
                 Ok(timed) => write_line(&mut text, names, &timed, writer)?,
@@ -69,14 +76,34 @@ fn decode_lines<R: Read, W: Write>(
     }
 }
 
+/// Decodes a trace as `decode` does, where the reader says whether a read could wait.
+pub(crate) fn decode_from<R: Read, P: Waits<R>, W: Write>(
+    alloc: Global,
+    reader: &mut R,
+    sheet: Option<&Sheet<'_>>,
+    node: Option<u8>,
+    writer: &mut W,
+) -> Result<(), CmdFault>
+    ensures known { Decoded (names_in (option_copied sheet.entry) node)
+        (R.remaining reader.old) (R.remaining reader.new)
+        (W.contents writer.old) (W.contents writer.new) result }
+    ensures any_reader { GaveText (R.remaining reader.old) (R.remaining reader.new) (λ text.
+        Decoded (names_in (option_copied sheet.entry) node) (Some text) (Some [])
+        (W.contents writer.old) (W.contents writer.new) result) }
+{
+    let names = Names { sheet, only: node };
+    let mut lines = LineReader::new();
+    decode_all::<R, P, W>(alloc, &mut lines, reader, names, writer)
+}
+
 /// Decodes a trace as `candump -L` writes it, line by line and in constant memory: for each frame a line is
 /// written, with the number of its line in the trace, the frame and what it says (CiA 301, 7.2), as
 /// `1 605#2B171000E8030000 SDO request node 5 download 1017:00 expedited E803`. With a data sheet (CiA 306) the
 /// ParameterName of an entry follows; with a node-ID too, for this node alone. Event lines and frames that
 /// are passed over are checked and write nothing.
 ///
-/// The writer is flushed before each read that could wait, and not while a whole line is held: so a writer with a
-/// buffer passes on what was decoded of a piece in one go, and never later than the next read.
+/// The writer is flushed before each read, and not while a whole line is held: so a writer with a buffer passes on what
+/// was decoded of a piece in one go, and never later than the next read.
 ///
 /// `BadLine` is the first line that is no line of a trace, that has more than 512 bytes, or whose stamp is more than a
 /// day past the clock. Before `BadLine`, `Read` and `NeverEnds` all lines before it have been written; what the reader
@@ -119,7 +146,11 @@ pub fn decode<R: Read, W: Write>(
         FailsWithinLine (R.remaining reader.old) (R.remaining reader.new) (λ taken.
         WritesLines (W.contents writer.old) (W.contents writer.new)
         (lines_of (names_in (option_copied sheet.entry) node) taken))) }
+
+    // Whatever the reader: it gave a text, and all this is so of that text.
+    ensures any_reader { GaveText (R.remaining reader.old) (R.remaining reader.new) (λ text.
+        Decoded (names_in (option_copied sheet.entry) node) (Some text) (Some [])
+        (W.contents writer.old) (W.contents writer.new) result) }
 {
-    let names = Names { sheet, only: node };
-    decode_lines(alloc, reader, names, writer)
+    decode_from::<R, AnyRead, W>(alloc, reader, sheet, node, writer)
 }

@@ -4,6 +4,7 @@
 
 mod ending;
 mod fault;
+mod flushing;
 mod message;
 mod output;
 mod refusal;
@@ -11,6 +12,7 @@ mod sheet_file;
 
 pub use ending::Ending;
 pub use fault::CmdFault;
+pub use flushing::{Flushed, flush};
 pub use message::Message;
 pub use output::{flushed, hand_over, say, stopped};
 pub use refusal::{

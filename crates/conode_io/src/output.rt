@@ -8,6 +8,7 @@ ghost use Rattle.conode_io.specs.Written.{AppendsFront};
 
 use crate::ending::Ending;
 use crate::fault::CmdFault;
+use crate::flushing::flush;
 use crate::message::Message;
 use std::io;
 use std::io::Write;
@@ -52,10 +53,10 @@ pub fn flushed<W: Write, T: Drop>(
     ensures err { IfErr result (λ fault. (outcome ≡ Err fault) ⊎ (fault ≡ CmdFault.Write)) }
     ensures text { Keeps (W.contents writer.old) (W.contents writer.new) }
 {
-    if writer.flush().is_err() {
-        return outcome.and(Err(CmdFault::Write));
+    match flush(writer) {
+        Ok(_) => outcome,
+        Err(fault) => outcome.and(Err(fault)),
     }
-    outcome
 }
 
 /// Writes the line of a message at once.

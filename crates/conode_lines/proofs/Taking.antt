@@ -1,12 +1,14 @@
 -- How far the lines of a trace are taken, for those who go through them one at a time.
-use Rattle.std.proofs.Common.{◌≡◌, ℕ, ◌+◌, ◌<◌, List, [], ◌∷◌, ◌++◌, length, Option, None, Some, Result, Ok, IfSome, refl, ap, sym, subst, ◌∙◌, append_assoc, append-nil}
-use Rattle.std.specs.Prelude.{IfOk, IfNone, ⊤}
+use Rattle.std.proofs.Common.{◌≡◌, ℕ, ◌+◌, ◌<◌, List, [], ◌∷◌, ◌++◌, length, true, Option, None, Some, Result, Ok, Err, IfSome, refl, ap, sym, subst, ◌∙◌, append_assoc, append-nil}
+use Rattle.std.specs.Prelude.{◌≢◌, IfOk, IfErr, IfNone, ⊤}
 use Rattle.std.specs.Io.KnownBytes.{IsAtEnd}
 use Rattle.std.specs.Str.Lines.{lines}
 use Rattle.co_stream.specs.Lines.{GivesLine, IsTooLong}
-use Rattle.co_stream.specs.Nexts.{IsNext}
+use Rattle.co_stream.specs.Nexts.{IsNext, OfAny, new_reader}
 use Rattle.co_stream.specs.Readings.{Reading, most_bytes, to_come, LosesPartOfLine}
 use Rattle.co_stream.specs.declared.fault.LineFault.{LineFault}
+use Rattle.co_stream.specs.declared.fault.LineFault.TheVariants.{Read, TooLong, NeverEnds}
+use Rattle.co_stream.proofs.Readers.{gave_so}
 use denote.Ref.{Bor}
 use Rattle.conode_trace.specs.declared.timed_line.TimedLine.{TimedLine}
 use Rattle.conode_trace.specs.Traces.{TimedInput, Trace, Progress, inputs_of, preceded, trace_next, trace_of}
@@ -136,8 +138,8 @@ in_line P (Some text) (Some bytes) (Some after) progress next h line t gives rea
 -- ---- what the next line of a line reader is
 
 module _ (old new : Reading) (before after : Option (List ℕ)) (result : Result (Option (Bor (List ℕ))) LineFault) (h : IsNext old new before after result) where
-  pub next_line : (line : Bor (List ℕ)) → result ≡ Ok (Some line) → GivesLine (to_come old before) (to_come new after) line.now
-  next_line line is = subst (λ (r : Result (Option (Bor (List ℕ))) LineFault). IfOk r (λ next. IfSome next (λ l. GivesLine (to_come old before) (to_come new after) l.now))) is h.line
+  pub next_line : (line : Bor (List ℕ)) → result ≡ Ok (Some line) → OfAny old new before after (λ had has. GivesLine (to_come old had) (to_come new has) line.now)
+  next_line line is = subst (λ (r : Result (Option (Bor (List ℕ))) LineFault). IfOk r (λ next. IfSome next (λ l. OfAny old new before after (λ had has. GivesLine (to_come old had) (to_come new has) l.now)))) is h.line
 
   pub next_fewer : (line : Bor (List ℕ)) → result ≡ Ok (Some line) → most_bytes new.asks new.rest < most_bytes old.asks old.rest
   next_fewer line is = subst (λ (r : Result (Option (Bor (List ℕ))) LineFault). IfOk r (λ next. IfSome next (λ _. most_bytes new.asks new.rest < most_bytes old.asks old.rest))) is h.fewer
@@ -145,5 +147,37 @@ module _ (old new : Reading) (before after : Option (List ℕ)) (result : Result
   pub next_no_fault : (line : Bor (List ℕ)) → result ≡ Ok (Some line) → new.fault ≡ None
   next_no_fault line is = subst (λ (r : Result (Option (Bor (List ℕ))) LineFault). IfOk r (λ _. new.fault ≡ None)) is h.no_fault
 
-  pub next_end : result ≡ Ok None → IsAtEnd (to_come old before)
-  next_end is = (subst (λ (r : Result (Option (Bor (List ℕ))) LineFault). IfOk r (λ next. IfNone next (IsAtEnd (to_come old before) × IsAtEnd (to_come new after)))) is h.end).0
+  pub next_end : result ≡ Ok None → OfAny old new before after (λ had has. IsAtEnd (to_come old had) × IsAtEnd (to_come new has))
+  next_end is = subst (λ (r : Result (Option (Bor (List ℕ))) LineFault). IfOk r (λ next. IfNone next (OfAny old new before after (λ had has. IsAtEnd (to_come old had) × IsAtEnd (to_come new has))))) is h.end
+
+  -- it gives none, for the first time
+  module _ (fault : LineFault) (is : result ≡ Err fault) (first : old.fault ≡ None) where
+    pub next_never_ends : fault ≡ NeverEnds → new.asks ≡ 0
+    next_never_ends same = subst (λ (r : Result (Option (Bor (List ℕ))) LineFault). IfErr r (λ f. f ≡ NeverEnds → old.fault ≡ None → new.asks ≡ 0)) is h.never_ends same first
+
+    pub next_failed : fault ≡ Read → new.failed ≡ true
+    next_failed same = subst (λ (r : Result (Option (Bor (List ℕ))) LineFault). IfErr r (λ f. f ≡ Read → old.fault ≡ None → new.failed ≡ true)) is h.read same first
+
+    long : fault ≡ TooLong → OfAny old new before after (λ had has. IfSome (to_come old had) IsTooLong)
+    long same = subst (λ (r : Result (Option (Bor (List ℕ))) LineFault). IfErr r (λ f. f ≡ TooLong → old.fault ≡ None → OfAny old new before after (λ had has. IfSome (to_come old had) IsTooLong))) is h.too_long same first
+
+    lost : fault ≢ TooLong → OfAny old new before after (λ had has. LosesPartOfLine (to_come old had) has)
+    lost other = subst (λ (r : Result (Option (Bor (List ℕ))) LineFault). IfErr r (λ f. f ≢ TooLong → old.fault ≡ None → OfAny old new before after (λ had has. LosesPartOfLine (to_come old had) has))) is h.within other first
+
+    if_long : fault ≡ TooLong → OfAny old new before after (λ had has. (fault ≡ TooLong → IfSome (to_come old had) IsTooLong) × (fault ≢ TooLong → LosesPartOfLine (to_come old had) has))
+    if_long same = gave_so old.ended new.ended before after _ _ (long same) (λ had has too_long. (λ _. too_long, λ other. absurd (other same)))
+
+    if_lost : fault ≢ TooLong → OfAny old new before after (λ had has. (fault ≡ TooLong → IfSome (to_come old had) IsTooLong) × (fault ≢ TooLong → LosesPartOfLine (to_come old had) has))
+    if_lost other = gave_so old.ended new.ended before after _ _ (lost other) (λ had has part. (λ same. absurd (other same), λ _. part))
+
+-- why it gives none
+pub next_fault : (old new : Reading) (before after : Option (List ℕ)) (result : Result (Option (Bor (List ℕ))) LineFault) (h : IsNext old new before after result) (fault : LineFault) (is : result ≡ Err fault) (first : old.fault ≡ None)
+    → OfAny old new before after (λ had has. (fault ≡ TooLong → IfSome (to_come old had) IsTooLong) × (fault ≢ TooLong → LosesPartOfLine (to_come old had) has))
+next_fault old new before after result h TooLong is first = if_long old new before after result h TooLong is first refl
+next_fault old new before after result h Read is first = if_lost old new before after result h Read is first (λ same. cc)
+next_fault old new before after result h NeverEnds is first = if_lost old new before after result h NeverEnds is first (λ same. cc)
+
+-- nothing was read yet
+pub all_to_come : (known : Option (List ℕ)) → to_come new_reader known ≡ known
+all_to_come None = refl
+all_to_come (Some bytes) = refl

@@ -1,1 +1,2 @@
+pub mod LetOuts
 pub mod TraceTexts

@@ -1,5 +1,6 @@
 -- The trace of a text, and a trace whose reader fails.
 use Rattle.std.specs.Prelude.{◌≡◌, ℕ, ◌<◌, false, List, [], ◌∷◌, ◌++◌, length, Option, Some, None, ⊤}
+use Rattle.std.specs.Io.KnownBytes.{Consumes}
 use Rattle.std.specs.Str.Lines.{lines}
 use Rattle.co_stream.specs.Lines.{has_line_feed}
 use Rattle.conode_trace.specs.Traces.{Trace, Progress, trace_next, trace_of}
@@ -23,6 +24,10 @@ abbrev pub FailsWithinLine : Option (List ℕ) → Option (List ℕ) → (List (
 FailsWithinLine None rest P = ⊤
 FailsWithinLine (Some text) None P = ⊥
 FailsWithinLine (Some text) (Some rest) P = (came : CameBefore text rest) × P came.taken
+
+-- A reader gave a text, and this holds of it. Where what it has before and after is known, it has lost this text.
+abbrev pub GaveText : Option (List ℕ) → Option (List ℕ) → (List ℕ → Type 0) → Type 0
+GaveText before after P = (text : List ℕ) × Consumes before after text × P text
 
 -- the fault names the next line, where that has more than 512 bytes
 abbrev pub NamesLongLine : Progress → CmdFault → Type 0

@@ -1,11 +1,14 @@
 //! Between two lines of a trace.
 
-ghost use Rattle.std.specs.Prelude.{◌≡◌, ◌+◌, ◌<◌, ◌^◌, IfErr};
+ghost use Rattle.std.specs.Prelude.{◌≡◌, ◌+◌, ◌<◌, ◌^◌, ◌&&◌, not, false, IfOk, IfErr};
 ghost use Rattle.std.specs.Io.KnownBytes.{Keeps};
+ghost use Rattle.co_stream.specs.Lines.{has_line_feed};
+ghost use Rattle.conode_lines.specs.LetOuts.{is_done};
 ghost use Rattle.conode_lines.specs.TraceTexts.{NamesLongLine};
 
+use crate::read_waits::Waits;
 use co_stream::{LineFault, LineReader};
-use conode_io::{CmdFault, flushed};
+use conode_io::{CmdFault, Flushed, flush};
 use conode_trace::{BadLine, TraceProgress};
 use std::io::Write;
 
@@ -16,6 +19,8 @@ pub fn line_fault(fault: LineFault, progress: &TraceProgress) -> CmdFault
     ensures read { fault ≡ LineFault.Read → result ≡ CmdFault.Read }
     ensures never_ends { fault ≡ LineFault.NeverEnds → result ≡ CmdFault.NeverEnds }
     ensures too_long { fault ≡ LineFault.TooLong → NamesLongLine progress.now result }
+    ensures only_read { result ≡ CmdFault.Read → fault ≡ LineFault.Read }
+    ensures only_never_ends { result ≡ CmdFault.NeverEnds → fault ≡ LineFault.NeverEnds }
 {
     match fault {
         LineFault::Read => CmdFault::Read,
@@ -27,14 +32,32 @@ pub fn line_fault(fault: LineFault, progress: &TraceProgress) -> CmdFault
     }
 }
 
-/// Flushes the writer, unless the line reader holds a whole line: so what was written goes out before a read that could
-/// wait. `Write` where the flush fails.
-pub fn let_out<W: Write>(lines: &LineReader, writer: &mut W) -> Result<(), CmdFault>
+/// Whether what was written had to go out before the next line, and did.
+#[derive(Clone, Copy, Debug, PartialEq, Eq)]
+pub enum LetOut {
+    /// The next line comes without a wait.
+    NotNeeded,
+    /// The writer was flushed.
+    Done(Flushed),
+}
+
+/// Flushes the writer where the next line could have to be waited for: where the line reader holds no whole line, and
+/// a read could wait. So what was written goes out before such a read, and not before each. `Write` where the flush
+/// fails.
+pub fn let_out<R, P: Waits<R>, W: Write>(
+    lines: &LineReader,
+    reader: &R,
+    writer: &mut W,
+) -> Result<LetOut, CmdFault>
     ensures text { Keeps (W.contents writer.old) (W.contents writer.new) }
+    ensures done { IfOk result (λ let_out.
+        is_done let_out ≡ (not (has_line_feed lines.now.rest) && P.waits reader.now)) }
+    ensures untouched { (not (has_line_feed lines.now.rest) && P.waits reader.now) ≡ false →
+        writer.new ≡ writer.old }
     ensures err { IfErr result (λ fault. fault ≡ CmdFault.Write) }
 {
-    if lines.has_line() {
-        return Ok(());
+    if lines.has_line() || !P::could_wait(reader) {
+        return Ok(LetOut::NotNeeded);
     }
-    flushed(writer, Ok(()))
+    Ok(LetOut::Done(flush(writer)?))
 }

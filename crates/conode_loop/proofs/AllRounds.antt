@@ -1,6 +1,11 @@
 -- What is written of all rounds, from what is written of some and of one more.
-use Rattle.std.proofs.Common.{◌≡◌, ℕ, ◌+◌, ◌≤◌, true, List, [], ◌++◌, Option, sym, subst, ap, ◌∙◌, arith}
-use Rattle.std.proofs.KnownBytes.{Appends-nil}
+use Rattle.std.proofs.Common.{◌≡◌, ℕ, ◌+◌, ◌≤◌, true, List, [], ◌++◌, take, Option, inl, inr, sym, subst, ap, ◌∙◌, arith, append_assoc, append-nil}
+use Rattle.std.specs.Prelude.{◌⊎◌}
+use Rattle.std.specs.List.{flat_map}
+use Rattle.std.specs.Io.KnownBytes.{Appends}
+use Rattle.std.proofs.KnownBytes.{Appends-nil, Appends-trans}
+use Rattle.conode_io.specs.declared.fault.CmdFault.{CmdFault}
+use Rattle.conode_io.specs.declared.fault.CmdFault.TheVariants.{Write, Memory}
 use Rattle.co_frame.specs.FrameContent.{FrameContent}
 use Rattle.conode_io.specs.Written.{WritesFront, WritesLines}
 use Rattle.conode_io.proofs.WriteLemmas.{front_after_lines, front_of_more, lines_after}
@@ -75,10 +80,57 @@ all_made n l e few all =
     let same : n ≡ 20000 = omega arith in
     record { ends = ap (λ (m : ℕ). rounds m l e) (sym same); frames = ap (λ (m : ℕ). frames_in m l e) (sym same) }
 
+-- ---- the node, and what is written of its rounds
+
+-- after whole rounds
+pub some_made : (n : ℕ) (l : Loop) (e : BothEnds) (node : Node) (old new : Option (List ℕ)) → n ≤ 20000 → Stands l.node node (rounds n l e).inputs
+    → WritesLines old new (frame_lines (frames_in n l e)) → StandsAfterSome l e node old new
+some_made n l e node old new few stands written = record {
+  number = n;
+  within = few;
+  stands = stands;
+  whole = n;
+  last = omega arith;
+  rest = [];
+  written = subst (Appends old new) (sym (append-nil (flat_map (λ (line : List ℕ). line) (frame_lines (frames_in n l e))))) written;
+}
+
+-- in a round, of which some bytes are written
+pub one_failed : (n : ℕ) (l : Loop) (e : BothEnds) (node : Node) (old mid new : Option (List ℕ)) → n + 1 ≤ 20000 → Stands l.node node (rounds (n + 1) l e).inputs
+    → WritesLines old mid (frame_lines (frames_in n l e)) → (more : List ℕ) × Appends mid new more → StandsAfterSome l e node old new
+one_failed n l e node old mid new few stands written (more, grown) = record {
+  number = n + 1;
+  within = few;
+  stands = stands;
+  whole = n;
+  last = omega arith;
+  rest = more;
+  written = Appends-trans old mid new (flat_map (λ (line : List ℕ). line) (frame_lines (frames_in n l e))) more written grown;
+}
+
+-- how much of a round is written
+pub some_bytes : (mid new : Option (List ℕ)) (lines : List (List ℕ)) (fault : CmdFault) → (fault ≡ Write) ⊎ (fault ≡ Memory) → (fault ≡ Write → WritesFront mid new lines) → (fault ≡ Memory → WritesFirst mid new lines)
+    → (more : List ℕ) × Appends mid new more
+some_bytes mid new lines fault (inl is) front first = let (bytes, part, written) = front is in (bytes, written)
+some_bytes mid new lines fault (inr is) front first = let (number, few, written) = first is in (flat_map (λ (line : List ℕ). line) (take number lines), written)
+
+-- more is written after the rounds
+pub some_later : (l : Loop) (e : BothEnds) (node : Node) (old mid new : Option (List ℕ)) (more : List ℕ) → StandsAfterSome l e node old mid → Appends mid new more → StandsAfterSome l e node old new
+some_later l e node old mid new more s grown = record {
+  number = s.number;
+  within = s.within;
+  stands = s.stands;
+  whole = s.whole;
+  last = s.last;
+  rest = s.rest ++ more;
+  written = subst (Appends old new) (append_assoc (flat_map (λ (line : List ℕ). line) (frame_lines (frames_in s.whole l e))) s.rest more)
+      (Appends-trans old mid new (flat_map (λ (line : List ℕ). line) (frame_lines (frames_in s.whole l e)) ++ s.rest) more s.written grown);
+}
+
 -- before the first round
-pub none_made : (l : Loop) (before : Inputs) (node : Node) → Stands l.node node before → StandsAfterSome l (first_ends l before) node
+pub none_made : (l : Loop) (before : Inputs) (node : Node) (held : Option (List ℕ)) → Stands l.node node before → StandsAfterSome l (first_ends l before) node held held
 unfolding rounds
-none_made l before node stands = record { number = 0; within = omega arith; stands = stands }
+none_made l before node held stands = some_made 0 l (first_ends l before) node held held (omega arith) stands (no_lines_yet held l (first_ends l before))
 
 -- the client has begun
 pub has_begun : (l : Loop) (before : Inputs) (node : Node) (client : Standing) (request : ℕ) (asked sent waiting : List FrameContent) → Stands l.node node before → ClientStands l.call [] client

@@ -4,3 +4,4 @@ pub mod Lines
 pub mod Exchanges
 pub mod AllRounds
 pub mod Completed
+pub mod Statuses

@@ -1,9 +1,13 @@
 //! A download looped against the node of a data sheet's file.
 
-ghost use Rattle.std.specs.Prelude.{◌≡◌, ◌⊎◌, ◌≤◌, length, None, Some, IfOk, IfSome, option_map};
+ghost use Rattle.std.specs.Prelude.{◌≡◌, ◌⊎◌, ◌≤◌, [], length, None, Some, IfOk, IfSome, IsSomeAnd, option_map};
 ghost use Rattle.std.specs.Option.{option_or};
 ghost use Rattle.std.specs.Process.{exit_status};
 ghost use Rattle.co_value.specs.KeyTexts.{key_in};
+ghost use Rattle.co_node_model.specs.Inputs.{Inputs};
+ghost use Rattle.co_node_model.specs.Moments.{Constants};
+ghost use Rattle.co_node.specs.Nodes.{Stands, built_constants, planned};
+ghost use Rattle.conode_loop.specs.Standing.{EndsDone};
 ghost use Rattle.conode_loop.specs.Words.{bytes_in};
 
 use crate::looped::loop_back;
@@ -68,7 +72,11 @@ fn loop_node<O: Write, E: Write>(
     err: &mut E,
 ) -> ExitCode
     requires { length job.now.bytes.now ≤ 65535 }
-    ensures { (exit_status result ≡ 0) ⊎ (exit_status result ≡ 1) }
+    ensures status { (exit_status result ≡ 0) ⊎ (exit_status result ≡ 1) }
+    // The status is 0 only where the client is done and all is written.
+    ensures done { exit_status result ≡ 0 → (k : Constants) (before : Inputs) →
+        Stands k node.old before → EndsDone k before job.now.key job.now.bytes.now job.now.mode
+        (O.contents out.old) (O.contents out.new) }
 {
     let outcome = loop_back(alloc, node, job.key, job.bytes, job.mode, out);
     match flushed(out, outcome) {
@@ -89,7 +97,11 @@ fn loop_device<O: Write, E: Write>(
     err: &mut E,
 ) -> ExitCode
     requires { length job.now.bytes.now ≤ 65535 }
-    ensures { (exit_status result ≡ 0) ⊎ (exit_status result ≡ 1) }
+    ensures status { (exit_status result ≡ 0) ⊎ (exit_status result ≡ 1) }
+    // It is the device of this sheet, node-ID, rooms and SDO timeout.
+    ensures done { exit_status result ≡ 0 → EndsDone
+        (built_constants (planned sheet.now node_id config.now) config.now.time) []
+        job.now.key job.now.bytes.now job.now.mode (O.contents out.old) (O.contents out.new) }
 {
     match Node::build(alloc, sheet, node_id, config) {
         Ok(mut node) => loop_node(alloc, &mut node, job, out, err),
@@ -111,6 +123,10 @@ fn loop_sheet<O: Write, E: Write>(
     ensures none { option_or node sheet.now.node_id ≡ None → exit_status result ≡ 2 }
     ensures some { IfSome (option_or node sheet.now.node_id)
         (λ id. (exit_status result ≡ 0) ⊎ (exit_status result ≡ 1)) }
+    // The node-ID that is given goes before the sheet's own.
+    ensures done { exit_status result ≡ 0 → IsSomeAnd (option_or node sheet.now.node_id) (λ id.
+        EndsDone (built_constants (planned sheet.now id config.now) config.now.time) []
+        job.now.key job.now.bytes.now job.now.mode (O.contents out.old) (O.contents out.new)) }
 {
     match node.or(sheet.node_id()) {
         Some(node_id) => loop_device(alloc, sheet, job, node_id, config, out, err),

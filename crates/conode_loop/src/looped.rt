@@ -64,7 +64,7 @@ fn loop_client<W: Write>(
         result ≡ Err CmdFault.Memory →
         WritesSome (W.contents writer.old) (W.contents writer.new) (lines_from l e) }
     ensures some { (l : Loop) (e : BothEnds) → EndsStand l e node.old client.old waiting.old.items →
-        StandsAfterSome l e node.new }
+        StandsAfterSome l e node.new (W.contents writer.old) (W.contents writer.new) }
     ensures err { IfErr result (λ fault. (fault ≡ CmdFault.Write) ⊎ (fault ≡ CmdFault.Memory)) }
 {
     all_rounds(node, client, waiting, writer)?;
@@ -91,7 +91,8 @@ fn loop_client<W: Write>(
 ///
 /// `Write` where the writer failed: then some of the lines have been written, and perhaps a part of the next one.
 /// `Memory` where memory ran out: some of the lines have been written, never all. The node has then taken the inputs
-/// of some of the rounds.
+/// of some of the rounds, and all lines of these rounds but the last have been written (`some`): where already the
+/// first write fails, the node has taken the first request at most.
 pub fn loop_back<W: Write>(
     alloc: Global,
     node: &mut Node,
@@ -118,7 +119,7 @@ pub fn loop_back<W: Write>(
         (loop_lines (download_of k key bytes.now mode) before) }
     ensures some { (k : Constants) (before : Inputs) → Stands k node.old before → StandsAfterSome
         (download_of k key bytes.now mode) (first_ends (download_of k key bytes.now mode) before)
-        node.new }
+        node.new (W.contents writer.old) (W.contents writer.new) }
     ensures done { (k : Constants) (before : Inputs) → Stands k node.old before →
         IsPermitted k before key bytes.now mode →
         IfOk result (IsComplete k before key bytes.now mode) }

@@ -139,7 +139,7 @@ pub(crate) fn all_rounds<W: Write>(
     ensures ends { (l : Loop) (e : BothEnds) → EndsStand l e node.old client.old waiting.old.items →
         OnOk result (EndsStand l (rounds 20000 l e) node.new client.new waiting.new.items) }
     ensures node { (l : Loop) (e : BothEnds) → EndsStand l e node.old client.old waiting.old.items →
-        StandsAfterSome l e node.new }
+        StandsAfterSome l e node.new (W.contents writer.old) (W.contents writer.new) }
     ensures ok { (l : Loop) (e : BothEnds) →
         EndsStand l e node.old client.old waiting.old.items →
         OnOk result (WritesLines (W.contents writer.old) (W.contents writer.new)

@@ -1,3 +1,4 @@
 pub mod Examples
 pub mod Inputs
 pub mod Replaying
+pub mod Statuses

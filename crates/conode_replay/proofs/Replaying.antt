@@ -2,7 +2,7 @@
 use Rattle.std.proofs.Common.{◌≡◌, ℕ, List, [], ◌∷◌, ◌++◌, Option, None, Some, Ok, Err, IfSome, refl, inl, inr, sym, subst, ◌∙◌}
 use Rattle.std.specs.Prelude.{◌≢◌, ◌⊎◌}
 use Rattle.std.specs.List.{flat_map}
-use Rattle.std.specs.Io.KnownBytes.{Appends, Keeps, IsAtEnd}
+use Rattle.std.specs.Io.KnownBytes.{Keeps, IsAtEnd}
 use Rattle.std.proofs.KnownBytes.{Appends-kept}
 use Rattle.co_stream.specs.Lines.{GivesLine, IsTooLong}
 use Rattle.co_stream.specs.Readings.{LosesPartOfLine}

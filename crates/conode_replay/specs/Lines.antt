@@ -1,7 +1,6 @@
 -- What is printed of inputs that a device takes: the frames that it sends, events that are refused, and the totals.
-use Rattle.std.specs.Prelude.{ℕ, ◌+◌, List, [], ◌∷◌, ◌++◌, length, map, sum_by, codes, decimal, Option, Some, None}
+use Rattle.std.specs.Prelude.{ℕ, ◌+◌, List, [], ◌∷◌, ◌++◌, length, map, sum_by, codes, decimal}
 use Rattle.std.specs.Option.{option_map_or}
-use Rattle.co_frame.specs.FrameContent.{FrameContent}
 use Rattle.co_text.specs.Printed.{digits_text}
 use Rattle.conode_trace.specs.declared.event_line.AppLine.{AppLine}
 use Rattle.conode_trace.specs.declared.event_line.AppLine.TheVariants as line

@@ -65,6 +65,11 @@ pub record HasEnded (k : Constants) (before : Inputs) (old new : Option (List �
   pub counted : totals ≡ totals_of k before inputs
   pub written : WritesLines old new (started_lines k before inputs ++ totals_line totals ∷ [])
 
+-- a text is a good trace, and the boot-up, the lines of its inputs and their totals were written
+pub record ReplaysAll (k : Constants) (before : Inputs) (old new : Option (List ℕ)) (text : List ℕ) : Type 0 where
+  pub good : (trace_in text).bad ≡ None
+  pub written : WritesLines old new (started_lines k before (trace_in text).inputs ++ totals_line (totals_of k before (trace_in text).inputs) ∷ [])
+
 -- it took some of the inputs, from the first on, and stopped at the lines of the last of these
 pub record StopsAt (k : Constants) (before : Inputs) (node : Node) (inputs : List TimedInput) : Type 0 where
   pub earlier : List TimedInput

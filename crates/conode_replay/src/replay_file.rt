@@ -1,20 +1,24 @@
 //! The file of a trace, replayed against the device of a data sheet.
 
-ghost use Rattle.std.specs.Prelude.{◌≡◌, ◌⊎◌, None, IfSome};
+ghost use Rattle.std.specs.Prelude.{◌≡◌, ◌⊎◌, ℕ, List, [], None, IfSome, IsSomeAnd};
 ghost use Rattle.std.specs.Option.{option_or};
 ghost use Rattle.std.specs.Process.{exit_status};
+ghost use Rattle.co_node.specs.Nodes.{built_constants, planned};
+ghost use Rattle.conode_lines.specs.TraceTexts.{GaveText};
+ghost use Rattle.conode_replay.specs.Runs.{AfterAny, ReplaysAll};
 
-use crate::replayed_trace::replay;
+use crate::replayed_trace::replay_from;
 use co_dict_build::Limits;
 use co_node::{Config, Node};
 use co_sheet::{Sheet, read};
 use conode_io::{
-    Ending, cannot_read, faulty_build, faulty_sheet, file_text, flushed, no_node_id, no_text,
-    stopped,
+    CmdFault, Ending, cannot_read, faulty_build, faulty_sheet, file_text, flushed, no_node_id,
+    no_text, stopped,
 };
+use conode_lines::{BufferedRead, Waits};
 use std::alloc::Global;
 use std::fs;
-use std::io::{Input, Read, Write};
+use std::io::{BufReader, Input, Read, Write};
 use std::process::ExitCode;
 use std::rt::Files;
 
@@ -45,18 +49,42 @@ const STORED_CONFIG: Config<'static> = Config {
 
 /// Replays an input, a trace, against a device on `out`, and says why it stopped where it did: on `out`, after what was
 /// printed before, or where that can't be written on `err`.
-fn replay_input<R: Read, O: Write, E: Write>(
+fn replay_input<R: Read, P: Waits<R>, O: Write, E: Write>(
     alloc: Global,
     node: &mut Node,
     input: &mut R,
     out: &mut O,
     err: &mut E,
-) -> Ending {
-    let outcome = replay(alloc, node, input, out);
+) -> Ending
+    // All of the trace is good, and all is written.
+    ensures whole { result ≡ Ending.Whole →
+        GaveText (R.remaining input.old) (R.remaining input.new) (λ text.
+        AfterAny node.old (λ k before.
+        ReplaysAll k before (O.contents out.old) (O.contents out.new) text)) }
+{
+    let outcome = replay_from::<R, P, O>(alloc, node, input, out);
     match flushed(out, outcome) {
         Ok(_) => Ending::Whole,
         Err(fault) => stopped(fault, out, err),
     }
+}
+
+// replays an input through a buffer, so that few bytes cost few calls of the system
+fn replay_buffered<R: Read + Drop, O: Write, E: Write>(
+    alloc: Global,
+    node: &mut Node,
+    input: R,
+    out: &mut O,
+    err: &mut E,
+) -> ExitCode
+    ensures status { (exit_status result ≡ 0) ⊎ (exit_status result ≡ 1) }
+    ensures whole { exit_status result ≡ 0 → (text : List ℕ) × AfterAny node.old (λ k before.
+        ReplaysAll k before (O.contents out.old) (O.contents out.new) text) }
+{
+    let Ok(mut input) = BufReader::new(alloc, input) else {
+        return stopped(CmdFault::Memory, out, err).status();
+    };
+    replay_input::<BufReader<R>, BufferedRead, O, E>(alloc, node, &mut input, out, err).status()
 }
 
 // replays the trace of a path, or where that is `-` standard input
@@ -67,13 +95,15 @@ fn replay_trace<R: Files + AllocGlobal + Input, O: Write, E: Write>(
     out: &mut O,
     err: &mut E,
 ) -> ExitCode
-    ensures { (exit_status result ≡ 0) ⊎ (exit_status result ≡ 1) }
+    ensures status { (exit_status result ≡ 0) ⊎ (exit_status result ≡ 1) }
+    ensures whole { exit_status result ≡ 0 → (text : List ℕ) × AfterAny node.old (λ k before.
+        ReplaysAll k before (O.contents out.old) (O.contents out.new) text) }
 {
     if path == STANDARD_INPUT {
-        return replay_input(rt.alloc(), node, &mut rt.reader(), out, err).status();
+        return replay_buffered(rt.alloc(), node, rt.reader(), out, err);
     }
     match fs::open(rt, path) {
-        Ok(mut file) => replay_input(rt.alloc(), node, &mut file, out, err).status(),
+        Ok(file) => replay_buffered(rt.alloc(), node, file, out, err),
         Err(_) => cannot_read(path, err),
     }
 }
@@ -88,7 +118,11 @@ fn replay_device<R: Files + AllocGlobal + Input, O: Write, E: Write>(
     out: &mut O,
     err: &mut E,
 ) -> ExitCode
-    ensures { (exit_status result ≡ 0) ⊎ (exit_status result ≡ 1) }
+    ensures status { (exit_status result ≡ 0) ⊎ (exit_status result ≡ 1) }
+    // It is the device of this sheet, node-ID, rooms and SDO timeout, and it took a whole trace, which is good.
+    ensures whole { exit_status result ≡ 0 → (text : List ℕ) × ReplaysAll
+        (built_constants (planned sheet.now node_id config.now) config.now.time) []
+        (O.contents out.old) (O.contents out.new) text }
 {
     match Node::build(rt.alloc(), sheet, node_id, config) {
         Ok(mut node) => replay_trace(rt, &mut node, trace, out, err),
@@ -109,6 +143,11 @@ fn replay_sheet<R: Files + AllocGlobal + Input, O: Write, E: Write>(
     ensures none { option_or node sheet.now.node_id ≡ None → exit_status result ≡ 2 }
     ensures some { IfSome (option_or node sheet.now.node_id)
         (λ id. (exit_status result ≡ 0) ⊎ (exit_status result ≡ 1)) }
+    // The node-ID that is given goes before the sheet's own.
+    ensures whole { exit_status result ≡ 0 → IsSomeAnd (option_or node sheet.now.node_id) (λ id.
+        (text : List ℕ) × ReplaysAll
+        (built_constants (planned sheet.now id config.now) config.now.time) []
+        (O.contents out.old) (O.contents out.new) text) }
 {
     match node.or(sheet.node_id()) {
         Some(node_id) => replay_device(rt, sheet, trace, node_id, config, out, err),
@@ -163,9 +202,9 @@ pub fn replay_files<R: Files + AllocGlobal + Input, O: Write, E: Write>(
 }
 
 /// Replays an input, a trace, against a device with the mandatory objects alone: device type 191h at node-ID 5.
-pub fn replay_stored<R: Read, O: Write, E: Write>(
+pub fn replay_stored<R: Read + Drop, O: Write, E: Write>(
     alloc: Global,
-    input: &mut R,
+    input: R,
     out: &mut O,
     err: &mut E,
 ) -> ExitCode
@@ -176,7 +215,7 @@ pub fn replay_stored<R: Read, O: Write, E: Write>(
         Err(fault) => return faulty_sheet(fault, out),
     };
     match Node::build(alloc, &sheet, STORED_NODE_ID, &STORED_CONFIG) {
-        Ok(mut node) => replay_input(alloc, &mut node, input, out, err).status(),
+        Ok(mut node) => replay_buffered(alloc, &mut node, input, out, err),
         Err(fault) => faulty_build(fault, out),
     }
 }

@@ -1,9 +1,11 @@
 //! A trace replayed: a device takes its inputs, and what it sends is printed.
 
-ghost use Rattle.std.specs.Prelude.{◌≡◌, ◌⊎◌, ℕ, [], ◌∷◌, OnOk, IfOk, IfErr, IfSome, Err, Some, None};
+ghost use Rattle.std.specs.Prelude.{◌≡◌, ◌⊎◌, ℕ, Bool, true, false, [], ◌∷◌, OnOk, IfOk, IfErr, IfSome, Err, Some, None};
+ghost use Rattle.co_stream.specs.Nexts.{new_reader};
+ghost use Rattle.co_stream.specs.Readings.{Gave};
 ghost use Rattle.conode_trace.specs.Traces.{trace_of};
 ghost use Rattle.conode_io.specs.Written.{WritesFront, WritesLines, WritesSome};
-ghost use Rattle.conode_lines.specs.TraceTexts.{trace_in, FailsWithinLine};
+ghost use Rattle.conode_lines.specs.TraceTexts.{trace_in, FailsWithinLine, GaveText};
 ghost use Rattle.co_node_model.specs.Inputs.{Inputs};
 ghost use Rattle.co_node_model.specs.Moments.{Constants};
 ghost use Rattle.co_node.specs.Nodes.{Stands};
@@ -26,7 +28,7 @@ use co_frame::Outbox;
 use co_node::Node;
 use co_stream::LineReader;
 use conode_io::CmdFault;
-use conode_lines::{let_out, line_fault};
+use conode_lines::{AnyRead, Waits, let_out, line_fault};
 use conode_trace::{BadLine, TraceProgress};
 use std::alloc::Global;
 use std::io::{Read, Write};
@@ -47,26 +49,31 @@ fn print_boot<W: Write>(node: &Node, sent: &mut Outbox, writer: &mut W) -> Resul
     print_frames(0, sent.as_slice(), writer)
 }
 
-// the boot-up, and all inputs
-fn replay_lines<R: Read, W: Write>(
+// the boot-up, and all inputs, with a line reader that has read nothing
+fn replay_lines<R: Read, P: Waits<R>, W: Write>(
     text: &mut String,
     node: &mut Node,
     sent: &mut Outbox,
+    lines: &mut LineReader,
     reader: &mut R,
     writer: &mut W,
 ) -> Result<Totals, CmdFault>
-    ensures { Replayed (λ k before.
+    requires { lines.old ≡ new_reader }
+    ensures gave { (ended : Bool) × Gave false ended
+        (R.remaining reader.old) (R.remaining reader.new) (λ had has.
+        Replayed (λ k before.
         HasCounted k before (W.contents writer.old) (W.contents writer.new) node.new)
-        node.old node.new (R.remaining reader.old) (R.remaining reader.new)
-        (W.contents writer.old) (W.contents writer.new) result }
+        node.old node.new had has
+        (W.contents writer.old) (W.contents writer.new) result) }
+    ensures read { result ≡ Err CmdFault.Read → lines.new.failed ≡ true }
+    ensures never_ends { result ≡ Err CmdFault.NeverEnds → lines.new.asks ≡ 0 }
 {
     print_boot(node, sent, writer)?;
     let mut totals = Totals::new();
-    let mut lines = LineReader::new();
     let mut progress = TraceProgress::new();
     // its invariant goes by the label
     'trace: loop {
-        let_out(&lines, writer)?;
+        let_out::<R, P, W>(lines, reader, writer)?;
         match lines.next(reader) {
             Ok(Some(line)) => match progress.read(line) {
                 Ok(timed) => {
@@ -82,22 +89,45 @@ fn replay_lines<R: Read, W: Write>(
 }
 
 // the boot-up, all inputs, and the totals
-fn replay_whole<R: Read, W: Write>(
+fn replay_whole<R: Read, P: Waits<R>, W: Write>(
     alloc: Global,
     node: &mut Node,
     reader: &mut R,
     writer: &mut W,
 ) -> Result<Totals, CmdFault>
-    ensures { Replayed (λ k before.
+    ensures { (ended : Bool) × Gave false ended
+        (R.remaining reader.old) (R.remaining reader.new) (λ had has.
+        Replayed (λ k before.
         HasEnded k before (W.contents writer.old) (W.contents writer.new) node.new)
-        node.old node.new (R.remaining reader.old) (R.remaining reader.new)
-        (W.contents writer.old) (W.contents writer.new) result }
+        node.old node.new had has
+        (W.contents writer.old) (W.contents writer.new) result) }
 {
     let mut text = String::new(alloc);
     let mut sent = Outbox::new();
-    let totals = replay_lines(&mut text, node, &mut sent, reader, writer)?;
+    let mut lines = LineReader::new();
+    let totals = replay_lines::<R, P, W>(&mut text, node, &mut sent, &mut lines, reader, writer)?;
     print_totals(&mut text, totals, writer)?;
     Ok(totals)
+}
+
+/// Replays a trace as `replay` does, where the reader says whether a read could wait.
+pub(crate) fn replay_from<R: Read, P: Waits<R>, W: Write>(
+    alloc: Global,
+    node: &mut Node,
+    reader: &mut R,
+    writer: &mut W,
+) -> Result<Totals, CmdFault>
+    ensures known { Replayed (λ k before.
+        HasEnded k before (W.contents writer.old) (W.contents writer.new) node.new)
+        node.old node.new (R.remaining reader.old) (R.remaining reader.new)
+        (W.contents writer.old) (W.contents writer.new) result }
+    ensures any_reader { GaveText (R.remaining reader.old) (R.remaining reader.new) (λ text.
+        Replayed (λ k before.
+        HasEnded k before (W.contents writer.old) (W.contents writer.new) node.new)
+        node.old node.new (Some text) (Some [])
+        (W.contents writer.old) (W.contents writer.new) result) }
+{
+    replay_whole::<R, P, W>(alloc, node, reader, writer)
 }
 
 /// Replays a trace as `candump -L` writes it against a device, line by line and in constant memory. What the device
@@ -107,8 +137,8 @@ fn replay_whole<R: Read, W: Write>(
 /// `; line 7 refused 06090030`, with the number of its line and the abort code. Frames that are passed over move the
 /// clock.
 ///
-/// The writer is flushed before each read that could wait, and not while a whole line is held: so what is due for a
-/// line has gone out before the next one is waited for.
+/// The writer is flushed before each read, and not while a whole line is held: so what is due for a line has gone out
+/// before the next one is waited for.
 ///
 /// `BadLine` is the first line that is no line of a trace, that has more than 512 bytes, or whose stamp is more than
 /// a day past the clock. After `BadLine`, `Read` and `NeverEnds` the device has taken all inputs of the lines before,
@@ -148,6 +178,13 @@ pub fn replay<R: Read, W: Write>(
     ensures memory { result ≡ Err CmdFault.Memory → IfSome (R.remaining reader.old) (λ text.
         AfterAny node.old (λ k before. BreaksOff k before node.new
         (WritesWhole (W.contents writer.old) (W.contents writer.new)) (trace_in text).inputs)) }
+
+    // Whatever the reader: it gave a text, and all this is so of that text.
+    ensures any_reader { GaveText (R.remaining reader.old) (R.remaining reader.new) (λ text.
+        Replayed (λ k before.
+        HasEnded k before (W.contents writer.old) (W.contents writer.new) node.new)
+        node.old node.new (Some text) (Some [])
+        (W.contents writer.old) (W.contents writer.new) result) }
 {
-    replay_whole(alloc, node, reader, writer)
+    replay_from::<R, AnyRead, W>(alloc, node, reader, writer)
 }

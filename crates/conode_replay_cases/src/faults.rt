@@ -4,6 +4,7 @@ use crate::device::play;
 use crate::fakes::{Endless, Sink, Source};
 use conode_io::CmdFault;
 use conode_replay::Totals;
+use std::io::Read;
 use std::process::Abort;
 use std::test::Fail;
 
@@ -61,6 +62,21 @@ fn no_read_fails(rt: HostRuntime) -> Result<(), Fail> {
     let ended = play(rt.alloc(), 1000, &mut reader, &mut printed)?;
     assert_eq!(rt; ended.outcome, Ok(TOTALS));
     assert_eq!(rt; printed.as_slice(), PRINTED.as_slice());
+    Ok(())
+}
+
+// In two pieces, cut at each byte in turn, also before the first and after the last.
+#[test]
+fn cut_at_each_byte(rt: HostRuntime) -> Result<(), Fail> {
+    for cut in 0..58 {
+        let (first, second) = TRACE.as_slice().split_at(cut);
+        let mut reader = first.chain(second);
+        let mut printed = Vec::new(rt.alloc());
+        let ended = play(rt.alloc(), 1000, &mut reader, &mut printed)?;
+        assert_eq!(rt; ended.outcome, Ok(TOTALS), "at {cut}");
+        assert_eq!(rt; printed.as_slice(), PRINTED.as_slice(), "at {cut}");
+        assert!(rt; ended.has_time, "at {cut}");
+    }
     Ok(())
 }
 

@@ -1,2 +1,3 @@
 pub mod TaskExamples
 pub mod TaskLemmas
+pub mod FieldLemmas

@@ -1,9 +1,10 @@
 //! The command line.
 
-ghost use Rattle.std.specs.Prelude.{◌≡◌, map, IfOk, option_map, false, [], codes, is_some, Some};
+ghost use Rattle.std.specs.Prelude.{◌≡◌, map, IfOk, IfSome, IsSomeAnd, option_map, false, [], codes, is_some, Some};
 ghost use Rattle.clap.specs.Lexer.{usize_max};
 ghost use Rattle.clap.specs.Words.{FailsBy, app_of, found_of, rows_of, rule_of, subcommand_of, subcommand_rows_of};
 ghost use Rattle.clap.specs.declared.builder.command.Command.TheViews.{out-Command};
+ghost use Rattle.conode_words.specs.Fields.{AsksFor};
 ghost use Rattle.conode_words.specs.Tasks.{
   asked_by,
   asked_check,
@@ -735,6 +736,10 @@ fn task_of<'a>(
 pub fn task<'a>(alloc: Global, words: &'a [&'a str]) -> Result<Option<Task<'a>>, Error>
     ensures ok { IfOk result (λ task. option_map asked_by task
         ≡ asked_of (subcommand_of conode_command (map (λ word. word.now) words.entry.now))) }
+    // Which word and which option gives which field of the task.
+    ensures fields { IfOk result (λ task. IfSome task (λ t. IsSomeAnd
+        (subcommand_of conode_command (map (λ word. word.now) words.entry.now))
+        (λ m. AsksFor m.0 m.1 (asked_by t)))) }
     ensures fault { FailsBy (task_fault (map (λ word. word.now) words.entry.now)) result }
 {
     let mut command = conode_command(alloc)?;

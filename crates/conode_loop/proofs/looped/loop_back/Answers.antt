@@ -84,7 +84,7 @@ returns-clause-some g c = λ k before stands.
     c.loop_client.ensures.some l (first_ends l before) st
 
 pub returns-in_err-extend_from_slice-clause-some : goal.returns-in_err-extend_from_slice-clause-some
-returns-in_err-extend_from_slice-clause-some g c = λ k before stands. none_made (download_of k c.args.key c.args.bytes.now c.args.mode) before c.args.node.now stands
+returns-in_err-extend_from_slice-clause-some g c = λ k before stands. none_made (download_of k c.args.key c.args.bytes.now c.args.mode) before c.args.node.now (g.W.Write.contents c.args.writer.now) stands
 
 pub returns-clause-done : goal.returns-clause-done
 returns-clause-done g c = λ k before stands permitted.

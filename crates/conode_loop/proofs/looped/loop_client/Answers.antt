@@ -7,6 +7,7 @@ use Rattle.co_sdo_client.specs.Outcomes.{sent}
 use Rattle.co_sdo_client.specs.Standing.{counted}
 use Rattle.co_node_model.specs.Loop.{frames_in, rounds, state_at}
 use Rattle.conode_loop.specs.Printed.{frame_lines, last_line}
+use Rattle.conode_loop.proofs.AllRounds.{some_later}
 use Rattle.conode_loop.proofs.Lines.{first_all, some_of_first}
 use Rattle.conode_loop.proofs.looped.loop_client.Goals as goal
 
@@ -52,3 +53,12 @@ returns-clause-state g c = λ l e st. c.state-state.ensures.state l.call (rounds
 
 pub returns-clause-node : goal.returns-clause-node
 returns-clause-node g c = λ l e st. (c.in_ok-all_rounds.ensures.ends l e st).node_stands
+
+pub returns-in_err-hand_over-clause-some : goal.returns-in_err-hand_over-clause-some
+returns-in_err-hand_over-clause-some g c = λ l e st.
+    let (bytes, part, written) = c.in_err-hand_over.ensures.front in
+    some_later l e c.all_rounds.new.node (g.W.Write.contents c.args.writer.now) (g.W.Write.contents c.all_rounds.new.writer) (g.W.Write.contents c.hand_over.new.writer) bytes (c.all_rounds.ensures.node l e st) written
+
+pub returns-clause-some : goal.returns-clause-some
+returns-clause-some g c = λ l e st.
+    some_later l e c.all_rounds.new.node (g.W.Write.contents c.args.writer.now) (g.W.Write.contents c.all_rounds.new.writer) (g.W.Write.contents c.hand_over.new.writer) c.as_bytes.result.now (c.all_rounds.ensures.node l e st) c.in_ok-hand_over.ensures.ok

@@ -1,8 +1,9 @@
-use Rattle.std.proofs.Common.{rules, ◌≡◌, ◌+◌, true, false, Err, sym, subst, ◌∙◌, arith}
+use Rattle.std.proofs.Common.{rules, ◌≡◌, true, false, Err, sym, ap, subst, ◌∙◌, arith}
+use Rattle.conode_io.specs.declared.fault.CmdFault.{CmdFault}
 use Rattle.conode_io.specs.declared.fault.CmdFault.TheVariants.{Write, Memory}
 use Rattle.co_node.specs.Nodes.{Stands}
 use Rattle.co_node_model.specs.Loop.{BothEnds, goes_on, rounds}
-use Rattle.conode_loop.proofs.AllRounds.{all_made, ends_all, ends_next, lines_all, memory_fails, no_lines_yet, no_rounds, one_more, write_fails}
+use Rattle.conode_loop.proofs.AllRounds.{all_made, ends_all, ends_next, lines_all, memory_fails, no_lines_yet, no_rounds, one_failed, one_more, round_lines, some_bytes, some_made, write_fails}
 use Rattle.conode_loop.proofs.RoundLemmas.{are_over, rounds_next}
 use Rattle.conode_loop.proofs.rounds.all_rounds.Goals as goal
 
@@ -39,11 +40,11 @@ returns-in_err-round-clause-node g c = λ lp e st.
     let on : c.goes_on.result ≡ true = search rules in
     let now = inv.ends lp e st in
     let goes : goes_on lp (rounds n lp e) ≡ true = sym (c.goes_on.ensures lp (rounds n lp e) now.client_stands (c.deref.ensures.value ∙ now.same_waiting)) ∙ on in
-    record {
-      number = n + 1;
-      within = omega (arith, inv.most, inv.within);
-      stands = subst (λ (ends : BothEnds). Stands lp.node c.round.new.node ends.inputs) (sym (rounds_next n lp e goes)) (c.round.ensures.node lp (rounds n lp e) now);
-    }
+    one_failed n lp e c.round.new.node (g.W.Write.contents c.args.writer.now) (g.W.Write.contents c.loop-done.writer) (g.W.Write.contents c.round.new.writer) (omega (arith, inv.most, inv.within))
+    (subst (λ (ends : BothEnds). Stands lp.node c.round.new.node ends.inputs) (sym (rounds_next n lp e goes)) (c.round.ensures.node lp (rounds n lp e) now))
+    (inv.written lp e st)
+    (some_bytes (g.W.Write.contents c.loop-done.writer) (g.W.Write.contents c.round.new.writer) (round_lines n lp e) c.in_err-round.field-0.0 c.in_err-round.ensures.err
+    (λ w. c.in_err-round.ensures.write lp (rounds n lp e) now (ap (λ (f : CmdFault). Err f) w)) (λ m. c.in_err-round.ensures.memory lp (rounds n lp e) now (ap (λ (f : CmdFault). Err f) m)))
 
 pub returns-in_err-round-clause-write : goal.returns-in_err-round-clause-write
 returns-in_err-round-clause-write g c = λ lp e st said.
@@ -75,7 +76,12 @@ returns-clause-ends g c = λ lp e st.
 pub returns-clause-node : goal.returns-clause-node
 returns-clause-node g c = λ lp e st.
     let inv = c.loop-done.invariant in
-    record { number = c.loop-done.done; within = inv.within; stands = (inv.ends lp e st).node_stands }
+    some_made c.loop-done.done lp e c.loop-done.node (g.W.Write.contents c.args.writer.now) (g.W.Write.contents c.loop-done.writer) inv.within (inv.ends lp e st).node_stands (inv.written lp e st)
+
+pub returns-then-not-goes_on-clause-node : goal.returns-then-not-goes_on-clause-node
+returns-then-not-goes_on-clause-node g c = λ lp e st.
+    let inv = c.loop-done.invariant in
+    some_made c.loop-done.done lp e c.loop-done.node (g.W.Write.contents c.args.writer.now) (g.W.Write.contents c.loop-done.writer) inv.within (inv.ends lp e st).node_stands (inv.written lp e st)
 
 pub returns-clause-ok : goal.returns-clause-ok
 returns-clause-ok g c = λ lp e st.

@@ -1,5 +1,4 @@
 use Rattle.std.proofs.Common.{◌≡◌, ◌∷◌, sym, ap, subst, ◌∙◌, rules}
-use Rattle.conode_trace.specs.declared.event_line.AppLine.TheVariants as line
 use Rattle.co_node_model.specs.Inputs.{AppView, Applied, Written}
 use Rattle.co_node_model.specs.Device.{prescribed}
 use Rattle.co_node.specs.Nodes.{Stands}

@@ -1,5 +1,6 @@
-use Rattle.std.proofs.Common.{◌≡◌, Err, sym, ap, subst, ◌∙◌}
+use Rattle.std.proofs.Common.{◌≡◌, Err, false, sym, ap, subst, ◌∙◌}
 use Rattle.std.proofs.lemmas.Result.{err_from_is_err_and}
+use Rattle.co_stream.proofs.Readers.{gave_so}
 use Rattle.conode_io.specs.declared.fault.CmdFault.{CmdFault}
 use Rattle.conode_replay.specs.Runs.{HasCounted, HasEnded, Replayed}
 use Rattle.conode_replay.proofs.Replaying.{fault_stays, totals_fail, totals_written}
@@ -16,8 +17,12 @@ returns-in_err-totals g c =
     let fault = c.in_err-totals.field-0.0 in
     let passed = err_from_is_err_and c.from_residual.result c.from_residual.ensures.1 in
     let same : c.from_residual.result ≡ Err fault = passed.1 ∙ ap (λ (e : CmdFault). Err e) passed.2 in
-    subst (Replayed (λ k before. HasEnded k before old new last) first last known rest old new) (sym same)
-    (fault_stays (λ k before. HasCounted k before old new last) (λ k before. HasEnded k before old new last) first last known rest old new fault c.in_err-totals.ensures)
+    let (ended, gave) = c.in_err-totals.ensures.gave in (
+      ended,
+      gave_so false ended known rest _ _ gave
+          (λ had has held. subst (Replayed (λ k before. HasEnded k before old new last) first last had has old new) (sym same)
+          (fault_stays (λ k before. HasCounted k before old new last) (λ k before. HasEnded k before old new last) first last had has old new fault held)),
+    )
 
 pub returns-in_err-print_totals : goal.returns-in_err-print_totals
 returns-in_err-print_totals g c =
@@ -31,9 +36,13 @@ returns-in_err-print_totals g c =
     let fault = c.in_err-print_totals.field-0.0 in
     let passed = err_from_is_err_and c.from_residual-in_err-print_totals.result c.from_residual-in_err-print_totals.ensures.1 in
     let same : c.from_residual-in_err-print_totals.result ≡ Err fault = passed.1 ∙ ap (λ (e : CmdFault). Err e) passed.2 in
-    subst (Replayed (λ k before. HasEnded k before old new last) first last known rest old new) (sym same)
-    (totals_fail first last rest old mid new c.in_ok-totals.totals known fault c.in_ok-totals.ensures c.in_err-print_totals.ensures.err
-    (λ w. c.in_err-print_totals.ensures.write (ap (λ (e : CmdFault). Err e) w)) (λ m. c.in_err-print_totals.ensures.memory (ap (λ (e : CmdFault). Err e) m)))
+    let (ended, gave) = c.in_ok-totals.ensures.gave in (
+      ended,
+      gave_so false ended known rest _ _ gave
+          (λ had has held. subst (Replayed (λ k before. HasEnded k before old new last) first last had has old new) (sym same)
+          (totals_fail first last has old mid new c.in_ok-totals.totals had fault held c.in_err-print_totals.ensures.err
+          (λ w. c.in_err-print_totals.ensures.write (ap (λ (e : CmdFault). Err e) w)) (λ m. c.in_err-print_totals.ensures.memory (ap (λ (e : CmdFault). Err e) m)))),
+    )
 
 pub returns : goal.returns
 returns g c =
@@ -44,4 +53,7 @@ returns g c =
     let old = g.W.Write.contents c.args.writer.now in
     let mid = g.W.Write.contents c.replay_lines.new.writer in
     let new = g.W.Write.contents c.print_totals.new.writer in
-    totals_written first last rest old mid new c.in_ok-totals.totals known c.in_ok-totals.ensures c.in_ok-print_totals.ensures.ok
+    let (ended, gave) = c.in_ok-totals.ensures.gave in (
+      ended,
+      gave_so false ended known rest _ _ gave (λ had has held. totals_written first last has old mid new c.in_ok-totals.totals had held c.in_ok-print_totals.ensures.ok),
+    )

@@ -3,6 +3,7 @@ use Rattle.std.proofs.lemmas.Result.{IfOk-weaker}
 use Rattle.clap.specs.Kinds.{Kinds, FailsBy, HasKind}
 use Rattle.clap.specs.Words.{App, Text, app_of, fault_of, is_simple, is_simple_and_free, subcommand_of, subcommand_rows_of}
 use Rattle.conode_words.specs.Tasks.{asked_of, conode_command, word_fault}
+use Rattle.conode_words.proofs.FieldLemmas.{task_fields}
 use Rattle.conode_words.proofs.TaskLemmas.{is_free_command, is_simple_command, word_decides, more_kinds}
 use Rattle.conode_words.proofs.command_line.task.Goals as goal
 
@@ -20,6 +21,13 @@ returns-in-Ok-clause-ok c =
     let same : app_of c.in_ok-command.command ≡ conode_command = search rules in
     let found = subst (λ (a : App). subcommand_rows_of c.in-Ok.matches ≡ subcommand_of a words) same (c.in-Ok.ensures.ok.2 (ap is_simple same ∙ is_simple_command)).1 in
     IfOk-weaker c.task_of.result _ _ (λ task h. h ∙ ap asked_of found) c.task_of.ensures.ok
+
+pub returns-in-Ok-clause-fields : goal.returns-in-Ok-clause-fields
+returns-in-Ok-clause-fields c =
+    let words : List Text = map (λ word. word.now) c.args.words.now in
+    let same : app_of c.in_ok-command.command ≡ conode_command = search rules in
+    let found = subst (λ (a : App). subcommand_rows_of c.in-Ok.matches ≡ subcommand_of a words) same (c.in-Ok.ensures.ok.2 (ap is_simple same ∙ is_simple_command)).1 in
+    IfOk-weaker c.task_of.result _ _ (λ task h. task_fields (subcommand_of conode_command words) task (h ∙ ap asked_of found)) c.task_of.ensures.ok
 
 pub returns-clause-fault : goal.returns-clause-fault
 returns-clause-fault c =

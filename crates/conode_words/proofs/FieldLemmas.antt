@@ -1,0 +1,159 @@
+-- What is asked for is what the fields say, and the fields say one thing at most.
+use Rattle.std.proofs.Common.{◌≡◌, Bool, true, false, List, Option, Some, None, IfSome, IsSomeAnd, codes, refl, sym, ap, subst, ◌∙◌}
+use Rattle.std.specs.Prelude.{option_and_then, option_map}
+use Rattle.std.specs.Str.{bytes_eq}
+use Rattle.std.proofs.lemmas.Option.{option_and_then_some}
+use Rattle.std.proofs.lemmas.Slice.Eq.{bytes_eq-Decides}
+use Rattle.clap.specs.Words.{Row, Text, first_of}
+use Rattle.conode_words.specs.declared.tasks.DeviceWords.{DeviceWords}
+use Rattle.conode_words.specs.declared.tasks.DictionaryWords.{DictionaryWords}
+use Rattle.conode_words.specs.declared.tasks.Task.{Task}
+use Rattle.conode_words.specs.Fields.{AsksFor, GivesDevice, GivesDictionary}
+use Rattle.conode_words.specs.Tasks.{Asked, asked_by, asked_check, asked_decode, asked_device, asked_dictionary, asked_in, asked_lint, asked_loop, asked_of, asked_replay, asked_show, check, colours_of, colours_for, decode, format_of, format_for, lint, loop_back, mode_for, mode_of, number_for, number_of_bits, replay, show, shown_as, shown_for}
+
+by_test : {P : Type 0} (b : Bool) → (b ≡ true → P) → (b ≡ false → P) → P
+by_test true then otherwise = then refl
+by_test false then otherwise = otherwise refl
+
+-- a value that is made of another
+mapped : {A B P : Type 0} (f : A → B) (o : Option A) (b : B) → option_map f o ≡ Some b → ((a : A) → o ≡ Some a → f a ≡ b → P) → P
+mapped f None b e k = absurd cc
+mapped f (Some a) b e k = k a refl cc
+
+-- the word of an option, and what it stands for
+chosen : {A : Type 0} (choice : Text → Option A) (word : Option Text) (a : A) → option_and_then choice word ≡ Some a → IsSomeAnd word (λ w. choice w ≡ Some a)
+chosen choice None a e = absurd cc
+chosen choice (Some word) a e = e
+
+choice_is : {A : Type 0} (choice : Text → Option A) (word : Option Text) (a : A) → IsSomeAnd word (λ w. choice w ≡ Some a) → option_and_then choice word ≡ Some a
+choice_is choice None a h = absurd h
+choice_is choice (Some word) a h = h
+
+named : (name known : Text) → bytes_eq name known ≡ true → name ≡ known
+named name known e = (bytes_eq-Decides name known).0 e
+
+-- ---- what is asked for has its fields
+
+dictionary_fields : (rows : List Row) (d : DictionaryWords) → asked_dictionary rows ≡ Some d → GivesDictionary rows d
+dictionary_fields rows d e =
+    option_and_then_some _ (number_for 16 (codes "strings") rows) d e (λ strings e0 f0.
+    mapped _ (number_for 16 (codes "domains") rows) d f0 (λ domains e1 is.
+    subst (GivesDictionary rows) is (record {
+      node = refl;
+      strings = chosen (number_of_bits 16) (first_of (codes "strings") rows) strings e0;
+      domains = chosen (number_of_bits 16) (first_of (codes "domains") rows) domains e1;
+    })))
+
+device_fields : (rows : List Row) (d : DeviceWords) → asked_device rows ≡ Some d → GivesDevice rows d
+device_fields rows d e =
+    option_and_then_some _ (asked_dictionary rows) d e (λ dictionary e0 f0.
+    mapped _ (number_for 16 (codes "time") rows) d f0 (λ time e1 is.
+    subst (GivesDevice rows) is (record {
+      dictionary = dictionary_fields rows dictionary e0;
+      time = chosen (number_of_bits 16) (first_of (codes "time") rows) time e1;
+    })))
+
+check_fields : (rows : List Row) (a : Asked) → asked_check rows ≡ Some a → AsksFor (codes "check") rows a
+check_fields rows a e =
+    option_and_then_some _ (first_of (codes "SHEET") rows) a e (λ sheet e0 f0.
+    mapped _ (asked_dictionary rows) a f0 (λ dictionary e1 is.
+    subst (AsksFor (codes "check") rows) is (refl, e0, dictionary_fields rows dictionary e1)))
+
+lint_fields : (rows : List Row) (a : Asked) → asked_lint rows ≡ Some a → AsksFor (codes "lint") rows a
+lint_fields rows a e =
+    option_and_then_some _ (asked_dictionary rows) a e (λ dictionary e0 f0.
+    option_and_then_some _ (format_for rows) a f0 (λ format e1 f1.
+    mapped _ (colours_for rows) a f1 (λ colours e2 is.
+    subst (AsksFor (codes "lint") rows) is (
+      refl,
+      refl,
+      refl,
+      dictionary_fields rows dictionary e0,
+      chosen format_of (first_of (codes "format") rows) format e1,
+      chosen colours_of (first_of (codes "color") rows) colours e2,
+      refl,
+      refl,
+    ))))
+
+decode_fields : (rows : List Row) (a : Asked) → asked_decode rows ≡ Some a → AsksFor (codes "decode") rows a
+decode_fields rows a e =
+    mapped _ (first_of (codes "TRACE") rows) a e (λ trace e0 is. subst (AsksFor (codes "decode") rows) is (refl, e0, refl, refl))
+
+replay_fields : (rows : List Row) (a : Asked) → asked_replay rows ≡ Some a → AsksFor (codes "replay") rows a
+replay_fields rows a e =
+    option_and_then_some _ (first_of (codes "SHEET") rows) a e (λ sheet e0 f0.
+    option_and_then_some _ (first_of (codes "TRACE") rows) a f0 (λ trace e1 f1.
+    mapped _ (asked_device rows) a f1 (λ device e2 is.
+    subst (AsksFor (codes "replay") rows) is (refl, e0, e1, device_fields rows device e2))))
+
+loop_fields : (rows : List Row) (a : Asked) → asked_loop rows ≡ Some a → AsksFor (codes "loop") rows a
+loop_fields rows a e =
+    option_and_then_some _ (first_of (codes "SHEET") rows) a e (λ sheet e0 f0.
+    option_and_then_some _ (first_of (codes "KEY") rows) a f0 (λ key e1 f1.
+    option_and_then_some _ (first_of (codes "HEX") rows) a f1 (λ bytes e2 f2.
+    option_and_then_some _ (mode_for rows) a f2 (λ mode e3 f3.
+    mapped _ (asked_device rows) a f3 (λ device e4 is.
+    subst (AsksFor (codes "loop") rows) is (refl, e0, e1, e2, chosen mode_of (first_of (codes "mode") rows) mode e3, device_fields rows device e4))))))
+
+show_fields : (rows : List Row) (a : Asked) → asked_show rows ≡ Some a → AsksFor (codes "show") rows a
+show_fields rows a e =
+    option_and_then_some _ (first_of (codes "SHEET") rows) a e (λ sheet e0 f0.
+    mapped _ (shown_for rows) a f0 (λ form e1 is.
+    subst (AsksFor (codes "show") rows) is (refl, e0, refl, chosen shown_as (first_of (codes "format") rows) form e1)))
+
+at_name : (name known : Text) (rows : List Row) (a : Asked) → bytes_eq name known ≡ true → AsksFor known rows a → AsksFor name rows a
+at_name name known rows a same h = subst (λ (n : Text). AsksFor n rows a) (sym (named name known same)) h
+
+pub fields_of : (name : Text) (rows : List Row) (a : Asked) → asked_in name rows ≡ Some a → AsksFor name rows a
+fields_of name rows a e =
+    by_test (bytes_eq name (codes "lint")) (λ y. at_name name (codes "lint") rows a y (lint_fields rows a (rw y at e))) (λ n0.
+    by_test (bytes_eq name (codes "check")) (λ y. at_name name (codes "check") rows a y (check_fields rows a (rw (n0, y) at e))) (λ n1.
+    by_test (bytes_eq name (codes "decode")) (λ y. at_name name (codes "decode") rows a y (decode_fields rows a (rw (n0, n1, y) at e))) (λ n2.
+    by_test (bytes_eq name (codes "replay")) (λ y. at_name name (codes "replay") rows a y (replay_fields rows a (rw (n0, n1, n2, y) at e))) (λ n3.
+    by_test (bytes_eq name (codes "loop")) (λ y. at_name name (codes "loop") rows a y (loop_fields rows a (rw (n0, n1, n2, n3, y) at e))) (λ n4.
+    by_test (bytes_eq name (codes "show")) (λ y. at_name name (codes "show") rows a y (show_fields rows a (rw (n0, n1, n2, n3, n4, y) at e))) (λ n5.
+    let none : None ≡ Some a = rw (n0, n1, n2, n3, n4, n5) at e in absurd cc))))))
+
+pub fields_in : (matches : Option (Text × List Row)) (asked : Option Asked) (a : Asked) → asked ≡ asked_of matches → asked ≡ Some a → IsSomeAnd matches (λ m. AsksFor m.0 m.1 a)
+fields_in None asked a same is = absurd (let none : None ≡ Some a = sym same ∙ is in cc)
+fields_in (Some m) asked a same is = fields_of m.0 m.1 a (sym same ∙ is)
+
+pub task_fields : (matches : Option (Text × List Row)) (task : Option Task) → option_map asked_by task ≡ asked_of matches → IfSome task (λ t. IsSomeAnd matches (λ m. AsksFor m.0 m.1 (asked_by t)))
+task_fields matches None same = tt
+task_fields matches (Some t) same = fields_in matches (Some (asked_by t)) (asked_by t) same refl
+
+-- ---- and they say one thing at most
+
+dictionary_is : (rows : List Row) (d : DictionaryWords) → GivesDictionary rows d → asked_dictionary rows ≡ Some d
+dictionary_is rows d h =
+    let strings = choice_is (number_of_bits 16) (first_of (codes "strings") rows) d.strings h.strings in
+    let domains = choice_is (number_of_bits 16) (first_of (codes "domains") rows) d.domains h.domains in
+    rw (strings, domains, ← h.node) refl
+
+device_is : (rows : List Row) (d : DeviceWords) → GivesDevice rows d → asked_device rows ≡ Some d
+device_is rows d h =
+    let dictionary = dictionary_is rows d.dictionary h.dictionary in
+    let time = choice_is (number_of_bits 16) (first_of (codes "time") rows) d.time h.time in
+    rw (dictionary, time) refl
+
+pub only_asked : (name : Text) (rows : List Row) (a : Asked) → AsksFor name rows a → asked_in name rows ≡ Some a
+only_asked name rows (check a) (name_is, sheet, d) =
+    let dictionary = dictionary_is rows a.dictionary d in
+    ap (λ (n : Text). asked_in n rows) name_is ∙ rw (sheet, dictionary) refl
+only_asked name rows (lint a) (name_is, sheets, allowed, d, f, c, strict, all) =
+    let dictionary = dictionary_is rows a.dictionary d in
+    let format = choice_is format_of (first_of (codes "format") rows) a.format f in
+    let colours = choice_is colours_of (first_of (codes "color") rows) a.colours c in
+    ap (λ (n : Text). asked_in n rows) name_is ∙ rw (dictionary, format, colours, ← sheets, ← allowed, ← strict, ← all) refl
+only_asked name rows (decode a) (name_is, trace, sheet, node) =
+    ap (λ (n : Text). asked_in n rows) name_is ∙ rw (trace, ← sheet, ← node) refl
+only_asked name rows (replay a) (name_is, sheet, trace, d) =
+    let device = device_is rows a.device d in
+    ap (λ (n : Text). asked_in n rows) name_is ∙ rw (sheet, trace, device) refl
+only_asked name rows (loop_back a) (name_is, sheet, key, bytes, m, d) =
+    let device = device_is rows a.device d in
+    let mode = choice_is mode_of (first_of (codes "mode") rows) a.mode m in
+    ap (λ (n : Text). asked_in n rows) name_is ∙ rw (sheet, key, bytes, mode, device) refl
+only_asked name rows (show a) (name_is, sheet, node, f) =
+    let form = choice_is shown_as (first_of (codes "format") rows) a.shown_as f in
+    ap (λ (n : Text). asked_in n rows) name_is ∙ rw (sheet, form, ← node) refl

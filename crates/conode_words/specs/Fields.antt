@@ -1,0 +1,56 @@
+-- Which word and which option gives which field of what is asked for.
+use Rattle.std.specs.Prelude.{◌≡◌, ℕ, List, codes, Option, Some, IsSomeAnd}
+use Rattle.clap.specs.Words.{Row, Text, first_of}
+use Rattle.conode_words.specs.declared.tasks.DeviceWords.{DeviceWords}
+use Rattle.conode_words.specs.declared.tasks.DictionaryWords.{DictionaryWords}
+use Rattle.conode_words.specs.Tasks.{Asked, check, lint, decode, replay, loop_back, show, colours_of, format_of, is_used, mode_of, number_for, number_of_bits, shown_as, words_for}
+
+-- the word, or the value of an option, is this one
+abbrev pub IsWord : Text → List Row → Text → Type 0
+IsWord name rows word = first_of name rows ≡ Some word
+
+-- it is a number of 16 bits
+abbrev pub IsNumber : Text → List Row → ℕ → Type 0
+IsNumber name rows number = IsSomeAnd (first_of name rows) (λ word. number_of_bits 16 word ≡ Some number)
+
+-- it names this choice
+abbrev pub IsChoice : {A : Type 0} → (Text → Option A) → Text → List Row → A → Type 0
+IsChoice choice name rows a = IsSomeAnd (first_of name rows) (λ word. choice word ≡ Some a)
+
+-- `--node`, if it is used
+abbrev pub IsNode : List Row → Option ℕ → Type 0
+IsNode rows node = node ≡ number_for 8 (codes "node") rows
+
+-- `--node`, `--strings` and `--domains`
+pub record GivesDictionary (rows : List Row) (d : DictionaryWords) : Type 0 where
+  pub node : IsNode rows d.node
+  pub strings : IsNumber (codes "strings") rows d.strings
+  pub domains : IsNumber (codes "domains") rows d.domains
+
+-- the same and `--time`
+pub record GivesDevice (rows : List Row) (d : DeviceWords) : Type 0 where
+  pub dictionary : GivesDictionary rows d.dictionary
+  pub time : IsNumber (codes "time") rows d.time
+
+-- the words after the name of a subcommand ask for this
+abbrev pub AsksFor : Text → List Row → Asked → Type 0
+AsksFor name rows (check a) =
+    (name ≡ codes "check") × IsWord (codes "SHEET") rows a.sheet × GivesDictionary rows a.dictionary
+AsksFor name rows (lint a) =
+    (name ≡ codes "lint")
+    × (a.sheets ≡ words_for (codes "SHEET") rows) × (a.allowed ≡ words_for (codes "allow") rows)
+    × GivesDictionary rows a.dictionary
+    × IsChoice format_of (codes "format") rows a.format × IsChoice colours_of (codes "color") rows a.colours
+    × (a.strict ≡ is_used (codes "strict") rows) × (a.all ≡ is_used (codes "all") rows)
+AsksFor name rows (decode a) =
+    (name ≡ codes "decode") × IsWord (codes "TRACE") rows a.trace
+    × (a.sheet ≡ first_of (codes "sheet") rows) × IsNode rows a.node
+AsksFor name rows (replay a) =
+    (name ≡ codes "replay") × IsWord (codes "SHEET") rows a.sheet × IsWord (codes "TRACE") rows a.trace
+    × GivesDevice rows a.device
+AsksFor name rows (loop_back a) =
+    (name ≡ codes "loop") × IsWord (codes "SHEET") rows a.sheet × IsWord (codes "KEY") rows a.key
+    × IsWord (codes "HEX") rows a.bytes × IsChoice mode_of (codes "mode") rows a.mode × GivesDevice rows a.device
+AsksFor name rows (show a) =
+    (name ≡ codes "show") × IsWord (codes "SHEET") rows a.sheet × IsNode rows a.node
+    × IsChoice shown_as (codes "format") rows a.shown_as
