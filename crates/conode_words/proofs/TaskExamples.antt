@@ -10,7 +10,7 @@ use Rattle.conode_words.specs.declared.tasks.DictionaryWords.{DictionaryWords}
 use Rattle.conode_words.specs.declared.tasks.ShownAs.TheVariants.{Columns, Markdown}
 use Rattle.conode_words.specs.declared.tasks.Colours.TheVariants.{Auto, Always}
 use Rattle.conode_words.specs.declared.tasks.Format.TheVariants.{Json, Text as AsText}
-use Rattle.conode_words.specs.Tasks.{Asked, check, lint, decode, replay, loop_back, show, asked_of, conode_command, task_fault}
+use Rattle.conode_words.specs.Tasks.{Asked, check, lint, decode, replay, loop_back, show, adapt, asked_of, conode_command, task_fault}
 
 abbrev asked : List Text → Option Asked
 asked words = asked_of (subcommand_of conode_command (codes "conode" ∷ words))
@@ -233,3 +233,11 @@ show_as_text = refl
 show_for_node_128 : task_fault (codes "conode" ∷ codes "show" ∷ codes "a" ∷ codes "--node" ∷ codes "128" ∷ []) ≡ kind.ValueValidation ∷ []
 unfolding clap_on_literals
 show_for_node_128 = refl
+
+adapt_of_a_sheet : asked (codes "adapt" ∷ codes "a" ∷ []) ≡ Some (adapt (record { sheet = codes "a" }))
+unfolding clap_on_literals
+adapt_of_a_sheet = refl
+
+adapt_without_sheet : task_fault (codes "conode" ∷ codes "adapt" ∷ []) ≡ kind.MissingRequiredArgument ∷ []
+unfolding clap_on_literals
+adapt_without_sheet = refl

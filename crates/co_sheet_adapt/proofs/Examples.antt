@@ -1,0 +1,245 @@
+-- What lines become: each kind of change, on both sides of each edge.
+use Rattle.std.proofs.Common.{◌≡◌, ℕ, List, [], ◌∷◌, ◌++◌, Some, None, true, false, refl, codes, map}
+use Rattle.fast_float.proofs.OnLiterals.{fast_float_on_literals}
+use Rattle.co_value.specs.declared.data_type.DataType.TheVariants.{Integer8, Integer16, Integer32, Integer64, Unsigned16}
+use Rattle.co_text.specs.Printed.{digits_text}
+use Rattle.co_sheet_text.specs.Text.{lines_of}
+use Rattle.co_sheet_adapt.specs.declared.change.ChangeKind.{ChangeKind}
+use Rattle.co_sheet_adapt.specs.declared.change.ChangeKind.TheVariants.{SectionName, ListKey, SubIndex0, CompactSubObj, DataType, RealLimit, RealValue, UnicodeValue, UnsignedLimit, SignExtended, OctetBlanks}
+use Rattle.co_sheet_adapt.specs.declared.left_out.LeftOut.TheVariants.{Real32, Real64, UnicodeString, TimeOfDay}
+use Rattle.co_sheet_adapt.specs.LeftOut.{left_out_with, real32_bits, real64_bits, value_in_place}
+use Rattle.co_sheet_adapt.specs.Values.{is_whole_unsigned, sign_extended, pairs_without_blanks}
+use Rattle.co_sheet_adapt.specs.Named.{index_named, sub_named}
+use Rattle.co_sheet_adapt.specs.Facts.{count_of}
+use Rattle.co_sheet_adapt.specs.Pieces.{Change, Piece, kept, changed, added_lines, is_padded, is_written_first, all_pieces}
+use Rattle.co_sheet_adapt.specs.Entries.{assigned}
+use Rattle.co_sheet_adapt.specs.Compact.{sub_head, written_as, name_line, value_line, type_line, first_keys, last_keys, first_section, sub_section}
+use Rattle.co_sheet_adapt.specs.Adapted.{comment_front, comment_end, comment_line}
+
+abbrev pieces : List ℕ → List Piece
+pieces text = all_pieces (lines_of text)
+
+abbrev change_at : ℕ → ChangeKind → List ℕ → List ℕ → Piece
+change_at line why old new = changed (record { line = line; kind = why; old = old; new = new })
+
+-- ---- the first line
+
+comment : comment_line (codes "conode 1 from a\nb") ≡ codes "; adapted by conode 1 from a?b: not for configuration tools\n"
+unfolding comment_front
+
+unfolding comment_end
+comment = refl
+
+-- ---- object lists
+
+list_key : pieces (codes "x\n[OptionalObjects]\nSupportedObjects=1\n01 = 0x1005\r\n")
+    ≡ kept (codes "x") ∷ kept (codes "[OptionalObjects]") ∷ kept (codes "SupportedObjects=1")
+    ∷ change_at 4 ListKey (codes "01 = 0x1005") (codes "1=0x1005\n") ∷ []
+unfolding assigned
+list_key = refl
+
+not_of_a_list : pieces (codes "[Comments]\n01=a\n") ≡ kept (codes "[Comments]") ∷ kept (codes "01=a") ∷ []
+not_of_a_list = refl
+
+padded : is_padded (codes "0010") ≡ true
+padded = refl
+
+not_padded : is_padded (codes "10") ≡ false
+not_padded = refl
+
+zeros_alone : is_padded (codes "00") ≡ false
+zeros_alone = refl
+
+no_place : is_padded (codes "0x1") ≡ false
+no_place = refl
+
+-- ---- section lines
+
+section_name : pieces (codes "[1018Sub 2]\n[My notes]\n")
+    ≡ change_at 1 SectionName (codes "[1018Sub 2]") (codes "[1018Sub2]\n") ∷ kept (codes "[My notes]") ∷ []
+section_name = refl
+
+sub_index_0 : pieces (codes "[2000sub0]\nDefaultValue=2\n")
+    ≡ change_at 1 SubIndex0 (codes "[2000sub0]") (codes "[2000sub0]\nDataType=0x0005\nAccessType=ro\n")
+    ∷ kept (codes "DefaultValue=2") ∷ []
+sub_index_0 = refl
+
+sub_index_0_with_type : pieces (codes "[1A00sub0]\nDataType=5\n")
+    ≡ change_at 1 SubIndex0 (codes "[1A00sub0]") (codes "[1A00sub0]\nAccessType=rw\n") ∷ kept (codes "DataType=5") ∷ []
+sub_index_0_with_type = refl
+
+sub_index_1 : pieces (codes "[2000sub1]\n") ≡ kept (codes "[2000sub1]") ∷ []
+sub_index_1 = refl
+
+written_first : map is_written_first (0x1002 ∷ 0x1003 ∷ 0x1004 ∷ 0x15FF ∷ 0x1600 ∷ 0x17FF ∷ 0x1800 ∷ 0x19FF ∷ 0x1A00 ∷ 0x1BFF ∷ 0x1C00 ∷ [])
+    ≡ false ∷ true ∷ false ∷ false ∷ true ∷ true ∷ false ∷ false ∷ true ∷ true ∷ false ∷ []
+written_first = refl
+
+-- ---- compact forms
+
+compact : pieces (codes "[2300]\nParameterName=Cam\nObjectType=8\nDataType=5\nAccessType=rw\nCompactSubObj=2\n[2300Name]\n1=Begin\n[2300Value]\n2=7\n")
+    ≡ kept (codes "[2300]") ∷ kept (codes "ParameterName=Cam") ∷ kept (codes "ObjectType=8") ∷ kept (codes "DataType=5") ∷ kept (codes "AccessType=rw")
+    ∷ change_at 6 (CompactSubObj 0x2300 2) (codes "CompactSubObj=2") (codes "CompactSubObj=0\n")
+    ∷ added_lines 1 (codes "[2300sub0]\nParameterName=Number of entries\nObjectType=0x7\nDataType=0x0005\nAccessType=ro\nDefaultValue=2\nPDOMapping=0\n\n"
+    ++ codes "[2300sub1]\nParameterName=Begin\nObjectType=0x7\nDataType=5\nAccessType=rw\n\n"
+    ++ codes "[2300sub2]\nParameterName=Cam 2\nObjectType=0x7\nDataType=5\nAccessType=rw\nParameterValue=7\n\n")
+    ∷ kept (codes "[2300Name]") ∷ kept (codes "1=Begin") ∷ kept (codes "[2300Value]") ∷ kept (codes "2=7") ∷ []
+unfolding assigned
+
+unfolding sub_head
+
+unfolding written_as
+
+unfolding name_line
+
+unfolding value_line
+
+unfolding type_line
+
+unfolding first_keys
+
+unfolding last_keys
+
+unfolding first_section
+
+unfolding sub_section
+
+unfolding digits_text
+compact = refl
+
+variable : pieces (codes "[2300]\nCompactSubObj=2\n") ≡ kept (codes "[2300]") ∷ kept (codes "CompactSubObj=2") ∷ []
+variable = refl
+
+counts : map count_of (0 ∷ 1 ∷ 254 ∷ 255 ∷ []) ≡ None ∷ Some 1 ∷ Some 254 ∷ None ∷ []
+counts = refl
+
+named : index_named (codes "Name") (codes "2300NAME") ≡ Some 0x2300
+named = refl
+
+named_otherwise : index_named (codes "Name") (codes "2300Value") ≡ None
+named_otherwise = refl
+
+named_without_index : index_named (codes "Name") (codes "Name") ≡ None
+named_without_index = refl
+
+subs : map sub_named (codes "10" ∷ codes "255" ∷ codes "256" ∷ codes "0x1" ∷ []) ≡ Some 10 ∷ Some 255 ∷ None ∷ None ∷ []
+subs = refl
+
+-- ---- types that are left out
+
+real : pieces (codes "[2200]\nDataType=0x0008\nLowLimit=0.0\nDefaultValue=12.5\n")
+    ≡ kept (codes "[2200]")
+    ∷ change_at 2 DataType (codes "DataType=0x0008") (codes "DataType=0x0007\nOriginalDataType=0x0008\n")
+    ∷ change_at 3 RealLimit (codes "LowLimit=0.0") []
+    ∷ change_at 4 RealValue (codes "DefaultValue=12.5") (codes "DefaultValue=0x41480000\n") ∷ []
+unfolding fast_float_on_literals
+
+unfolding assigned
+
+unfolding digits_text
+real = refl
+
+real_by_comma : pieces (codes "[2200]\nDataType=8\nDefaultValue=12,5\n") ≡ kept (codes "[2200]") ∷ kept (codes "DataType=8") ∷ kept (codes "DefaultValue=12,5") ∷ []
+unfolding fast_float_on_literals
+real_by_comma = refl
+
+bits_of_real32 : real32_bits (codes "1.0e3") ≡ Some 0x447A0000
+unfolding fast_float_on_literals
+bits_of_real32 = refl
+
+bits_of_real64 : real64_bits (codes "-2") ≡ Some 0xC000000000000000
+unfolding fast_float_on_literals
+bits_of_real64 = refl
+
+hexadecimal_is_no_real : real32_bits (codes "0x10") ≡ None
+unfolding fast_float_on_literals
+hexadecimal_is_no_real = refl
+
+infinite : real32_bits (codes "inf") ≡ None
+unfolding fast_float_on_literals
+infinite = refl
+
+text : value_in_place UnicodeString (codes "Az") ≡ Some (codes "41007A00")
+unfolding digits_text
+text = refl
+
+other_text : value_in_place UnicodeString (65 ∷ 0x80 ∷ []) ≡ None
+other_text = refl
+
+time : value_in_place TimeOfDay (codes "0x10") ≡ Some (codes "0x10")
+time = refl
+
+time_of_node : value_in_place TimeOfDay (codes "$NODEID") ≡ None
+time_of_node = refl
+
+left_out : map left_out_with (7 ∷ 8 ∷ 9 ∷ 0x0C ∷ []) ≡ None ∷ Some Real32 ∷ None ∷ Some TimeOfDay ∷ []
+left_out = refl
+
+-- ---- values and limits at another type
+
+extended : sign_extended Integer16 (codes "0xFFFFFF9C") ≡ Some (codes "0xFF9C")
+unfolding digits_text
+extended = refl
+
+least_extended : sign_extended Integer16 (codes "0xffff8000") ≡ Some (codes "0x8000")
+unfolding digits_text
+least_extended = refl
+
+positive : sign_extended Integer16 (codes "0xFFFF7FFF") ≡ None
+positive = refl
+
+own_width : sign_extended Integer16 (codes "0xFF9C") ≡ None
+own_width = refl
+
+in_16_bits : sign_extended Integer8 (codes "0xFF80") ≡ Some (codes "0x80")
+unfolding digits_text
+in_16_bits = refl
+
+in_64_bits : sign_extended Integer32 (codes "0xFFFFFFFFFFFFFFFE") ≡ Some (codes "0xFFFFFFFE")
+unfolding digits_text
+in_64_bits = refl
+
+in_24_bits : sign_extended Integer8 (codes "0xFFFF80") ≡ None
+in_24_bits = refl
+
+widest : sign_extended Integer64 (codes "0xFFFFFFFFFFFFFFFE") ≡ None
+widest = refl
+
+unsigned : sign_extended Unsigned16 (codes "0xFFFFFF9C") ≡ None
+unsigned = refl
+
+decimal_value : sign_extended Integer16 (codes "4294967196") ≡ None
+decimal_value = refl
+
+limits : is_whole_unsigned Integer32 (Some 0) (Some 0xFFFFFFFF) ≡ true
+limits = refl
+
+other_limits : is_whole_unsigned Integer32 (Some 0) (Some 0x7FFFFFFF) ≡ false
+other_limits = refl
+
+low_limit : is_whole_unsigned Integer32 (Some 1) (Some 0xFFFFFFFF) ≡ false
+low_limit = refl
+
+one_limit : is_whole_unsigned Integer32 None (Some 0xFFFFFFFF) ≡ false
+one_limit = refl
+
+unsigned_limits : is_whole_unsigned Unsigned16 (Some 0) (Some 0xFFFF) ≡ false
+unsigned_limits = refl
+
+signed : pieces (codes "[2005]\nDataType=4\nLowLimit=0x0\nHighLimit=0xFFFFFFFF\nDefaultValue=0xFFFFFFFFFFFFFFFF\n")
+    ≡ kept (codes "[2005]") ∷ kept (codes "DataType=4")
+    ∷ change_at 3 UnsignedLimit (codes "LowLimit=0x0") [] ∷ change_at 4 UnsignedLimit (codes "HighLimit=0xFFFFFFFF") []
+    ∷ change_at 5 SignExtended (codes "DefaultValue=0xFFFFFFFFFFFFFFFF") (codes "DefaultValue=0xFFFFFFFF\n") ∷ []
+unfolding assigned
+
+unfolding digits_text
+signed = refl
+
+pairs : pairs_without_blanks (codes "00 A1  ff") ≡ Some (codes "00A1ff")
+pairs = refl
+
+pairs_as_they_are : pairs_without_blanks (codes "00A1") ≡ None
+pairs_as_they_are = refl
+
+single_digits : pairs_without_blanks (codes "1 2") ≡ None
+single_digits = refl

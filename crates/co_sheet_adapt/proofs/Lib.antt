@@ -1,0 +1,5 @@
+mod PieceLemmas
+mod NamedLemmas
+mod CompactLemmas
+mod CommentLemmas
+mod Examples

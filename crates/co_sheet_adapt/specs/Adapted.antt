@@ -1,0 +1,53 @@
+-- What is written of a text: a comment that says who adapted it, then the text as it was where it is accepted, else its
+-- pieces.
+use Rattle.std.specs.Prelude.{ℕ, ◌+◌, nat_lt, is_none, if◌then◌else◌, List, [], ◌∷◌, ◌++◌, map, take, codes}
+use Rattle.std.specs.List.{flat_map}
+use Rattle.co_sheet_text.specs.Text.{lines_of, without_mark}
+use Rattle.co_sheet_text.specs.Sections.{Property, TextSection}
+use Rattle.co_sheet.specs.Accepted.{first_fault}
+use Rattle.co_sheet_adapt.specs.Pieces.{Piece, kept, changed, added_lines, all_pieces}
+
+-- a control character would end the line
+abbrev pub shown_byte : ℕ → ℕ
+shown_byte byte = if nat_lt byte 32 then 63 else byte
+
+unfoldable pub comment_front : List ℕ
+comment_front = codes "; adapted by "
+
+unfoldable pub comment_end : List ℕ
+comment_end = codes ": not for configuration tools"
+
+abbrev pub comment_text : List ℕ → List ℕ
+comment_text by = comment_front ++ map shown_byte (take 256 by) ++ comment_end
+
+abbrev pub comment_line : List ℕ → List ℕ
+comment_line by = comment_text by ++ 10 ∷ []
+
+-- a piece as it is written: each line is ended by LF
+abbrev pub written : Piece → List ℕ
+written (kept line) = line ++ 10 ∷ []
+written (changed change) = change.new
+written (added_lines line text) = text
+
+-- a text that is accepted has no pieces: it stays as it is, but for its byte order mark
+abbrev pub pieces_in : List ℕ → List Piece
+pieces_in text = if is_none (first_fault text) then [] else all_pieces (lines_of text)
+
+abbrev pub body_in : List ℕ → List ℕ
+body_in text =
+    if is_none (first_fault text) then without_mark text
+    else flat_map written (all_pieces (lines_of text))
+
+abbrev pub adapted_text : List ℕ → List ℕ → List ℕ
+adapted_text by text = comment_line by ++ body_in text
+
+-- a text that stays, after the comment
+abbrev pub commented : List ℕ → List ℕ → List ℕ
+commented by text = comment_line by ++ without_mark text
+
+-- a section, and each of its properties, one line later
+abbrev pub property_later : Property → Property
+property_later k = record k { line = k.line + 1 }
+
+abbrev pub one_later : TextSection → TextSection
+one_later s = record s { line = s.line + 1; properties = map property_later s.properties }

@@ -1,0 +1,17 @@
+-- What a change is called.
+use Rattle.std.specs.Prelude.{ℕ, List, codes}
+use Rattle.co_sheet_adapt.specs.declared.change.ChangeKind.{ChangeKind}
+use Rattle.co_sheet_adapt.specs.declared.change.ChangeKind.TheVariants.{SectionName, ListKey, SubIndex0, CompactSubObj, DataType, RealLimit, RealValue, UnicodeValue, UnsignedLimit, SignExtended, OctetBlanks}
+
+abbrev pub change_name : ChangeKind → List ℕ
+change_name SectionName = codes "blanks in a section's name"
+change_name ListKey = codes "zeros before a list's key"
+change_name SubIndex0 = codes "sub-index 0 without its type or access"
+change_name (CompactSubObj index count) = codes "sub-indices in compact form"
+change_name DataType = codes "data type"
+change_name RealLimit = codes "limit of a REAL"
+change_name RealValue = codes "value of a REAL by its bits"
+change_name UnicodeValue = codes "text in UTF-16"
+change_name UnsignedLimit = codes "unsigned limit of a signed number"
+change_name SignExtended = codes "value with its sign extended"
+change_name OctetBlanks = codes "blanks between bytes"

@@ -1,0 +1,160 @@
+//! A text adapted, and read again.
+
+ghost use Rattle.std.specs.Prelude.{◌≡◌, ◌++◌, ◌≤◌, ℕ, List, length, map, is_none, IfOk, OnOk};
+ghost use Rattle.std.specs.List.{flat_map};
+ghost use Rattle.co_sheet_text.specs.Text.{lines_of};
+ghost use Rattle.co_sheet.specs.Accepted.{first_fault, sections_in};
+ghost use Rattle.co_sheet_adapt.specs.Pieces.{all_pieces};
+ghost use Rattle.co_sheet_adapt.specs.Adapted.{
+  shown_byte,
+  comment_front,
+  comment_end,
+  comment_line,
+  written,
+  pieces_in,
+  body_in,
+  adapted_text,
+  commented,
+  one_later,
+};
+ghost use Rattle.co_sheet_adapt.specs.Views.{piece_view};
+
+use crate::change::{AdaptFault, Piece};
+use crate::line::lines_in;
+use crate::pieces::pieces_of;
+use co_sheet::{FaultKind, GREATEST_SIZE, read};
+use co_sheet_text::without_mark;
+use std::alloc::{AllocError, Global};
+
+/// A text adapted.
+#[derive(Drop)]
+pub struct Adapted<'a> {
+    /// What is written: a comment, and the text as it is rewritten.
+    pub text: Vec<u8>,
+    /// The pieces after the comment, none where the text was accepted as it was.
+    pub pieces: Vec<Piece<'a>>,
+    /// Whether what is written is accepted.
+    pub is_accepted: bool,
+}
+
+// whether a text is a data sheet, by reading it
+fn is_accepted(alloc: Global, text: &[u8]) -> Result<bool, AllocError>
+    ensures { IfOk result (λ is. is ≡ is_none (first_fault text.now)) }
+{
+    match read(alloc, text) {
+        Ok(_) => Ok(true),
+        Err(fault) if fault.kind == FaultKind::Memory => Err(AllocError),
+        Err(_) => Ok(false),
+    }
+}
+
+fn shown_byte(byte: u8) -> u8
+    ensures { result ≡ shown_byte byte }
+{
+    if byte < 32 { b'?' } else { byte }
+}
+
+// how many bytes of a name the comment has
+const LONGEST_NAME: usize = 256;
+
+#[tactic(auto, unfolding(crate::specs::Adapted::comment_front))]
+fn comment_front() -> &'static [u8]
+    ensures { result.now ≡ comment_front }
+{
+    b"; adapted by "
+}
+
+#[tactic(auto, unfolding(crate::specs::Adapted::comment_end))]
+fn comment_end() -> &'static [u8]
+    ensures { result.now ≡ comment_end }
+{
+    b": not for configuration tools"
+}
+
+// the first line: who adapted what
+fn comment_line(alloc: Global, by: &[u8]) -> Result<Vec<u8>, AllocError>
+    ensures { IfOk result (λ made. made.items ≡ comment_line by.now) }
+{
+    let (by, _) = by.split_at(by.len().min(LONGEST_NAME));
+    let mut made = Vec::new(alloc);
+    made.extend_from_slice(comment_front())?;
+    for byte in by {
+        made.push(shown_byte(*byte))?;
+    }
+    made.extend_from_slice(comment_end())?;
+    made.push(b'\n')?;
+    Ok(made)
+}
+
+fn push_piece(text: &mut Vec<u8>, piece: &Piece) -> Result<(), AllocError>
+    ensures { OnOk result (text.new.items ≡ text.old.items ++ written (piece_view piece.now)) }
+{
+    match piece {
+        Piece::Kept(line) => {
+            text.extend_from_slice(line)?;
+            text.push(b'\n')?;
+            Ok(())
+        }
+        Piece::Changed(change) => text.extend_from_slice(change.new.as_slice()),
+        Piece::Added { text: added, .. } => text.extend_from_slice(added.as_slice()),
+    }
+}
+
+fn push_pieces(text: &mut Vec<u8>, pieces: &[Piece]) -> Result<(), AllocError>
+    ensures { OnOk result
+        (text.new.items ≡ text.old.items ++ flat_map written (map piece_view pieces.now)) }
+{
+    for piece in pieces {
+        push_piece(text, piece)?;
+    }
+    Ok(())
+}
+
+// the pieces of a text that isn't accepted
+fn rewritten<'a>(alloc: Global, text: &'a [u8]) -> Result<Vec<Piece<'a>>, AdaptFault>
+    requires { length text.now ≤ 1048576 }
+    ensures { IfOk result (λ pieces.
+        map piece_view pieces.items ≡ all_pieces (lines_of text.entry.now)) }
+{
+    let lines = lines_in(alloc, text)?;
+    pieces_of(alloc, lines.as_slice())
+}
+
+/// Rewrites a data sheet (CiA 306) to one that is accepted, as far as rules say how; `by` is who does so and what it is
+/// made from. A text that is accepted stays as it is, after a first line that says so. Each line that is changed is a
+/// piece with its number and why; all others stay. What is written is read again: where it isn't accepted, something
+/// remains that no rule mends.
+///
+/// `TooLarge` where the text has more than 1,048,576 bytes, or what is added to it has; `Memory` where memory ran out.
+pub fn adapt<'a>(alloc: Global, text: &'a [u8], by: &[u8]) -> Result<Adapted<'a>, AdaptFault>
+    ensures pieces { IfOk result (λ made.
+        map piece_view made.pieces.items ≡ pieces_in text.entry.now) }
+    ensures text { IfOk result (λ made. made.text.items ≡ adapted_text by.now text.entry.now) }
+    ensures accepted { IfOk result (λ made. made.is_accepted ≡ is_none (first_fault made.text.items)) }
+{
+    if text.len() > GREATEST_SIZE {
+        return Err(AdaptFault::TooLarge);
+    }
+    let mut made = comment_line(alloc, by)?;
+    let pieces = if is_accepted(alloc, text)? {
+        made.extend_from_slice(without_mark(text))?;
+        Vec::new(alloc)
+    } else {
+        let pieces = rewritten(alloc, text)?;
+        push_pieces(&mut made, pieces.as_slice())?;
+        pieces
+    };
+    let is_accepted = is_accepted(alloc, made.as_slice())?;
+    Ok(Adapted {
+        text: made,
+        pieces,
+        is_accepted,
+    })
+}
+
+/// After the first line that says who adapted it, a text has the same sections with the same properties, each one line
+/// later. This is a law: a call of it changes nothing.
+pub fn commented_sections()
+    ensures { (by text : List ℕ) →
+        sections_in (commented by text) ≡ map one_later (sections_in text) }
+{}

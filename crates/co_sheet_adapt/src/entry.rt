@@ -1,0 +1,200 @@
+//! The lines of an entry, changed.
+
+ghost use Rattle.std.specs.Prelude.{◌≡◌, ◌++◌, ◌∷◌, [], codes, option_map, IfOk, OnOk};
+ghost use Rattle.co_sheet_adapt.specs.Entries.{
+  assigned,
+  mended,
+  type_lines,
+  is_limit,
+  is_preset,
+  preset_kind,
+  preset_in_place,
+  in_place,
+  preset_at_type,
+  at_type,
+  entry_change,
+};
+ghost use Rattle.co_sheet_adapt.specs.private.Views.{mended_view};
+
+use crate::change::ChangeKind;
+use crate::digits::hexadecimal;
+use crate::facts::Facts;
+use crate::left_out::LeftOut;
+use crate::values::{pairs_without_blanks, sign_extended};
+use co_sheet_text::same_name;
+use co_value::DataType;
+use std::alloc::{AllocError, Global};
+
+/// What comes in a line's place, and why: lines, each ended by LF.
+#[derive(Drop)]
+pub(crate) struct Mended {
+    pub(crate) kind: ChangeKind,
+    pub(crate) new: Vec<u8>,
+}
+
+/// A line with a name and a value.
+#[tactic(auto, unfolding(crate::specs::Entries::assigned))]
+pub(crate) fn assigned(alloc: Global, name: &[u8], value: &[u8]) -> Result<Vec<u8>, AllocError>
+    ensures { IfOk result (λ made. made.items ≡ assigned name.now value.now) }
+{
+    let mut made = Vec::new(alloc);
+    made.extend_from_slice(name)?;
+    made.push(b'=')?;
+    made.extend_from_slice(value)?;
+    made.push(b'\n')?;
+    Ok(made)
+}
+
+// a line with a value in another's place, if there is one
+fn with_value(
+    alloc: Global,
+    kind: ChangeKind,
+    name: &[u8],
+    value: Option<Vec<u8>>,
+) -> Result<Option<Mended>, AllocError>
+    ensures { IfOk result (λ made. option_map mended_view made
+        ≡ option_map (λ v. mended kind (assigned name.now v.items)) value) }
+{
+    let Some(value) = value else {
+        return Ok(None);
+    };
+    let new = assigned(alloc, name, value.as_slice())?;
+    Ok(Some(Mended { kind, new }))
+}
+
+fn dropped(alloc: Global, kind: ChangeKind) -> Mended
+    ensures { mended_view result ≡ mended kind [] }
+{
+    Mended {
+        kind,
+        new: Vec::new(alloc),
+    }
+}
+
+// the data type that stands for one that is left out, and in a key of our own the original
+fn type_lines(alloc: Global, left_out: LeftOut, name: &[u8]) -> Result<Vec<u8>, AllocError>
+    ensures { IfOk result (λ made. made.items ≡ type_lines left_out name.now) }
+{
+    let in_place = hexadecimal(alloc, 4, u64::from(left_out.code_in_place()))?;
+    let original = hexadecimal(alloc, 4, u64::from(left_out.code()))?;
+    let mut made = assigned(alloc, name, in_place.as_slice())?;
+    let second = assigned(alloc, b"OriginalDataType", original.as_slice())?;
+    made.extend_from_slice(second.as_slice())?;
+    Ok(made)
+}
+
+fn is_limit(name: &[u8]) -> bool
+    ensures { result ≡ is_limit name.now }
+{
+    same_name(name, b"LowLimit") || same_name(name, b"HighLimit")
+}
+
+fn is_preset(name: &[u8]) -> bool
+    ensures { result ≡ is_preset name.now }
+{
+    same_name(name, b"DefaultValue") || same_name(name, b"ParameterValue")
+}
+
+// why a value is written otherwise at the type that stands for its own; a time's isn't
+fn preset_kind(left_out: LeftOut) -> Option<ChangeKind>
+    ensures { result ≡ preset_kind left_out }
+{
+    match left_out {
+        LeftOut::Real32 | LeftOut::Real64 => Some(ChangeKind::RealValue),
+        LeftOut::UnicodeString => Some(ChangeKind::UnicodeValue),
+        LeftOut::TimeOfDay | LeftOut::TimeDifference => None,
+    }
+}
+
+fn preset_in_place(
+    alloc: Global,
+    left_out: LeftOut,
+    name: &[u8],
+    value: &[u8],
+) -> Result<Option<Mended>, AllocError>
+    ensures { IfOk result (λ made.
+        option_map mended_view made ≡ preset_in_place left_out name.now value.now) }
+{
+    let Some(kind) = preset_kind(left_out) else {
+        return Ok(None);
+    };
+    let value = left_out.value_in_place(alloc, value)?;
+    with_value(alloc, kind, name, value)
+}
+
+// a line of an entry whose type is left out
+fn in_place(
+    alloc: Global,
+    left_out: LeftOut,
+    name: &[u8],
+    value: &[u8],
+) -> Result<Option<Mended>, AllocError>
+    ensures { IfOk result (λ made.
+        option_map mended_view made ≡ in_place left_out name.now value.now) }
+{
+    if same_name(name, b"DataType") {
+        let new = type_lines(alloc, left_out, name)?;
+        let kind = ChangeKind::DataType;
+        Ok(Some(Mended { kind, new }))
+    } else if is_limit(name) && left_out.is_real() {
+        Ok(Some(dropped(alloc, ChangeKind::RealLimit)))
+    } else if is_preset(name) {
+        preset_in_place(alloc, left_out, name, value)
+    } else {
+        Ok(None)
+    }
+}
+
+// a value of an entry of a supported type
+fn preset_at_type(
+    alloc: Global,
+    data_type: DataType,
+    name: &[u8],
+    value: &[u8],
+) -> Result<Option<Mended>, AllocError>
+    ensures { IfOk result (λ made.
+        option_map mended_view made ≡ preset_at_type data_type name.now value.now) }
+{
+    if data_type == DataType::OctetString {
+        let value = pairs_without_blanks(alloc, value)?;
+        with_value(alloc, ChangeKind::OctetBlanks, name, value)
+    } else {
+        let value = sign_extended(alloc, data_type, value)?;
+        with_value(alloc, ChangeKind::SignExtended, name, value)
+    }
+}
+
+// a line of an entry whose type isn't left out
+fn at_type(
+    alloc: Global,
+    facts: &Facts,
+    name: &[u8],
+    value: &[u8],
+) -> Result<Option<Mended>, AllocError>
+    ensures { IfOk result (λ made.
+        option_map mended_view made ≡ at_type facts.now name.now value.now) }
+{
+    if is_limit(name) && facts.has_unsigned_limits {
+        return Ok(Some(dropped(alloc, ChangeKind::UnsignedLimit)));
+    }
+    match facts.data_type {
+        Some(data_type) if is_preset(name) => preset_at_type(alloc, data_type, name, value),
+        _ => Ok(None),
+    }
+}
+
+/// What a name and its value become in the section of an entry, where they don't stay as they are.
+pub(crate) fn entry_change(
+    alloc: Global,
+    facts: &Facts,
+    name: &[u8],
+    value: &[u8],
+) -> Result<Option<Mended>, AllocError>
+    ensures { IfOk result (λ made.
+        option_map mended_view made ≡ entry_change facts.now name.now value.now) }
+{
+    match facts.left_out {
+        Some(left_out) => in_place(alloc, left_out, name, value),
+        None => at_type(alloc, facts, name, value),
+    }
+}

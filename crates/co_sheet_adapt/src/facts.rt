@@ -1,0 +1,147 @@
+//! What a section says of its entry, as far as its lines are changed by it.
+
+ghost use Rattle.std.specs.Prelude.{◌≡◌, codes, option_map, IfOk};
+ghost use Rattle.std.specs.Option.{option_copied};
+ghost use Rattle.co_sheet_adapt.specs.Facts.{
+  object_code,
+  count_of,
+  compact_count,
+  is_entry,
+  data_type_of,
+  converts,
+  is_convertible,
+  left_out_of,
+  facts_of,
+  has_unsigned_limits,
+};
+ghost use Rattle.co_sheet_adapt.specs.private.Views.{group_view};
+
+use crate::group::Group;
+use crate::left_out::LeftOut;
+use crate::values::is_whole_unsigned;
+use co_sheet::data_type_with;
+use co_sheet_text::{SectionKind, unsigned_number};
+use co_value::DataType;
+use std::alloc::{AllocError, Global};
+
+/// What the lines of a section are changed by.
+#[derive(Clone, Copy)]
+pub(crate) struct Facts {
+    /// Of an ARRAY or a RECORD in compact form, how many sub-indices it has after sub-index 0.
+    pub(crate) compact: Option<u8>,
+    /// Whether the section describes an entry, or all sub-indices of an object in compact form.
+    pub(crate) is_entry: bool,
+    /// The data type that is left out, where its values can be converted.
+    pub(crate) left_out: Option<LeftOut>,
+    /// The data type that is supported.
+    pub(crate) data_type: Option<DataType>,
+    /// Whether the limits of a signed number are those of the unsigned type.
+    pub(crate) has_unsigned_limits: bool,
+}
+
+fn object_code(group: &Group) -> Option<u64>
+    ensures { result ≡ object_code (group_view group.now) }
+{
+    match group.value(b"ObjectType") {
+        Some(value) => unsigned_number(value).ok(),
+        None => Some(7),
+    }
+}
+
+// how many sub-indices a compact form has
+fn count_of(number: u64) -> Option<u8>
+    ensures { result ≡ count_of number }
+{
+    match number {
+        1..=254 => Some(number as u8),
+        _ => None,
+    }
+}
+
+fn compact_count(group: &Group) -> Option<u8>
+    ensures { result ≡ compact_count (group_view group.now) }
+{
+    match (group.kind, object_code(group)) {
+        (SectionKind::Object(_), Some(8 | 9)) => count_of(group.number(b"CompactSubObj")?),
+        _ => None,
+    }
+}
+
+fn is_entry(group: &Group) -> bool
+    ensures { result ≡ is_entry (group_view group.now) }
+{
+    match group.kind {
+        SectionKind::SubIndex(_) => true,
+        SectionKind::Object(_) => {
+            matches!(object_code(group), Some(2 | 7)) || compact_count(group).is_some()
+        }
+        _ => false,
+    }
+}
+
+fn data_type_of(group: &Group) -> Option<DataType>
+    ensures { result ≡ data_type_of (group_view group.now) }
+{
+    data_type_with(group.number(b"DataType")?)
+}
+
+fn converts(alloc: Global, left_out: LeftOut, value: Option<&[u8]>) -> Result<bool, AllocError>
+    ensures { IfOk result (λ is. is ≡ converts left_out (option_copied value.entry)) }
+{
+    match value {
+        Some(value) => Ok(left_out.value_in_place(alloc, value)?.is_some()),
+        None => Ok(true),
+    }
+}
+
+fn is_convertible(alloc: Global, left_out: LeftOut, group: &Group) -> Result<bool, AllocError>
+    ensures { IfOk result (λ is. is ≡ is_convertible left_out (group_view group.now)) }
+{
+    let default = converts(alloc, left_out, group.value(b"DefaultValue"))?;
+    let parameter = converts(alloc, left_out, group.value(b"ParameterValue"))?;
+    Ok(default && parameter)
+}
+
+fn left_out_of(alloc: Global, group: &Group) -> Result<Option<LeftOut>, AllocError>
+    ensures { IfOk result (λ t. t ≡ left_out_of (group_view group.now)) }
+{
+    let Some(code) = group.number(b"DataType") else {
+        return Ok(None);
+    };
+    let Some(left_out) = LeftOut::with(code) else {
+        return Ok(None);
+    };
+    if is_convertible(alloc, left_out, group)? {
+        Ok(Some(left_out))
+    } else {
+        Ok(None)
+    }
+}
+
+fn has_unsigned_limits(group: &Group) -> bool
+    ensures { result ≡ has_unsigned_limits (group_view group.now) }
+{
+    match data_type_of(group) {
+        Some(data_type) => is_whole_unsigned(
+            data_type,
+            group.number(b"LowLimit"),
+            group.number(b"HighLimit"),
+        ),
+        None => false,
+    }
+}
+
+impl Facts {
+    /// What a section says.
+    pub(crate) fn of(alloc: Global, group: &Group) -> Result<Facts, AllocError>
+        ensures { IfOk result (λ facts. facts ≡ facts_of (group_view group.now)) }
+    {
+        Ok(Facts {
+            compact: compact_count(group),
+            is_entry: is_entry(group),
+            left_out: left_out_of(alloc, group)?,
+            data_type: data_type_of(group),
+            has_unsigned_limits: has_unsigned_limits(group),
+        })
+    }
+}

@@ -1,0 +1,154 @@
+//! Data types that are left out, and the types of as many bytes that stand for them (CiA 301, 7.4.7.1).
+
+ghost use Rattle.std.specs.Prelude.{◌≡◌, nat_lt, IfOk, option_map};
+ghost use Rattle.std.specs.List.{list_all};
+ghost use Rattle.co_sheet_adapt.specs.LeftOut.{
+  left_out_with,
+  left_out_code,
+  code_in_place,
+  is_real,
+  real32_bits,
+  real64_bits,
+  utf16_text,
+  value_in_place,
+};
+
+use crate::digits::hexadecimal;
+use co_sheet_text::unsigned_number;
+use co_text::push_byte;
+use std::alloc::{AllocError, Global};
+
+/// A data type that is left out.
+#[derive(Clone, Copy)]
+pub enum LeftOut {
+    Real32,
+    UnicodeString,
+    TimeOfDay,
+    TimeDifference,
+    Real64,
+}
+
+impl LeftOut {
+    /// The type with this code.
+    pub(crate) fn with(code: u64) -> Option<LeftOut>
+        ensures { result ≡ left_out_with code }
+    {
+        match code {
+            0x08 => Some(LeftOut::Real32),
+            0x0B => Some(LeftOut::UnicodeString),
+            0x0C => Some(LeftOut::TimeOfDay),
+            0x0D => Some(LeftOut::TimeDifference),
+            0x11 => Some(LeftOut::Real64),
+            _ => None,
+        }
+    }
+
+    pub(crate) fn code(self) -> u16
+        ensures { result ≡ left_out_code self }
+    {
+        match self {
+            LeftOut::Real32 => 0x08,
+            LeftOut::UnicodeString => 0x0B,
+            LeftOut::TimeOfDay => 0x0C,
+            LeftOut::TimeDifference => 0x0D,
+            LeftOut::Real64 => 0x11,
+        }
+    }
+
+    /// The code of the type that stands for it: UNSIGNED32, OCTET_STRING, UNSIGNED48 or UNSIGNED64.
+    pub(crate) fn code_in_place(self) -> u16
+        ensures { result ≡ code_in_place self }
+    {
+        match self {
+            LeftOut::Real32 => 0x07,
+            LeftOut::UnicodeString => 0x0A,
+            LeftOut::TimeOfDay | LeftOut::TimeDifference => 0x19,
+            LeftOut::Real64 => 0x1B,
+        }
+    }
+
+    pub(crate) fn is_real(self) -> bool
+        ensures { result ≡ is_real self }
+    {
+        matches!(self, LeftOut::Real32 | LeftOut::Real64)
+    }
+
+    /// A value of the type as it is written at the type that stands for it: bits of a REAL, bytes of a UNICODE_STRING in
+    /// UTF-16, others as they are. `None` where it can't be told: a text that is no number, or one that isn't ASCII.
+    pub(crate) fn value_in_place(
+        self,
+        alloc: Global,
+        value: &[u8],
+    ) -> Result<Option<Vec<u8>>, AllocError>
+        ensures { IfOk result (λ made. option_map (λ v. v.items) made ≡ value_in_place self value.now) }
+    {
+        match self {
+            LeftOut::Real32 => match real32_bits(value) {
+                Some(bits) => Ok(Some(hexadecimal(alloc, 8, u64::from(bits))?)),
+                None => Ok(None),
+            },
+            LeftOut::Real64 => match real64_bits(value) {
+                Some(bits) => Ok(Some(hexadecimal(alloc, 16, bits)?)),
+                None => Ok(None),
+            },
+            LeftOut::UnicodeString => utf16(alloc, value),
+            LeftOut::TimeOfDay | LeftOut::TimeDifference => match unsigned_number(value) {
+                Ok(_) => Ok(Some(copied(alloc, value)?)),
+                Err(_) => Ok(None),
+            },
+        }
+    }
+}
+
+// the bits of the nearest REAL32
+fn real32_bits(value: &[u8]) -> Option<u32>
+    ensures { result ≡ real32_bits value.now }
+{
+    let number: f32 = fast_float::parse(value).ok()?;
+    if number.is_finite() {
+        Some(number.to_bits())
+    } else {
+        None
+    }
+}
+
+// the bits of the nearest REAL64
+fn real64_bits(value: &[u8]) -> Option<u64>
+    ensures { result ≡ real64_bits value.now }
+{
+    let number: f64 = fast_float::parse(value).ok()?;
+    if number.is_finite() {
+        Some(number.to_bits())
+    } else {
+        None
+    }
+}
+
+fn copied(alloc: Global, text: &[u8]) -> Result<Vec<u8>, AllocError>
+    ensures { IfOk result (λ made. made.items ≡ text.now) }
+{
+    let mut made = Vec::new(alloc);
+    made.extend_from_slice(text)?;
+    Ok(made)
+}
+
+fn is_ascii(text: &[u8]) -> bool
+    ensures { result ≡ list_all (λ byte. nat_lt byte 0x80) text.now }
+{
+    text.iter().all(|byte| *byte < 0x80)
+}
+
+// the bytes of a text in UTF-16, the low one first, in pairs of hexadecimal digits; of ASCII alone
+fn utf16(alloc: Global, text: &[u8]) -> Result<Option<Vec<u8>>, AllocError>
+    ensures { IfOk result (λ made. option_map (λ v. v.items) made ≡ utf16_text text.now) }
+{
+    if !is_ascii(text) {
+        return Ok(None);
+    }
+    let mut made = String::new(alloc);
+    for byte in text {
+        push_byte(&mut made, *byte)?;
+        push_byte(&mut made, 0)?;
+    }
+    Ok(Some(made.into_bytes()))
+}

@@ -1,0 +1,115 @@
+//! The names and values of the sub-indices of objects in compact form, `[2300Name]` and `[2300Value]` (CiA 306, compact
+//! storage).
+
+ghost use Rattle.std.specs.Prelude.{◌≡◌, ℕ, Some, None, map, option_map, IfOk, OnOk, codes};
+ghost use Rattle.std.specs.Option.{option_copied, option_or};
+ghost use Rattle.indexmap.specs.IndexMap.{get};
+ghost use Rattle.co_value.specs.Keys.{same_key};
+ghost use Rattle.co_sheet_adapt.specs.Named.{index_named, sub_named, text_in_line, text_in_body, text_in_group, text_in_groups};
+ghost use Rattle.co_sheet_adapt.specs.private.Views.{line_view, group_view};
+ghost use Rattle.co_sheet_adapt.specs.private.Named.{texts_at};
+
+use crate::group::Group;
+use crate::line::Line;
+use co_sheet_text::{SectionKind, number_in, same_name};
+use co_value::Key;
+use indexmap::IndexMap;
+use std::alloc::{AllocError, Global};
+
+// the index of an object that such a section's name has in front of a word
+fn index_named(name: &[u8], word: &[u8]) -> Option<u16>
+    ensures { result ≡ index_named word.now name.now }
+{
+    let (front, end) = name.split_at(name.len().saturating_sub(word.len()));
+    if !same_name(end, word) {
+        return None;
+    }
+    match SectionKind::of_name(front) {
+        SectionKind::Object(index) => Some(index),
+        _ => None,
+    }
+}
+
+// the sub-index that a key of such a section is, in decimal digits
+fn sub_named(name: &[u8]) -> Option<u8>
+    ensures { result ≡ sub_named name.now }
+{
+    match number_in(10, name) {
+        Some(number @ 0..=255) => Some(number as u8),
+        _ => None,
+    }
+}
+
+/// What sections give sub-indices, by their keys; of two the first.
+#[derive(Drop)]
+pub(crate) struct Texts<'a> {
+    texts: IndexMap<Key, &'a [u8]>,
+}
+
+impl<'a> Texts<'a> {
+    // adds what a line of an object's section gives, unless there is something already
+    fn add_line(&mut self, index: u16, line: &Line<'a>) -> Result<(), AllocError>
+        ensures { OnOk result ((k : _) → texts_at self.new k
+            ≡ option_or (texts_at self.old k) (text_in_line index k (line_view line.now))) }
+    {
+        let Some((name, value)) = line.property() else {
+            return Ok(());
+        };
+        let Some(sub) = sub_named(name) else {
+            return Ok(());
+        };
+        let key = Key { index, sub };
+        if self.texts.get(&key).is_none() {
+            self.texts.insert(key, value)?;
+        }
+        Ok(())
+    }
+
+    #[tactic(auto, using(crate::proofs::NamedLemmas::or_assoc))]
+    fn add_group(&mut self, index: u16, group: &Group<'_, 'a>) -> Result<(), AllocError>
+        ensures { OnOk result ((k : _) → texts_at self.new k
+            ≡ option_or (texts_at self.old k) (text_in_body index k (group_view group.now).body)) }
+    {
+        for line in group.body {
+            self.add_line(index, line)?;
+        }
+        Ok(())
+    }
+
+    // adds what a section gives, if it is one of the word
+    fn add_named(&mut self, group: &Group<'_, 'a>, word: &[u8]) -> Result<(), AllocError>
+        ensures { OnOk result ((k : _) → texts_at self.new k
+            ≡ option_or (texts_at self.old k) (text_in_group word.now k (group_view group.now))) }
+    {
+        match index_named(group.name, word) {
+            Some(index) => self.add_group(index, group),
+            None => Ok(()),
+        }
+    }
+
+    /// What the sections of a word give.
+    #[tactic(auto, using(crate::proofs::NamedLemmas::or_assoc))]
+    pub(crate) fn of(
+        alloc: Global,
+        groups: &[Group<'_, 'a>],
+        word: &[u8],
+    ) -> Result<Texts<'a>, AllocError>
+        ensures { IfOk result (λ texts. (k : _) →
+            texts_at texts k ≡ text_in_groups word.now k (map group_view groups.now)) }
+    {
+        let mut texts = Texts {
+            texts: IndexMap::new(alloc),
+        };
+        for group in groups {
+            texts.add_named(group, word)?;
+        }
+        Ok(texts)
+    }
+
+    /// What a sub-index is given.
+    pub(crate) fn at(&self, key: Key) -> Option<&'a [u8]>
+        ensures { option_copied result ≡ texts_at self.now key }
+    {
+        Some(*self.texts.get(&key)?)
+    }
+}

@@ -1,0 +1,361 @@
+//! A text in pieces: the lines that stay, the lines that are changed, and what is added.
+
+ghost use Rattle.std.specs.Prelude.{◌≡◌, ◌++◌, ◌∷◌, [], codes, map, option_map, IfOk, OnOk};
+ghost use Rattle.std.specs.List.{flat_map, list_all};
+ghost use Rattle.std.specs.Option.{option_copied};
+ghost use Rattle.co_sheet_adapt.specs.Pieces.{
+  stripped,
+  is_padded,
+  list_change,
+  is_renamed,
+  head_text,
+  is_written_first,
+  missing_key,
+  missing_lines,
+  head_change,
+  compact_change,
+  given_change,
+  piece_of,
+  line_piece,
+  added,
+  group_pieces,
+  kept_piece,
+  all_pieces,
+  access_line,
+};
+ghost use Rattle.co_sheet_adapt.specs.Named.{text_in_groups};
+ghost use Rattle.co_sheet_adapt.specs.private.Views.{line_view, group_view, mended_view};
+ghost use Rattle.co_sheet_adapt.specs.private.Named.{texts_at, IsTablesOf};
+ghost use Rattle.co_sheet_adapt.specs.Views.{piece_view};
+
+use crate::change::{AdaptFault, Change, ChangeKind, Piece};
+use crate::compact::Compact;
+use crate::entry::{Mended, assigned, entry_change};
+use crate::facts::Facts;
+use crate::group::{Group, before_sections, groups_in, without_blanks};
+use crate::line::Line;
+use crate::named::Texts;
+use co_sheet::GREATEST_SIZE;
+use co_sheet_text::{SectionKind, all_digits, same_name};
+use std::alloc::{AllocError, Global};
+
+// digits without the zeros in front
+fn stripped(digits: &[u8]) -> &[u8]
+    ensures { result.now ≡ stripped digits.now }
+{
+    let mut rest = digits;
+    while let Some((first, others)) = rest.split_first() {
+        if *first != b'0' {
+            return rest;
+        }
+        rest = others;
+    }
+    rest
+}
+
+// whether a name is a place in an object list, but for zeros in front
+fn is_padded(name: &[u8]) -> bool
+    ensures { result ≡ is_padded name.now }
+{
+    let rest = stripped(name);
+    all_digits(name, 10) && !rest.is_empty() && rest.len() < name.len()
+}
+
+fn list_change(alloc: Global, name: &[u8], value: &[u8]) -> Result<Option<Mended>, AllocError>
+    ensures { IfOk result (λ made.
+        option_map mended_view made ≡ list_change name.now value.now) }
+{
+    if !is_padded(name) {
+        return Ok(None);
+    }
+    let new = assigned(alloc, stripped(name), value)?;
+    let kind = ChangeKind::ListKey;
+    Ok(Some(Mended { kind, new }))
+}
+
+// whether a section is read without the blanks in its name alone
+fn is_renamed(group: &Group) -> bool
+    ensures { result ≡ is_renamed (group_view group.now) }
+{
+    group.kind.is_read() && !SectionKind::of_name(group.name).is_read()
+}
+
+// the section line, ended by LF
+fn head_text(alloc: Global, group: &Group) -> Result<Vec<u8>, AllocError>
+    ensures { IfOk result (λ made. made.items ≡ head_text (group_view group.now)) }
+{
+    let mut made = Vec::new(alloc);
+    if is_renamed(group) {
+        let name = without_blanks(alloc, group.name)?;
+        made.push(b'[')?;
+        made.extend_from_slice(name.as_slice())?;
+        made.push(b']')?;
+    } else {
+        made.extend_from_slice(group.head.bytes)?;
+    }
+    made.push(b'\n')?;
+    Ok(made)
+}
+
+// whether sub-index 0 of an object is written
+fn is_written_first(index: u16) -> bool
+    ensures { result ≡ is_written_first index }
+{
+    matches!(index, 0x1003 | 0x1600..=0x17FF | 0x1A00..=0x1BFF)
+}
+
+// a line where the section has no value at a name
+fn missing_key(group: &Group, name: &[u8], line: &'static [u8]) -> &'static [u8]
+    ensures { result.now ≡ missing_key name.now line.now (group_view group.now) }
+{
+    if group.value(name).is_none() {
+        line
+    } else {
+        b""
+    }
+}
+
+fn access_line(index: u16) -> &'static [u8]
+    ensures { result.now ≡ access_line index }
+{
+    if is_written_first(index) {
+        b"AccessType=rw\n"
+    } else {
+        b"AccessType=ro\n"
+    }
+}
+
+// what the section of a sub-index 0 lacks
+fn missing_lines(alloc: Global, group: &Group) -> Result<Vec<u8>, AllocError>
+    ensures { IfOk result (λ made. made.items ≡ missing_lines (group_view group.now)) }
+{
+    let mut made = Vec::new(alloc);
+    match group.kind {
+        SectionKind::SubIndex(key) if key.sub == 0 && group.number(b"ObjectType") != Some(2) => {
+            made.extend_from_slice(missing_key(group, b"DataType", b"DataType=0x0005\n"))?;
+            made.extend_from_slice(missing_key(group, b"AccessType", access_line(key.index)))?;
+        }
+        _ => {}
+    }
+    Ok(made)
+}
+
+fn head_change(alloc: Global, group: &Group) -> Result<Option<Mended>, AllocError>
+    ensures { IfOk result (λ made.
+        option_map mended_view made ≡ head_change (group_view group.now)) }
+{
+    let missing = missing_lines(alloc, group)?;
+    if missing.is_empty() && !is_renamed(group) {
+        return Ok(None);
+    }
+    let kind = if missing.is_empty() {
+        ChangeKind::SectionName
+    } else {
+        ChangeKind::SubIndex0
+    };
+    let mut new = head_text(alloc, group)?;
+    new.extend_from_slice(missing.as_slice())?;
+    Ok(Some(Mended { kind, new }))
+}
+
+// a line of an object in compact form
+fn compact_change(
+    alloc: Global,
+    index: u16,
+    count: u8,
+    name: &[u8],
+) -> Result<Option<Mended>, AllocError>
+    ensures { IfOk result (λ made.
+        option_map mended_view made ≡ compact_change index count name.now) }
+{
+    if !same_name(name, b"CompactSubObj") {
+        return Ok(None);
+    }
+    let new = assigned(alloc, name, b"0")?;
+    let kind = ChangeKind::CompactSubObj { index, count };
+    Ok(Some(Mended { kind, new }))
+}
+
+// what a name and its value become in a section
+fn given_change(
+    alloc: Global,
+    kind: SectionKind,
+    facts: &Facts,
+    name: &[u8],
+    value: &[u8],
+) -> Result<Option<Mended>, AllocError>
+    ensures { IfOk result (λ made.
+        option_map mended_view made ≡ given_change kind facts.now name.now value.now) }
+{
+    match (kind, facts.compact) {
+        (SectionKind::Object(index), Some(count)) => compact_change(alloc, index, count, name),
+        _ if kind.is_list() => list_change(alloc, name, value),
+        _ if facts.is_entry => entry_change(alloc, facts, name, value),
+        _ => Ok(None),
+    }
+}
+
+fn piece_of<'a>(line: &Line<'a>, mended: Option<Mended>) -> Piece<'a>
+    ensures { piece_view result ≡ piece_of (line_view line.now) (option_map mended_view mended) }
+{
+    match mended {
+        Some(Mended { kind, new }) => Piece::Changed(Change {
+            line: line.number,
+            kind,
+            old: line.bytes,
+            new,
+        }),
+        None => Piece::Kept(line.bytes),
+    }
+}
+
+fn line_piece<'a>(
+    alloc: Global,
+    kind: SectionKind,
+    facts: &Facts,
+    line: &Line<'a>,
+) -> Result<Piece<'a>, AllocError>
+    ensures { IfOk result (λ piece.
+        piece_view piece ≡ line_piece kind facts.now (line_view line.now)) }
+{
+    let mended = match line.property() {
+        Some((name, value)) => given_change(alloc, kind, facts, name, value)?,
+        None => None,
+    };
+    Ok(piece_of(line, mended))
+}
+
+/// The names and the values that the sections of a text give sub-indices.
+#[derive(Drop)]
+pub(crate) struct Tables<'a> {
+    pub(crate) names: Texts<'a>,
+    pub(crate) values: Texts<'a>,
+}
+
+impl<'a> Tables<'a> {
+    pub(crate) fn of(alloc: Global, groups: &[Group<'_, 'a>]) -> Result<Tables<'a>, AllocError>
+        ensures { IfOk result (IsTablesOf (map group_view groups.now)) }
+    {
+        Ok(Tables {
+            names: Texts::of(alloc, groups, b"Name")?,
+            values: Texts::of(alloc, groups, b"Value")?,
+        })
+    }
+
+    // adds the sections of an object in compact form
+    fn push_added<'s>(
+        &self,
+        alloc: Global,
+        pieces: &mut Vec<Piece<'a>>,
+        facts: &Facts,
+        group: &Group<'s, 'a>,
+    ) -> Result<(), AllocError>
+        ensures { OnOk result (map piece_view pieces.new.items
+            ≡ map piece_view pieces.old.items ++ added (texts_at self.now.names)
+            (texts_at self.now.values) facts.now (group_view group.now)) }
+    {
+        let (SectionKind::Object(index), Some(count)) = (group.kind, facts.compact) else {
+            return Ok(());
+        };
+        let compact = Compact {
+            names: &self.names,
+            values: &self.values,
+            facts,
+            group,
+            index,
+        };
+        let text = compact.text(alloc, count)?;
+        let line = group.head.number;
+        pieces.push(Piece::Added { line, text })?;
+        Ok(())
+    }
+
+    // adds the pieces of sections
+    fn push_groups<'s>(
+        &self,
+        alloc: Global,
+        pieces: &mut Vec<Piece<'a>>,
+        groups: &[Group<'s, 'a>],
+    ) -> Result<(), AdaptFault>
+        ensures { OnOk result (map piece_view pieces.new.items
+            ≡ map piece_view pieces.old.items ++ flat_map (group_pieces (texts_at self.now.names)
+            (texts_at self.now.values)) (map group_view groups.now)) }
+    {
+        let mut size: usize = 0;
+        for group in groups {
+            self.push_group(alloc, pieces, group)?;
+            size = size.saturating_add(added_bytes(pieces.as_slice()));
+            if size > GREATEST_SIZE {
+                return Err(AdaptFault::TooLarge);
+            }
+        }
+        Ok(())
+    }
+
+    // adds the pieces of a section
+    fn push_group<'s>(
+        &self,
+        alloc: Global,
+        pieces: &mut Vec<Piece<'a>>,
+        group: &Group<'s, 'a>,
+    ) -> Result<(), AllocError>
+        ensures { OnOk result (map piece_view pieces.new.items
+            ≡ map piece_view pieces.old.items ++ group_pieces (texts_at self.now.names)
+            (texts_at self.now.values) (group_view group.now)) }
+    {
+        let facts = Facts::of(alloc, group)?;
+        let head = head_change(alloc, group)?;
+        pieces.push(piece_of(&group.head, head))?;
+        push_lines(alloc, pieces, group.kind, &facts, group.body)?;
+        self.push_added(alloc, pieces, &facts, group)
+    }
+}
+
+// adds the pieces of lines of a section
+fn push_lines<'a>(
+    alloc: Global,
+    pieces: &mut Vec<Piece<'a>>,
+    kind: SectionKind,
+    facts: &Facts,
+    lines: &[Line<'a>],
+) -> Result<(), AllocError>
+    ensures { OnOk result (map piece_view pieces.new.items ≡ map piece_view pieces.old.items
+        ++ map (line_piece kind facts.now) (map line_view lines.now)) }
+{
+    for line in lines {
+        pieces.push(line_piece(alloc, kind, facts, line)?)?;
+    }
+    Ok(())
+}
+
+// adds lines that stay
+fn push_kept<'a>(pieces: &mut Vec<Piece<'a>>, lines: &[Line<'a>]) -> Result<(), AllocError>
+    ensures { OnOk result (map piece_view pieces.new.items
+        ≡ map piece_view pieces.old.items ++ map kept_piece (map line_view lines.now)) }
+{
+    for line in lines {
+        pieces.push(Piece::Kept(line.bytes))?;
+    }
+    Ok(())
+}
+
+// how many bytes the last piece adds
+fn added_bytes(pieces: &[Piece]) -> usize {
+    match pieces.last() {
+        Some(Piece::Added { text, .. }) => text.len(),
+        _ => 0,
+    }
+}
+
+/// The pieces of a text of lines. It fails out of memory, and where what is added alone is too large for a data sheet.
+pub(crate) fn pieces_of<'a>(alloc: Global, lines: &[Line<'a>]) -> Result<Vec<Piece<'a>>, AdaptFault>
+    ensures { IfOk result (λ pieces.
+        map piece_view pieces.items ≡ all_pieces (map line_view lines.now)) }
+{
+    let mut pieces = Vec::new(alloc);
+    let groups = groups_in(alloc, lines)?;
+    let tables = Tables::of(alloc, groups.as_slice())?;
+    push_kept(&mut pieces, before_sections(lines))?;
+    tables.push_groups(alloc, &mut pieces, groups.as_slice())?;
+    Ok(pieces)
+}
