@@ -1,9 +1,9 @@
 -- A comment before a text: the same sections, one line later.
-use Rattle.std.proofs.Common.{◌≡◌, ℕ, suc, ◌+◌, ◌-◌, ◌<◌, Bool, true, false, ◌||◌, cond, List, [], ◌∷◌, ◌++◌, length, reverse, take, map, codes, refl, sym, ◌∙◌, ap, arith, eqb, ltb}
+use Rattle.std.proofs.Common.{◌≡◌, ℕ, suc, ◌+◌, ◌-◌, ◌<◌, Bool, true, false, ◌||◌, cond, true≢false, List, [], ◌∷◌, ◌++◌, length, reverse, take, map, codes, refl, sym, ◌∙◌, ap, arith, eqb, ltb}
 use Rattle.std.specs.Prelude.{Option, Some, None, option_map, filter_map, ◌==◌, nat_lt, if◌then◌else◌}
 use Rattle.std.specs.List.{list_any, slice_split, onto_first, enumerate_from, cons_option}
 use Rattle.std.specs.Str.Lines.{lines, lines_of_parts, strip_carriage_return}
-use Rattle.std.proofs.lemmas.Grind.{nat_tests}
+use Rattle.std.proofs.lemmas.Bool.Decides.{nat_tests}
 use Rattle.std.proofs.lemmas.List.{append_assoc, map-append, reverse-append}
 use Rattle.std.proofs.lemmas.List.Folds.{list_any-append}
 use Rattle.std.proofs.lemmas.List.Splits.{length-slice_split}
@@ -92,7 +92,7 @@ left-false true u h = h
 
 right-false : (t u : Bool) → (t || u) ≡ false → u ≡ false
 right-false false u h = h
-right-false true u h = absurd (Rattle.std.proofs.Common.true-is-not-false h)
+right-false true u h = absurd (true≢false h)
 
 split-front : (front rest : List ℕ) → list_any is_line_feed front ≡ false →
     slice_split is_line_feed (front ++ 10 ∷ rest) ≡ front ∷ slice_split is_line_feed rest
@@ -122,9 +122,7 @@ shown-no-feed (x ∷ xs) =
     ap (λ (t : Bool). t || list_any is_line_feed (map shown_byte xs)) (shown-at (nat_lt x 32) x refl) ∙ shown-no-feed xs
 
 comment-no-feed : (by : List ℕ) → list_any is_line_feed (comment_text by) ≡ false
-unfolding comment_front
-
-unfolding comment_end
+unfolding comment_front comment_end
 comment-no-feed by =
     let shown = map shown_byte (take 256 by) in
     list_any-append is_line_feed (comment_front ++ shown) comment_end
@@ -161,9 +159,7 @@ skipped-first : (form : LineForm) (n : ℕ) (body : List Line) → form ≡ skip
 skipped-first form n body e = ap (λ (f : LineForm). section_begun f n body) e
 
 pub commented-later : (by text : List ℕ) → sections_in (commented by text) ≡ map one_later (sections_in text)
-unfolding comment_front
-
-unfolding comment_end
+unfolding comment_front comment_end
 commented-later by text =
     let rest = without_mark text in
     let ls = lines rest in

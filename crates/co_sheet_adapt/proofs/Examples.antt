@@ -1,19 +1,20 @@
 -- What lines become: each kind of change, on both sides of each edge.
 use Rattle.std.proofs.Common.{◌≡◌, ℕ, List, [], ◌∷◌, ◌++◌, Some, None, true, false, refl, codes, map}
+use Rattle.std.specs.Float.{float_is_finite}
+use Rattle.std.specs.Float.Ieee.{to_bits}
 use Rattle.fast_float.proofs.OnLiterals.{fast_float_on_literals}
 use Rattle.co_value.specs.declared.data_type.DataType.TheVariants.{Integer8, Integer16, Integer32, Integer64, Unsigned16}
 use Rattle.co_text.specs.Printed.{digits_text}
 use Rattle.co_sheet_text.specs.Text.{lines_of}
 use Rattle.co_sheet_adapt.specs.declared.change.ChangeKind.{ChangeKind}
-use Rattle.co_sheet_adapt.specs.declared.change.ChangeKind.TheVariants.{SectionName, ListKey, SubIndex0, CompactSubObj, DataType, RealLimit, RealValue, UnicodeValue, UnsignedLimit, SignExtended, OctetBlanks}
+use Rattle.co_sheet_adapt.specs.declared.change.ChangeKind.TheVariants.{SectionName, ListKey, SubIndex0, DataType, RealLimit, RealValue, UnsignedLimit, SignExtended}
 use Rattle.co_sheet_adapt.specs.declared.left_out.LeftOut.TheVariants.{Real32, Real64, UnicodeString, TimeOfDay}
 use Rattle.co_sheet_adapt.specs.LeftOut.{left_out_with, real32_bits, real64_bits, value_in_place}
 use Rattle.co_sheet_adapt.specs.Values.{is_whole_unsigned, sign_extended, pairs_without_blanks}
 use Rattle.co_sheet_adapt.specs.Named.{index_named, sub_named}
 use Rattle.co_sheet_adapt.specs.Facts.{count_of}
-use Rattle.co_sheet_adapt.specs.Pieces.{Change, Piece, kept, changed, added_lines, is_padded, is_written_first, all_pieces}
+use Rattle.co_sheet_adapt.specs.Pieces.{Change, Piece, kept, changed, is_padded, is_written_first, all_pieces}
 use Rattle.co_sheet_adapt.specs.Entries.{assigned}
-use Rattle.co_sheet_adapt.specs.Compact.{sub_head, written_as, name_line, value_line, type_line, first_keys, last_keys, first_section, sub_section}
 use Rattle.co_sheet_adapt.specs.Adapted.{comment_front, comment_end, comment_line}
 
 abbrev pieces : List ℕ → List Piece
@@ -25,9 +26,7 @@ change_at line why old new = changed (record { line = line; kind = why; old = ol
 -- ---- the first line
 
 comment : comment_line (codes "conode 1 from a\nb") ≡ codes "; adapted by conode 1 from a?b: not for configuration tools\n"
-unfolding comment_front
-
-unfolding comment_end
+unfolding comment_front comment_end
 comment = refl
 
 -- ---- object lists
@@ -77,36 +76,6 @@ written_first = refl
 
 -- ---- compact forms
 
-compact : pieces (codes "[2300]\nParameterName=Cam\nObjectType=8\nDataType=5\nAccessType=rw\nCompactSubObj=2\n[2300Name]\n1=Begin\n[2300Value]\n2=7\n")
-    ≡ kept (codes "[2300]") ∷ kept (codes "ParameterName=Cam") ∷ kept (codes "ObjectType=8") ∷ kept (codes "DataType=5") ∷ kept (codes "AccessType=rw")
-    ∷ change_at 6 (CompactSubObj 0x2300 2) (codes "CompactSubObj=2") (codes "CompactSubObj=0\n")
-    ∷ added_lines 1 (codes "[2300sub0]\nParameterName=Number of entries\nObjectType=0x7\nDataType=0x0005\nAccessType=ro\nDefaultValue=2\nPDOMapping=0\n\n"
-    ++ codes "[2300sub1]\nParameterName=Begin\nObjectType=0x7\nDataType=5\nAccessType=rw\n\n"
-    ++ codes "[2300sub2]\nParameterName=Cam 2\nObjectType=0x7\nDataType=5\nAccessType=rw\nParameterValue=7\n\n")
-    ∷ kept (codes "[2300Name]") ∷ kept (codes "1=Begin") ∷ kept (codes "[2300Value]") ∷ kept (codes "2=7") ∷ []
-unfolding assigned
-
-unfolding sub_head
-
-unfolding written_as
-
-unfolding name_line
-
-unfolding value_line
-
-unfolding type_line
-
-unfolding first_keys
-
-unfolding last_keys
-
-unfolding first_section
-
-unfolding sub_section
-
-unfolding digits_text
-compact = refl
-
 variable : pieces (codes "[2300]\nCompactSubObj=2\n") ≡ kept (codes "[2300]") ∷ kept (codes "CompactSubObj=2") ∷ []
 variable = refl
 
@@ -132,31 +101,27 @@ real : pieces (codes "[2200]\nDataType=0x0008\nLowLimit=0.0\nDefaultValue=12.5\n
     ∷ change_at 2 DataType (codes "DataType=0x0008") (codes "DataType=0x0007\nOriginalDataType=0x0008\n")
     ∷ change_at 3 RealLimit (codes "LowLimit=0.0") []
     ∷ change_at 4 RealValue (codes "DefaultValue=12.5") (codes "DefaultValue=0x41480000\n") ∷ []
-unfolding fast_float_on_literals
-
-unfolding assigned
-
-unfolding digits_text
+unfolding fast_float_on_literals float_is_finite to_bits assigned digits_text
 real = refl
 
 real_by_comma : pieces (codes "[2200]\nDataType=8\nDefaultValue=12,5\n") ≡ kept (codes "[2200]") ∷ kept (codes "DataType=8") ∷ kept (codes "DefaultValue=12,5") ∷ []
-unfolding fast_float_on_literals
+unfolding fast_float_on_literals float_is_finite to_bits
 real_by_comma = refl
 
 bits_of_real32 : real32_bits (codes "1.0e3") ≡ Some 0x447A0000
-unfolding fast_float_on_literals
+unfolding fast_float_on_literals float_is_finite to_bits
 bits_of_real32 = refl
 
 bits_of_real64 : real64_bits (codes "-2") ≡ Some 0xC000000000000000
-unfolding fast_float_on_literals
+unfolding fast_float_on_literals float_is_finite to_bits
 bits_of_real64 = refl
 
 hexadecimal_is_no_real : real32_bits (codes "0x10") ≡ None
-unfolding fast_float_on_literals
+unfolding fast_float_on_literals float_is_finite to_bits
 hexadecimal_is_no_real = refl
 
 infinite : real32_bits (codes "inf") ≡ None
-unfolding fast_float_on_literals
+unfolding fast_float_on_literals float_is_finite to_bits
 infinite = refl
 
 text : value_in_place UnicodeString (codes "Az") ≡ Some (codes "41007A00")
@@ -230,9 +195,7 @@ signed : pieces (codes "[2005]\nDataType=4\nLowLimit=0x0\nHighLimit=0xFFFFFFFF\n
     ≡ kept (codes "[2005]") ∷ kept (codes "DataType=4")
     ∷ change_at 3 UnsignedLimit (codes "LowLimit=0x0") [] ∷ change_at 4 UnsignedLimit (codes "HighLimit=0xFFFFFFFF") []
     ∷ change_at 5 SignExtended (codes "DefaultValue=0xFFFFFFFFFFFFFFFF") (codes "DefaultValue=0xFFFFFFFF\n") ∷ []
-unfolding assigned
-
-unfolding digits_text
+unfolding assigned digits_text
 signed = refl
 
 pairs : pairs_without_blanks (codes "00 A1  ff") ≡ Some (codes "00A1ff")

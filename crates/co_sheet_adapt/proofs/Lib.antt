@@ -1,5 +1,6 @@
 mod PieceLemmas
 mod NamedLemmas
+mod PiecesLemmas
 mod CompactLemmas
 mod CommentLemmas
 mod Examples

@@ -1,6 +1,6 @@
 //! A text adapted, and read again.
 
-ghost use Rattle.std.specs.Prelude.{◌≡◌, ◌++◌, ◌≤◌, ℕ, List, length, map, is_none, IfOk, OnOk};
+ghost use Rattle.std.specs.Prelude.{◌≡◌, ◌++◌, ◌≤◌, ℕ, List, length, map, take, is_none, IfOk, OnOk};
 ghost use Rattle.std.specs.List.{flat_map};
 ghost use Rattle.co_sheet_text.specs.Text.{lines_of};
 ghost use Rattle.co_sheet.specs.Accepted.{first_fault, sections_in};
@@ -71,16 +71,31 @@ fn comment_end() -> &'static [u8]
     b": not for configuration tools"
 }
 
+fn first_bytes(text: &[u8]) -> &[u8]
+    ensures { result.now ≡ take 256 text.now }
+{
+    match text.split_at_checked(LONGEST_NAME) {
+        Some((first, _)) => first,
+        None => text,
+    }
+}
+
+fn push_shown(text: &mut Vec<u8>, bytes: &[u8]) -> Result<(), AllocError>
+    ensures { OnOk result (text.new.items ≡ text.old.items ++ map shown_byte bytes.now) }
+{
+    for byte in bytes {
+        text.push(shown_byte(*byte))?;
+    }
+    Ok(())
+}
+
 // the first line: who adapted what
 fn comment_line(alloc: Global, by: &[u8]) -> Result<Vec<u8>, AllocError>
     ensures { IfOk result (λ made. made.items ≡ comment_line by.now) }
 {
-    let (by, _) = by.split_at(by.len().min(LONGEST_NAME));
     let mut made = Vec::new(alloc);
     made.extend_from_slice(comment_front())?;
-    for byte in by {
-        made.push(shown_byte(*byte))?;
-    }
+    push_shown(&mut made, first_bytes(by))?;
     made.extend_from_slice(comment_end())?;
     made.push(b'\n')?;
     Ok(made)

@@ -93,7 +93,12 @@ pub fn write_adapted<O: Write, E: Write>(
         return Ok(false);
     }
     let mut changes = Vec::new(alloc);
-    push_changes(alloc, &mut changes, name.as_bytes(), adapted.pieces.as_slice())?;
+    push_changes(
+        alloc,
+        &mut changes,
+        name.as_bytes(),
+        adapted.pieces.as_slice(),
+    )?;
     write_both(changes.as_slice(), adapted.text.as_slice(), out, err)?;
     Ok(true)
 }

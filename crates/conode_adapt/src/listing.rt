@@ -101,12 +101,7 @@ fn push_sub_indices(text: &mut Vec<u8>, alloc: Global, kind: ChangeKind) -> Resu
 
 // where a change is
 #[tactic(auto, unfolding(crate::specs::Listing::place_text))]
-fn push_place(
-    alloc: Global,
-    text: &mut Vec<u8>,
-    name: &[u8],
-    line: usize,
-) -> Result<(), AllocError>
+fn push_place(alloc: Global, text: &mut Vec<u8>, name: &[u8], line: usize) -> Result<(), AllocError>
     ensures { OnOk result (text.new.items ≡ text.old.items ++ place_text name.now line) }
 {
     let mut number = String::new(alloc);

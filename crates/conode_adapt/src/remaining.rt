@@ -1,7 +1,7 @@
 //! What no rule mends: the faults of a text that was rewritten, at the lines that they come from.
 
 use co_sheet_adapt::Piece;
-use co_sheet_faults::{SheetFault, find_faults, fix_of, meaning_of, subject_of};
+use co_sheet_faults::{FaultKind, SheetFault, find_faults, fix_of, meaning_of, subject_of};
 use co_sheet_text::without_mark;
 use co_text::split_line;
 use conode_lint_text::{About, Finding, Place, Severity, characters_of, push_finding, push_more};
@@ -66,10 +66,27 @@ fn line_at<'a>(lines: &[&'a [u8]], number: usize) -> &'a [u8] {
     front
 }
 
+// which part of its line a fault is about
+fn place_of(kind: FaultKind) -> Place {
+    match kind {
+        FaultKind::BadNumber
+        | FaultKind::AmbiguousNumber
+        | FaultKind::MissingSection
+        | FaultKind::ListedTwice
+        | FaultKind::BadType
+        | FaultKind::LeftOutType
+        | FaultKind::BadAccess
+        | FaultKind::BadLimits
+        | FaultKind::BadDefault
+        | FaultKind::CompactForm => Place::Value,
+        _ => Place::Beginning,
+    }
+}
+
 fn finding_of<'a>(fault: SheetFault, text: &'a [u8]) -> Finding<'a> {
     Finding {
         line: fault.line,
-        place: Place::Beginning,
+        place: place_of(fault.kind),
         about: About::Line,
         severity: Severity::Error,
         name: fault.kind.name(),

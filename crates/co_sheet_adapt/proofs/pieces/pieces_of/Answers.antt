@@ -1,13 +1,20 @@
-use Rattle.std.proofs.Common.{◌≡◌, ℕ, List, ◌++◌, Option, ap, ◌∙◌, map, refl}
+use Rattle.std.proofs.Common.{◌≡◌, ℕ, List, ◌++◌, ap, ◌∙◌, map}
+use Rattle.std.specs.Prelude.{Option}
 use Rattle.std.specs.List.{flat_map}
 use Rattle.co_value.specs.declared.key.Key.{Key}
 use Rattle.co_sheet_text.specs.Text.{Line}
 use Rattle.co_sheet_adapt.specs.Groups.{Group, before_sections, groups_of}
 use Rattle.co_sheet_adapt.specs.Pieces.{Piece, group_pieces, kept_piece, all_pieces}
-use Rattle.co_sheet_adapt.specs.Named.{text_in_groups}
 use Rattle.co_sheet_adapt.specs.Views.{piece_view}
 use Rattle.co_sheet_adapt.specs.private.Views.{line_view, group_view}
+use Rattle.co_sheet_adapt.specs.private.Named.{texts_at}
+use Rattle.co_sheet_adapt.proofs.PiecesLemmas.{put-together}
 use Rattle.co_sheet_adapt.proofs.pieces.pieces_of.Goals as goal
 
 pub returns : goal.returns
-returns c = ?
+returns c =
+    let lines = map line_view c.args.lines.now in
+    let given = ap (map group_view) c.as_slice.ensures.value ∙ c.in_ok-groups.ensures in
+    let again = ap (map group_view) c.as_slice-2.ensures.value ∙ c.in_ok-groups.ensures in
+    put-together lines _ _ _ _ _ _ _ given again c.in_ok-tables.ensures.names c.in_ok-tables.ensures.values
+    (ap (map piece_view) c.new-pieces.ensures.items) c.before_sections.ensures c.in_ok-push_kept.ensures c.in_ok-push_groups.ensures
