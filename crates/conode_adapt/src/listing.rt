@@ -11,7 +11,6 @@ ghost use Rattle.conode_adapt.specs.Listing.{
   front_of,
   new_text,
   sub_indices_text,
-  compact_text,
   place_text,
   old_and_new,
   change_line,
