@@ -120,4 +120,9 @@ pub enum Task<'a> {
         /// In which form.
         shown_as: ShownAs,
     },
+    /// To rewrite a vendor's data sheet to one that is accepted.
+    Adapt {
+        /// The sheet's path.
+        sheet: &'a str,
+    },
 }
