@@ -51,9 +51,10 @@ sound_ready node row last sheet = by_test (is_sum_outside node row row.default) 
 all_sound_ready : (node : ℕ) → node ≤ 127 → (rows : List EntryRow) → All (λ row. IsSheetRow (row_view row)) rows
     → AllByRecursion (IsReady node) (map (sound_row node) (map row_view rows))
 all_sound_ready node last [] h = tt
-all_sound_ready node last (row ∷ rows) h =
-    (sound_ready node (row_view row) last (All-head (λ (row : EntryRow). IsSheetRow (row_view row)) row rows h),
-    all_sound_ready node last rows (All-tail (λ (row : EntryRow). IsSheetRow (row_view row)) row rows h))
+all_sound_ready node last (row ∷ rows) h = (
+  sound_ready node (row_view row) last (All-head (λ (row : EntryRow). IsSheetRow (row_view row)) row rows h),
+  all_sound_ready node last rows (All-tail (λ (row : EntryRow). IsSheetRow (row_view row)) row rows h),
+)
 
 of_views : (P : SheetRow → Type 0) (rows : List EntryRow) → AllByRecursion P (map row_view rows) → AllByRecursion (λ row. P (row_view row)) rows
 of_views P [] h = tt

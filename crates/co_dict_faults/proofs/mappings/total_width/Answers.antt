@@ -15,9 +15,9 @@ loop-earlier-preserved g c =
     let rest = words_left contents c.args.index count (i + 1) in
     record {
       whole = ap (λ width. c.loop-earlier.total + width + total_width c.args.side d rest) (c.from-total.ensures ∙ c.width_of_word.ensures.value)
-      ∙ width_added (λ w. unwrap_or (word_width c.args.side d w) 0) c.mapping_word-word.result.0 c.loop-earlier.total _ _ _
-      (next_word contents c.args.index count i (omega (arith, c.loop-earlier-test.true, c.min-earlier-end.ensures)) ∙ ap (λ w. w ∷ rest) (sym c.mapping_word-word.ensures))
-      c.loop-earlier.invariant.whole;
+          ∙ width_added (λ w. unwrap_or (word_width c.args.side d w) 0) c.mapping_word-word.result.0 c.loop-earlier.total _ _ _
+          (next_word contents c.args.index count i (omega (arith, c.loop-earlier-test.true, c.min-earlier-end.ensures)) ∙ ap (λ w. w ∷ rest) (sym c.mapping_word-word.ensures))
+          c.loop-earlier.invariant.whole;
       small = omega (arith, c.loop-earlier.invariant.small, c.width_of_word.ensures.small, c.from-total.ensures);
       few = omega (arith, c.loop-earlier-test.true, c.min-earlier-end.ensures);
     }

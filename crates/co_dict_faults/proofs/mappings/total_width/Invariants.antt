@@ -11,7 +11,7 @@ invariant-loop-earlier g l =
     let count = min l.count 64 in
     record {
       whole : l.total + total_width l.side d (words_left contents l.index count l.earlier)
-      ≡ total_width l.side d (counted_words contents l.index count);
+          ≡ total_width l.side d (counted_words contents l.index count);
       small : l.total ≤ 8 * l.earlier;
       few : l.earlier ≤ count;
     }
