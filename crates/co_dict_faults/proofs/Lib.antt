@@ -1,4 +1,5 @@
 mod EachLemmas
+mod Examples
 mod FirstLemmas
 mod FoundLemmas
 pub mod MappingLemmas
