@@ -372,7 +372,7 @@ fn adapt_command<'a>(alloc: Global) -> Result<Command<'a>, AllocError>
         "The vendor's data sheet (EDS or DCF, CiA 306)",
     );
     Command::new(alloc, "adapt")
-        .about("Rewrites a vendor's data sheet to one that is accepted, and lists each change")
+        .about("Rewrites a vendor's data sheet to be accepted, and lists each change")
         .after_help(help::ADAPTED)
         .arg(sheet)
 }
