@@ -1,10 +1,9 @@
-//! A CANopen device node on the command line: checks, lints, shows and adapts data sheets, decodes CAN traces as
-//! `candump -L` writes them, plays one to the device of a data sheet, and lets an SDO client download to it.
+//! A CANopen device node on the command line: checks, lints and shows data sheets, decodes CAN traces as `candump -L` writes
+//! them, plays one to the device of a data sheet, and lets an SDO client download to it.
 #![tactic(auto)]
 
 use co_dict_build::Limits;
 use co_node::Config;
-use conode_adapt::adapt_file;
 use conode_check::check_file;
 use conode_decode::decode_files;
 use conode_io::{CmdFault, stopped};
@@ -70,14 +69,6 @@ fn form_of(rt: &HostRuntime, words: &LintWords<'_>) -> Form {
     }
 }
 
-/// The version of the program.
-fn version() -> &'static str {
-    match VERSION.split_once(", ") {
-        Some((version, _)) => version,
-        None => VERSION,
-    }
-}
-
 /// Lints the sheets that the words name.
 fn lint_sheets<O: Write, E: Write>(
     rt: &HostRuntime,
@@ -85,6 +76,10 @@ fn lint_sheets<O: Write, E: Write>(
     out: &mut O,
     err: &mut E,
 ) -> ExitCode {
+    let version = match VERSION.split_once(", ") {
+        Some((version, _)) => version,
+        None => VERSION,
+    };
     let options = LintOptions {
         checks: Checks {
             node: words.dictionary.node,
@@ -94,7 +89,7 @@ fn lint_sheets<O: Write, E: Write>(
         },
         form: form_of(rt, words),
         strict: words.strict,
-        version: version(),
+        version,
     };
     lint_files(rt, words.sheets.as_slice(), &options, out, err)
 }
@@ -137,7 +132,6 @@ fn carry_out_task<O: Write, E: Write>(
             node,
             shown_as,
         } => show_file(rt, sheet, format_of(shown_as), node, out, err),
-        Task::Adapt { sheet } => adapt_file(rt, sheet, version(), out, err),
     }
 }
 

@@ -9,7 +9,7 @@ use Rattle.conode_words.specs.declared.tasks.DeviceWords.{DeviceWords}
 use Rattle.conode_words.specs.declared.tasks.DictionaryWords.{DictionaryWords}
 use Rattle.conode_words.specs.declared.tasks.Task.{Task}
 use Rattle.conode_words.specs.Fields.{AsksFor, GivesDevice, GivesDictionary}
-use Rattle.conode_words.specs.Tasks.{Asked, adapt, asked_adapt, asked_by, asked_check, asked_decode, asked_device, asked_dictionary, asked_in, asked_lint, asked_loop, asked_of, asked_replay, asked_show, check, colours_of, colours_for, decode, format_of, format_for, lint, loop_back, mode_for, mode_of, number_for, number_of_bits, replay, show, shown_as, shown_for}
+use Rattle.conode_words.specs.Tasks.{Asked, asked_by, asked_check, asked_decode, asked_device, asked_dictionary, asked_in, asked_lint, asked_loop, asked_of, asked_replay, asked_show, check, colours_of, colours_for, decode, format_of, format_for, lint, loop_back, mode_for, mode_of, number_for, number_of_bits, replay, show, shown_as, shown_for}
 
 by_test : {P : Type 0} (b : Bool) → (b ≡ true → P) → (b ≡ false → P) → P
 by_test true then otherwise = then refl
@@ -101,10 +101,6 @@ show_fields rows a e =
     mapped _ (shown_for rows) a f0 (λ form e1 is.
     subst (AsksFor (codes "show") rows) is (refl, e0, refl, chosen shown_as (first_of (codes "format") rows) form e1)))
 
-adapt_fields : (rows : List Row) (a : Asked) → asked_adapt rows ≡ Some a → AsksFor (codes "adapt") rows a
-adapt_fields rows a e =
-    mapped _ (first_of (codes "SHEET") rows) a e (λ sheet e0 is. subst (AsksFor (codes "adapt") rows) is (refl, e0))
-
 at_name : (name known : Text) (rows : List Row) (a : Asked) → bytes_eq name known ≡ true → AsksFor known rows a → AsksFor name rows a
 at_name name known rows a same h = subst (λ (n : Text). AsksFor n rows a) (sym (named name known same)) h
 
@@ -116,8 +112,7 @@ fields_of name rows a e =
     by_test (bytes_eq name (codes "replay")) (λ y. at_name name (codes "replay") rows a y (replay_fields rows a (rw (n0, n1, n2, y) at e))) (λ n3.
     by_test (bytes_eq name (codes "loop")) (λ y. at_name name (codes "loop") rows a y (loop_fields rows a (rw (n0, n1, n2, n3, y) at e))) (λ n4.
     by_test (bytes_eq name (codes "show")) (λ y. at_name name (codes "show") rows a y (show_fields rows a (rw (n0, n1, n2, n3, n4, y) at e))) (λ n5.
-    by_test (bytes_eq name (codes "adapt")) (λ y. at_name name (codes "adapt") rows a y (adapt_fields rows a (rw (n0, n1, n2, n3, n4, n5, y) at e))) (λ n6.
-    let none : None ≡ Some a = rw (n0, n1, n2, n3, n4, n5, n6) at e in absurd cc)))))))
+    let none : None ≡ Some a = rw (n0, n1, n2, n3, n4, n5) at e in absurd cc))))))
 
 pub fields_in : (matches : Option (Text × List Row)) (asked : Option Asked) (a : Asked) → asked ≡ asked_of matches → asked ≡ Some a → IsSomeAnd matches (λ m. AsksFor m.0 m.1 a)
 fields_in None asked a same is = absurd (let none : None ≡ Some a = sym same ∙ is in cc)
@@ -162,5 +157,3 @@ only_asked name rows (loop_back a) (name_is, sheet, key, bytes, m, d) =
 only_asked name rows (show a) (name_is, sheet, node, f) =
     let form = choice_is shown_as (first_of (codes "format") rows) a.shown_as f in
     ap (λ (n : Text). asked_in n rows) name_is ∙ rw (sheet, form, ← node) refl
-only_asked name rows (adapt a) (name_is, sheet) =
-    ap (λ (n : Text). asked_in n rows) name_is ∙ rw (sheet) refl

@@ -11,7 +11,7 @@ use Rattle.conode_words.specs.declared.tasks.DictionaryWords.{DictionaryWords}
 use Rattle.conode_words.specs.declared.tasks.ShownAs.TheVariants.{Columns, Markdown}
 use Rattle.conode_words.specs.declared.tasks.Colours.TheVariants.{Auto, Always}
 use Rattle.conode_words.specs.declared.tasks.Format.TheVariants.{Json, Text as AsText}
-use Rattle.conode_words.specs.Tasks.{Asked, check, lint, decode, replay, loop_back, show, adapt, asked_in, asked_of, adapt_command, check_command, conode_command, decode_command, lint_command, loop_command, replay_command, show_command, task_fault, word_fault}
+use Rattle.conode_words.specs.Tasks.{Asked, check, lint, decode, replay, loop_back, show, asked_in, asked_of, check_command, conode_command, decode_command, lint_command, loop_command, replay_command, show_command, task_fault, word_fault}
 
 -- what all words ask for, by the program's command; and those after the name of a subcommand, by that alone, which is computed
 -- sooner
@@ -272,11 +272,3 @@ show_as_text = refl
 show_for_node_128 : fault_after show_command (codes "show") (codes "a" ∷ codes "--node" ∷ codes "128" ∷ []) ≡ kind.ValueValidation ∷ []
 unfolding clap_on_literals
 show_for_node_128 = refl
-
-adapt_of_a_sheet : asked (codes "adapt" ∷ codes "a" ∷ []) ≡ Some (adapt (record { sheet = codes "a" }))
-unfolding clap_on_literals
-adapt_of_a_sheet = refl
-
-adapt_without_sheet : fault_after adapt_command (codes "adapt") [] ≡ kind.MissingRequiredArgument ∷ []
-unfolding clap_on_literals
-adapt_without_sheet = refl

@@ -19,7 +19,7 @@ use Rattle.conode_words.specs.declared.tasks.Colours.TheVariants.{Auto, Always, 
 use Rattle.conode_words.specs.declared.tasks.Format.{Format}
 use Rattle.conode_words.specs.declared.tasks.Format.TheVariants as format
 use Rattle.conode_words.specs.declared.tasks.Task.{Task}
-use Rattle.conode_words.specs.declared.tasks.Task.TheVariants.{Check, Lint, Decode, Replay, LoopBack, Show, Adapt}
+use Rattle.conode_words.specs.declared.tasks.Task.TheVariants.{Check, Lint, Decode, Replay, LoopBack, Show}
 use Rattle.conode_words.specs.declared.tasks.ShownAs.{ShownAs}
 use Rattle.conode_words.specs.declared.tasks.ShownAs.TheVariants.{Columns, Markdown}
 
@@ -124,10 +124,6 @@ abbrev pub show_command : App
 show_command =
     with_rule (with_rule (with_rule (new_app (codes "show")) (wanted (codes "SHEET"))) node_option) shown_option
 
--- `adapt SHEET`
-abbrev pub adapt_command : App
-adapt_command = with_rule (new_app (codes "adapt")) (wanted (codes "SHEET"))
-
 -- a command with `--version`
 abbrev pub versioned : App → App
 versioned app = record app { top = record app.top { has_version = true } }
@@ -136,8 +132,8 @@ versioned app = record app { top = record app.top { has_version = true } }
 abbrev pub conode_command : App
 conode_command =
     with_subcommand (with_subcommand (with_subcommand (with_subcommand (with_subcommand (with_subcommand
-    (with_subcommand (versioned (new_app (codes "conode"))) check_command.top) lint_command.top)
-    decode_command.top) replay_command.top) loop_command.top) show_command.top) adapt_command.top
+    (versioned (new_app (codes "conode"))) check_command.top) lint_command.top) decode_command.top)
+    replay_command.top) loop_command.top) show_command.top
 
 -- what the words after `check` ask for: texts and numbers
 pub record AskedCheck : Type 0 where
@@ -180,10 +176,6 @@ pub record AskedShow : Type 0 where
   pub node : Option ℕ
   pub shown_as : ShownAs
 
--- what the words after `adapt` ask for
-pub record AskedAdapt : Type 0 where
-  pub sheet : Text
-
 -- what the words ask for
 pub data Asked : Type 0 where
   check : AskedCheck → Asked
@@ -192,7 +184,6 @@ pub data Asked : Type 0 where
   replay : AskedReplay → Asked
   loop_back : AskedLoop → Asked
   show : AskedShow → Asked
-  adapt : AskedAdapt → Asked
 
 -- what a task asks for
 abbrev pub asked_by : Task → Asked
@@ -214,7 +205,6 @@ asked_by (Replay sheet trace device) =
 asked_by (LoopBack sheet key bytes mode device) =
     loop_back (record { sheet = sheet.now; key = key.now; bytes = bytes.now; mode = mode; device = device })
 asked_by (Show sheet node form) = show (record { sheet = sheet.now; node = node; shown_as = form })
-asked_by (Adapt sheet) = adapt (record { sheet = sheet.now })
 
 -- the number that a word is, of so many bits: decimal digits, perhaps after a plus
 abbrev pub number_of_bits : ℕ → Text → Option ℕ
@@ -344,11 +334,6 @@ asked_show rows =
     show (record { sheet = sheet; node = number_for 8 (codes "node") rows; shown_as = form }))
     (shown_for rows)) (first_of (codes "SHEET") rows)
 
--- what the matches of `adapt` ask for
-abbrev pub asked_adapt : List Row → Option Asked
-asked_adapt rows =
-    option_map (λ sheet. adapt (record { sheet = sheet })) (first_of (codes "SHEET") rows)
-
 -- what the matches of a subcommand other than `lint` ask for
 abbrev pub asked_other : Text → List Row → Option Asked
 asked_other name rows =
@@ -356,8 +341,7 @@ asked_other name rows =
     else (if bytes_eq name (codes "decode") then asked_decode rows
     else (if bytes_eq name (codes "replay") then asked_replay rows
     else (if bytes_eq name (codes "loop") then asked_loop rows
-    else (if bytes_eq name (codes "show") then asked_show rows
-    else (if bytes_eq name (codes "adapt") then asked_adapt rows else None)))))
+    else (if bytes_eq name (codes "show") then asked_show rows else None))))
 
 -- what the matches of a subcommand ask for
 abbrev pub asked_in : Text → List Row → Option Asked

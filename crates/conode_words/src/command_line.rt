@@ -6,8 +6,6 @@ ghost use Rattle.clap.specs.Words.{FailsBy, app_of, found_of, rows_of, rule_of, 
 ghost use Rattle.clap.specs.declared.builder.command.Command.TheViews.{out-Command};
 ghost use Rattle.conode_words.specs.Fields.{AsksFor};
 ghost use Rattle.conode_words.specs.Tasks.{
-  adapt_command,
-  asked_adapt,
   asked_by,
   asked_check,
   asked_decode,
@@ -362,21 +360,6 @@ fn show_command<'a>(alloc: Global) -> Result<Command<'a>, AllocError>
         .arg(format)
 }
 
-fn adapt_command<'a>(alloc: Global) -> Result<Command<'a>, AllocError>
-    ensures shape { IfOk result (λ command. app_of command ≡ adapt_command) }
-    ensures local { IfOk result (λ command. (out-Command command).has_globals ≡ false) }
-{
-    let sheet = wanted(
-        alloc,
-        "SHEET",
-        "The vendor's data sheet (EDS or DCF, CiA 306)",
-    );
-    Command::new(alloc, "adapt")
-        .about("Rewrites a vendor's data sheet to be accepted, and lists each change")
-        .after_help(help::ADAPTED)
-        .arg(sheet)
-}
-
 fn conode_command<'a>(alloc: Global) -> Result<Command<'a>, AllocError>
     ensures { IfOk result (λ command. app_of command ≡ conode_command) }
 {
@@ -386,7 +369,6 @@ fn conode_command<'a>(alloc: Global) -> Result<Command<'a>, AllocError>
     let replay = replay_command(alloc)?;
     let looped = loop_command(alloc)?;
     let show = show_command(alloc)?;
-    let adapt = adapt_command(alloc)?;
     Command::new(alloc, "conode")
         .version(help::VERSION)
         .about("Checks data sheets of CANopen devices, decodes and answers CAN traces")
@@ -396,8 +378,7 @@ fn conode_command<'a>(alloc: Global) -> Result<Command<'a>, AllocError>
         .subcommand(decode)?
         .subcommand(replay)?
         .subcommand(looped)?
-        .subcommand(show)?
-        .subcommand(adapt)
+        .subcommand(show)
 }
 
 // the number of an option, of 8 bits
@@ -658,15 +639,6 @@ fn asked_show<'a>(found: &ArgMatches<'a>) -> Option<Task<'a>>
     })
 }
 
-// what the words after `adapt` ask for
-#[tactic(auto, using(crate::proofs::TaskLemmas::first_in_rows))]
-fn asked_adapt<'a>(found: &ArgMatches<'a>) -> Option<Task<'a>>
-    ensures { option_map asked_by result ≡ asked_adapt (rows_of (found_of found.now)) }
-{
-    let sheet = found.get_str("SHEET")?;
-    Some(Task::Adapt { sheet })
-}
-
 // what the words after the name of a subcommand other than `lint` ask for
 fn asked_other<'a>(name: &str, found: &ArgMatches<'a>) -> Option<Task<'a>>
     ensures { option_map asked_by result ≡ asked_other name.now (rows_of (found_of found.now)) }
@@ -681,8 +653,6 @@ fn asked_other<'a>(name: &str, found: &ArgMatches<'a>) -> Option<Task<'a>>
         asked_loop(found)
     } else if name == "show" {
         asked_show(found)
-    } else if name == "adapt" {
-        asked_adapt(found)
     } else {
         None
     }

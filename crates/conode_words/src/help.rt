@@ -173,25 +173,6 @@ line 7`, that is all that is printed.
 
 Status: 0 if the dictionary is shown, 1 if not, 2 if the words are wrong.";
 
-/// What `adapt` prints.
-pub const ADAPTED: &str = "\
-Prints the sheet with what can be rewritten safely: CompactSubObj as sections of
-its own, REAL32 and REAL64 by their bits, times and texts in UTF-16 by their
-bytes (the original type stays in OriginalDataType), keys of lists with leading
-zeros, blanks in names of sections, a sub-index 0 without type or access, values
-with an extended sign, unsigned limits of signed numbers. Each change goes to
-standard error, as `NAME:LINE: what changed: old -> new`; all other lines stay.
-
-  conode adapt vendor.eds > adapted.eds
-
-Where something remains that no rule mends, nothing is printed but its faults,
-on standard error, as `lint` prints them. A sheet that is accepted already
-stays as it is. The first line says what the sheet was made from: it is for this
-program, not for configuration tools.
-
-Status: 0 if a sheet is printed, 1 if not or if memory ran out, 2 if the file
-can't be read or the words are wrong.";
-
 /// What `decode` prints.
 pub const DECODED: &str = "\
 Prints a line for each data frame with an 11-bit identifier: the number of its

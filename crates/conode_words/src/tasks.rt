@@ -120,9 +120,4 @@ pub enum Task<'a> {
         /// In which form.
         shown_as: ShownAs,
     },
-    /// To rewrite a vendor's data sheet to one that is accepted.
-    Adapt {
-        /// The sheet's path.
-        sheet: &'a str,
-    },
 }
