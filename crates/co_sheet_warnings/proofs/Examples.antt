@@ -1,16 +1,26 @@
 -- Small texts, and the lines at which each kind of warning applies: both sides of each edge.
-use Rattle.std.proofs.Common.{◌≡◌, ℕ, List, [], ◌∷◌, ◌++◌, Some, None, true, false, refl, codes, map}
-use Rattle.std.specs.Prelude.{replicate}
+use Rattle.std.proofs.Common.{◌≡◌, ℕ, ◌+◌, List, [], ◌∷◌, ◌++◌, Some, None, true, false, refl, codes, map, take, drop}
+use Rattle.std.specs.Prelude.{replicate, filter_map, option_and_then}
+use Rattle.std.specs.Str.{chars, is_utf8}
 use Rattle.co_sheet_text.specs.declared.section_kind.SectionKind.{SectionKind}
 use Rattle.co_sheet_text.specs.declared.section_kind.SectionKind.TheVariants.{MandatoryObjects, OptionalObjects, ManufacturerObjects, Object, SubIndex}
 use Rattle.co_sheet_warnings.specs.declared.warning.WarningKind.{WarningKind}
-use Rattle.co_sheet_warnings.specs.declared.warning.WarningKind.TheVariants.{SubNumber, SubIndex0, WrongList, Unlisted, FixedCobId, NodeIdPlace, InhibitTime, OwnHeartbeat, HeartbeatTwice, NoErrorControl, LongLine, NotAscii, ListOrder, MissingName}
+use Rattle.co_sheet_warnings.specs.declared.warning.WarningKind.TheVariants.{SubNumber, SubIndex0, FileInfoKeys, DeviceInfoKeys, PdoCount, WrongList, Unlisted, IdentityNumber, FixedCobId, NodeIdPlace, MisspeltKey, SharedCobId, InhibitTime, OwnHeartbeat, HeartbeatTwice, NoErrorControl, LongLine, Utf8, NotAscii, ListOrder, EqualNames, MissingName, UnknownKey, DateFormat, LineEnds}
 use Rattle.co_sheet_warnings.specs.ReadTexts.{read_text}
 use Rattle.co_sheet_warnings.specs.SubIndices.{is_highest_by_rule, counted}
 use Rattle.co_sheet_warnings.specs.Lists.{is_right_list}
 use Rattle.co_sheet_warnings.specs.CobIds.{has_default_cob_id, is_enabled, is_node_id_last}
 use Rattle.co_sheet_warnings.specs.Communication.{is_synchronous, node_of_word, is_used_word}
-use Rattle.co_sheet_warnings.specs.Warnings.{warning_at, places_of, warnings_of}
+use Rattle.co_sheet_text.specs.Text.{lines_of}
+use Rattle.co_sheet_warnings.specs.declared.keys.Topic.TheVariants.{FileInfo, DeviceInfo, DeviceCommissioning, ObjectLists, Objects, Other}
+use Rattle.co_sheet_warnings.specs.declared.known_key.KnownKey.TheVariants.{AccessType, PdoMapping, FileName, NrOfRxPdo, SupportedObjects, NodeId}
+use Rattle.co_sheet_warnings.specs.declared.warning.Warning.{Warning}
+use Rattle.co_sheet_warnings.specs.Keys.{keys_of, topic_of}
+use Rattle.co_sheet_warnings.specs.KnownKeys.{is_near}
+use Rattle.co_sheet_warnings.specs.Infos.{is_date, is_time}
+use Rattle.co_sheet_warnings.specs.Repeats.{has_cob_id, enabled_cob_id, identifier_with}
+use Rattle.co_sheet_warnings.specs.Lines.{mixed_line_ends}
+use Rattle.co_sheet_warnings.specs.Warnings.{warning_at, misspelt, places_of, warnings_of}
 
 -- lines as a text, each ended by LF
 abbrev joined : List (List ℕ) → List ℕ
@@ -27,15 +37,24 @@ places_at node kind lines = places_of (read_text (joined lines) (Some node)) kin
 -- ---- all warnings, kind by kind
 
 several : warnings_of (codes "[2000]\nSubNumber=1\n[1800sub1]\nParameterName=COB-ID\nDefaultValue=0x185\n") None
-    ≡ warning_at SubNumber 2 ∷ warning_at Unlisted 1 ∷ warning_at FixedCobId 5 ∷ warning_at MissingName 1 ∷ []
+    ≡ warning_at SubNumber 2 ∷ warning_at FileInfoKeys 0 ∷ warning_at DeviceInfoKeys 0 ∷ warning_at Unlisted 1 ∷ warning_at FixedCobId 5 ∷ warning_at MissingName 1 ∷ []
+unfolding chars is_utf8 lib.Utf8.encode
 several = refl
 
-none : warnings_of [] None ≡ []
+-- misspelt keys come between those of other kinds
+in_order : warnings_of (codes "[1800sub1]\nDefaultValue=0x185\nAcessType=rw\nParameterName=COB-ID\n[2000sub1]\nParameterName=a\nUnit=m\n") (Some 5)
+    ≡ warning_at FileInfoKeys 0 ∷ warning_at DeviceInfoKeys 0 ∷ warning_at FixedCobId 2 ∷ warning_at (MisspeltKey AccessType) 3 ∷ warning_at UnknownKey 7 ∷ []
+unfolding chars is_utf8 lib.Utf8.encode
+in_order = refl
+
+none : warnings_of [] None ≡ warning_at FileInfoKeys 0 ∷ warning_at DeviceInfoKeys 0 ∷ []
+unfolding chars is_utf8 lib.Utf8.encode
 none = refl
 
 -- a line at fault is passed over; the section that comes again isn't read
 in_spite_of_faults : warnings_of (codes "x\n[2000]\nParameterName=a\nSubNumber 3\nSubNumber=1\n[2000]\nSubNumber=2\n[2001\nSubNumber=3") None
-    ≡ warning_at SubNumber 5 ∷ warning_at Unlisted 2 ∷ []
+    ≡ warning_at SubNumber 5 ∷ warning_at FileInfoKeys 0 ∷ warning_at DeviceInfoKeys 0 ∷ warning_at Unlisted 2 ∷ []
+unfolding chars is_utf8 lib.Utf8.encode
 in_spite_of_faults = refl
 
 -- ---- SubNumber
@@ -265,19 +284,212 @@ second_not_used = refl
 of_no_node : places HeartbeatTwice (consumer (codes "DefaultValue=0x64") (codes "DefaultValue=0x64")) ≡ []
 of_no_node = refl
 
--- ---- LongLine, NotAscii
+-- ---- keys as they are written
+
+-- blanks dropped, those of sections that are passed over too; neither a comment, nor a key without a value
+as_written : keys_of (lines_of (joined (codes "a=0" ∷ codes "[FileInfo]" ∷ codes " FileName = x y " ∷ codes "; b=1" ∷ codes "FileVersion=" ∷ codes "c" ∷ codes "[DeviceInfo]" ∷ codes "VendorName=b" ∷ codes "[1018sub1]" ∷ codes "ObjFlags=1" ∷ codes "[OptionalObjects" ∷ codes "1=0x1000" ∷ [])))
+    ≡ record { topic = Other; name = codes "a"; value = codes "0"; line = 1 }
+    ∷ record { topic = FileInfo; name = codes "FileName"; value = codes "x y"; line = 3 }
+    ∷ record { topic = DeviceInfo; name = codes "VendorName"; value = codes "b"; line = 8 }
+    ∷ record { topic = Objects; name = codes "ObjFlags"; value = codes "1"; line = 10 }
+    ∷ record { topic = Other; name = codes "1"; value = codes "0x1000"; line = 12 } ∷ []
+as_written = refl
+
+topics : map topic_of (codes "fileinfo" ∷ codes "DeviceInfo" ∷ codes "DeviceComissioning" ∷ codes "DeviceCommissioning" ∷ codes "MandatoryObjects" ∷ codes "OptionalObjects" ∷ codes "ManufacturerObjects" ∷ codes "DummyUsage" ∷ codes "1018" ∷ codes "1018sub1" ∷ codes "Comments" ∷ codes "FileInfo2" ∷ [])
+    ≡ FileInfo ∷ DeviceInfo ∷ DeviceCommissioning ∷ DeviceCommissioning ∷ ObjectLists ∷ ObjectLists ∷ ObjectLists ∷ Other ∷ Objects ∷ Objects ∷ Other ∷ Other ∷ []
+topics = refl
+
+-- lines of 512 and of 513 bytes
+too_long : map (λ k. k.line) (keys_of (lines_of (joined ((codes "a=" ++ replicate 510 98) ∷ (codes "a=" ++ replicate 511 98) ∷ []))))
+    ≡ 1 ∷ []
+too_long = refl
+
+-- ---- FileInfo, DeviceInfo
+
+abbrev file_info : List (List ℕ)
+file_info =
+    codes "FileName=a" ∷ codes "FileVersion=1" ∷ codes "FileRevision=1" ∷ codes "Description=a" ∷ codes "CreationTime=10:22AM" ∷ codes "CreationDate=02-11-2020" ∷ codes "CreatedBy=a" ∷ codes "ModificationTime=03:07PM" ∷ codes "ModificationDate=09-30-2021" ∷ codes "ModifiedBy=a" ∷ []
+
+abbrev device_info : List (List ℕ)
+device_info =
+    codes "VendorName=a" ∷ codes "VendorNumber=1" ∷ codes "ProductName=a" ∷ codes "ProductNumber=1" ∷ codes "RevisionNumber=1" ∷ codes "OrderCode=a" ∷ codes "BaudRate_10=1" ∷ codes "BaudRate_20=1" ∷ codes "BaudRate_50=1" ∷ codes "BaudRate_125=1" ∷ codes "BaudRate_250=1" ∷ codes "BaudRate_500=1" ∷ codes "BaudRate_800=1" ∷ codes "BaudRate_1000=1" ∷ codes "SimpleBootUpMaster=0" ∷ codes "SimpleBootUpSlave=1" ∷ codes "Granularity=8" ∷ codes "DynamicChannelsSupported=0" ∷ codes "GroupMessaging=0" ∷ codes "NrOfRXPDO=0" ∷ codes "NrOfTXPDO=0" ∷ codes "LSS_Supported=0" ∷ []
+
+-- lines without one of them
+abbrev without : List (List ℕ) → ℕ → List (List ℕ)
+without lines i = take i lines ++ drop (i + 1) lines
+
+whole_file_info : places FileInfoKeys (codes "[fileinfo]" ∷ file_info) ≡ []
+whole_file_info = refl
+
+each_of_file_info : map (λ i. places FileInfoKeys (codes "[Comments]" ∷ codes "[FileInfo]" ∷ without file_info i)) (0 ∷ 1 ∷ 2 ∷ 3 ∷ 4 ∷ 5 ∷ 6 ∷ 7 ∷ 8 ∷ 9 ∷ []) ≡ replicate 10 (2 ∷ [])
+each_of_file_info = refl
+
+whole_device_info : places DeviceInfoKeys (codes "[DeviceInfo]" ∷ device_info) ≡ []
+whole_device_info = refl
+
+each_of_device_info : map (λ i. places DeviceInfoKeys (codes "[DeviceInfo]" ∷ without device_info i)) (0 ∷ 1 ∷ 2 ∷ 3 ∷ 4 ∷ 5 ∷ 6 ∷ 7 ∷ 8 ∷ 9 ∷ 10 ∷ 11 ∷ 12 ∷ 13 ∷ 14 ∷ 15 ∷ 16 ∷ 17 ∷ 18 ∷ 19 ∷ 20 ∷ 21 ∷ []) ≡ replicate 22 (1 ∷ [])
+each_of_device_info = refl
+
+-- in another section they are none of its keys, and without a section no line is to blame
+elsewhere : places FileInfoKeys (codes "[DeviceInfo]" ∷ file_info) ≡ 0 ∷ []
+elsewhere = refl
+
+-- ---- PdoCount
+
+abbrev pdo_numbers : List ℕ → List (List ℕ) → List (List ℕ)
+pdo_numbers compact objects =
+    codes "[DeviceInfo]" ∷ codes "NrOfRXPDO=1" ∷ codes "NrOfTXPDO=2" ∷ compact ∷ objects
+
+counted_pdos : places PdoCount (pdo_numbers [] (codes "[13FF]" ∷ codes "[1400]" ∷ codes "[1400sub1]" ∷ codes "[1600]" ∷ codes "[17FF]" ∷ codes "[1800]" ∷ codes "[19FF]" ∷ codes "[1A00]" ∷ [])) ≡ []
+counted_pdos = refl
+
+other_counts : places PdoCount (pdo_numbers [] (codes "[1400]" ∷ codes "[15FF]" ∷ codes "[1800]" ∷ [])) ≡ 2 ∷ 3 ∷ []
+other_counts = refl
+
+no_pdos : places PdoCount (pdo_numbers (codes "CompactPDO=0") (codes "[1800]" ∷ codes "[1801]" ∷ [])) ≡ 2 ∷ []
+no_pdos = refl
+
+compact_pdos : places PdoCount (pdo_numbers (codes "CompactPDO=1") (codes "[1800]" ∷ [])) ≡ []
+compact_pdos = refl
+
+no_count_of_pdos : places PdoCount (codes "[DeviceInfo]" ∷ codes "NrOfRXPDO=one" ∷ codes "[1400]" ∷ []) ≡ []
+no_count_of_pdos = refl
+
+-- ---- IdentityNumber
+
+abbrev identity : List ℕ → List ℕ → List ℕ → List (List ℕ)
+identity vendor product revision =
+    codes "[DeviceInfo]" ∷ vendor ∷ product ∷ revision ∷ codes "[1018sub1]" ∷ codes "DefaultValue=0x1" ∷ codes "[1018sub2]" ∷ codes "DefaultValue=2" ∷ codes "[1018sub3]" ∷ codes "DefaultValue=3" ∷ codes "[1018sub4]" ∷ codes "DefaultValue=4" ∷ []
+
+same_numbers : places IdentityNumber (identity (codes "VendorNumber=1") (codes "ProductNumber=0x2") (codes "RevisionNumber=3")) ≡ []
+same_numbers = refl
+
+other_numbers : places IdentityNumber (identity (codes "VendorNumber=2") (codes "ProductNumber=3") (codes "RevisionNumber=4")) ≡ 2 ∷ 3 ∷ 4 ∷ []
+other_numbers = refl
+
+no_numbers : places IdentityNumber (identity (codes "VendorNumber=one") (codes "ProductNumber=") (codes "VendorName=3")) ≡ []
+no_numbers = refl
+
+no_identity : places IdentityNumber (codes "[DeviceInfo]" ∷ codes "VendorNumber=2" ∷ codes "[1018sub1]" ∷ codes "DefaultValue=one" ∷ codes "[1018]" ∷ codes "DefaultValue=1" ∷ []) ≡ []
+no_identity = refl
+
+-- ---- MisspeltKey, UnknownKey
+
+slips : map (λ name. is_near name (codes "AccessType")) (codes "AcessType" ∷ codes "AccesssType" ∷ codes "accesstipe" ∷ codes "AccessTpye" ∷ codes "cAcessType" ∷ codes "AccessTyp" ∷ codes "AccessTypes" ∷ codes "xccessType" ∷ codes "ccessType" ∷ [])
+    ≡ replicate 9 true
+slips = refl
+
+-- the same name, and two slips
+no_slip : map (λ name. is_near name (codes "AccessType")) (codes "AccessType" ∷ codes "ACCESSTYPE" ∷ codes "AcessTyp" ∷ codes "AcessTypes" ∷ codes "AccessTyxx" ∷ codes "AccessTypeyy" ∷ codes "AccessTepy" ∷ codes "Access" ∷ [] ∷ [])
+    ≡ replicate 9 false
+no_slip = refl
+
+abbrev misspelt_in : List (List ℕ) → List Warning
+misspelt_in lines = filter_map misspelt (keys_of (lines_of (joined lines)))
+
+of_objects : misspelt_in (codes "[2000]" ∷ codes "AcessType=ro" ∷ codes "PDOMaping=0" ∷ codes "accesstype=ro" ∷ codes "ObjFlags=0" ∷ codes "Unit=m" ∷ codes "FileNam=a" ∷ [])
+    ≡ warning_at (MisspeltKey AccessType) 2 ∷ warning_at (MisspeltKey PdoMapping) 3 ∷ []
+of_objects = refl
+
+-- of each topic its own keys, and of a section that only its manufacturer knows none
+of_topics : misspelt_in (codes "[FileInfo]" ∷ codes "FileNam=a" ∷ codes "AcessType=ro" ∷ codes "[DeviceInfo]" ∷ codes "NrOfRXPDOs=1" ∷ codes "[OptionalObjects]" ∷ codes "SuportedObjects=1" ∷ codes "1=0x1000" ∷ codes "[DeviceComissioning]" ∷ codes "NodID=1" ∷ codes "[Comments]" ∷ codes "Line=1" ∷ codes "AcessType=ro" ∷ [])
+    ≡ warning_at (MisspeltKey FileName) 2 ∷ warning_at (MisspeltKey NrOfRxPdo) 5 ∷ warning_at (MisspeltKey SupportedObjects) 7 ∷ warning_at (MisspeltKey NodeId) 10 ∷ []
+of_topics = refl
+
+-- the first one alone, and no place of a list
+unknown : places UnknownKey (codes "[OptionalObjects]" ∷ codes "12=0x1000" ∷ codes "[2000]" ∷ codes "AcessType=ro" ∷ codes "Unit=m" ∷ codes "Scale=2" ∷ []) ≡ 5 ∷ []
+unknown = refl
+
+unknown_place : places UnknownKey (codes "[OptionalObjects]" ∷ codes "01=0x1000" ∷ []) ≡ 2 ∷ []
+unknown_place = refl
+
+manufacturers_own : places UnknownKey (codes "[Tools]" ∷ codes "Unit=m" ∷ codes "[DummyUsage]" ∷ codes "Dummy0001=0" ∷ []) ≡ []
+manufacturers_own = refl
+
+-- ---- SharedCobId
+
+cob_id_entries : map has_cob_id (Object 0x1013 ∷ Object 0x1014 ∷ Object 0x1400 ∷ sub_index 0x1014 1 ∷ sub_index 0x13FF 1 ∷ sub_index 0x1400 0 ∷ sub_index 0x1400 1 ∷ sub_index 0x1400 2 ∷ sub_index 0x15FF 1 ∷ sub_index 0x1600 1 ∷ sub_index 0x17FF 1 ∷ sub_index 0x1800 1 ∷ sub_index 0x19FF 1 ∷ sub_index 0x1A00 1 ∷ MandatoryObjects ∷ [])
+    ≡ false ∷ true ∷ false ∷ false ∷ false ∷ false ∷ true ∷ false ∷ true ∷ false ∷ false ∷ true ∷ true ∷ false ∷ false ∷ []
+cob_id_entries = refl
+
+channel_entries : map has_cob_id (sub_index 0x11FF 1 ∷ sub_index 0x1200 0 ∷ sub_index 0x1200 1 ∷ sub_index 0x1200 2 ∷ sub_index 0x1200 3 ∷ sub_index 0x12FF 2 ∷ sub_index 0x1300 1 ∷ [])
+    ≡ false ∷ false ∷ true ∷ true ∷ false ∷ true ∷ false ∷ []
+channel_entries = refl
+
+-- bit 31, and what is left without bit 30
+identifiers : map (λ value. option_and_then identifier_with (enabled_cob_id 5 value)) (codes "0x185" ∷ codes "$NODEID+0x180" ∷ codes "0x40000185" ∷ codes "0x20000185" ∷ codes "0x80000185" ∷ codes "0x7FFFFFFF" ∷ codes "$NODEID+0x7FFFFFFA" ∷ codes "$NODEID+0x7FFFFFFB" ∷ codes "0" ∷ codes "0x40000000" ∷ codes "-1" ∷ codes "x" ∷ [])
+    ≡ Some 0x185 ∷ Some 0x185 ∷ Some 0x185 ∷ Some 0x20000185 ∷ None ∷ Some 0x3FFFFFFF ∷ Some 0x3FFFFFFF ∷ None ∷ None ∷ None ∷ None ∷ None ∷ []
+identifiers = refl
+
+abbrev three_cob_ids : List ℕ → List ℕ → List ℕ → List (List ℕ)
+three_cob_ids first second third =
+    codes "[1800sub1]" ∷ first ∷ codes "[1014]" ∷ second ∷ codes "[1201sub2]" ∷ third ∷ codes "[1801sub2]" ∷ codes "DefaultValue=0x185" ∷ []
+
+all_the_same : places_at 5 SharedCobId (three_cob_ids (codes "DefaultValue=0x185") (codes "DefaultValue=$NODEID+0x180") (codes "ParameterValue=0x185")) ≡ 4 ∷ 6 ∷ []
+all_the_same = refl
+
+for_another_node : places_at 6 SharedCobId (three_cob_ids (codes "DefaultValue=0x185") (codes "DefaultValue=$NODEID+0x180") (codes "DefaultValue=0x186")) ≡ 6 ∷ []
+for_another_node = refl
+
+for_no_node : places SharedCobId (three_cob_ids (codes "DefaultValue=0x185") (codes "DefaultValue=0x185") (codes "DefaultValue=0x185")) ≡ []
+for_no_node = refl
+
+-- ---- EqualNames
+
+-- of objects, and of the sub-indices of each object
+names_again : places EqualNames (codes "[2000]" ∷ codes "ParameterName=a" ∷ codes "[2001]" ∷ codes "ParameterName=a" ∷ codes "[2000sub1]" ∷ codes "ParameterName=a" ∷ codes "[2000sub2]" ∷ codes "ParameterName=a" ∷ codes "[2001sub1]" ∷ codes "ParameterName=a" ∷ codes "[2002]" ∷ codes "ParameterName=A" ∷ codes "[2003]" ∷ codes "ParameterName=a" ∷ codes "[Comments]" ∷ codes "ParameterName=a" ∷ []) ≡ 4 ∷ 8 ∷ 14 ∷ []
+names_again = refl
+
+-- ---- DateFormat
+
+dates : map is_date (codes "02-11-2020" ∷ codes "12-31-0000" ∷ codes "01-01-9999" ∷ codes "13-01-2020" ∷ codes "00-01-2020" ∷ codes "01-32-2020" ∷ codes "01-00-2020" ∷ codes "2-11-2020" ∷ codes "02-11-20" ∷ codes "02-11-20200" ∷ codes "02-11-2O20" ∷ codes "02-112020" ∷ codes "2019/3/7" ∷ codes "2020-02-11" ∷ [])
+    ≡ true ∷ true ∷ true ∷ replicate 11 false
+dates = refl
+
+times : map is_time (codes "10:22AM" ∷ codes "12:59pm" ∷ codes "01:00AM" ∷ codes "00:00AM" ∷ codes "13:00PM" ∷ codes "1:00PM" ∷ codes "10:60AM" ∷ codes "10:22" ∷ codes "10:22 AM" ∷ codes "10:22XM" ∷ codes "10.22AM" ∷ [])
+    ≡ true ∷ true ∷ true ∷ replicate 8 false
+times = refl
+
+dates_of_files : places DateFormat (codes "[FileInfo]" ∷ codes "CreationDate=2019/3/7" ∷ codes "CreationTime=10:22" ∷ codes "ModificationTime=10:22" ∷ codes "ModificationDate=2019/3/7" ∷ codes "[Comments]" ∷ codes "CreationDate=x" ∷ []) ≡ 3 ∷ 2 ∷ 4 ∷ 5 ∷ []
+dates_of_files = refl
+
+good_dates : places DateFormat (codes "[FileInfo]" ∷ file_info) ≡ []
+good_dates = refl
+
+-- ---- LineEnds
+
+line_ends : map mixed_line_ends ((97 ∷ 13 ∷ 10 ∷ 98 ∷ 10 ∷ []) ∷ (10 ∷ 10 ∷ 13 ∷ 10 ∷ 10 ∷ []) ∷ (97 ∷ 13 ∷ 10 ∷ 13 ∷ 10 ∷ 98 ∷ []) ∷ (97 ∷ 13 ∷ 98 ∷ 10 ∷ 10 ∷ []) ∷ (13 ∷ 10 ∷ 13 ∷ 98 ∷ 10 ∷ []) ∷ [])
+    ≡ (2 ∷ []) ∷ (3 ∷ []) ∷ [] ∷ [] ∷ (2 ∷ []) ∷ []
+line_ends = refl
+
+ends_of_text : places LineEnds (codes "a" ∷ (98 ∷ 13 ∷ []) ∷ codes "c" ∷ []) ≡ 2 ∷ []
+ends_of_text = refl
+
+-- ---- LongLine, Utf8, NotAscii
 
 long : places LongLine (replicate 255 97 ∷ replicate 256 98 ∷ replicate 512 99 ∷ replicate 513 100 ∷ []) ≡ 2 ∷ 3 ∷ []
 long = refl
 
-ascii : places NotAscii (codes "a" ∷ (0x7F ∷ []) ∷ []) ≡ []
+ascii : places Utf8 (codes "a" ∷ (0x7F ∷ []) ∷ []) ++ places NotAscii (codes "a" ∷ (0x7F ∷ []) ∷ []) ≡ []
+unfolding chars is_utf8 lib.Utf8.encode
 ascii = refl
 
-first_other : places NotAscii (codes "a" ∷ (0x7F ∷ 0x80 ∷ []) ∷ (0xFF ∷ []) ∷ []) ≡ 2 ∷ []
-first_other = refl
+first_other_byte : places NotAscii (codes "a" ∷ (0x7F ∷ 0x80 ∷ []) ∷ (0xFF ∷ []) ∷ []) ≡ 2 ∷ []
+unfolding chars is_utf8 lib.Utf8.encode
+first_other_byte = refl
+
+in_utf8 : places Utf8 (codes "a" ∷ (0xC3 ∷ 0xA4 ∷ []) ∷ []) ≡ 2 ∷ []
+unfolding chars is_utf8 lib.Utf8.encode
+in_utf8 = refl
+
+-- one of both alone: the text is UTF-8 as a whole or not at all
+one_warning : places NotAscii ((0xC3 ∷ 0xA4 ∷ []) ∷ []) ++ places Utf8 ((0xC3 ∷ 0xA4 ∷ []) ∷ (0xE4 ∷ []) ∷ []) ≡ []
+unfolding chars is_utf8 lib.Utf8.encode
+one_warning = refl
 
 -- the mark is part of no line
-marked : places NotAscii ((0xEF ∷ 0xBB ∷ 0xBF ∷ codes "a") ∷ []) ≡ []
+marked : places Utf8 ((0xEF ∷ 0xBB ∷ 0xBF ∷ codes "a") ∷ []) ≡ []
+unfolding chars is_utf8 lib.Utf8.encode
 marked = refl
 
 -- ---- MissingName

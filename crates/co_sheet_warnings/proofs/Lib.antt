@@ -1,3 +1,4 @@
 mod Examples
 mod PieceLemmas
 mod ByLineLemmas
+pub mod NameLemmas

@@ -1,9 +1,13 @@
+pub mod Keys
+pub mod KnownKeys
 pub mod ReadTexts
 pub mod SubIndices
 pub mod Lists
 pub mod CobIds
 pub mod Lines
 pub mod Communication
+pub mod Infos
+pub mod Repeats
 pub mod Warnings
 pub mod WarningWords
 pub mod private

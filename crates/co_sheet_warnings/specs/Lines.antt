@@ -1,8 +1,10 @@
 -- Lines that other readers may refuse or garble (CiA 306-1, structure of an EDS).
-use Rattle.std.specs.Prelude.{ℕ, Bool, ◌&&◌, nat_lt, nat_le, if◌then◌else◌, List, [], ◌∷◌, length, find, filter_map, Option, Some, None}
+use Rattle.std.specs.Prelude.{ℕ, ◌+◌, ◌==◌, Bool, true, false, not, ◌&&◌, nat_lt, nat_le, if◌then◌else◌, List, [], ◌∷◌, length, find, filter_map, Option, Some, None}
 use Rattle.std.specs.List.{list_any}
-use Rattle.std.specs.Option.{option_map_or}
+use Rattle.std.specs.Option.{option_map_or, option_or}
+use Rattle.std.specs.Str.{is_utf8}
 use Rattle.co_sheet_text.specs.Text.{Line}
+use Rattle.co_sheet_warnings.specs.ReadTexts.{ReadText}
 
 -- more bytes than the 255 that the standard allows, and no more than the 512 that are read
 abbrev pub is_long : Line → Bool
@@ -18,5 +20,30 @@ long_lines lines = filter_map long_line lines
 abbrev pub has_other_byte : Line → Bool
 has_other_byte line = list_any (nat_lt 0x7F) line.bytes
 
-abbrev pub not_ascii : List Line → List ℕ
-not_ascii lines = option_map_or (λ line. line.number ∷ []) (find has_other_byte lines) []
+abbrev pub first_other : List Line → List ℕ
+first_other lines = option_map_or (λ line. line.number ∷ []) (find has_other_byte lines) []
+
+-- of a text in UTF-8, and of any other
+abbrev pub utf8 : ReadText → List ℕ
+utf8 t = if is_utf8 t.text then first_other t.lines else []
+
+abbrev pub not_ascii : ReadText → List ℕ
+not_ascii t = if is_utf8 t.text then [] else first_other t.lines
+
+-- whether a line's end isn't that of line 1: with CR before LF, or without
+abbrev pub is_other_end : Option Bool → Bool → Bool
+is_other_end None with_cr = false
+is_other_end (Some true) with_cr = not with_cr
+is_other_end (Some false) with_cr = with_cr
+
+-- the first line with another end, of the bytes of a text from this line on; `after_cr` says whether CR is before them
+abbrev pub other_end : Option Bool → ℕ → Bool → List ℕ → List ℕ
+other_end first line after_cr [] = []
+other_end first line after_cr (b ∷ bs) =
+    if b == 10
+    then (if is_other_end first after_cr then line ∷ []
+    else other_end (option_or first (Some after_cr)) (line + 1) false bs)
+    else other_end first line (b == 13) bs
+
+abbrev pub mixed_line_ends : List ℕ → List ℕ
+mixed_line_ends text = other_end None 1 false text

@@ -1,80 +1,137 @@
 -- The words of each warning for people: its name, what is suspicious, how to fix it, and where the standard
 -- says so (by the name of its subject, since the numbers differ by edition).
-use Rattle.std.specs.Prelude.{ℕ, Bool, true, false, List, codes}
+use Rattle.std.specs.Prelude.{ℕ, Bool, true, false, List, ◌++◌, codes}
 use Rattle.co_sheet_warnings.specs.declared.warning.WarningKind.{WarningKind}
-use Rattle.co_sheet_warnings.specs.declared.warning.WarningKind.TheVariants.{SubNumber, SubIndex0, WrongList, Unlisted, FixedCobId, NodeIdPlace, InhibitTime, OwnHeartbeat, HeartbeatTwice, NoErrorControl, LongLine, NotAscii, ListOrder, MissingName}
+use Rattle.co_sheet_warnings.specs.declared.warning.WarningKind.TheVariants.{SubNumber, SubIndex0, FileInfoKeys, DeviceInfoKeys, PdoCount, WrongList, Unlisted, IdentityNumber, FixedCobId, NodeIdPlace, MisspeltKey, SharedCobId, InhibitTime, OwnHeartbeat, HeartbeatTwice, NoErrorControl, LongLine, Utf8, NotAscii, ListOrder, EqualNames, MissingName, UnknownKey, DateFormat, LineEnds}
+use Rattle.co_sheet_warnings.specs.KnownKeys.{key_text}
 
+-- its name
 abbrev pub name_of : WarningKind → List ℕ
 name_of SubNumber = codes "SubNumber"
 name_of SubIndex0 = codes "SubIndex0"
+name_of FileInfoKeys = codes "FileInfoKeys"
+name_of DeviceInfoKeys = codes "DeviceInfoKeys"
+name_of PdoCount = codes "PdoCount"
 name_of WrongList = codes "WrongList"
 name_of Unlisted = codes "Unlisted"
+name_of IdentityNumber = codes "IdentityNumber"
 name_of FixedCobId = codes "FixedCobId"
 name_of NodeIdPlace = codes "NodeIdPlace"
+name_of (MisspeltKey meant) = codes "MisspeltKey"
+name_of SharedCobId = codes "SharedCobId"
 name_of InhibitTime = codes "InhibitTime"
 name_of OwnHeartbeat = codes "OwnHeartbeat"
 name_of HeartbeatTwice = codes "HeartbeatTwice"
 name_of NoErrorControl = codes "NoErrorControl"
 name_of LongLine = codes "LongLine"
+name_of Utf8 = codes "Utf8"
 name_of NotAscii = codes "NotAscii"
 name_of ListOrder = codes "ListOrder"
+name_of EqualNames = codes "EqualNames"
 name_of MissingName = codes "MissingName"
+name_of UnknownKey = codes "UnknownKey"
+name_of DateFormat = codes "DateFormat"
+name_of LineEnds = codes "LineEnds"
 
 -- what is suspicious
 abbrev pub meaning_of : WarningKind → List ℕ
 meaning_of SubNumber = codes "SubNumber isn't the number of the object's sub-index sections"
 meaning_of SubIndex0 = codes "sub-index 0 isn't the highest sub-index of the object"
+meaning_of FileInfoKeys = codes "FileInfo is missing, or a key that it has to have"
+meaning_of DeviceInfoKeys = codes "DeviceInfo is missing, or a key that it has to have"
+meaning_of PdoCount = codes "this isn't the number of PDOs that the sheet has"
 meaning_of WrongList = codes "the object belongs in another list"
 meaning_of Unlisted = codes "no list names the object, so it isn't read"
+meaning_of IdentityNumber = codes "the identity object has another number"
 meaning_of FixedCobId =
     codes "the COB-ID doesn't depend on the node-ID, so two such devices disturb each other"
 meaning_of NodeIdPlace = codes "$NODEID comes after the number, which other tools don't read"
+meaning_of (MisspeltKey meant) = codes "the standard has no such key, but one like it"
+meaning_of SharedCobId = codes "an entry before it has the same identifier, for this node-ID"
 meaning_of InhibitTime = codes "a synchronous TPDO has an inhibit time, which isn't used"
 meaning_of OwnHeartbeat = codes "the consumer waits for the heartbeat of its own node"
 meaning_of HeartbeatTwice = codes "two words of the consumer have the same node-ID"
 meaning_of NoErrorControl = codes "the device has neither a heartbeat nor node guarding"
 meaning_of LongLine = codes "the line has more than 255 bytes, which other tools may cut"
-meaning_of NotAscii = codes "the text has bytes above 7Fh, which tools read differently"
+meaning_of Utf8 =
+    codes "the text has bytes above 7Fh, in UTF-8, which older tools read as Windows-1252"
+meaning_of NotAscii =
+    codes "the text has bytes above 7Fh and isn't UTF-8, so it is read as Windows-1252"
 meaning_of ListOrder = codes "an index of the list is smaller than the one before it"
+meaning_of EqualNames = codes "an object or sub-index before it has the same name"
 meaning_of MissingName = codes "the object or sub-index has no ParameterName"
+meaning_of UnknownKey = codes "the standard has no such key, so it is passed over"
+meaning_of DateFormat = codes "the date isn't mm-dd-yyyy, or the time isn't hh:mmAM or hh:mmPM"
+meaning_of LineEnds = codes "the line ends otherwise than line 1: CR and LF, or LF alone"
 
 -- how it is fixed
 abbrev pub fix_of : WarningKind → List ℕ
 fix_of SubNumber = codes "count the sections, or leave the key out"
 fix_of SubIndex0 = codes "give it the highest sub-index that the object has"
+fix_of FileInfoKeys =
+    codes "give it FileName, FileVersion, FileRevision, Description, CreationTime, CreationDate, CreatedBy, ModificationTime, ModificationDate and ModifiedBy"
+fix_of DeviceInfoKeys =
+    codes "give it VendorName, VendorNumber, ProductName, ProductNumber, RevisionNumber, OrderCode, the eight BaudRate_.., SimpleBootUpMaster, SimpleBootUpSlave, Granularity, DynamicChannelsSupported, GroupMessaging, NrOfRXPDO, NrOfTXPDO and LSS_Supported"
+fix_of PdoCount =
+    codes "count the objects 1400h to 15FFh for NrOfRXPDO, 1800h to 19FFh for NrOfTXPDO"
 fix_of WrongList =
     codes "list 1000h, 1001h and 1018h as mandatory, 2000h to 5FFFh as the manufacturer's, all others as optional"
 fix_of Unlisted = codes "list it, or take its section out"
+fix_of IdentityNumber =
+    codes "give VendorNumber as in 1018:01, ProductNumber as in 1018:02, RevisionNumber as in 1018:03"
 fix_of FixedCobId = codes "write $NODEID+ and the number of the predefined connection set"
 fix_of NodeIdPlace = codes "write $NODEID first, as $NODEID+0x180"
+fix_of (MisspeltKey meant) = codes "did you mean " ++ key_text meant
+fix_of SharedCobId =
+    codes "give each PDO, SDO channel and EMCY an identifier of its own, or set bit 31"
 fix_of InhibitTime = codes "set it to 0, or take a transmission type from 254 on"
 fix_of OwnHeartbeat = codes "give the node-ID of another node, or set the word to 0"
 fix_of HeartbeatTwice = codes "take one of the two out"
 fix_of NoErrorControl = codes "add 1017h, or 100Ch and 100Dh"
 fix_of LongLine = codes "shorten the line"
+fix_of Utf8 = codes "write ASCII alone"
 fix_of NotAscii = codes "write ASCII alone"
 fix_of ListOrder = codes "sort the list by index"
+fix_of EqualNames = codes "give each object, and each sub-index of an object, a name of its own"
 fix_of MissingName = codes "add ParameterName"
+fix_of UnknownKey = codes "take it out, or put it into a section of the manufacturer's own"
+fix_of DateFormat = codes "write it as 02-11-2020, as 10:22AM"
+fix_of LineEnds = codes "end all lines alike"
 
 -- the subject of the standard
 abbrev pub subject_of : WarningKind → List ℕ
 subject_of SubNumber = codes "CiA 306-1, object description"
 subject_of SubIndex0 = codes "CiA 301, sub-index 0 of arrays and records"
+subject_of FileInfoKeys = codes "CiA 306-1, file information"
+subject_of DeviceInfoKeys = codes "CiA 306-1, device information"
+subject_of PdoCount = codes "CiA 306-1, device information"
 subject_of WrongList = codes "CiA 306-1, object lists"
 subject_of Unlisted = codes "CiA 306-1, object lists"
+subject_of IdentityNumber = codes "CiA 306-1, device information"
 subject_of FixedCobId = codes "CiA 301, predefined connection set"
 subject_of NodeIdPlace = codes "CiA 306-1, object description"
+subject_of (MisspeltKey meant) = codes "CiA 306-1, structure of an EDS"
+subject_of SharedCobId = codes "CiA 301, COB-IDs"
 subject_of InhibitTime = codes "CiA 301, TPDO communication parameter"
 subject_of OwnHeartbeat = codes "CiA 301, heartbeat consumer"
 subject_of HeartbeatTwice = codes "CiA 301, heartbeat consumer"
 subject_of NoErrorControl = codes "CiA 301, error control"
 subject_of LongLine = codes "CiA 306-1, structure of an EDS"
+subject_of Utf8 = codes "CiA 306-1, structure of an EDS"
 subject_of NotAscii = codes "CiA 306-1, structure of an EDS"
 subject_of ListOrder = codes "CiA 306-1, object lists"
+subject_of EqualNames = codes "CiA 306-1, object description"
 subject_of MissingName = codes "CiA 306-1, object description"
+subject_of UnknownKey = codes "CiA 306-1, structure of an EDS"
+subject_of DateFormat = codes "CiA 306-1, file information"
+subject_of LineEnds = codes "CiA 306-1, structure of an EDS"
 
 -- a matter of taste, which is given only where all are asked for
 abbrev pub is_quiet : WarningKind → Bool
 is_quiet ListOrder = true
+is_quiet EqualNames = true
 is_quiet MissingName = true
+is_quiet UnknownKey = true
+is_quiet DateFormat = true
+is_quiet LineEnds = true
 is_quiet kind = false

@@ -1,8 +1,8 @@
 -- All that is legal in a data sheet and suspicious: the places of each kind of warning (CiA 306-1, CiA 301).
-use Rattle.std.specs.Prelude.{◌≡◌, ℕ, ◌==◌, nat_lt, if◌then◌else◌, List, [], ◌∷◌, length, map, flat_map, filter, Option}
+use Rattle.std.specs.Prelude.{◌≡◌, ℕ, ◌==◌, nat_lt, if◌then◌else◌, List, [], ◌∷◌, ◌++◌, length, map, flat_map, filter, filter_map, Option, None, option_map}
 use Rattle.std.specs.List.Sorted.{IsNonDecreasingBy}
 use Rattle.co_sheet_warnings.specs.declared.warning.WarningKind.{WarningKind}
-use Rattle.co_sheet_warnings.specs.declared.warning.WarningKind.TheVariants.{SubNumber, SubIndex0, WrongList, Unlisted, FixedCobId, NodeIdPlace, InhibitTime, OwnHeartbeat, HeartbeatTwice, NoErrorControl, LongLine, NotAscii, ListOrder, MissingName}
+use Rattle.co_sheet_warnings.specs.declared.warning.WarningKind.TheVariants.{SubNumber, SubIndex0, FileInfoKeys, DeviceInfoKeys, PdoCount, WrongList, Unlisted, IdentityNumber, FixedCobId, NodeIdPlace, MisspeltKey, SharedCobId, InhibitTime, OwnHeartbeat, HeartbeatTwice, NoErrorControl, LongLine, Utf8, NotAscii, ListOrder, EqualNames, MissingName, UnknownKey, DateFormat, LineEnds}
 use Rattle.co_sheet_warnings.specs.declared.warning.Warning.{Warning}
 use Rattle.co_sheet_text.specs.Sections.{TextSection}
 use Rattle.co_sheet_warnings.specs.ReadTexts.{ReadText, read_text}
@@ -10,7 +10,12 @@ use Rattle.co_sheet_warnings.specs.SubIndices.{sub_number, sub_index_0, missing_
 use Rattle.co_sheet_warnings.specs.Lists.{wrong_lists, list_orders, unlisted, no_error_control}
 use Rattle.co_sheet_warnings.specs.CobIds.{fixed_cob_id, node_id_place}
 use Rattle.co_sheet_warnings.specs.Communication.{inhibit_time, own_heartbeat, heartbeat_twice}
-use Rattle.co_sheet_warnings.specs.Lines.{long_lines, not_ascii}
+use Rattle.co_sheet_warnings.specs.Lines.{long_lines, utf8, not_ascii, mixed_line_ends}
+use Rattle.co_sheet_warnings.specs.declared.keys.Topic.TheVariants.{FileInfo, DeviceInfo}
+use Rattle.co_sheet_warnings.specs.Keys.{WrittenKey}
+use Rattle.co_sheet_warnings.specs.KnownKeys.{is_known, meant, unknown_key}
+use Rattle.co_sheet_warnings.specs.Infos.{missing_keys, file_keys, device_keys, pdo_counts, identity_numbers, date_formats}
+use Rattle.co_sheet_warnings.specs.Repeats.{shared_cob_ids, equal_names}
 
 -- a warning of a kind, at a line
 abbrev pub warning_at : WarningKind → ℕ → Warning
@@ -34,22 +39,47 @@ abbrev pub places_of : ReadText → WarningKind → List ℕ
 places_of t WrongList = wrong_lists t.sections
 places_of t ListOrder = list_orders t.sections
 places_of t NoErrorControl = no_error_control t.sections
+places_of t FileInfoKeys = missing_keys FileInfo t file_keys
+places_of t DeviceInfoKeys = missing_keys DeviceInfo t device_keys
+places_of t PdoCount = pdo_counts t
+places_of t IdentityNumber = identity_numbers t
+places_of t SharedCobId = shared_cob_ids t.node t.sections
 places_of t LongLine = long_lines t.lines
-places_of t NotAscii = not_ascii t.lines
+places_of t Utf8 = utf8 t
+places_of t NotAscii = not_ascii t
+places_of t EqualNames = equal_names t.sections
+places_of t UnknownKey = unknown_key t.keys
+places_of t DateFormat = date_formats t
+places_of t LineEnds = mixed_line_ends t.text
 places_of t kind = flat_map (places_in t kind) t.sections
 
--- the kinds, in the order in which the sheets of vendors show them
-abbrev pub kinds : List WarningKind
-kinds =
-    SubNumber ∷ SubIndex0 ∷ WrongList ∷ Unlisted ∷ FixedCobId ∷ NodeIdPlace ∷ InhibitTime
-    ∷ OwnHeartbeat ∷ HeartbeatTwice ∷ NoErrorControl ∷ LongLine ∷ NotAscii ∷ ListOrder ∷ MissingName ∷ []
+-- the kinds, in the order in which the sheets of vendors show them: those before misspelt keys, and those after them
+abbrev pub first_kinds : List WarningKind
+first_kinds =
+    SubNumber ∷ SubIndex0 ∷ FileInfoKeys ∷ DeviceInfoKeys ∷ PdoCount ∷ WrongList ∷ Unlisted
+    ∷ IdentityNumber ∷ FixedCobId ∷ NodeIdPlace ∷ []
 
--- the warnings of one kind, and of all, kind by kind
+abbrev pub last_kinds : List WarningKind
+last_kinds =
+    SharedCobId ∷ InhibitTime ∷ OwnHeartbeat ∷ HeartbeatTwice ∷ NoErrorControl ∷ LongLine ∷ Utf8
+    ∷ NotAscii ∷ ListOrder ∷ EqualNames ∷ MissingName ∷ UnknownKey ∷ DateFormat ∷ LineEnds ∷ []
+
+-- the warnings of a kind, of kinds, and of misspelt keys
 abbrev pub warnings_with : ReadText → WarningKind → List Warning
 warnings_with t kind = map (warning_at kind) (places_of t kind)
 
+abbrev pub warnings_of_kinds : ReadText → List WarningKind → List Warning
+warnings_of_kinds t kinds = flat_map (warnings_with t) kinds
+
+abbrev pub misspelt : WrittenKey → Option Warning
+misspelt k =
+    if is_known k then None
+    else option_map (λ known. warning_at (MisspeltKey known) k.line) (meant k)
+
+-- all warnings, kind by kind
 abbrev pub all_warnings : ReadText → List Warning
-all_warnings t = flat_map (warnings_with t) kinds
+all_warnings t =
+    warnings_of_kinds t first_kinds ++ filter_map misspelt t.keys ++ warnings_of_kinds t last_kinds
 
 -- the warnings of a text for a node-ID, if one is given; a text that is too large isn't read
 abbrev pub warnings_of : List ℕ → Option ℕ → List Warning

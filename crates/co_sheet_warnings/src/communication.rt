@@ -17,7 +17,8 @@ ghost use Rattle.co_sheet.specs.SectionViews.{entry_view};
 use crate::sub_indices::{value_number, value_property};
 use co_sheet::EntrySection;
 
-fn number_at_sub(parts: &[EntrySection], sub: u8) -> Option<u64>
+/// The number at a sub-index of an object.
+pub(crate) fn number_at_sub(parts: &[EntrySection], sub: u8) -> Option<u64>
     ensures { result ≡ number_at_sub sub (map entry_view parts.now) }
 {
     for part in parts {

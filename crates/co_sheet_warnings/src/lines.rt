@@ -2,14 +2,17 @@
 
 ghost use Rattle.std.specs.Prelude.{◌≡◌, ◌≤◌, length, map, option_to_list, IfOk};
 ghost use Rattle.std.specs.List.{list_any};
+ghost use Rattle.std.specs.Str.{is_utf8};
 ghost use Rattle.std.specs.Prelude.{nat_lt};
 ghost use Rattle.co_sheet_text.specs.Text.{lines_of};
-ghost use Rattle.co_sheet_warnings.specs.Lines.{long_line, long_lines, has_other_byte, not_ascii};
+ghost use Rattle.co_sheet_warnings.specs.Lines.{first_other, has_other_byte, is_other_end, long_line, long_lines, mixed_line_ends, not_ascii, utf8};
 ghost use Rattle.co_sheet_warnings.specs.private.Views.{line_view};
 
+use crate::read_text::ReadText;
 use co_sheet_text::without_mark;
 use co_text::split_line;
 use std::alloc::{AllocError, Global};
+use std::str;
 
 /// A line of a text without its end, and its number, from 1.
 #[derive(Clone, Copy, Debug)]
@@ -69,13 +72,76 @@ fn has_other_byte(line: &Line) -> bool
     line.bytes.iter().any(|byte| 0x7F < *byte)
 }
 
-/// The first line with a byte above 7Fh.
-pub(crate) fn not_ascii(lines: &[Line]) -> Option<usize>
-    ensures { option_to_list result ≡ not_ascii (map line_view lines.now) }
+fn first_other(lines: &[Line]) -> Option<usize>
+    ensures { option_to_list result ≡ first_other (map line_view lines.now) }
 {
     for line in lines {
         if has_other_byte(line) {
             return Some(line.number);
+        }
+    }
+    None
+}
+
+fn is_utf8(text: &[u8]) -> bool
+    ensures { result ≡ is_utf8 text.now }
+{
+    match str::from_utf8(text) {
+        Ok(_) => true,
+        Err(_) => false,
+    }
+}
+
+/// The first line with a byte above 7Fh, of a text in UTF-8.
+pub(crate) fn utf8(text: &ReadText) -> Option<usize>
+    ensures { option_to_list result ≡ utf8 text.now }
+{
+    if is_utf8(text.bytes()) {
+        first_other(text.lines())
+    } else {
+        None
+    }
+}
+
+/// The first line with a byte above 7Fh, of a text that isn't in UTF-8.
+pub(crate) fn not_ascii(text: &ReadText) -> Option<usize>
+    ensures { option_to_list result ≡ not_ascii text.now }
+{
+    if is_utf8(text.bytes()) {
+        None
+    } else {
+        first_other(text.lines())
+    }
+}
+
+// whether a line's end isn't that of line 1: with CR before LF, or without
+fn is_other_end(first: Option<bool>, with_cr: bool) -> bool
+    ensures { result ≡ is_other_end first with_cr }
+{
+    match first {
+        None => false,
+        Some(true) => !with_cr,
+        Some(false) => with_cr,
+    }
+}
+
+/// The first line whose end isn't that of line 1: CR and LF, or LF alone.
+pub(crate) fn mixed_line_ends(text: &[u8]) -> Option<usize>
+    ensures { option_to_list result ≡ mixed_line_ends text.now }
+{
+    let mut first = None;
+    let mut line = 1;
+    let mut after_cr = false;
+    for byte in text {
+        if *byte == b'\n' {
+            if is_other_end(first, after_cr) {
+                return Some(line);
+            }
+            first = first.or(Some(after_cr));
+            line += 1;
+            after_cr = false;
+        } else {
+            after_cr = *byte == b'\r';
         }
     }
     None

@@ -5,8 +5,9 @@ ghost use Rattle.co_sheet.specs.Entries.{sub_indices};
 ghost use Rattle.co_sheet.specs.ObjectLists.{is_listed};
 ghost use Rattle.co_sheet.specs.SectionViews.{entry_view};
 ghost use Rattle.co_sheet_text.specs.Views.{section_view};
-ghost use Rattle.co_sheet_warnings.specs.private.Views.{line_view, text_view};
+ghost use Rattle.co_sheet_warnings.specs.private.Views.{key_view, line_view, text_view};
 
+use crate::keys::WrittenKey;
 use crate::lines::Line;
 use crate::lists::listed_indices;
 use co_sheet::{EntrySection, Tables};
@@ -19,8 +20,10 @@ use std::marker::Model;
 /// the indices that the lists name.
 #[derive(Drop)]
 pub(crate) struct ReadText<'s, 'a> {
+    bytes: &'a [u8],
     lines: &'s [Line<'a>],
     tables: Tables<'s, 'a>,
+    keys: &'s [WrittenKey<'a>],
     node: Option<u8>,
     indices: IndexSet<u64>,
 }
@@ -31,7 +34,7 @@ impl<'s, 'a> Model for ReadText<'s, 'a> {
 
     ghost Value = { ReadText };
 
-    ghost view = { λ t. text_view t.lines.now t.tables t.node };
+    ghost view = { λ t. text_view t.bytes.now t.lines.now t.tables t.keys.now t.node };
 
     ghost invariant = { λ t. HasListed t.tables t.indices };
 }
@@ -39,21 +42,31 @@ impl<'s, 'a> Model for ReadText<'s, 'a> {
 impl<'s, 'a> ReadText<'s, 'a> {
     pub(crate) fn new(
         alloc: Global,
+        bytes: &'a [u8],
         lines: &'s [Line<'a>],
         sections: &'s [TextSection<'s, 'a>],
+        keys: &'s [WrittenKey<'a>],
         node: Option<u8>,
     ) -> Result<ReadText<'s, 'a>, AllocError>
-        ensures { IfOk result
-            (λ text. text ≡ text_view lines.now (map section_view sections.now) node) }
+        ensures { IfOk result (λ text. text ≡ text_view bytes.now lines.now
+            (map section_view sections.now) keys.now node) }
     {
         let tables = Tables::new(alloc, sections)?;
         let indices = listed_indices(alloc, sections)?;
         Ok(ReadText {
+            bytes,
             lines,
             tables,
+            keys,
             node,
             indices,
         })
+    }
+
+    pub(crate) fn bytes(&self) -> &'a [u8]
+        ensures { result.now ≡ self.now.text }
+    {
+        self.bytes
     }
 
     pub(crate) fn lines(&self) -> &'s [Line<'a>]
@@ -66,6 +79,13 @@ impl<'s, 'a> ReadText<'s, 'a> {
         ensures { map section_view result.now ≡ self.now.sections }
     {
         self.tables.sections()
+    }
+
+    /// The keys as they are written.
+    pub(crate) fn keys(&self) -> &'s [WrittenKey<'a>]
+        ensures { map key_view result.now ≡ self.now.keys }
+    {
+        self.keys
     }
 
     /// The node-ID that is given for the device.

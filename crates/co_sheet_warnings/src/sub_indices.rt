@@ -16,6 +16,7 @@ ghost use Rattle.co_sheet_warnings.specs.SubIndices.{
   sub_index_0_of,
 };
 ghost use Rattle.co_sheet.specs.SectionViews.{entry_view};
+ghost use Rattle.co_sheet_warnings.specs.Repeats.{value_in};
 
 use co_sheet::EntrySection;
 use co_sheet_text::{Property, SectionKind, TextSection, same_name};
@@ -45,14 +46,21 @@ pub(crate) fn missing_name(section: &TextSection) -> Option<usize>
     }
 }
 
-/// What an entry begins with: ParameterValue, or else DefaultValue.
+/// What an entry begins with, by its section: ParameterValue, or else DefaultValue.
+pub(crate) fn value_in<'a>(section: &TextSection<'_, 'a>) -> Option<Property<'a>>
+    ensures { option_map property_view result ≡ value_in (section_view section.now) }
+{
+    match section.property(b"ParameterValue") {
+        Some(given) => Some(given),
+        None => section.property(b"DefaultValue"),
+    }
+}
+
+/// What an entry begins with.
 pub(crate) fn value_property<'a>(entry: &EntrySection<'_, 'a>) -> Option<Property<'a>>
     ensures { option_map property_view result ≡ value_property (entry_view entry.now) }
 {
-    match entry.section.property(b"ParameterValue") {
-        Some(given) => Some(given),
-        None => entry.section.property(b"DefaultValue"),
-    }
+    value_in(entry.section)
 }
 
 /// The number that an entry begins with.

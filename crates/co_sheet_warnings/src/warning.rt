@@ -1,5 +1,7 @@
 //! A warning, and its kinds.
 
+use crate::known_key::KnownKey;
+
 /// What is suspicious (CiA 306-1, CiA 301).
 #[derive(Clone, Copy, Debug, PartialEq, Eq, Hash)]
 pub enum WarningKind {
@@ -7,14 +9,26 @@ pub enum WarningKind {
     SubNumber,
     /// A constant sub-index 0 isn't the highest sub-index of its object.
     SubIndex0,
+    /// FileInfo is missing, or lacks a key that has to be there.
+    FileInfoKeys,
+    /// DeviceInfo is missing, or lacks a key that has to be there.
+    DeviceInfoKeys,
+    /// NrOfRXPDO or NrOfTXPDO isn't the number of PDOs.
+    PdoCount,
     /// An object is in another list than the one for its index.
     WrongList,
     /// An object section that no object list names.
     Unlisted,
+    /// VendorNumber, ProductNumber or RevisionNumber isn't that of the identity object.
+    IdentityNumber,
     /// A COB-ID that depends on the node-ID by default is a fixed number.
     FixedCobId,
     /// `$NODEID` comes after the number of a formula.
     NodeIdPlace,
+    /// A key that the standard doesn't have, and that is like one of its own.
+    MisspeltKey(KnownKey),
+    /// A COB-ID has the identifier of another one before it, for the node-ID that is given.
+    SharedCobId,
     /// A synchronous TPDO has an inhibit time.
     InhibitTime,
     /// The heartbeat consumer expects the heartbeat of its own node.
@@ -25,12 +39,22 @@ pub enum WarningKind {
     NoErrorControl,
     /// A line of more than 255 bytes.
     LongLine,
-    /// Bytes above 7Fh, which are UTF-8 or another code.
+    /// Bytes above 7Fh, in UTF-8.
+    Utf8,
+    /// Bytes above 7Fh that aren't UTF-8.
     NotAscii,
     /// The indices of a list don't increase.
     ListOrder,
+    /// An object, or a sub-index of an object, has the name of one before it.
+    EqualNames,
     /// An object or a sub-index without a name.
     MissingName,
+    /// A key that the standard doesn't have.
+    UnknownKey,
+    /// A date or a time of FileInfo in another format.
+    DateFormat,
+    /// Lines that end with CR and LF, and lines that end with LF alone.
+    LineEnds,
 }
 
 /// What is suspicious, and where.

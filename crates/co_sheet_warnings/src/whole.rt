@@ -1,23 +1,31 @@
 //! The places of each kind in a text.
 
-ghost use Rattle.std.specs.Prelude.{◌≡◌, option_to_list, IfOk};
+ghost use Rattle.std.specs.Prelude.{◌≡◌, flat_map, option_to_list, IfOk};
 ghost use Rattle.co_sheet_warnings.specs.Lists.{no_error_control};
 ghost use Rattle.co_sheet_warnings.specs.Warnings.{places_of};
 
 use crate::in_sections::places_in;
-use crate::lines::{long_lines, not_ascii};
+use crate::infos::{
+    DEVICE_KEYS, FILE_KEYS, date_formats, identity_numbers, missing_keys, pdo_counts,
+};
+use crate::keys::Topic;
+use crate::known_key::unknown_key;
+use crate::lines::{long_lines, mixed_line_ends, not_ascii, utf8};
 use crate::lists::{list_orders, wrong_lists};
 use crate::read_text::ReadText;
+use crate::repeats::{equal_names, shared_cob_ids};
 use crate::warning::WarningKind;
 use std::alloc::{AllocError, Global};
 
-// one place or none, as a list
-fn listed(alloc: Global, place: Option<usize>) -> Result<Vec<usize>, AllocError>
-    ensures { IfOk result (λ places. places.items ≡ option_to_list place) }
+// the places that are there, as a list
+fn listed(alloc: Global, found: &[Option<usize>]) -> Result<Vec<usize>, AllocError>
+    ensures { IfOk result (λ places. places.items ≡ flat_map option_to_list found.now) }
 {
     let mut places = Vec::new(alloc);
-    if let Some(place) = place {
-        places.push(place)?;
+    for place in found {
+        if let Some(place) = place {
+            places.push(*place)?;
+        }
     }
     Ok(places)
 }
@@ -43,11 +51,28 @@ pub(crate) fn places_of(
     ensures { IfOk result (λ places. places.items ≡ places_of text.now kind) }
 {
     match kind {
+        WarningKind::FileInfoKeys => {
+            listed(alloc, &[missing_keys(Topic::FileInfo, text, &FILE_KEYS)])
+        }
+        WarningKind::DeviceInfoKeys => {
+            listed(
+                alloc,
+                &[missing_keys(Topic::DeviceInfo, text, &DEVICE_KEYS)],
+            )
+        }
+        WarningKind::PdoCount => listed(alloc, &pdo_counts(text)),
         WarningKind::WrongList => wrong_lists(alloc, text.sections()),
-        WarningKind::ListOrder => list_orders(alloc, text.sections()),
-        WarningKind::NoErrorControl => listed(alloc, no_error_control(text)),
+        WarningKind::IdentityNumber => listed(alloc, &identity_numbers(text)),
+        WarningKind::SharedCobId => shared_cob_ids(alloc, text.node(), text.sections()),
+        WarningKind::NoErrorControl => listed(alloc, &[no_error_control(text)]),
         WarningKind::LongLine => long_lines(alloc, text.lines()),
-        WarningKind::NotAscii => listed(alloc, not_ascii(text.lines())),
+        WarningKind::Utf8 => listed(alloc, &[utf8(text)]),
+        WarningKind::NotAscii => listed(alloc, &[not_ascii(text)]),
+        WarningKind::ListOrder => list_orders(alloc, text.sections()),
+        WarningKind::EqualNames => equal_names(alloc, text.sections()),
+        WarningKind::UnknownKey => listed(alloc, &[unknown_key(text.keys())]),
+        WarningKind::DateFormat => listed(alloc, &date_formats(text)),
+        WarningKind::LineEnds => listed(alloc, &[mixed_line_ends(text.bytes())]),
         other => places_in(alloc, text, other),
     }
 }

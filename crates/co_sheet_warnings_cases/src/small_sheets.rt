@@ -1,6 +1,6 @@
 //! Small texts.
 
-use co_sheet_warnings::{WarningKind, find_warnings, is_quiet, name_of};
+use co_sheet_warnings::{KnownKey, WarningKind, find_warnings, is_quiet, name_of};
 use std::test::Fail;
 
 /// A text with most warnings. It takes no memory of its own, so in a run where an allocation is refused it is one of
@@ -37,19 +37,23 @@ ParameterName=Transmission type
 DefaultValue=1
 [1800sub3]
 DefaultValue=100
+AcessType=rw
 ";
 
 /// The number of each line, and the kinds of its warnings.
-const FOUND: [(usize, WarningKind); 11] = [
+const FOUND: [(usize, WarningKind); 14] = [
+    (0, WarningKind::FileInfoKeys),
+    (0, WarningKind::DeviceInfoKeys),
     (0, WarningKind::NoErrorControl),
     (6, WarningKind::WrongList),
     (7, WarningKind::ListOrder),
-    (9, WarningKind::NotAscii),
+    (9, WarningKind::Utf8),
     (10, WarningKind::SubNumber),
     (11, WarningKind::Unlisted),
     (13, WarningKind::FixedCobId),
     (17, WarningKind::SubIndex0),
     (20, WarningKind::OwnHeartbeat),
+    (22, WarningKind::EqualNames),
     (23, WarningKind::OwnHeartbeat),
     (23, WarningKind::HeartbeatTwice),
 ];
@@ -57,13 +61,13 @@ const FOUND: [(usize, WarningKind); 11] = [
 #[test]
 fn sloppy(rt: HostRuntime) -> Result<(), Fail> {
     let warnings = find_warnings(rt.alloc(), SLOPPY.as_bytes(), Some(5))?;
-    assert_eq!(rt; warnings.len(), FOUND.len() + 3);
+    assert_eq!(rt; warnings.len(), FOUND.len() + 4);
     for (warning, expected) in warnings.iter().zip(FOUND.iter()) {
         assert_eq!(rt; warning.line, expected.0);
         assert_eq!(rt; warning.kind, expected.1);
     }
     let last = warnings.last().ok_or("none")?;
-    assert!(rt; last.line == 31 && last.kind == WarningKind::InhibitTime);
+    assert!(rt; last.line == 32 && last.kind == WarningKind::MisspeltKey(KnownKey::AccessType));
     Ok(())
 }
 

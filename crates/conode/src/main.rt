@@ -10,7 +10,7 @@ use conode_io::{CmdFault, stopped};
 use conode_lint::{Checks, Form, LintOptions, lint_files};
 use conode_loop::loop_files;
 use conode_replay::{replay_files, replay_stored};
-use conode_show::{Format as ShowFormat, show_file};
+use conode_show::{Form as ShownForm, Format as ShownFormat, show_file};
 use conode_words::{
     Colours, DeviceWords, DictionaryWords, Format, LintWords, ShownAs, Task, VERSION, task,
 };
@@ -36,10 +36,11 @@ fn config_of(device: &DeviceWords) -> Config<'static> {
 }
 
 /// The form in which a dictionary is shown.
-fn format_of(shown_as: ShownAs) -> ShowFormat {
+fn shown_form(shown_as: ShownAs) -> ShownForm {
     match shown_as {
-        ShownAs::Columns => ShowFormat::Text,
-        ShownAs::Markdown => ShowFormat::Markdown,
+        ShownAs::Columns => ShownForm::Lines(ShownFormat::Text),
+        ShownAs::Markdown => ShownForm::Lines(ShownFormat::Markdown),
+        ShownAs::Json => ShownForm::Json,
     }
 }
 
@@ -131,7 +132,7 @@ fn carry_out_task<O: Write, E: Write>(
             sheet,
             node,
             shown_as,
-        } => show_file(rt, sheet, format_of(shown_as), node, out, err),
+        } => show_file(rt, sheet, shown_form(shown_as), node, out, err),
     }
 }
 

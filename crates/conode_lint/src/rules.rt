@@ -4,7 +4,7 @@ use crate::mark::{Mark, OtherFormat, Subject};
 use crate::words::{fix_of, meaning_of, name_of, severity_of, subject_of};
 use co_dict_build::BuildFault;
 use co_sheet_faults::FaultKind;
-use co_sheet_warnings::WarningKind;
+use co_sheet_warnings::{KnownKey, WarningKind};
 use co_value::Key;
 use conode_lint_text::Rule;
 use std::alloc::{AllocError, Global};
@@ -43,21 +43,32 @@ const BUILD_FAULTS: [BuildFault; 5] = [
     BuildFault::TooMany,
 ];
 
-const WARNINGS: [WarningKind; 14] = [
+const WARNINGS: [WarningKind; 25] = [
     WarningKind::SubNumber,
     WarningKind::SubIndex0,
+    WarningKind::FileInfoKeys,
+    WarningKind::DeviceInfoKeys,
+    WarningKind::PdoCount,
     WarningKind::WrongList,
     WarningKind::Unlisted,
+    WarningKind::IdentityNumber,
     WarningKind::FixedCobId,
     WarningKind::NodeIdPlace,
+    WarningKind::MisspeltKey(KnownKey::AccessType),
+    WarningKind::SharedCobId,
     WarningKind::InhibitTime,
     WarningKind::OwnHeartbeat,
     WarningKind::HeartbeatTwice,
     WarningKind::NoErrorControl,
     WarningKind::LongLine,
+    WarningKind::Utf8,
     WarningKind::NotAscii,
     WarningKind::ListOrder,
+    WarningKind::EqualNames,
     WarningKind::MissingName,
+    WarningKind::UnknownKey,
+    WarningKind::DateFormat,
+    WarningKind::LineEnds,
 ];
 
 // the rule of a kind
@@ -66,8 +77,16 @@ fn rule_of(subject: Subject) -> Rule<'static> {
         name: name_of(subject),
         severity: severity_of(subject),
         meaning: meaning_of(Mark { line: 1, subject }),
-        fix: fix_of(subject),
+        fix: rule_fix(subject),
         subject: subject_of(subject),
+    }
+}
+
+// how any finding of a kind is fixed; of a misspelt key it isn't said which key is meant
+fn rule_fix(subject: Subject) -> &'static str {
+    match subject {
+        Subject::Warning(WarningKind::MisspeltKey(_)) => "write the key as the standard has it",
+        _ => fix_of(subject),
     }
 }
 

@@ -1,5 +1,6 @@
 pub mod Examples
 pub mod LineExamples
+pub mod JsonExamples
 mod OrderLemmas
 pub mod Plain
 mod TypeLemmas

@@ -60,8 +60,11 @@ abbrev pub has_sub_indices : TextSection → Bool
 has_sub_indices section = is_array section || is_record section
 
 -- whether the entry may be mapped into a PDO
+abbrev pub is_mappable : TextSection → Bool
+is_mappable section = is_other_than_zero (number_at (codes "PDOMapping") section)
+
 unfoldable pub mappable_text : TextSection → List ℕ
-mappable_text section = if is_other_than_zero (number_at (codes "PDOMapping") section) then codes "PDO" else []
+mappable_text section = if is_mappable section then codes "PDO" else []
 
 -- an entry: key, name, type, access, whether it may be mapped, default, limits
 abbrev pub entry_parts : Option ℕ → Key → TextSection → List Part

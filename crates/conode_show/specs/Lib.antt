@@ -6,5 +6,6 @@ pub mod Meanings
 pub mod Entries
 pub mod Services
 pub mod Pdos
+pub mod JsonForm
 pub mod Document
 pub mod Shown

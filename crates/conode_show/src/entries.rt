@@ -8,6 +8,7 @@ ghost use Rattle.conode_show.specs.Entries.{
   entry_type,
   has_sub_indices,
   is_array,
+  is_mappable,
   is_record,
   mappable_text,
   object_head,
@@ -41,8 +42,8 @@ fn is_record(section: &TextSection<'_, '_>) -> bool
     matches!(object_code(section), Some(9))
 }
 
-// whether an object's entries have sections of their own
-fn has_sub_indices(section: &TextSection<'_, '_>) -> bool
+/// Whether an object's entries have sections of their own.
+pub(crate) fn has_sub_indices(section: &TextSection<'_, '_>) -> bool
     ensures { result ≡ has_sub_indices (section_view section.now) }
 {
     is_array(section) || is_record(section)
@@ -66,9 +67,9 @@ fn push_entry_type(text: &mut String, section: &TextSection<'_, '_>) -> Result<(
     }
 }
 
-// the type of an object with sub-indices, or of an entry
+/// Appends the type of an object with sub-indices, or of an entry.
 #[tactic(auto, unfolding(crate::specs::Entries::type_text))]
-fn push_type(text: &mut String, section: &TextSection<'_, '_>) -> Result<(), AllocError>
+pub(crate) fn push_type(text: &mut String, section: &TextSection<'_, '_>) -> Result<(), AllocError>
     ensures { OnOk result (string_bytes text.new
         ≡ string_bytes text.old ++ type_text (section_view section.now)) }
 {
@@ -81,14 +82,22 @@ fn push_type(text: &mut String, section: &TextSection<'_, '_>) -> Result<(), All
     }
 }
 
+/// Whether the entry may be mapped into a PDO.
+pub(crate) fn is_mappable(section: &TextSection<'_, '_>) -> bool
+    ensures { result ≡ is_mappable (section_view section.now) }
+{
+    !matches!(section.number_at(b"PDOMapping"), None | Some(0))
+}
+
 #[tactic(auto, unfolding(crate::specs::Entries::mappable_text))]
 fn push_mappable(text: &mut String, section: &TextSection<'_, '_>) -> Result<(), AllocError>
     ensures { OnOk result (string_bytes text.new
         ≡ string_bytes text.old ++ mappable_text (section_view section.now)) }
 {
-    match section.number_at(b"PDOMapping") {
-        None | Some(0) => Ok(()),
-        Some(_) => push_words(text, "PDO"),
+    if is_mappable(section) {
+        push_words(text, "PDO")
+    } else {
+        Ok(())
     }
 }
 

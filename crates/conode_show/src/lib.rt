@@ -4,6 +4,7 @@
 mod document;
 mod entries;
 mod format;
+mod json_form;
 mod layout;
 mod meaning;
 mod numbers;
@@ -16,5 +17,5 @@ mod texts;
 mod type_names;
 mod values;
 
-pub use format::Format;
+pub use format::{Form, Format};
 pub use shown_file::{show, show_file};

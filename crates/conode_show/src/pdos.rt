@@ -34,8 +34,8 @@ use co_text::push_decimal;
 use co_value::Key;
 use std::alloc::AllocError;
 
-// the COB-ID of a PDO
-fn is_pdo_cob_id(key: Key) -> bool
+/// Whether an entry is the COB-ID of a PDO.
+pub(crate) fn is_pdo_cob_id(key: Key) -> bool
     ensures { result ≡ is_pdo_cob_id key }
 {
     key.sub == 1
@@ -43,9 +43,9 @@ fn is_pdo_cob_id(key: Key) -> bool
             || IndexRange::TPDO_COMMUNICATION.contains(key.index))
 }
 
-// a PDO by its number, from 1
+/// Appends a PDO's name, with its number, from 1.
 #[tactic(auto, unfolding(crate::specs::Pdos::pdo_name))]
-fn push_pdo_name(text: &mut String, index: u16) -> Result<(), AllocError>
+pub(crate) fn push_pdo_name(text: &mut String, index: u16) -> Result<(), AllocError>
     ensures { OnOk result (string_bytes text.new ≡ string_bytes text.old ++ pdo_name index) }
 {
     let (service, before) = if IndexRange::RPDO_COMMUNICATION.contains(index) {
@@ -135,16 +135,16 @@ fn entry_section<'s, 'a>(
     }
 }
 
-// the word that an entry has
-fn section_word(node: Option<u8>, section: &TextSection<'_, '_>) -> Option<Word>
+/// The word that an entry has.
+pub(crate) fn section_word(node: Option<u8>, section: &TextSection<'_, '_>) -> Option<Word>
     ensures { result ≡ section_word node (section_view section.now) }
 {
     word_of(node, value_of(section)?.value)
 }
 
-// the name of the entry that a word of a mapping names
+/// Appends the name of the entry that a word of a mapping names.
 #[tactic(auto, unfolding(crate::specs::Pdos::mapped_name))]
-fn push_mapped_name(
+pub(crate) fn push_mapped_name(
     text: &mut String,
     node: Option<u8>,
     sections: &[TextSection],
@@ -185,8 +185,8 @@ fn set_mapped_line(
     end(line)
 }
 
-// how many words of a mapping count
-fn mapping_count(node: Option<u8>, sections: &[TextSection], index: u16) -> u64
+/// How many words of a mapping count.
+pub(crate) fn mapping_count(node: Option<u8>, sections: &[TextSection], index: u16) -> u64
     ensures { result ≡ mapping_count node (map section_view sections.now) index }
 {
     let Some(section) = section_at(sections, SectionKind::SubIndex(Key { index, sub: 0 })) else {
@@ -198,8 +198,8 @@ fn mapping_count(node: Option<u8>, sections: &[TextSection], index: u16) -> u64
     }
 }
 
-// whether a section is a word of a mapping that counts
-fn is_counted(index: u16, count: u64, kind: SectionKind) -> bool
+/// Whether a section is a word of a mapping that counts.
+pub(crate) fn is_counted(index: u16, count: u64, kind: SectionKind) -> bool
     ensures { result ≡ is_counted index count kind }
 {
     match kind {

@@ -28,8 +28,8 @@ pub enum Service {
 }
 
 impl Service {
-    // the service of an entry
-    fn of(key: Key) -> Option<Service>
+    /// The service of an entry.
+    pub(crate) fn of(key: Key) -> Option<Service>
         ensures { result ≡ service_of key }
     {
         match (key.index, key.sub) {
@@ -44,7 +44,8 @@ impl Service {
         }
     }
 
-    fn meaning(self) -> Meaning
+    /// What its number means.
+    pub(crate) fn meaning(self) -> Meaning
         ensures { result ≡ service_meaning self }
     {
         match self {
@@ -67,8 +68,9 @@ fn push_channel(text: &mut String, channel: u16, way: &str) -> Result<(), AllocE
     push_words(text, way)
 }
 
+/// Appends what a service is called.
 #[tactic(auto, unfolding(crate::specs::Services::service_name))]
-fn push_name(text: &mut String, service: Service) -> Result<(), AllocError>
+pub(crate) fn push_name(text: &mut String, service: Service) -> Result<(), AllocError>
     ensures { OnOk result (string_bytes text.new ≡ string_bytes text.old ++ service_name service) }
 {
     match service {
@@ -105,7 +107,8 @@ fn set_service_line(
     end(line)
 }
 
-fn key_of(kind: SectionKind) -> Option<Key>
+/// The key of the entry that a section describes.
+pub(crate) fn key_of(kind: SectionKind) -> Option<Key>
     ensures { result ≡ key_of kind }
 {
     match kind {

@@ -76,8 +76,8 @@ fn numeric_default(data_type: DataType, text: &[u8]) -> Result<Preset<'static>, 
     }
 }
 
-// a numeric text as a value, `Absent` where it is none
-fn numeric_value(data_type: DataType, text: &[u8]) -> Preset<'static>
+/// A numeric text as a value, `Absent` where it is none.
+pub(crate) fn numeric_value(data_type: DataType, text: &[u8]) -> Preset<'static>
     ensures { default_view result ≡ numeric_value data_type text.now }
 {
     match numeric_default(data_type, text) {
@@ -153,9 +153,9 @@ fn push_unnumbered(text: &mut String, data_type: DataType, value: &[u8]) -> Resu
     }
 }
 
-// the value of a text at a type
+/// Appends the value of a text at a type.
 #[tactic(auto, unfolding(crate::specs::Values::value_text))]
-fn push_value(
+pub(crate) fn push_value(
     text: &mut String,
     node: Option<u8>,
     data_type: Option<DataType>,
@@ -182,7 +182,8 @@ fn data_type_with(code: u64) -> Option<DataType>
     DataType::from_code(code as u16)
 }
 
-fn type_of(section: &TextSection<'_, '_>) -> Option<DataType>
+/// The type that a section states, where it is supported.
+pub(crate) fn type_of(section: &TextSection<'_, '_>) -> Option<DataType>
     ensures { result ≡ type_of (section_view section.now) }
 {
     data_type_with(section.number_at(b"DataType")?)
@@ -226,8 +227,8 @@ pub(crate) fn push_default(
     push_value_of(text, node, data_type, default)
 }
 
-// the number of a text at a type
-fn limit_number(data_type: Option<DataType>, value: &[u8]) -> Option<i128>
+/// The number of a limit at a type.
+pub(crate) fn limit_number(data_type: Option<DataType>, value: &[u8]) -> Option<i128>
     ensures { result ≡ limit_number data_type value.now }
 {
     match signed_numeral(value) {
@@ -236,8 +237,9 @@ fn limit_number(data_type: Option<DataType>, value: &[u8]) -> Option<i128>
     }
 }
 
+/// Appends a limit, nothing where there is none.
 #[tactic(auto, unfolding(crate::specs::Values::limit_text))]
-fn push_limit(
+pub(crate) fn push_limit(
     text: &mut String,
     data_type: Option<DataType>,
     limit: Option<Property<'_>>,

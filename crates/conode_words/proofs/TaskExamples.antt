@@ -8,6 +8,7 @@ use Rattle.co_sdo_client.specs.declared.mode.Mode.TheVariants.{Plain, Block}
 use Rattle.conode_words.specs.declared.tasks.DeviceWords.{DeviceWords}
 use Rattle.conode_words.specs.declared.tasks.DictionaryWords.{DictionaryWords}
 use Rattle.conode_words.specs.declared.tasks.ShownAs.TheVariants.{Columns, Markdown}
+use Rattle.conode_words.specs.declared.tasks.ShownAs.TheVariants as shown_form
 use Rattle.conode_words.specs.declared.tasks.Colours.TheVariants.{Auto, Always}
 use Rattle.conode_words.specs.declared.tasks.Format.TheVariants.{Json, Text as AsText}
 use Rattle.conode_words.specs.Tasks.{Asked, check, lint, decode, replay, loop_back, show, asked_of, conode_command, task_fault}
@@ -221,6 +222,11 @@ show_with_options : asked (codes "show" ∷ codes "--format" ∷ codes "markdown
     ≡ Some (show (record { sheet = codes "a"; node = Some 127; shown_as = Markdown }))
 unfolding clap_on_literals
 show_with_options = refl
+
+show_as_json : asked (codes "show" ∷ codes "a" ∷ codes "--format=json" ∷ [])
+    ≡ Some (show (record { sheet = codes "a"; node = None; shown_as = shown_form.Json }))
+unfolding clap_on_literals
+show_as_json = refl
 
 show_in_another_format : task_fault (codes "conode" ∷ codes "show" ∷ codes "a" ∷ codes "--format" ∷ codes "html" ∷ []) ≡ kind.InvalidValue ∷ []
 unfolding clap_on_literals

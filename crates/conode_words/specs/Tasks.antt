@@ -22,6 +22,7 @@ use Rattle.conode_words.specs.declared.tasks.Task.{Task}
 use Rattle.conode_words.specs.declared.tasks.Task.TheVariants.{Check, Lint, Decode, Replay, LoopBack, Show}
 use Rattle.conode_words.specs.declared.tasks.ShownAs.{ShownAs}
 use Rattle.conode_words.specs.declared.tasks.ShownAs.TheVariants.{Columns, Markdown}
+use Rattle.conode_words.specs.declared.tasks.ShownAs.TheVariants as shown_form
 
 -- a word that has to be there
 abbrev pub wanted : Text → Rule
@@ -329,7 +330,8 @@ asked_loop rows =
 abbrev pub shown_as : Text → Option ShownAs
 shown_as word =
     if bytes_eq word (codes "text") then Some Columns
-    else (if bytes_eq word (codes "markdown") then Some Markdown else None)
+    else (if bytes_eq word (codes "markdown") then Some Markdown
+    else (if bytes_eq word (codes "json") then Some shown_form.Json else None))
 
 -- the form of matches
 abbrev pub shown_for : List Row → Option ShownAs

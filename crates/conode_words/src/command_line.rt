@@ -361,7 +361,7 @@ fn shown_arg<'a>(alloc: Global) -> Arg<'a>
         .long("format")
         .value_name("FORMAT")
         .default_value("text")
-        .help("How to show it: text or markdown")
+        .help("How to show it: text, markdown or json")
 }
 
 fn show_command<'a>(alloc: Global) -> Result<Command<'a>, AllocError>
@@ -636,6 +636,8 @@ fn shown_as(word: &str) -> Option<ShownAs>
         Some(ShownAs::Columns)
     } else if word == "markdown" {
         Some(ShownAs::Markdown)
+    } else if word == "json" {
+        Some(ShownAs::Json)
     } else {
         None
     }

@@ -154,7 +154,7 @@ are wrong, or there is no node-ID.";
 pub const MODES: &str = "invalid value for '--mode <MODE>': plain, segmented or block";
 
 /// What is said of a form of `show` that is none.
-pub const SHOWN_FORMS: &str = "invalid value for '--format <FORMAT>': text or markdown";
+pub const SHOWN_FORMS: &str = "invalid value for '--format <FORMAT>': text, markdown or json";
 
 /// What `show` prints.
 pub const SHOWN: &str = "\
@@ -169,7 +169,7 @@ DCF with a node-ID, `$NODEID+600h` has its value beside it.
 
 A sheet with a fault is shown too, a value that can't be read as it is written:
 `check` finds faults. Where a line by itself is at fault, as `fault 2 BadLine
-line 7`, that is all that is printed.
+line 7`, that is all that is printed. --format json prints one document.
 
 Status: 0 if the dictionary is shown, 1 if not, 2 if the words are wrong.";
 

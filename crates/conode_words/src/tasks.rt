@@ -29,6 +29,8 @@ pub enum ShownAs {
     Columns,
     /// As tables and headings of Markdown.
     Markdown,
+    /// As one document of JSON.
+    Json,
 }
 
 /// How `lint` writes what it finds.

@@ -1,8 +1,0 @@
-use Rattle.std.proofs.Common.{◌≡◌, drop, map}
-use Rattle.co_sheet_warnings.specs.Lines.{not_ascii}
-use Rattle.co_sheet_warnings.specs.private.Views.{line_view}
-use Rattle.co_sheet_warnings.proofs.lines.not_ascii.Given as goal
-
--- what the rest has is what all have
-abbrev pub invariant-loop-line : goal.invariant-loop-line
-invariant-loop-line l = not_ascii (map line_view (drop l.line-index l.lines)) ≡ not_ascii (map line_view l.lines)

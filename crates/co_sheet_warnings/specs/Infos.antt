@@ -1,0 +1,151 @@
+-- What FileInfo and DeviceInfo say (CiA 306-1, file information, device information).
+use Rattle.std.specs.Prelude.{ℕ, ◌==◌, nat_le, Bool, true, false, not, ◌&&◌, ◌||◌, if◌then◌else◌, List, [], ◌∷◌, ◌++◌, length, take, drop, count_by, codes, find, is_none, is_some, Option, option_and_then}
+use Rattle.std.specs.List.{list_any, before_first, after_first}
+use Rattle.std.specs.Option.{option_map_or}
+use Rattle.std.specs.Result.{result_ok}
+use Rattle.co_text.specs.Texts.{decimal_in}
+use Rattle.co_sheet_text.specs.declared.section_kind.SectionKind.{SectionKind}
+use Rattle.co_sheet_text.specs.declared.section_kind.SectionKind.TheVariants.{Object}
+use Rattle.co_sheet_text.specs.Numerals.{unsigned_number}
+use Rattle.co_sheet_text.specs.Sections.{TextSection}
+use Rattle.co_sheet_text.specs.Text.{same_name}
+use Rattle.co_sheet.specs.Entries.{sub_indices, is_other_than_zero}
+use Rattle.co_sheet_warnings.specs.declared.keys.Topic.{Topic}
+use Rattle.co_sheet_warnings.specs.declared.keys.Topic.TheVariants.{FileInfo, DeviceInfo}
+use Rattle.co_sheet_warnings.specs.declared.known_key.KnownKey.{KnownKey}
+use Rattle.co_sheet_warnings.specs.declared.known_key.KnownKey.TheVariants as key
+use Rattle.co_sheet_warnings.specs.Communication.{number_at_sub}
+use Rattle.co_sheet_warnings.specs.Keys.{WrittenKey, topic_of}
+use Rattle.co_sheet_warnings.specs.KnownKeys.{has_text}
+use Rattle.co_sheet_warnings.specs.ReadTexts.{ReadText}
+use Rattle.co_sheet_warnings.specs.SubIndices.{is_within}
+
+-- the first key of this name in a section of FileInfo, or of DeviceInfo
+abbrev pub is_info : Topic → Topic → Bool
+is_info FileInfo FileInfo = true
+is_info DeviceInfo DeviceInfo = true
+is_info info topic = false
+
+abbrev pub is_key : Topic → KnownKey → WrittenKey → Bool
+is_key info known k = is_info info k.topic && has_text k.name known
+
+abbrev pub key_at : Topic → List WrittenKey → KnownKey → Option WrittenKey
+key_at info keys known = find (is_key info known) keys
+
+-- ---- what is missing
+
+-- the keys that have to be there
+abbrev pub file_keys : List KnownKey
+file_keys =
+    key.FileName ∷ key.FileVersion ∷ key.FileRevision ∷ key.Description ∷ key.CreationTime
+    ∷ key.CreationDate ∷ key.CreatedBy ∷ key.ModificationTime ∷ key.ModificationDate
+    ∷ key.ModifiedBy ∷ []
+
+abbrev pub device_keys : List KnownKey
+device_keys =
+    key.VendorName ∷ key.VendorNumber ∷ key.ProductName ∷ key.ProductNumber ∷ key.RevisionNumber
+    ∷ key.OrderCode ∷ key.BaudRate10 ∷ key.BaudRate20 ∷ key.BaudRate50 ∷ key.BaudRate125
+    ∷ key.BaudRate250 ∷ key.BaudRate500 ∷ key.BaudRate800 ∷ key.BaudRate1000
+    ∷ key.SimpleBootUpMaster ∷ key.SimpleBootUpSlave ∷ key.Granularity
+    ∷ key.DynamicChannelsSupported ∷ key.GroupMessaging ∷ key.NrOfRxPdo ∷ key.NrOfTxPdo
+    ∷ key.LssSupported ∷ []
+
+abbrev pub lacks_any : Topic → List WrittenKey → List KnownKey → Bool
+lacks_any info keys required = list_any (λ known. is_none (key_at info keys known)) required
+
+-- the line of the section, 0 where there is none
+abbrev pub info_line : Topic → List TextSection → ℕ
+info_line info sections =
+    option_map_or (λ s. s.line) (find (λ s. is_info info (topic_of s.name)) sections) 0
+
+abbrev pub missing_keys : Topic → ReadText → List KnownKey → List ℕ
+missing_keys info t required =
+    if lacks_any info t.keys required then info_line info t.sections ∷ [] else []
+
+-- ---- numbers of DeviceInfo
+
+-- a key whose number isn't this one
+abbrev pub key_number : WrittenKey → Option ℕ
+key_number k = result_ok (unsigned_number k.value)
+
+abbrev pub other_than : ℕ → WrittenKey → List ℕ
+other_than n k = option_map_or (λ m. if m == n then [] else k.line ∷ []) (key_number k) []
+
+abbrev pub other_number_at : ReadText → KnownKey → ℕ → List ℕ
+other_number_at t known n = option_map_or (other_than n) (key_at DeviceInfo t.keys known) []
+
+-- the number of objects in a range of indices
+abbrev pub is_object_within : ℕ → ℕ → SectionKind → Bool
+is_object_within low high (Object index) = is_within low high index
+is_object_within low high kind = false
+
+abbrev pub object_count : ℕ → ℕ → List TextSection → ℕ
+object_count low high sections = count_by (λ s. is_object_within low high s.kind) sections
+
+-- PDOs in compact form have no sections
+abbrev pub has_compact_pdos : List WrittenKey → Bool
+has_compact_pdos keys =
+    is_other_than_zero (option_and_then key_number (key_at DeviceInfo keys key.CompactPdo))
+
+abbrev pub pdo_counts : ReadText → List ℕ
+pdo_counts t =
+    if has_compact_pdos t.keys then []
+    else other_number_at t key.NrOfRxPdo (object_count 0x1400 0x15FF t.sections)
+    ++ other_number_at t key.NrOfTxPdo (object_count 0x1800 0x19FF t.sections)
+
+-- a number that sub-index of the identity object doesn't begin with
+abbrev pub identity_number : ReadText → KnownKey → ℕ → List ℕ
+identity_number t known sub =
+    option_map_or (other_number_at t known) (number_at_sub sub (sub_indices t.sections 0x1018)) []
+
+abbrev pub identity_numbers : ReadText → List ℕ
+identity_numbers t =
+    identity_number t key.VendorNumber 1 ++ identity_number t key.ProductNumber 2
+    ++ identity_number t key.RevisionNumber 3
+
+-- ---- dates and times of FileInfo
+
+-- so many decimal digits, of a number in a range
+abbrev pub is_number_of : ℕ → ℕ → ℕ → List ℕ → Bool
+is_number_of digits least most text =
+    (length text == digits) && is_some (decimal_in least most text)
+
+abbrev pub is_dash : ℕ → Bool
+is_dash b = b == 45
+
+abbrev pub is_colon : ℕ → Bool
+is_colon b = b == 58
+
+-- `dd-yyyy`, and `mm-dd-yyyy`
+abbrev pub is_day_and_year : List ℕ → Bool
+is_day_and_year text =
+    list_any is_dash text && is_number_of 2 1 31 (before_first is_dash text)
+    && is_number_of 4 0 9999 (after_first is_dash text)
+
+abbrev pub is_date : List ℕ → Bool
+is_date text =
+    list_any is_dash text && is_number_of 2 1 12 (before_first is_dash text)
+    && is_day_and_year (after_first is_dash text)
+
+-- `mmAM` or `mmPM`, and `hh:mmAM`
+abbrev pub is_minute : List ℕ → Bool
+is_minute text =
+    is_number_of 2 0 59 (take 2 text)
+    && (same_name (drop 2 text) (codes "AM") || same_name (drop 2 text) (codes "PM"))
+
+abbrev pub is_time : List ℕ → Bool
+is_time text =
+    list_any is_colon text && is_number_of 2 1 12 (before_first is_colon text)
+    && is_minute (after_first is_colon text)
+
+-- a key of FileInfo in another format
+abbrev pub other_format : (List ℕ → Bool) → List WrittenKey → KnownKey → List ℕ
+other_format is_format keys known =
+    option_map_or (λ k. if is_format k.value then [] else k.line ∷ [])
+    (key_at FileInfo keys known) []
+
+abbrev pub date_formats : ReadText → List ℕ
+date_formats t =
+    other_format is_time t.keys key.CreationTime ++ other_format is_date t.keys key.CreationDate
+    ++ other_format is_time t.keys key.ModificationTime
+    ++ other_format is_date t.keys key.ModificationDate

@@ -1,0 +1,103 @@
+-- What comes twice where it should come once: an identifier (CiA 301, COB-IDs), and a name.
+use Rattle.std.specs.Prelude.{ℕ, ◌+◌, ◌%◌, ◌^◌, ◌==◌, nat_lt, nat_eq, Bool, false, not, ◌&&◌, ◌||◌, if◌then◌else◌, List, [], ◌∷◌, ◌++◌, filter_map, codes, Option, Some, None, option_and_then, option_map, pos, negsuc}
+use Rattle.std.specs.List.{list_any}
+use Rattle.std.specs.Option.{option_or}
+use Rattle.std.specs.Result.{result_ok}
+use Rattle.std.specs.Str.{bytes_eq}
+use Rattle.co_value.specs.declared.data_type.DataType.TheVariants.{Unsigned32}
+use Rattle.co_sheet_text.specs.declared.section_kind.SectionKind.{SectionKind}
+use Rattle.co_sheet_text.specs.declared.section_kind.SectionKind.TheVariants.{Object, SubIndex}
+use Rattle.co_sheet_text.specs.Sections.{Property, TextSection, property_at}
+use Rattle.co_sheet.specs.Limits.{Default, number, node_id, numeric_default}
+use Rattle.co_sheet_warnings.specs.SubIndices.{is_within}
+
+-- a thing, and its line
+pub record Placed (K : Type 0) : Type 0 where
+  pub key : K
+  pub line : ℕ
+
+-- the lines of things that one before them equals
+abbrev pub repeats : {K : Type 0} → (K → K → Bool) → List K → List (Placed K) → List ℕ
+repeats same before [] = []
+repeats same before (x ∷ xs) =
+    if list_any (same x.key) before then x.line ∷ repeats same before xs
+    else repeats same (before ++ x.key ∷ []) xs
+
+-- ---- identifiers
+
+-- the entries with the COB-ID of EMCY, of a PDO, or of one way of an SDO channel
+abbrev pub has_cob_id : SectionKind → Bool
+has_cob_id (Object index) = index == 0x1014
+has_cob_id (SubIndex key) =
+    ((key.sub == 1) && (is_within 0x1400 0x15FF key.index || is_within 0x1800 0x19FF key.index))
+    || (((key.sub == 1) || (key.sub == 2)) && is_within 0x1200 0x12FF key.index)
+has_cob_id kind = false
+
+-- a COB-ID whose bit 31, which disables it, isn't set
+abbrev pub if_enabled : ℕ → Option ℕ
+if_enabled word = if nat_lt word (2 ^ 31) then Some word else None
+
+-- the COB-ID that a value is for a node
+abbrev pub cob_id_for : ℕ → Default → Option ℕ
+cob_id_for node (number (pos n)) = if_enabled n
+cob_id_for node (node_id n) = if_enabled (n + node)
+cob_id_for node other = None
+
+abbrev pub enabled_cob_id : ℕ → List ℕ → Option ℕ
+enabled_cob_id node value =
+    option_and_then (cob_id_for node) (result_ok (numeric_default Unsigned32 value))
+
+-- its identifier, with bit 29, which tells 29 bits from 11; 0 is none
+abbrev pub identifier_with : ℕ → Option ℕ
+identifier_with word = if word % 2 ^ 30 == 0 then None else Some (word % 2 ^ 30)
+
+abbrev pub identifier_of : ℕ → Property → Option (Placed ℕ)
+identifier_of node k =
+    option_map (λ n. record { key = n; line = k.line })
+    (option_and_then identifier_with (enabled_cob_id node k.value))
+
+-- what states the value that an entry begins with: ParameterValue, or where it is absent DefaultValue
+abbrev pub value_in : TextSection → Option Property
+value_in s =
+    option_or (property_at (codes "ParameterValue") s) (property_at (codes "DefaultValue") s)
+
+abbrev pub identifier_in : ℕ → TextSection → Option (Placed ℕ)
+identifier_in node s =
+    if has_cob_id s.kind then option_and_then (identifier_of node) (value_in s) else None
+
+abbrev pub identifiers_in : ℕ → List TextSection → List (Placed ℕ)
+identifiers_in node sections = filter_map (identifier_in node) sections
+
+-- the words with an identifier that one before them has, for the node-ID that is given
+abbrev pub shared_cob_ids : Option ℕ → List TextSection → List ℕ
+shared_cob_ids None sections = []
+shared_cob_ids (Some node) sections = repeats nat_eq [] (identifiers_in node sections)
+
+-- ---- names
+
+-- a name among those of objects, or of the sub-indices of one object
+pub record ScopedName : Type 0 where
+  pub scope : ℕ
+  pub text : List ℕ
+
+abbrev pub same_scoped : ScopedName → ScopedName → Bool
+same_scoped a b = nat_eq a.scope b.scope && bytes_eq a.text b.text
+
+-- whose names it is among: an object's index for its sub-indices, above all of these for objects
+abbrev pub scope_of : SectionKind → Option ℕ
+scope_of (Object index) = Some 0x10000
+scope_of (SubIndex key) = Some key.index
+scope_of kind = None
+
+abbrev pub name_placed : ℕ → Property → Placed ScopedName
+name_placed scope k = record { key = record { scope = scope; text = k.value }; line = k.line }
+
+abbrev pub name_with : TextSection → ℕ → Option (Placed ScopedName)
+name_with s scope = option_map (name_placed scope) (property_at (codes "ParameterName") s)
+
+abbrev pub name_in : TextSection → Option (Placed ScopedName)
+name_in s = option_and_then (name_with s) (scope_of s.kind)
+
+-- names that one before them equals
+abbrev pub equal_names : List TextSection → List ℕ
+equal_names sections = repeats same_scoped [] (filter_map name_in sections)

@@ -1,0 +1,313 @@
+//! What FileInfo and DeviceInfo say.
+
+ghost use Rattle.std.specs.Prelude.{◌≡◌, map, flat_map, option_map, option_to_list};
+ghost use Rattle.std.specs.Option.{option_copied};
+ghost use Rattle.co_sheet_text.specs.Views.{section_view};
+ghost use Rattle.co_sheet_warnings.specs.Infos.{
+  date_formats,
+  has_compact_pdos,
+  identity_number,
+  identity_numbers,
+  info_line,
+  is_date,
+  is_day_and_year,
+  is_info,
+  is_key,
+  is_minute,
+  is_number_of,
+  is_object_within,
+  is_time,
+  key_at,
+  key_number,
+  lacks_any,
+  missing_keys,
+  object_count,
+  other_format,
+  other_number_at,
+  other_than,
+  pdo_counts,
+};
+ghost use Rattle.co_sheet_warnings.specs.private.Views.{key_view};
+
+use crate::communication::number_at_sub;
+use crate::keys::{Topic, WrittenKey, topic_of};
+use crate::known_key::{KnownKey, has_text};
+use crate::read_text::ReadText;
+use co_sheet_text::{SectionKind, TextSection, same_name, unsigned_number};
+use co_text::{decimal_in, split_at_first};
+
+fn is_info(info: Topic, topic: Topic) -> bool
+    ensures { result ≡ is_info info topic }
+{
+    matches!(
+        (info, topic),
+        (Topic::FileInfo, Topic::FileInfo) | (Topic::DeviceInfo, Topic::DeviceInfo)
+    )
+}
+
+fn is_key(info: Topic, known: KnownKey, key: &WrittenKey) -> bool
+    ensures { result ≡ is_key info known (key_view key.now) }
+{
+    is_info(info, key.topic) && has_text(key.name, known)
+}
+
+// the first key of this name in a section of FileInfo, or of DeviceInfo
+fn key_at<'k, 'a>(
+    info: Topic,
+    keys: &'k [WrittenKey<'a>],
+    known: KnownKey,
+) -> Option<&'k WrittenKey<'a>>
+    ensures { option_map key_view (option_copied result)
+        ≡ key_at info (map key_view keys.now) known }
+{
+    for key in keys {
+        if is_key(info, known, key) {
+            return Some(key);
+        }
+    }
+    None
+}
+
+/// The keys that FileInfo has to have.
+pub(crate) const FILE_KEYS: [KnownKey; 10] = [
+    KnownKey::FileName,
+    KnownKey::FileVersion,
+    KnownKey::FileRevision,
+    KnownKey::Description,
+    KnownKey::CreationTime,
+    KnownKey::CreationDate,
+    KnownKey::CreatedBy,
+    KnownKey::ModificationTime,
+    KnownKey::ModificationDate,
+    KnownKey::ModifiedBy,
+];
+
+/// The keys that DeviceInfo has to have.
+pub(crate) const DEVICE_KEYS: [KnownKey; 22] = [
+    KnownKey::VendorName,
+    KnownKey::VendorNumber,
+    KnownKey::ProductName,
+    KnownKey::ProductNumber,
+    KnownKey::RevisionNumber,
+    KnownKey::OrderCode,
+    KnownKey::BaudRate10,
+    KnownKey::BaudRate20,
+    KnownKey::BaudRate50,
+    KnownKey::BaudRate125,
+    KnownKey::BaudRate250,
+    KnownKey::BaudRate500,
+    KnownKey::BaudRate800,
+    KnownKey::BaudRate1000,
+    KnownKey::SimpleBootUpMaster,
+    KnownKey::SimpleBootUpSlave,
+    KnownKey::Granularity,
+    KnownKey::DynamicChannelsSupported,
+    KnownKey::GroupMessaging,
+    KnownKey::NrOfRxPdo,
+    KnownKey::NrOfTxPdo,
+    KnownKey::LssSupported,
+];
+
+fn lacks_any(info: Topic, keys: &[WrittenKey], required: &[KnownKey]) -> bool
+    ensures { result ≡ lacks_any info (map key_view keys.now) required.now }
+{
+    for known in required {
+        if key_at(info, keys, *known).is_none() {
+            return true;
+        }
+    }
+    false
+}
+
+// the line of the section, 0 where there is none
+fn info_line(info: Topic, sections: &[TextSection]) -> usize
+    ensures { result ≡ info_line info (map section_view sections.now) }
+{
+    for section in sections {
+        if is_info(info, topic_of(section.name)) {
+            return section.line;
+        }
+    }
+    0
+}
+
+/// The section of FileInfo or of DeviceInfo that lacks a key which has to be there.
+pub(crate) fn missing_keys(info: Topic, text: &ReadText, required: &[KnownKey]) -> Option<usize>
+    ensures { option_to_list result ≡ missing_keys info text.now required.now }
+{
+    if lacks_any(info, text.keys(), required) {
+        Some(info_line(info, text.sections()))
+    } else {
+        None
+    }
+}
+
+fn key_number(key: &WrittenKey) -> Option<u64>
+    ensures { result ≡ key_number (key_view key.now) }
+{
+    unsigned_number(key.value).ok()
+}
+
+// a key whose number isn't this one
+fn other_than(number: u64, key: &WrittenKey) -> Option<usize>
+    ensures { option_to_list result ≡ other_than number (key_view key.now) }
+{
+    if key_number(key)? == number {
+        None
+    } else {
+        Some(key.line)
+    }
+}
+
+fn other_number_at(text: &ReadText, known: KnownKey, number: u64) -> Option<usize>
+    ensures { option_to_list result ≡ other_number_at text.now known number }
+{
+    other_than(number, key_at(Topic::DeviceInfo, text.keys(), known)?)
+}
+
+fn is_object_within(low: u16, high: u16, kind: SectionKind) -> bool
+    ensures { result ≡ is_object_within low high kind }
+{
+    match kind {
+        SectionKind::Object(index) => low <= index && index <= high,
+        _ => false,
+    }
+}
+
+// the number of objects in a range of indices
+fn object_count(low: u16, high: u16, sections: &[TextSection]) -> usize
+    ensures { result ≡ object_count low high (map section_view sections.now) }
+{
+    let mut count = 0;
+    for section in sections {
+        if is_object_within(low, high, section.kind) {
+            count += 1;
+        }
+    }
+    count
+}
+
+fn has_compact_pdos(keys: &[WrittenKey]) -> bool
+    ensures { result ≡ has_compact_pdos (map key_view keys.now) }
+{
+    match key_at(Topic::DeviceInfo, keys, KnownKey::CompactPdo) {
+        Some(key) => !matches!(key_number(key), None | Some(0)),
+        None => false,
+    }
+}
+
+/// NrOfRXPDO and NrOfTXPDO that aren't the numbers of PDOs.
+pub(crate) fn pdo_counts(text: &ReadText) -> [Option<usize>; 2]
+    ensures { flat_map option_to_list result ≡ pdo_counts text.now }
+{
+    if has_compact_pdos(text.keys()) {
+        return [None, None];
+    }
+    let receive = object_count(0x1400, 0x15FF, text.sections());
+    let transmit = object_count(0x1800, 0x19FF, text.sections());
+    [
+        other_number_at(text, KnownKey::NrOfRxPdo, receive as u64),
+        other_number_at(text, KnownKey::NrOfTxPdo, transmit as u64),
+    ]
+}
+
+// a number that sub-index of the identity object doesn't begin with
+fn identity_number(text: &ReadText, known: KnownKey, sub: u8) -> Option<usize>
+    ensures { option_to_list result ≡ identity_number text.now known sub }
+{
+    let number = number_at_sub(text.parts(0x1018), sub)?;
+    other_number_at(text, known, number)
+}
+
+/// VendorNumber, ProductNumber and RevisionNumber that aren't those of the identity object.
+pub(crate) fn identity_numbers(text: &ReadText) -> [Option<usize>; 3]
+    ensures { flat_map option_to_list result ≡ identity_numbers text.now }
+{
+    [
+        identity_number(text, KnownKey::VendorNumber, 1),
+        identity_number(text, KnownKey::ProductNumber, 2),
+        identity_number(text, KnownKey::RevisionNumber, 3),
+    ]
+}
+
+// so many decimal digits, of a number in a range
+fn is_number_of(digits: usize, least: u32, most: u32, text: &[u8]) -> bool
+    ensures { result ≡ is_number_of digits least most text.now }
+{
+    text.len() == digits && decimal_in(text, least, most).is_some()
+}
+
+// `dd-yyyy`
+fn is_day_and_year(text: &[u8]) -> bool
+    ensures { result ≡ is_day_and_year text.now }
+{
+    match split_at_first(text, b'-') {
+        Some((day, year)) => is_number_of(2, 1, 31, day) && is_number_of(4, 0, 9999, year),
+        None => false,
+    }
+}
+
+// `mm-dd-yyyy`
+fn is_date(text: &[u8]) -> bool
+    ensures { result ≡ is_date text.now }
+{
+    match split_at_first(text, b'-') {
+        Some((month, rest)) => is_number_of(2, 1, 12, month) && is_day_and_year(rest),
+        None => false,
+    }
+}
+
+// `mmAM` or `mmPM`
+fn is_minute(text: &[u8]) -> bool
+    ensures { result ≡ is_minute text.now }
+{
+    let (minute, half) = text.split_at(text.len().min(2));
+    is_number_of(2, 0, 59, minute) && (same_name(half, b"AM") || same_name(half, b"PM"))
+}
+
+// `hh:mmAM`
+fn is_time(text: &[u8]) -> bool
+    ensures { result ≡ is_time text.now }
+{
+    match split_at_first(text, b':') {
+        Some((hour, rest)) => is_number_of(2, 1, 12, hour) && is_minute(rest),
+        None => false,
+    }
+}
+
+// a date of FileInfo in another format
+fn other_date(keys: &[WrittenKey], known: KnownKey) -> Option<usize>
+    ensures { option_to_list result ≡ other_format is_date (map key_view keys.now) known }
+{
+    let key = key_at(Topic::FileInfo, keys, known)?;
+    if is_date(key.value) {
+        None
+    } else {
+        Some(key.line)
+    }
+}
+
+// a time of FileInfo in another format
+fn other_time(keys: &[WrittenKey], known: KnownKey) -> Option<usize>
+    ensures { option_to_list result ≡ other_format is_time (map key_view keys.now) known }
+{
+    let key = key_at(Topic::FileInfo, keys, known)?;
+    if is_time(key.value) {
+        None
+    } else {
+        Some(key.line)
+    }
+}
+
+/// Dates and times of FileInfo in another format than mm-dd-yyyy and hh:mmAM.
+pub(crate) fn date_formats(text: &ReadText) -> [Option<usize>; 4]
+    ensures { flat_map option_to_list result ≡ date_formats text.now }
+{
+    let keys = text.keys();
+    [
+        other_time(keys, KnownKey::CreationTime),
+        other_date(keys, KnownKey::CreationDate),
+        other_time(keys, KnownKey::ModificationTime),
+        other_date(keys, KnownKey::ModificationDate),
+    ]
+}

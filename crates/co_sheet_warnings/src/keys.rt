@@ -1,0 +1,129 @@
+//! The keys of a text as they are written, those too that are passed over where a text is read.
+
+ghost use Rattle.std.specs.Prelude.{◌≡◌, map, option_map, option_to_list, IfOk};
+ghost use Rattle.co_sheet_text.specs.Text.{trim};
+ghost use Rattle.co_sheet_text.specs.Sections.{form_of};
+ghost use Rattle.co_sheet_warnings.specs.Keys.{begun_name, form_read, key_on, keys_of, topic_of, topic_of_kind};
+ghost use Rattle.co_sheet_warnings.specs.private.Views.{key_view, line_view};
+
+use crate::lines::Line;
+use co_sheet_text::{SectionKind, same_name, trim};
+use co_text::split_at_first;
+use std::alloc::{AllocError, Global};
+
+/// What the keys of a section are about.
+#[derive(Clone, Copy, Debug, PartialEq, Eq)]
+pub(crate) enum Topic {
+    FileInfo,
+    DeviceInfo,
+    DeviceCommissioning,
+    ObjectLists,
+    /// Objects and sub-indices.
+    Objects,
+    /// Dummy objects, and what only the manufacturer knows.
+    Other,
+}
+
+/// A key with its value, as it is written.
+#[derive(Clone, Copy, Debug)]
+pub(crate) struct WrittenKey<'a> {
+    pub(crate) topic: Topic,
+    pub(crate) name: &'a [u8],
+    pub(crate) value: &'a [u8],
+    /// From 1.
+    pub(crate) line: usize,
+}
+
+fn topic_of_kind(kind: SectionKind) -> Topic
+    ensures { result ≡ topic_of_kind kind }
+{
+    match kind {
+        SectionKind::MandatoryObjects
+        | SectionKind::OptionalObjects
+        | SectionKind::ManufacturerObjects => Topic::ObjectLists,
+        SectionKind::DeviceInfo => Topic::DeviceInfo,
+        SectionKind::DeviceCommissioning => Topic::DeviceCommissioning,
+        SectionKind::Object(_) | SectionKind::SubIndex(_) => Topic::Objects,
+        SectionKind::DummyUsage | SectionKind::PassedOver => Topic::Other,
+    }
+}
+
+/// What the keys of a section of this name are about.
+pub(crate) fn topic_of(name: &[u8]) -> Topic
+    ensures { result ≡ topic_of name.now }
+{
+    if same_name(name, b"FileInfo") {
+        Topic::FileInfo
+    } else {
+        topic_of_kind(SectionKind::of_name(name))
+    }
+}
+
+// the name of the section that a line begins, of a text without blanks at its ends; without `]` it has none
+fn begun_name(text: &[u8]) -> Option<&[u8]>
+    ensures { option_map (λ name. name.now) result ≡ begun_name (form_of text.now) }
+{
+    match text {
+        [b'[', rest @ ..] => match split_at_first(rest, b']') {
+            Some((name, _)) => Some(trim(name)),
+            None => Some(b""),
+        },
+        _ => None,
+    }
+}
+
+// the key that a line gives, of a text without blanks at its ends
+fn key_on<'a>(topic: Topic, line: usize, text: &'a [u8]) -> Option<WrittenKey<'a>>
+    ensures { option_to_list (option_map key_view result) ≡ key_on topic line (form_of text.now) }
+{
+    if let [b';' | b'[', ..] = text {
+        return None;
+    }
+    let (name, value) = split_at_first(text, b'=')?;
+    let name = trim(name);
+    let value = trim(value);
+    if name.is_empty() || value.is_empty() {
+        return None;
+    }
+    Some(WrittenKey {
+        topic,
+        name,
+        value,
+        line,
+    })
+}
+
+/// A line of more bytes isn't read.
+const LONGEST: usize = 512;
+
+// a line without blanks at its ends; nothing of one that isn't read
+fn text_read<'a>(line: &Line<'a>) -> &'a [u8]
+    ensures { form_of result.now ≡ form_read (line_view line.now) }
+{
+    if line.bytes.len() > LONGEST {
+        return b"";
+    }
+    trim(line.bytes)
+}
+
+/// The keys of lines.
+pub(crate) fn keys_in<'a>(
+    alloc: Global,
+    lines: &[Line<'a>],
+) -> Result<Vec<WrittenKey<'a>>, AllocError>
+    ensures { IfOk result (λ keys. map key_view keys.items ≡ keys_of (map line_view lines.now)) }
+{
+    let mut keys = Vec::new(alloc);
+    let mut topic = Topic::Other;
+    for line in lines {
+        let text = text_read(line);
+        if let Some(key) = key_on(topic, line.number, text) {
+            keys.push(key)?;
+        }
+        topic = match begun_name(text) {
+            Some(name) => topic_of(name),
+            None => topic,
+        };
+    }
+    Ok(keys)
+}

@@ -1,0 +1,250 @@
+//! What comes twice where it should come once: an identifier, and a name.
+
+ghost use Rattle.std.specs.Prelude.{◌≡◌, [], ◌∷◌, ◌++◌, if◌then◌else◌, nat_eq, map, filter_map, option_map, IfOk};
+ghost use Rattle.std.specs.List.{list_any};
+ghost use Rattle.co_sheet.specs.Views.{default_view};
+ghost use Rattle.co_sheet_text.specs.Views.{property_view, section_view};
+ghost use Rattle.co_sheet_warnings.specs.Repeats.{
+  equal_names,
+  has_cob_id,
+  identifier_in,
+  identifier_of,
+  identifiers_in,
+  cob_id_for,
+  enabled_cob_id,
+  if_enabled,
+  name_in,
+  repeats,
+  same_scoped,
+  scope_of,
+  shared_cob_ids,
+};
+ghost use Rattle.co_sheet_warnings.specs.private.Views.{identifier_view, name_view, scoped_view};
+
+use crate::sub_indices::value_in;
+use co_sheet::{Preset, numeric_default};
+use co_sheet_text::{Property, SectionKind, TextSection};
+use co_value::DataType;
+use indexmap::IndexSet;
+use std::alloc::{AllocError, Global};
+
+fn has_cob_id(kind: SectionKind) -> bool
+    ensures { result ≡ has_cob_id kind }
+{
+    match kind {
+        SectionKind::Object(index) => index == 0x1014,
+        SectionKind::SubIndex(key) => matches!(
+            (key.index, key.sub),
+            (0x1400..=0x15FF | 0x1800..=0x19FF, 1) | (0x1200..=0x12FF, 1 | 2)
+        ),
+        _ => false,
+    }
+}
+
+/// A COB-ID is disabled from this bit on.
+const DISABLED: u64 = 1 << 31;
+
+fn if_enabled(word: u64) -> Option<u64>
+    ensures { result ≡ if_enabled word }
+{
+    if word < DISABLED { Some(word) } else { None }
+}
+
+// the COB-ID that a value is for a node
+fn cob_id_for(node: u8, value: Preset<'static>) -> Option<u64>
+    ensures { result ≡ cob_id_for node (default_view value.entry) }
+{
+    match value {
+        Preset::Number(number) if 0 <= number && number < i128::from(DISABLED) => {
+            Some(number as u64)
+        }
+        Preset::NodeId(addend) => if_enabled(addend.checked_add(u64::from(node))?),
+        _ => None,
+    }
+}
+
+// the COB-ID of a text for a node
+fn enabled_cob_id(node: u8, value: &[u8]) -> Option<u64>
+    ensures { result ≡ enabled_cob_id node value.now }
+{
+    match numeric_default(DataType::Unsigned32, value) {
+        Ok(value) => cob_id_for(node, value),
+        Err(_) => None,
+    }
+}
+
+/// An identifier that an entry has, and the line of its value.
+#[derive(Clone, Copy, Debug)]
+pub(crate) struct UsedIdentifier {
+    pub(crate) identifier: u64,
+    pub(crate) line: usize,
+}
+
+// the identifier of an entry with a COB-ID, for a node
+fn identifier_of(node: u8, given: &Property) -> Option<UsedIdentifier>
+    ensures { option_map identifier_view result ≡ identifier_of node (property_view given.now) }
+{
+    let identifier = enabled_cob_id(node, given.value)? % (1 << 30);
+    if identifier == 0 {
+        return None;
+    }
+    Some(UsedIdentifier {
+        identifier,
+        line: given.line,
+    })
+}
+
+fn identifier_in(node: u8, section: &TextSection) -> Option<UsedIdentifier>
+    ensures { option_map identifier_view result ≡ identifier_in node (section_view section.now) }
+{
+    if !has_cob_id(section.kind) {
+        return None;
+    }
+    identifier_of(node, &value_in(section)?)
+}
+
+fn identifiers_in(
+    alloc: Global,
+    node: u8,
+    sections: &[TextSection],
+) -> Result<Vec<UsedIdentifier>, AllocError>
+    ensures { IfOk result (λ used. map identifier_view used.items
+        ≡ identifiers_in node (map section_view sections.now)) }
+{
+    let mut all = Vec::new(alloc);
+    for section in sections {
+        if let Some(used) = identifier_in(node, section) {
+            all.push(used)?;
+        }
+    }
+    Ok(all)
+}
+
+// the lines of identifiers that one before them equals
+fn repeated_identifiers(alloc: Global, all: &[UsedIdentifier]) -> Result<Vec<usize>, AllocError>
+    ensures { IfOk result (λ places.
+        places.items ≡ repeats nat_eq [] (map identifier_view all.now)) }
+{
+    let mut places = Vec::new(alloc);
+    let mut before: IndexSet<u64> = IndexSet::new(alloc);
+    for used in all {
+        if !before.insert(used.identifier)? {
+            places.push(used.line)?;
+        }
+    }
+    Ok(places)
+}
+
+/// The COB-IDs of EMCY, PDOs and SDO channels with an identifier that one before them has, for the node-ID that is
+/// given.
+pub(crate) fn shared_cob_ids(
+    alloc: Global,
+    node: Option<u8>,
+    sections: &[TextSection],
+) -> Result<Vec<usize>, AllocError>
+    ensures { IfOk result (λ places.
+        places.items ≡ shared_cob_ids node (map section_view sections.now)) }
+{
+    let Some(node) = node else {
+        return Ok(Vec::new(alloc));
+    };
+    let all = identifiers_in(alloc, node, sections)?;
+    repeated_identifiers(alloc, all.as_slice())
+}
+
+/// The scope of the names of objects.
+const OBJECTS: u32 = 0x1_0000;
+
+/// A name among those of objects, or of the sub-indices of one object.
+#[derive(Clone, Copy, PartialEq, Eq, Hash)]
+pub(crate) struct ScopedName<'a> {
+    /// The index of the object whose sub-index has the name; above all of these for objects.
+    pub(crate) scope: u32,
+    pub(crate) text: &'a [u8],
+}
+
+/// A name, and its line.
+#[derive(Clone, Copy)]
+pub(crate) struct PlacedName<'a> {
+    pub(crate) name: ScopedName<'a>,
+    pub(crate) line: usize,
+}
+
+fn scope_of(kind: SectionKind) -> Option<u32>
+    ensures { result ≡ scope_of kind }
+{
+    match kind {
+        SectionKind::Object(_) => Some(OBJECTS),
+        SectionKind::SubIndex(key) => Some(u32::from(key.index)),
+        _ => None,
+    }
+}
+
+fn name_in<'a>(section: &TextSection<'_, 'a>) -> Option<PlacedName<'a>>
+    ensures { option_map name_view result ≡ name_in (section_view section.now) }
+{
+    let scope = scope_of(section.kind)?;
+    let given = section.property(b"ParameterName")?;
+    Some(PlacedName {
+        name: ScopedName {
+            scope,
+            text: given.value,
+        },
+        line: given.line,
+    })
+}
+
+fn names_in<'a>(
+    alloc: Global,
+    sections: &[TextSection<'_, 'a>],
+) -> Result<Vec<PlacedName<'a>>, AllocError>
+    ensures { IfOk result (λ names. map name_view names.items
+        ≡ filter_map name_in (map section_view sections.now)) }
+{
+    let mut names = Vec::new(alloc);
+    for section in sections {
+        if let Some(name) = name_in(section) {
+            names.push(name)?;
+        }
+    }
+    Ok(names)
+}
+
+// whether a name equals one before it; then it is one of those before
+#[tactic(auto, using(crate::proofs::NameLemmas::more_names))]
+fn is_repeated<'a>(
+    before: &mut IndexSet<ScopedName<'a>>,
+    name: ScopedName<'a>,
+) -> Result<bool, AllocError>
+    ensures again { IfOk result (λ again. again
+        ≡ list_any (same_scoped (scoped_view name.entry)) (map scoped_view before.old.keys)) }
+    ensures keys { IfOk result (λ again. map scoped_view before.new.keys
+        ≡ (if again then map scoped_view before.old.keys
+        else map scoped_view before.old.keys ++ scoped_view name.entry ∷ [])) }
+{
+    let is_new = before.insert(name)?;
+    Ok(!is_new)
+}
+
+// the lines of names that one before them equals
+fn repeated_names(alloc: Global, names: &[PlacedName]) -> Result<Vec<usize>, AllocError>
+    ensures { IfOk result (λ places.
+        places.items ≡ repeats same_scoped [] (map name_view names.now)) }
+{
+    let mut places = Vec::new(alloc);
+    let mut before = IndexSet::new(alloc);
+    for name in names {
+        if is_repeated(&mut before, name.name)? {
+            places.push(name.line)?;
+        }
+    }
+    Ok(places)
+}
+
+/// The names of objects, and of the sub-indices of an object, that one before them equals.
+pub(crate) fn equal_names(alloc: Global, sections: &[TextSection]) -> Result<Vec<usize>, AllocError>
+    ensures { IfOk result (λ places. places.items ≡ equal_names (map section_view sections.now)) }
+{
+    let names = names_in(alloc, sections)?;
+    repeated_names(alloc, names.as_slice())
+}
