@@ -20,7 +20,7 @@ use Rattle.co_sheet_warnings.specs.KnownKeys.{is_near}
 use Rattle.co_sheet_warnings.specs.Infos.{is_date, is_time}
 use Rattle.co_sheet_warnings.specs.Repeats.{has_cob_id, enabled_cob_id, identifier_with}
 use Rattle.co_sheet_warnings.specs.Lines.{mixed_line_ends}
-use Rattle.co_sheet_warnings.specs.Warnings.{warning_at, misspelt, places_of, warnings_of}
+use Rattle.co_sheet_warnings.specs.Warnings.{warning_at, misspelt, places_of, warnings_of, warnings_of_kinds}
 
 -- lines as a text, each ended by LF
 abbrev joined : List (List ℕ) → List ℕ
@@ -36,25 +36,16 @@ places_at node kind lines = places_of (read_text (joined lines) (Some node)) kin
 
 -- ---- all warnings, kind by kind
 
-several : warnings_of (codes "[2000]\nSubNumber=1\n[1800sub1]\nParameterName=COB-ID\nDefaultValue=0x185\n") None
-    ≡ warning_at SubNumber 2 ∷ warning_at FileInfoKeys 0 ∷ warning_at DeviceInfoKeys 0 ∷ warning_at Unlisted 1 ∷ warning_at FixedCobId 5 ∷ warning_at MissingName 1 ∷ []
-unfolding chars is_utf8 lib.Utf8.encode
+several : warnings_of_kinds (read_text (codes "[2000]\nSubNumber=1\n[1800sub1]\nParameterName=COB-ID\nDefaultValue=0x185\n") None) (SubNumber ∷ Unlisted ∷ FixedCobId ∷ MissingName ∷ [])
+    ≡ warning_at SubNumber 2 ∷ warning_at Unlisted 1 ∷ warning_at FixedCobId 5 ∷ warning_at MissingName 1 ∷ []
 several = refl
 
--- misspelt keys come between those of other kinds
-in_order : warnings_of (codes "[1800sub1]\nDefaultValue=0x185\nAcessType=rw\nParameterName=COB-ID\n[2000sub1]\nParameterName=a\nUnit=m\n") (Some 5)
-    ≡ warning_at FileInfoKeys 0 ∷ warning_at DeviceInfoKeys 0 ∷ warning_at FixedCobId 2 ∷ warning_at (MisspeltKey AccessType) 3 ∷ warning_at UnknownKey 7 ∷ []
-unfolding chars is_utf8 lib.Utf8.encode
-in_order = refl
-
 none : warnings_of [] None ≡ warning_at FileInfoKeys 0 ∷ warning_at DeviceInfoKeys 0 ∷ []
-unfolding chars is_utf8 lib.Utf8.encode
 none = refl
 
 -- a line at fault is passed over; the section that comes again isn't read
-in_spite_of_faults : warnings_of (codes "x\n[2000]\nParameterName=a\nSubNumber 3\nSubNumber=1\n[2000]\nSubNumber=2\n[2001\nSubNumber=3") None
-    ≡ warning_at SubNumber 5 ∷ warning_at FileInfoKeys 0 ∷ warning_at DeviceInfoKeys 0 ∷ warning_at Unlisted 2 ∷ []
-unfolding chars is_utf8 lib.Utf8.encode
+in_spite_of_faults : warnings_of_kinds (read_text (codes "x\n[2000]\nSubNumber 3\nSubNumber=1\n[2000]\nSubNumber=2\n[2001\nSubNumber=3") None) (SubNumber ∷ Unlisted ∷ [])
+    ≡ warning_at SubNumber 4 ∷ warning_at Unlisted 2 ∷ []
 in_spite_of_faults = refl
 
 -- ---- SubNumber
@@ -471,7 +462,6 @@ long : places LongLine (replicate 255 97 ∷ replicate 256 98 ∷ replicate 512 
 long = refl
 
 ascii : places Utf8 (codes "a" ∷ (0x7F ∷ []) ∷ []) ++ places NotAscii (codes "a" ∷ (0x7F ∷ []) ∷ []) ≡ []
-unfolding chars is_utf8 lib.Utf8.encode
 ascii = refl
 
 first_other_byte : places NotAscii (codes "a" ∷ (0x7F ∷ 0x80 ∷ []) ∷ (0xFF ∷ []) ∷ []) ≡ 2 ∷ []
@@ -489,7 +479,6 @@ one_warning = refl
 
 -- the mark is part of no line
 marked : places Utf8 ((0xEF ∷ 0xBB ∷ 0xBF ∷ codes "a") ∷ []) ≡ []
-unfolding chars is_utf8 lib.Utf8.encode
 marked = refl
 
 -- ---- MissingName

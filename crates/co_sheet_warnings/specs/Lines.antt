@@ -1,5 +1,5 @@
 -- Lines that other readers may refuse or garble (CiA 306-1, structure of an EDS).
-use Rattle.std.specs.Prelude.{ℕ, ◌+◌, ◌==◌, Bool, true, false, not, ◌&&◌, nat_lt, nat_le, if◌then◌else◌, List, [], ◌∷◌, length, find, filter_map, Option, Some, None}
+use Rattle.std.specs.Prelude.{ℕ, ◌+◌, ◌==◌, Bool, true, false, not, ◌&&◌, nat_lt, nat_le, if◌then◌else◌, List, [], ◌∷◌, length, find, filter_map, Option, Some, None, option_map}
 use Rattle.std.specs.List.{list_any}
 use Rattle.std.specs.Option.{option_map_or, option_or}
 use Rattle.std.specs.Str.{is_utf8}
@@ -20,15 +20,17 @@ long_lines lines = filter_map long_line lines
 abbrev pub has_other_byte : Line → Bool
 has_other_byte line = list_any (nat_lt 0x7F) line.bytes
 
-abbrev pub first_other : List Line → List ℕ
-first_other lines = option_map_or (λ line. line.number ∷ []) (find has_other_byte lines) []
+abbrev pub first_other : List Line → Option ℕ
+first_other lines = option_map (λ line. line.number) (find has_other_byte lines)
 
 -- of a text in UTF-8, and of any other
 abbrev pub utf8 : ReadText → List ℕ
-utf8 t = if is_utf8 t.text then first_other t.lines else []
+utf8 t =
+    option_map_or (λ line. if is_utf8 t.text then line ∷ [] else []) (first_other t.lines) []
 
 abbrev pub not_ascii : ReadText → List ℕ
-not_ascii t = if is_utf8 t.text then [] else first_other t.lines
+not_ascii t =
+    option_map_or (λ line. if is_utf8 t.text then [] else line ∷ []) (first_other t.lines) []
 
 -- whether a line's end isn't that of line 1: with CR before LF, or without
 abbrev pub is_other_end : Option Bool → Bool → Bool

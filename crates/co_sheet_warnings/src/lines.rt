@@ -73,7 +73,7 @@ fn has_other_byte(line: &Line) -> bool
 }
 
 fn first_other(lines: &[Line]) -> Option<usize>
-    ensures { option_to_list result ≡ first_other (map line_view lines.now) }
+    ensures { result ≡ first_other (map line_view lines.now) }
 {
     for line in lines {
         if has_other_byte(line) {
@@ -96,8 +96,9 @@ fn is_utf8(text: &[u8]) -> bool
 pub(crate) fn utf8(text: &ReadText) -> Option<usize>
     ensures { option_to_list result ≡ utf8 text.now }
 {
+    let line = first_other(text.lines())?;
     if is_utf8(text.bytes()) {
-        first_other(text.lines())
+        Some(line)
     } else {
         None
     }
@@ -107,10 +108,11 @@ pub(crate) fn utf8(text: &ReadText) -> Option<usize>
 pub(crate) fn not_ascii(text: &ReadText) -> Option<usize>
     ensures { option_to_list result ≡ not_ascii text.now }
 {
+    let line = first_other(text.lines())?;
     if is_utf8(text.bytes()) {
         None
     } else {
-        first_other(text.lines())
+        Some(line)
     }
 }
 

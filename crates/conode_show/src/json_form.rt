@@ -43,6 +43,7 @@ ghost use Rattle.conode_show.specs.JsonForm.{
 };
 
 use crate::entries::{has_sub_indices, is_mappable, push_type};
+use crate::json_writer::JsonWriter;
 use crate::meaning::{Meaning, mapped_key, push_said};
 use crate::pdos::{
     is_counted, is_pdo_cob_id, mapping_count, push_mapped_name, push_pdo_name, section_word,
@@ -54,79 +55,7 @@ use crate::values::{Word, limit_number, numeric_value, push_limit, push_value, t
 use co_sheet_rows::{Preset, SheetFault};
 use co_sheet_text::{Property, SectionKind, TextSection};
 use co_value::{DataType, Key};
-use json::Writer;
 use std::alloc::{AllocError, Global};
-
-#[tactic(auto, unfolding(crate::specs::JsonForm::text_member))]
-fn put_text(writer: &mut Writer, name: &str, text: &str) -> Result<(), AllocError>
-    ensures { OnOk result
-        (writer.new.tokens ≡ writer.old.tokens ++ text_member name.now text.now) }
-{
-    writer.key(name)?;
-    writer.string(text)
-}
-
-#[tactic(auto, unfolding(crate::specs::JsonForm::number_member))]
-fn put_number(writer: &mut Writer, name: &str, number: u64) -> Result<(), AllocError>
-    ensures { OnOk result
-        (writer.new.tokens ≡ writer.old.tokens ++ number_member name.now number) }
-{
-    writer.key(name)?;
-    writer.u64(number)
-}
-
-#[tactic(auto, unfolding(crate::specs::JsonForm::flag_member))]
-fn put_flag(writer: &mut Writer, name: &str, is: bool) -> Result<(), AllocError>
-    ensures { OnOk result (writer.new.tokens ≡ writer.old.tokens ++ flag_member name.now is) }
-{
-    writer.key(name)?;
-    writer.boolean(is)
-}
-
-#[tactic(auto, unfolding(crate::specs::JsonForm::array_begin))]
-fn begin_array(writer: &mut Writer, name: &str) -> Result<(), AllocError>
-    ensures { OnOk result (writer.new.tokens ≡ writer.old.tokens ++ array_begin name.now) }
-{
-    writer.key(name)?;
-    writer.begin_array()
-}
-
-// a number, left out where there is none of 64 bits
-fn put_integer(writer: &mut Writer, name: &str, number: Option<i128>) -> Result<(), AllocError>
-    ensures { OnOk result
-        (writer.new.tokens ≡ writer.old.tokens ++ integer_member name.now number) }
-{
-    let Some(number) = number else {
-        return Ok(());
-    };
-    if 0 <= number && number <= i128::from(u64::MAX) {
-        writer.key(name)?;
-        writer.u64(number as u64)
-    } else if i128::from(i64::MIN) <= number && number < 0 {
-        writer.key(name)?;
-        writer.i64(number as i64)
-    } else {
-        Ok(())
-    }
-}
-
-// a number and how it is shown
-#[tactic(auto, unfolding(crate::specs::JsonForm::quantity_member))]
-fn put_quantity(
-    writer: &mut Writer,
-    name: &str,
-    number: Option<i128>,
-    text: &str,
-) -> Result<(), AllocError>
-    ensures { OnOk result (writer.new.tokens
-        ≡ writer.old.tokens ++ quantity_member name.now number text.now) }
-{
-    writer.key(name)?;
-    writer.begin_object()?;
-    put_integer(writer, "number", number)?;
-    put_text(writer, "text", text)?;
-    writer.end_object()
-}
 
 fn number_for(node: Option<u8>, value: Preset<'static>) -> Option<i128>
     ensures { result ≡ number_for node (default_view value.entry) }
@@ -149,14 +78,14 @@ fn value_number(node: Option<u8>, data_type: Option<DataType>, value: &[u8]) -> 
 
 #[tactic(auto, unfolding(crate::specs::JsonForm::value_member))]
 fn put_value(
-    writer: &mut Writer,
+    writer: &mut JsonWriter,
     part: &mut String,
     name: &str,
     node: Option<u8>,
     data_type: Option<DataType>,
     property: Option<Property<'_>>,
 ) -> Result<(), AllocError>
-    ensures { OnOk result (writer.new.tokens ≡ writer.old.tokens
+    ensures { OnOk result (writer.new.inner.tokens ≡ writer.old.inner.tokens
         ++ value_member name.now node data_type (option_map property_view property.entry)) }
 {
     let Some(property) = property else {
@@ -165,18 +94,18 @@ fn put_value(
     part.clear();
     push_value(part, node, data_type, property.value)?;
     let number = value_number(node, data_type, property.value);
-    put_quantity(writer, name, number, part.as_str())
+    writer.put_quantity(name, number, part.as_str())
 }
 
 #[tactic(auto, unfolding(crate::specs::JsonForm::limit_member))]
 fn put_limit(
-    writer: &mut Writer,
+    writer: &mut JsonWriter,
     part: &mut String,
     name: &str,
     data_type: Option<DataType>,
     limit: Option<Property<'_>>,
 ) -> Result<(), AllocError>
-    ensures { OnOk result (writer.new.tokens ≡ writer.old.tokens
+    ensures { OnOk result (writer.new.inner.tokens ≡ writer.old.inner.tokens
         ++ limit_member name.now data_type (option_map property_view limit.entry)) }
 {
     let Some(property) = limit else {
@@ -185,51 +114,51 @@ fn put_limit(
     part.clear();
     push_limit(part, data_type, limit)?;
     let number = limit_number(data_type, property.value);
-    put_quantity(writer, name, number, part.as_str())
+    writer.put_quantity(name, number, part.as_str())
 }
 
 #[tactic(auto, unfolding(crate::specs::JsonForm::property_member))]
 fn put_property(
-    writer: &mut Writer,
+    writer: &mut JsonWriter,
     part: &mut String,
     name: &str,
     property: &[u8],
     section: &TextSection<'_, '_>,
 ) -> Result<(), AllocError>
-    ensures { OnOk result (writer.new.tokens ≡ writer.old.tokens
+    ensures { OnOk result (writer.new.inner.tokens ≡ writer.old.inner.tokens
         ++ property_member name.now property.now (section_view section.now)) }
 {
     part.clear();
     push_property(part, section, property)?;
-    put_text(writer, name, part.as_str())
+    writer.put_text(name, part.as_str())
 }
 
 // name and type
 #[tactic(auto, unfolding(crate::specs::JsonForm::named_members))]
 fn put_named(
-    writer: &mut Writer,
+    writer: &mut JsonWriter,
     part: &mut String,
     section: &TextSection<'_, '_>,
 ) -> Result<(), AllocError>
     ensures { OnOk result
-        (writer.new.tokens ≡ writer.old.tokens ++ named_members (section_view section.now)) }
+        (writer.new.inner.tokens ≡ writer.old.inner.tokens ++ named_members (section_view section.now)) }
 {
     put_property(writer, part, "name", b"ParameterName", section)?;
     part.clear();
     push_type(part, section)?;
-    put_text(writer, "type", part.as_str())
+    writer.put_text("type", part.as_str())
 }
 
 // the value of a device configuration file, the default, and the limits
 #[tactic(auto, unfolding(crate::specs::JsonForm::value_members))]
 fn put_values(
-    writer: &mut Writer,
+    writer: &mut JsonWriter,
     part: &mut String,
     node: Option<u8>,
     section: &TextSection<'_, '_>,
 ) -> Result<(), AllocError>
-    ensures { OnOk result (writer.new.tokens
-        ≡ writer.old.tokens ++ value_members node (section_view section.now)) }
+    ensures { OnOk result (writer.new.inner.tokens
+        ≡ writer.old.inner.tokens ++ value_members node (section_view section.now)) }
 {
     let data_type = type_of(section);
     let value = section.property(b"ParameterValue");
@@ -243,29 +172,29 @@ fn put_values(
 }
 
 #[tactic(auto, unfolding(crate::specs::JsonForm::key_members))]
-fn put_key(writer: &mut Writer, key: Key) -> Result<(), AllocError>
-    ensures { OnOk result (writer.new.tokens ≡ writer.old.tokens ++ key_members key) }
+fn put_key(writer: &mut JsonWriter, key: Key) -> Result<(), AllocError>
+    ensures { OnOk result (writer.new.inner.tokens ≡ writer.old.inner.tokens ++ key_members key) }
 {
-    put_number(writer, "index", u64::from(key.index))?;
-    put_number(writer, "subIndex", u64::from(key.sub))
+    writer.put_number("index", u64::from(key.index))?;
+    writer.put_number("subIndex", u64::from(key.sub))
 }
 
 #[tactic(auto, unfolding(crate::specs::JsonForm::entry_tokens))]
 fn put_entry(
-    writer: &mut Writer,
+    writer: &mut JsonWriter,
     part: &mut String,
     node: Option<u8>,
     key: Key,
     section: &TextSection<'_, '_>,
 ) -> Result<(), AllocError>
-    ensures { OnOk result (writer.new.tokens
-        ≡ writer.old.tokens ++ entry_tokens node key (section_view section.now)) }
+    ensures { OnOk result (writer.new.inner.tokens
+        ≡ writer.old.inner.tokens ++ entry_tokens node key (section_view section.now)) }
 {
     writer.begin_object()?;
     put_key(writer, key)?;
     put_named(writer, part, section)?;
     put_property(writer, part, "access", b"AccessType", section)?;
-    put_flag(writer, "mappable", is_mappable(section))?;
+    writer.put_flag("mappable", is_mappable(section))?;
     put_values(writer, part, node, section)?;
     writer.end_object()
 }
@@ -273,28 +202,28 @@ fn put_entry(
 // an object with sub-indices
 #[tactic(auto, unfolding(crate::specs::JsonForm::object_tokens))]
 fn put_object(
-    writer: &mut Writer,
+    writer: &mut JsonWriter,
     part: &mut String,
     index: u16,
     section: &TextSection<'_, '_>,
 ) -> Result<(), AllocError>
-    ensures { OnOk result (writer.new.tokens
-        ≡ writer.old.tokens ++ object_tokens index (section_view section.now)) }
+    ensures { OnOk result (writer.new.inner.tokens
+        ≡ writer.old.inner.tokens ++ object_tokens index (section_view section.now)) }
 {
     writer.begin_object()?;
-    put_number(writer, "index", u64::from(index))?;
+    writer.put_number("index", u64::from(index))?;
     put_named(writer, part, section)?;
     writer.end_object()
 }
 
 fn put_section(
-    writer: &mut Writer,
+    writer: &mut JsonWriter,
     part: &mut String,
     node: Option<u8>,
     section: &TextSection<'_, '_>,
 ) -> Result<(), AllocError>
-    ensures { OnOk result (writer.new.tokens
-        ≡ writer.old.tokens ++ section_tokens node (section_view section.now)) }
+    ensures { OnOk result (writer.new.inner.tokens
+        ≡ writer.old.inner.tokens ++ section_tokens node (section_view section.now)) }
 {
     match section.kind {
         SectionKind::Object(index) if has_sub_indices(section) => {
@@ -307,12 +236,12 @@ fn put_section(
 }
 
 fn put_sections(
-    writer: &mut Writer,
+    writer: &mut JsonWriter,
     part: &mut String,
     node: Option<u8>,
     sections: &[TextSection],
 ) -> Result<(), AllocError>
-    ensures { OnOk result (writer.new.tokens ≡ writer.old.tokens
+    ensures { OnOk result (writer.new.inner.tokens ≡ writer.old.inner.tokens
         ++ flat_map (section_tokens node) (map section_view sections.now)) }
 {
     for section in sections {
@@ -340,24 +269,24 @@ fn word_number(node: Option<u8>, section: &TextSection<'_, '_>) -> Option<i128>
 
 #[tactic(auto, unfolding(crate::specs::JsonForm::said_member))]
 fn put_said(
-    writer: &mut Writer,
+    writer: &mut JsonWriter,
     part: &mut String,
     name: &str,
     meaning: Meaning,
     node: Option<u8>,
     section: &TextSection<'_, '_>,
 ) -> Result<(), AllocError>
-    ensures { OnOk result (writer.new.tokens ≡ writer.old.tokens
+    ensures { OnOk result (writer.new.inner.tokens ≡ writer.old.inner.tokens
         ++ said_member name.now meaning node (section_view section.now)) }
 {
     part.clear();
     push_said(part, meaning, node, section)?;
-    put_quantity(writer, name, word_number(node, section), part.as_str())
+    writer.put_quantity(name, word_number(node, section), part.as_str())
 }
 
 #[tactic(auto, unfolding(crate::specs::JsonForm::said_at_member))]
 fn put_said_at(
-    writer: &mut Writer,
+    writer: &mut JsonWriter,
     part: &mut String,
     name: &str,
     meaning: Meaning,
@@ -365,7 +294,7 @@ fn put_said_at(
     sections: &[TextSection],
     key: Key,
 ) -> Result<(), AllocError>
-    ensures { OnOk result (writer.new.tokens ≡ writer.old.tokens
+    ensures { OnOk result (writer.new.inner.tokens ≡ writer.old.inner.tokens
         ++ said_at_member name.now meaning node (map section_view sections.now) key) }
 {
     match section_at(sections, SectionKind::SubIndex(key)) {
@@ -375,22 +304,22 @@ fn put_said_at(
 }
 
 #[tactic(auto, unfolding(crate::specs::JsonForm::mapped_members))]
-fn put_mapped_key(writer: &mut Writer, word: Word) -> Result<(), AllocError>
-    ensures { OnOk result (writer.new.tokens ≡ writer.old.tokens ++ mapped_members word) }
+fn put_mapped_key(writer: &mut JsonWriter, word: Word) -> Result<(), AllocError>
+    ensures { OnOk result (writer.new.inner.tokens ≡ writer.old.inner.tokens ++ mapped_members word) }
 {
     put_key(writer, mapped_key(word.number))?;
-    put_number(writer, "bits", word.number % 0x100)
+    writer.put_number("bits", word.number % 0x100)
 }
 
 #[tactic(auto, unfolding(crate::specs::JsonForm::mapped_tokens))]
 fn put_mapped(
-    writer: &mut Writer,
+    writer: &mut JsonWriter,
     part: &mut String,
     node: Option<u8>,
     sections: &[TextSection],
     section: &TextSection<'_, '_>,
 ) -> Result<(), AllocError>
-    ensures { OnOk result (writer.new.tokens ≡ writer.old.tokens
+    ensures { OnOk result (writer.new.inner.tokens ≡ writer.old.inner.tokens
         ++ mapped_tokens node (map section_view sections.now) (section_view section.now)) }
 {
     writer.begin_object()?;
@@ -399,15 +328,15 @@ fn put_mapped(
     }
     part.clear();
     push_said(part, Meaning::Mapped, node, section)?;
-    put_text(writer, "text", part.as_str())?;
+    writer.put_text("text", part.as_str())?;
     part.clear();
     push_mapped_name(part, node, sections, section)?;
-    put_text(writer, "name", part.as_str())?;
+    writer.put_text("name", part.as_str())?;
     writer.end_object()
 }
 
 fn put_if_counted(
-    writer: &mut Writer,
+    writer: &mut JsonWriter,
     part: &mut String,
     node: Option<u8>,
     sections: &[TextSection],
@@ -415,7 +344,7 @@ fn put_if_counted(
     count: u64,
     section: &TextSection<'_, '_>,
 ) -> Result<(), AllocError>
-    ensures { OnOk result (writer.new.tokens ≡ writer.old.tokens ++ counted_tokens node
+    ensures { OnOk result (writer.new.inner.tokens ≡ writer.old.inner.tokens ++ counted_tokens node
         (map section_view sections.now) index count (section_view section.now)) }
 {
     if is_counted(index, count, section.kind) {
@@ -428,13 +357,13 @@ fn put_if_counted(
 // what a PDO maps
 #[tactic(auto, unfolding(crate::specs::JsonForm::mapping_tokens))]
 fn put_mapping(
-    writer: &mut Writer,
+    writer: &mut JsonWriter,
     part: &mut String,
     node: Option<u8>,
     sections: &[TextSection],
     index: u16,
 ) -> Result<(), AllocError>
-    ensures { OnOk result (writer.new.tokens ≡ writer.old.tokens
+    ensures { OnOk result (writer.new.inner.tokens ≡ writer.old.inner.tokens
         ++ mapping_tokens node (map section_view sections.now) index) }
 {
     let count = mapping_count(node, sections, index);
@@ -447,20 +376,20 @@ fn put_mapping(
 // its COB-ID, transmission type and timers
 #[tactic(auto, unfolding(crate::specs::JsonForm::pdo_members))]
 fn put_pdo_members(
-    writer: &mut Writer,
+    writer: &mut JsonWriter,
     part: &mut String,
     node: Option<u8>,
     sections: &[TextSection],
     index: u16,
     section: &TextSection<'_, '_>,
 ) -> Result<(), AllocError>
-    ensures { OnOk result (writer.new.tokens ≡ writer.old.tokens
+    ensures { OnOk result (writer.new.inner.tokens ≡ writer.old.inner.tokens
         ++ pdo_members node (map section_view sections.now) index (section_view section.now)) }
 {
     part.clear();
     push_pdo_name(part, index)?;
-    put_text(writer, "pdo", part.as_str())?;
-    put_number(writer, "index", u64::from(index))?;
+    writer.put_text("pdo", part.as_str())?;
+    writer.put_number("index", u64::from(index))?;
     put_said(writer, part, "cobId", Meaning::PdoCobId, node, section)?;
     let transmission = Key { index, sub: 2 };
     put_said_at(
@@ -496,7 +425,7 @@ fn put_pdo_members(
 
 #[tactic(auto, unfolding(crate::specs::JsonForm::pdo_tokens))]
 fn put_pdo_tokens(
-    writer: &mut Writer,
+    writer: &mut JsonWriter,
     part: &mut String,
     node: Option<u8>,
     sections: &[TextSection],
@@ -504,25 +433,25 @@ fn put_pdo_tokens(
     section: &TextSection<'_, '_>,
 ) -> Result<(), AllocError>
     requires { index ≤ 0x1BFF }
-    ensures { OnOk result (writer.new.tokens ≡ writer.old.tokens
+    ensures { OnOk result (writer.new.inner.tokens ≡ writer.old.inner.tokens
         ++ pdo_tokens node (map section_view sections.now) index (section_view section.now)) }
 {
     writer.begin_object()?;
     put_pdo_members(writer, part, node, sections, index, section)?;
-    begin_array(writer, "mapped")?;
+    writer.begin_array("mapped")?;
     put_mapping(writer, part, node, sections, index + 0x200)?;
     writer.end_array()?;
     writer.end_object()
 }
 
 fn put_pdo(
-    writer: &mut Writer,
+    writer: &mut JsonWriter,
     part: &mut String,
     node: Option<u8>,
     sections: &[TextSection],
     section: &TextSection<'_, '_>,
 ) -> Result<(), AllocError>
-    ensures { OnOk result (writer.new.tokens ≡ writer.old.tokens
+    ensures { OnOk result (writer.new.inner.tokens ≡ writer.old.inner.tokens
         ++ pdo_of node (map section_view sections.now) (section_view section.now)) }
 {
     match section.kind {
@@ -534,12 +463,12 @@ fn put_pdo(
 }
 
 fn put_pdos(
-    writer: &mut Writer,
+    writer: &mut JsonWriter,
     part: &mut String,
     node: Option<u8>,
     sections: &[TextSection],
 ) -> Result<(), AllocError>
-    ensures { OnOk result (writer.new.tokens ≡ writer.old.tokens
+    ensures { OnOk result (writer.new.inner.tokens ≡ writer.old.inner.tokens
         ++ flat_map (pdo_of node (map section_view sections.now)) (map section_view sections.now)) }
 {
     for section in sections {
@@ -550,36 +479,36 @@ fn put_pdos(
 
 #[tactic(auto, unfolding(crate::specs::JsonForm::service_tokens))]
 fn put_service_tokens(
-    writer: &mut Writer,
+    writer: &mut JsonWriter,
     part: &mut String,
     node: Option<u8>,
     section: &TextSection<'_, '_>,
     key: Key,
     service: Service,
 ) -> Result<(), AllocError>
-    ensures { OnOk result (writer.new.tokens ≡ writer.old.tokens
+    ensures { OnOk result (writer.new.inner.tokens ≡ writer.old.inner.tokens
         ++ service_tokens node (section_view section.now) key service) }
 {
     writer.begin_object()?;
     put_key(writer, key)?;
     part.clear();
     push_name(part, service)?;
-    put_text(writer, "service", part.as_str())?;
-    put_integer(writer, "number", word_number(node, section))?;
+    writer.put_text("service", part.as_str())?;
+    writer.put_integer("number", word_number(node, section))?;
     part.clear();
     push_said(part, service.meaning(), node, section)?;
-    put_text(writer, "text", part.as_str())?;
+    writer.put_text("text", part.as_str())?;
     writer.end_object()
 }
 
 fn put_service(
-    writer: &mut Writer,
+    writer: &mut JsonWriter,
     part: &mut String,
     node: Option<u8>,
     section: &TextSection<'_, '_>,
 ) -> Result<(), AllocError>
-    ensures { OnOk result (writer.new.tokens
-        ≡ writer.old.tokens ++ service_of_section node (section_view section.now)) }
+    ensures { OnOk result (writer.new.inner.tokens
+        ≡ writer.old.inner.tokens ++ service_of_section node (section_view section.now)) }
 {
     let Some(key) = key_of(section.kind) else {
         return Ok(());
@@ -591,12 +520,12 @@ fn put_service(
 }
 
 fn put_services(
-    writer: &mut Writer,
+    writer: &mut JsonWriter,
     part: &mut String,
     node: Option<u8>,
     sections: &[TextSection],
 ) -> Result<(), AllocError>
-    ensures { OnOk result (writer.new.tokens ≡ writer.old.tokens
+    ensures { OnOk result (writer.new.inner.tokens ≡ writer.old.inner.tokens
         ++ flat_map (service_of_section node) (map section_view sections.now)) }
 {
     for section in sections {
@@ -607,24 +536,24 @@ fn put_services(
 
 #[tactic(auto, unfolding(crate::specs::JsonForm::document_tokens))]
 fn put_document(
-    writer: &mut Writer,
+    writer: &mut JsonWriter,
     part: &mut String,
     node: Option<u8>,
     sections: &[TextSection],
 ) -> Result<(), AllocError>
-    ensures { OnOk result (writer.new.tokens ≡ writer.old.tokens
+    ensures { OnOk result (writer.new.inner.tokens ≡ writer.old.inner.tokens
         ++ document_tokens node (map section_view sections.now)) }
 {
     writer.begin_object()?;
-    put_number(writer, "version", 1)?;
-    put_integer(writer, "node", node.map(i128::from))?;
-    begin_array(writer, "entries")?;
+    writer.put_number("version", 1)?;
+    writer.put_integer("node", node.map(i128::from))?;
+    writer.begin_array("entries")?;
     put_sections(writer, part, node, sections)?;
     writer.end_array()?;
-    begin_array(writer, "pdos")?;
+    writer.begin_array("pdos")?;
     put_pdos(writer, part, node, sections)?;
     writer.end_array()?;
-    begin_array(writer, "services")?;
+    writer.begin_array("services")?;
     put_services(writer, part, node, sections)?;
     writer.end_array()?;
     writer.end_object()
@@ -640,21 +569,19 @@ pub(crate) fn json_document(
     ensures { IfOk result
         (λ text. text.items ≡ json_document node (map section_view sections.now)) }
 {
-    let mut writer = Writer::new(Vec::new(alloc));
+    let mut writer = JsonWriter::new(alloc);
     let mut part = String::new(alloc);
     put_document(&mut writer, &mut part, node, sections)?;
-    let mut text = writer.into_inner();
-    text.push(b'\n')?;
-    Ok(text)
+    writer.into_text()
 }
 
 #[tactic(auto, unfolding(crate::specs::JsonForm::fault_tokens))]
-fn put_fault(writer: &mut Writer, fault: SheetFault) -> Result<(), AllocError>
-    ensures { OnOk result (writer.new.tokens ≡ writer.old.tokens ++ fault_tokens fault) }
+fn put_fault(writer: &mut JsonWriter, fault: SheetFault) -> Result<(), AllocError>
+    ensures { OnOk result (writer.new.inner.tokens ≡ writer.old.inner.tokens ++ fault_tokens fault) }
 {
     writer.begin_object()?;
-    put_number(writer, "version", 1)?;
-    put_text(writer, "fault", fault.text().as_str())?;
+    writer.put_number("version", 1)?;
+    writer.put_text("fault", fault.text().as_str())?;
     writer.end_object()
 }
 
@@ -663,9 +590,7 @@ fn put_fault(writer: &mut Writer, fault: SheetFault) -> Result<(), AllocError>
 pub(crate) fn json_fault(alloc: Global, fault: SheetFault) -> Result<Vec<u8>, AllocError>
     ensures { IfOk result (λ text. text.items ≡ json_fault fault) }
 {
-    let mut writer = Writer::new(Vec::new(alloc));
+    let mut writer = JsonWriter::new(alloc);
     put_fault(&mut writer, fault)?;
-    let mut text = writer.into_inner();
-    text.push(b'\n')?;
-    Ok(text)
+    writer.into_text()
 }

@@ -5,6 +5,7 @@ mod document;
 mod entries;
 mod format;
 mod json_form;
+mod json_writer;
 mod layout;
 mod meaning;
 mod numbers;

@@ -5,4 +5,4 @@ use Rattle.conode_show.specs.JsonForm.{counted_tokens}
 use Rattle.conode_show.proofs.json_form.put_mapping.Given as goal
 
 abbrev pub invariant-loop-section : goal.invariant-loop-section
-invariant-loop-section l = l.writer.tokens ≡ l.fn.writer.tokens ++ flat_map (counted_tokens l.node (map section_view l.sections) l.index l.count) (map section_view (take l.section-index l.sections))
+invariant-loop-section l = l.writer.inner.tokens ≡ l.fn.writer.inner.tokens ++ flat_map (counted_tokens l.node (map section_view l.sections) l.index l.count) (map section_view (take l.section-index l.sections))

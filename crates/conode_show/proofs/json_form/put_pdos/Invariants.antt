@@ -5,4 +5,4 @@ use Rattle.conode_show.specs.JsonForm.{pdo_of}
 use Rattle.conode_show.proofs.json_form.put_pdos.Given as goal
 
 abbrev pub invariant-loop-section : goal.invariant-loop-section
-invariant-loop-section l = l.writer.tokens ≡ l.fn.writer.tokens ++ flat_map (pdo_of l.node (map section_view l.sections)) (map section_view (take l.section-index l.sections))
+invariant-loop-section l = l.writer.inner.tokens ≡ l.fn.writer.inner.tokens ++ flat_map (pdo_of l.node (map section_view l.sections)) (map section_view (take l.section-index l.sections))
