@@ -59,14 +59,14 @@ quantity_member name n text =
 
 -- the number of a value at a type; of a sum with the node-ID for the node that is given
 abbrev pub number_for : Option ℕ → Default → Option ℤ
-number_for node (plain_number z) = Some z
-number_for node (node_id addend) = option_map (λ id. pos (addend + id)) node
-number_for node other = None
+number_for given (plain_number z) = Some z
+number_for given (node_id addend) = option_map (λ id. pos (addend + id)) given
+number_for given other = None
 
 abbrev pub value_number : Option ℕ → Option DataType → List ℕ → Option ℤ
-value_number node None value = None
-value_number node (Some t) value =
-    option_and_then (λ width. number_for node (numeric_value t value)) (width_of t)
+value_number given None value = None
+value_number given (Some t) value =
+    option_and_then (λ width. number_for given (numeric_value t value)) (width_of t)
 
 -- a value and a limit, left out where the section has none
 unfoldable pub value_member : List ℕ → Option ℕ → Option DataType → Option Property → List Token
@@ -114,11 +114,11 @@ object_tokens index section =
     ∷ (number_member (codes "index") index ++ named_members section ++ end_object ∷ [])
 
 abbrev pub described_tokens : Option ℕ → TextSection → SectionKind → List Token
-described_tokens node section (Object index) =
+described_tokens given section (Object index) =
     if has_sub_indices section then object_tokens index section
-    else entry_tokens node (record { index = index; sub = 0 }) section
-described_tokens node section (SubIndex k) = entry_tokens node k section
-described_tokens node section other = []
+    else entry_tokens given (record { index = index; sub = 0 }) section
+described_tokens given section (SubIndex k) = entry_tokens given k section
+described_tokens given section other = []
 
 abbrev pub section_tokens : Option ℕ → TextSection → List Token
 section_tokens node section = described_tokens node section section.kind
@@ -179,9 +179,9 @@ pdo_tokens node sections index section =
     ++ mapping_tokens node sections (mapping_index index) ++ (end_array ∷ end_object ∷ []))
 
 abbrev pub pdo_with : Option ℕ → List TextSection → TextSection → SectionKind → List Token
-pdo_with node sections section (SubIndex k) =
-    if is_pdo_cob_id k then pdo_tokens node sections k.index section else []
-pdo_with node sections section other = []
+pdo_with given sections section (SubIndex k) =
+    if is_pdo_cob_id k then pdo_tokens given sections k.index section else []
+pdo_with given sections section other = []
 
 abbrev pub pdo_of : Option ℕ → List TextSection → TextSection → List Token
 pdo_of node sections section = pdo_with node sections section section.kind
