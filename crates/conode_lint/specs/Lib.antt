@@ -1,4 +1,6 @@
+pub mod BuildLines
 pub mod BuildWords
+pub mod MappingWords
 pub mod FormatWords
 pub mod Words
 pub mod Found

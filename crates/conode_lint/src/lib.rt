@@ -3,12 +3,14 @@
 #![tactic(auto)]
 
 mod allowed;
+mod build_marks;
 mod build_words;
 mod files;
 mod folder;
 mod format_words;
 mod lines;
 mod linted_text;
+mod mapping_words;
 mod mark;
 mod marks;
 mod report;

@@ -4,14 +4,13 @@ ghost use Rattle.std.specs.Prelude.{◌≡◌, ◌++◌, map, OnOk};
 ghost use Rattle.std.specs.List.{flat_map};
 ghost use Rattle.conode_lint.specs.Marks.{fault_mark, warning_marks};
 
+use crate::build_marks::add_build_marks;
 use crate::mark::{Mark, OtherFormat, Subject};
-use co_dict_build::{BuildFault, Limits};
-use co_dict_list::ListStore;
-use co_sheet::{EntryRow, FaultKind, Object, Sheet, SheetFault, read};
+use co_dict_build::Limits;
+use co_sheet::{FaultKind, GREATEST_SIZE, SheetFault, read};
 use co_sheet_faults::find_faults;
 use co_sheet_text::{same_name, trim};
 use co_sheet_warnings::{Warning, find_warnings, is_quiet};
-use co_value::Key;
 use std::alloc::{AllocError, Global};
 
 /// What is looked for in a text.
@@ -78,58 +77,6 @@ fn other_format(lines: &[&[u8]]) -> Option<OtherFormat> {
     }
 }
 
-// the line of the entry's section, 0 where there is none
-fn entry_line(entries: &[EntryRow<'_>], key: Key) -> usize {
-    for entry in entries {
-        if entry.key == key {
-            return entry.line;
-        }
-    }
-    0
-}
-
-// the line of the object's section, 0 where there is none
-fn object_line(objects: &[Object<'_>], index: u16) -> usize {
-    for object in objects {
-        if object.index == index {
-            return object.line;
-        }
-    }
-    0
-}
-
-// the line that a build fault is about
-fn build_line(sheet: &Sheet<'_>, fault: BuildFault) -> usize {
-    match fault {
-        BuildFault::ValueRange(key) | BuildFault::BadCobId(key) | BuildFault::BadMapping(key) => {
-            entry_line(sheet.entries(), key)
-        }
-        BuildFault::PdoPair(index) => object_line(sheet.objects(), index),
-        BuildFault::NodeId | BuildFault::TooMany | BuildFault::Memory => 0,
-    }
-}
-
-// adds why no dictionary can be built of a sheet, if none can
-fn add_build_fault(
-    alloc: Global,
-    marks: &mut Vec<Mark>,
-    sheet: &Sheet<'_>,
-    node_id: u8,
-    limits: &Limits<'_>,
-) -> Result<(), AllocError> {
-    match ListStore::build(alloc, sheet, node_id, limits) {
-        Ok(_) => Ok(()),
-        Err(BuildFault::Memory) => Err(AllocError),
-        Err(fault) => {
-            marks.push(Mark {
-                line: build_line(sheet, fault),
-                subject: Subject::Build(fault),
-            })?;
-            Ok(())
-        }
-    }
-}
-
 // the node-ID of a sheet, given or its own, and why no dictionary can be built for it
 fn add_built(
     alloc: Global,
@@ -137,6 +84,9 @@ fn add_built(
     text: &[u8],
     checks: &Checks<'_>,
 ) -> Result<Option<u8>, AllocError> {
+    if text.len() > GREATEST_SIZE {
+        return Ok(checks.node);
+    }
     let sheet = match read(alloc, text) {
         Ok(sheet) => sheet,
         Err(fault) if fault.kind == FaultKind::Memory => return Err(AllocError),
@@ -144,7 +94,7 @@ fn add_built(
     };
     let node = checks.node.or(sheet.node_id());
     if let Some(node_id) = node {
-        add_build_fault(alloc, marks, &sheet, node_id, &checks.limits)?;
+        add_build_marks(alloc, marks, text, &sheet, node_id, &checks.limits)?;
     }
     Ok(node)
 }

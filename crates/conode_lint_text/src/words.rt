@@ -4,7 +4,7 @@ ghost use Rattle.std.specs.Prelude.{◌≡◌, ◌++◌, OnOk, string_bytes};
 ghost use Rattle.conode_lint_text.specs.Findings.{about_text, help_of, message_of, severity_name};
 
 use crate::finding::{About, Finding, Severity};
-use co_text::{push_byte, push_u16};
+use co_text::{push_byte, push_decimal, push_u16};
 use std::alloc::AllocError;
 
 /// How severe it is, in a word.
@@ -31,6 +31,12 @@ fn push_about(text: &mut String, about: About) -> Result<(), AllocError>
             text.push_str(":")?;
             push_byte(text, sub_index)?;
             text.push_str(": ")
+        }
+        About::Bits(index, bits) => {
+            push_u16(text, index)?;
+            text.push_str(":00: ")?;
+            push_decimal(text, u64::from(bits))?;
+            text.push_str(" bits in all: ")
         }
     }
 }
