@@ -33,14 +33,18 @@ unfoldable pub column_of : Finding → ℕ
 column_of finding =
     if finding.line == 0 then 0 else place_in finding.place (characters_of finding.text.now) + 1
 
+-- how many bits a mapping maps
+abbrev pub bits_text : ℕ → ℕ → List ℕ
+bits_text index bits =
+    digits_text 16 4 index ++ codes ":00: " ++ decimal bits ++ codes " bits in all: "
+
 -- what it is about, where the line alone doesn't say it: `1A00: `, `1A00:00: `, `1A00:00: 72 bits in all: `
 abbrev pub about_text : About → List ℕ
 about_text Line = []
 about_text (Object index) = digits_text 16 4 index ++ codes ": "
 about_text (Entry index sub_index) =
     digits_text 16 4 index ++ codes ":" ++ digits_text 16 2 sub_index ++ codes ": "
-about_text (Bits index bits) =
-    digits_text 16 4 index ++ codes ":00: " ++ decimal bits ++ codes " bits in all: "
+about_text (Bits index bits) = bits_text index bits
 
 -- what is wrong
 unfoldable pub message_of : Finding → List ℕ

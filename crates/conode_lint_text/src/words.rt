@@ -1,7 +1,7 @@
 //! The words of a finding.
 
 ghost use Rattle.std.specs.Prelude.{◌≡◌, ◌++◌, OnOk, string_bytes};
-ghost use Rattle.conode_lint_text.specs.Findings.{about_text, help_of, message_of, severity_name};
+ghost use Rattle.conode_lint_text.specs.Findings.{about_text, bits_text, help_of, message_of, severity_name};
 
 use crate::finding::{About, Finding, Severity};
 use co_text::{push_byte, push_decimal, push_u16};
@@ -15,6 +15,16 @@ pub(crate) fn severity_name(severity: Severity) -> &'static str
         Severity::Error => "error",
         Severity::Warning => "warning",
     }
+}
+
+fn push_bits(text: &mut String, index: u16, bits: u16) -> Result<(), AllocError>
+    ensures { OnOk result
+        (string_bytes text.new ≡ string_bytes text.old ++ bits_text index bits) }
+{
+    push_u16(text, index)?;
+    text.push_str(":00: ")?;
+    push_decimal(text, bits as u64)?;
+    text.push_str(" bits in all: ")
 }
 
 fn push_about(text: &mut String, about: About) -> Result<(), AllocError>
@@ -32,12 +42,7 @@ fn push_about(text: &mut String, about: About) -> Result<(), AllocError>
             push_byte(text, sub_index)?;
             text.push_str(": ")
         }
-        About::Bits(index, bits) => {
-            push_u16(text, index)?;
-            text.push_str(":00: ")?;
-            push_decimal(text, u64::from(bits))?;
-            text.push_str(" bits in all: ")
-        }
+        About::Bits(index, bits) => push_bits(text, index, bits),
     }
 }
 
