@@ -34,7 +34,7 @@ column_of finding =
     if finding.line == 0 then 0 else place_in finding.place (characters_of finding.text.now) + 1
 
 -- how many bits a mapping maps
-abbrev pub bits_text : ℕ → ℕ → List ℕ
+unfoldable pub bits_text : ℕ → ℕ → List ℕ
 bits_text index bits =
     digits_text 16 4 index ++ codes ":00: " ++ decimal bits ++ codes " bits in all: "
 

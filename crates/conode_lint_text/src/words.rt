@@ -17,6 +17,7 @@ pub(crate) fn severity_name(severity: Severity) -> &'static str
     }
 }
 
+#[tactic(auto, unfolding(crate::specs::Findings::bits_text))]
 fn push_bits(text: &mut String, index: u16, bits: u16) -> Result<(), AllocError>
     ensures { OnOk result
         (string_bytes text.new ≡ string_bytes text.old ++ bits_text index bits) }
