@@ -1,0 +1,23 @@
+use Rattle.std.proofs.Common.{true, ℕ, List, ◌≡◌, ◌∷◌, [], ◌++◌, length, sym, ap, subst, arith, rules, length-append}
+use Rattle.co_text.proofs.Pairs.{AreRead, read_more}
+use Rattle.conode_record.proofs.Numbers.{pairs_all}
+use Rattle.conode_record.proofs.content.fd_pairs_at.Goals as goal
+
+pub loop-byte-preserved : goal.loop-byte-preserved
+loop-byte-preserved c =
+    let old = c.loop-byte.bytes in
+    let byte = c.in-Some.byte in
+    let after = c.in-Some.after.now in
+    let done : c.try_append.result ≡ true = search rules in
+    let appended : c.try_append.new.self ≡ old ++ byte ∷ [] = c.try_append.ensures.done done in
+    let longer = ap length appended in
+    let one = length-append old (byte ∷ []) in
+    let room = c.try_append.ensures.fits done in
+    record {
+      read = subst (λ (bytes : List ℕ). AreRead c.args.text.now bytes after) (sym appended)
+          (read_more c.args.text.now old c.loop-byte.rest.now byte after c.loop-byte.invariant.read (sym c.in-Some.ensures.exact));
+      few = omega arith;
+    }
+
+pub returns : goal.returns
+returns c = pairs_all 64 c.args.text.now c.loop-byte.bytes c.loop-byte.rest.now c.loop-byte.invariant.read (sym c.in_default.ensures.exact) c.loop-byte.invariant.few

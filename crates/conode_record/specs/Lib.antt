@@ -1,0 +1,4 @@
+pub mod Contents
+pub mod Fields
+pub mod Grammar
+pub mod Lines

@@ -1,0 +1,15 @@
+//! The lines of a recording of a CAN bus, as `candump -L` writes them: every kind of frame, stamps in microseconds, and
+//! of a bad line what is wrong with it.
+#![tactic(auto)]
+
+mod bad_line;
+mod content;
+mod fields;
+mod interface;
+mod line;
+
+pub use bad_line::BadLine;
+pub use content::{Content, Direction, FdBytes};
+pub use fields::Identifier;
+pub use interface::Interface;
+pub use line::{Record, RecordLine};

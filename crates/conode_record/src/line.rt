@@ -1,0 +1,91 @@
+//! What a line of a recording says.
+
+ghost use Rattle.std.specs.Prelude.{◌≡◌, Ok, IfOk};
+ghost use Rattle.conode_record.specs.declared.line.RecordLine.{RecordLine};
+ghost use Rattle.conode_record.specs.Grammar.{SpellsLine, HasIdentifier};
+ghost use Rattle.conode_record.specs.Lines.{frame_in, is_skipped, line_in};
+
+use crate::bad_line::BadLine;
+use crate::content::{Content, Direction, content_in};
+use crate::fields::{Identifier, identifier_at, interface_at, stamp_at};
+use crate::interface::Interface;
+
+/// A frame of a recording.
+#[derive(Drop)]
+pub struct Record<'a> {
+    /// When it was seen, in microseconds; below 10^18.
+    pub micros: u64,
+    /// The interface that it was seen on.
+    pub interface: Interface<'a>,
+    /// Its identifier.
+    pub id: Identifier,
+    /// Its data, or the length that a remote frame has.
+    pub content: Content,
+    /// Whether it was received or sent, where the line says so.
+    pub direction: Option<Direction>,
+}
+
+/// What a line of a recording says.
+#[derive(Drop)]
+pub enum RecordLine<'a> {
+    /// Nothing: it is empty, a comment (`;`), or an event line of a trace (`!`).
+    Skipped,
+    /// A frame.
+    Frame(Record<'a>),
+}
+
+impl<'a> RecordLine<'a> {
+    /// What a line says, without its line feed, or what is wrong with it.
+    pub fn read(line: &'a [u8]) -> Result<RecordLine<'a>, BadLine>
+        ensures exact { result ≡ line_in line.now }
+        // What is found is spelled by the line, and what the line spells is found, so it spells one thing at most.
+        ensures found { IfOk result (λ says. SpellsLine says line.now) }
+        ensures identifier { IfOk result HasIdentifier }
+        ensures only { (says : RecordLine) → SpellsLine says line.now → result ≡ Ok says }
+    {
+        RecordLine::of_line(line)
+    }
+
+    #[tactic(auto, unfolding(crate::specs::Lines::line_in))]
+    #[inline(always)]
+    fn of_line(line: &'a [u8]) -> Result<RecordLine<'a>, BadLine>
+        ensures { result ≡ line_in line.now }
+    {
+        if is_skipped(line) {
+            return Ok(RecordLine::Skipped);
+        }
+        frame_in(line)
+    }
+}
+
+#[inline(always)]
+fn is_skipped(line: &[u8]) -> bool
+    ensures { result ≡ is_skipped line.now }
+{
+    line.is_empty() || line[0] == b';' || line[0] == b'!'
+}
+
+// the frame of a line
+#[tactic(auto, unfolding(crate::specs::Lines::frame_in))]
+#[inline(always)]
+fn frame_in(line: &[u8]) -> Result<RecordLine<'_>, BadLine>
+    ensures { result ≡ frame_in line.now }
+{
+    let Some((micros, rest)) = stamp_at(line) else {
+        return Err(BadLine::Stamp);
+    };
+    let Some((interface, rest)) = interface_at(rest) else {
+        return Err(BadLine::Interface);
+    };
+    let Some((id, rest)) = identifier_at(rest) else {
+        return Err(BadLine::Identifier);
+    };
+    let (content, direction) = content_in(rest)?;
+    Ok(RecordLine::Frame(Record {
+        micros,
+        interface,
+        id,
+        content,
+        direction,
+    }))
+}
