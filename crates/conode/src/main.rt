@@ -1,18 +1,19 @@
-//! A CANopen device node on the command line: checks, lints and shows data sheets, decodes CAN traces as `candump -L` writes
-//! them, plays one to the device of a data sheet, and lets an SDO client download to it.
+//! A CANopen device node on the command line: checks, lints and shows data sheets, decodes and explains CAN traces as
+//! `candump -L` writes them, plays one to the device of a data sheet, and lets an SDO client download to it.
 #![tactic(auto)]
 
 use co_dict_build::Limits;
 use co_node::Config;
 use conode_check::check_file;
 use conode_decode::decode_files;
+use conode_explain::{StampForm, explain_files};
 use conode_io::{CmdFault, stopped};
 use conode_lint::{Checks, Form, LintOptions, lint_files};
 use conode_loop::loop_files;
 use conode_replay::{replay_files, replay_stored};
 use conode_show::{Format as ShowFormat, show_file};
 use conode_words::{
-    Colours, DeviceWords, DictionaryWords, Format, LintWords, ShownAs, Task, VERSION, task,
+    Colours, DeviceWords, DictionaryWords, Format, LintWords, ShownAs, Stamps, Task, VERSION, task,
 };
 use std::io::{BufWriter, IsTerminal, Write};
 use std::process::ExitCode;
@@ -40,6 +41,15 @@ fn format_of(shown_as: ShownAs) -> ShowFormat {
     match shown_as {
         ShownAs::Columns => ShowFormat::Text,
         ShownAs::Markdown => ShowFormat::Markdown,
+    }
+}
+
+/// The form in which stamps are written.
+fn stamp_form_of(stamps: Stamps) -> StampForm {
+    match stamps {
+        Stamps::Relative => StampForm::Relative,
+        Stamps::Absolute => StampForm::Absolute,
+        Stamps::Delta => StampForm::Delta,
     }
 }
 
@@ -132,6 +142,11 @@ fn carry_out_task<O: Write, E: Write>(
             node,
             shown_as,
         } => show_file(rt, sheet, format_of(shown_as), node, out, err),
+        Task::Explain {
+            trace,
+            sheet,
+            stamps,
+        } => explain_files(rt, trace, sheet, stamp_form_of(stamps), out, err),
     }
 }
 

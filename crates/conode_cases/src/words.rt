@@ -20,6 +20,8 @@ loop s 2001:00 05 --node=127 --mode block => loop
 loop s 2001:00 05 --node 5 --mode fast => status 2
 show s --node=5 --format markdown => show
 show s --format html => status 2
+explain t --sheet 5=s --stamps=absolute => explain
+explain t --stamps zero => status 2
 replay s t => replay
 loop s 2001:00 05 => loop
 replay s --node 5 => status 2
@@ -40,6 +42,7 @@ fn task_name(task: &Option<Task<'_>>) -> &'static str {
         Some(Task::Replay { .. }) => "replay",
         Some(Task::LoopBack { .. }) => "loop",
         Some(Task::Show { .. }) => "show",
+        Some(Task::Explain { .. }) => "explain",
         None => "nothing",
     }
 }

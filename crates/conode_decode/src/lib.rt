@@ -15,3 +15,4 @@ pub use decode_file::{decode_files, decode_input};
 pub use decoded_trace::decode;
 pub use line::set_decoded_line;
 pub use names::Names;
+pub use node_services::push_frame_text;

@@ -5,7 +5,7 @@ ghost use Rattle.conode_decode.specs.Names.{names_view};
 ghost use Rattle.conode_decode.specs.Texts.{decoded_line};
 
 use crate::names::Names;
-use crate::node_services::push_text;
+use crate::node_services::push_frame_text;
 use crate::numbers::push_words;
 use co_frame::Frame;
 use co_text::push_decimal;
@@ -31,6 +31,6 @@ pub fn set_decoded_line(
     push_words(text, " ")?;
     push_frame(text, frame)?;
     push_words(text, " ")?;
-    push_text(text, names, frame)?;
+    push_frame_text(text, names, frame)?;
     push_words(text, "\n")
 }

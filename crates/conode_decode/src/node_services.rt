@@ -212,7 +212,7 @@ fn push_service(
 
 /// Appends the text of a frame, by its identifier and its service (CiA 301, 7.3.3, pre-defined connection set).
 #[tactic(auto, unfolding(crate::specs::Texts::text_of_frame))]
-pub(crate) fn push_text(
+pub fn push_frame_text(
     text: &mut String,
     names: Names<'_, '_>,
     frame: &Frame,

@@ -9,9 +9,10 @@ use Rattle.co_sdo_client.specs.declared.mode.Mode.TheVariants.{Plain, Block}
 use Rattle.conode_words.specs.declared.tasks.DeviceWords.{DeviceWords}
 use Rattle.conode_words.specs.declared.tasks.DictionaryWords.{DictionaryWords}
 use Rattle.conode_words.specs.declared.tasks.ShownAs.TheVariants.{Columns, Markdown}
+use Rattle.conode_words.specs.declared.tasks.Stamps.TheVariants.{Relative, Absolute, Delta}
 use Rattle.conode_words.specs.declared.tasks.Colours.TheVariants.{Auto, Always}
 use Rattle.conode_words.specs.declared.tasks.Format.TheVariants.{Json, Text as AsText}
-use Rattle.conode_words.specs.Tasks.{Asked, check, lint, decode, replay, loop_back, show, asked_in, asked_of, check_command, conode_command, decode_command, lint_command, loop_command, replay_command, show_command, task_fault, word_fault}
+use Rattle.conode_words.specs.Tasks.{Asked, check, lint, decode, replay, loop_back, show, explain, asked_in, asked_of, check_command, conode_command, decode_command, explain_command, lint_command, loop_command, replay_command, show_command, task_fault, word_fault}
 
 -- what all words ask for, by the program's command; and those after the name of a subcommand, by that alone, which is computed
 -- sooner
@@ -272,3 +273,24 @@ show_as_text = refl
 show_for_node_128 : fault_after show_command (codes "show") (codes "a" ∷ codes "--node" ∷ codes "128" ∷ []) ≡ kind.ValueValidation ∷ []
 unfolding clap_on_literals
 show_for_node_128 = refl
+
+explain_of_a_trace : asked_after explain_command (codes "explain") (codes "t" ∷ []) ≡ Some (explain (record { trace = codes "t"; sheet = None; stamps = Relative }))
+unfolding clap_on_literals
+explain_of_a_trace = refl
+
+explain_with_options : asked_after explain_command (codes "explain") (codes "--stamps" ∷ codes "delta" ∷ codes "-" ∷ codes "--sheet" ∷ codes "5=s" ∷ [])
+    ≡ Some (explain (record { trace = codes "-"; sheet = Some (codes "5=s"); stamps = Delta }))
+unfolding clap_on_literals
+explain_with_options = refl
+
+explain_absolute : asked_after explain_command (codes "explain") (codes "t" ∷ codes "--stamps=absolute" ∷ []) ≡ Some (explain (record { trace = codes "t"; sheet = None; stamps = Absolute }))
+unfolding clap_on_literals
+explain_absolute = refl
+
+explain_in_other_stamps : fault_after explain_command (codes "explain") (codes "t" ∷ codes "--stamps" ∷ codes "zero" ∷ []) ≡ kind.InvalidValue ∷ []
+unfolding clap_on_literals
+explain_in_other_stamps = refl
+
+explain_of_nothing : fault_after explain_command (codes "explain") ([]) ≡ kind.MissingRequiredArgument ∷ []
+unfolding clap_on_literals
+explain_of_nothing = refl

@@ -19,7 +19,9 @@ use Rattle.conode_words.specs.declared.tasks.Colours.TheVariants.{Auto, Always, 
 use Rattle.conode_words.specs.declared.tasks.Format.{Format}
 use Rattle.conode_words.specs.declared.tasks.Format.TheVariants as format
 use Rattle.conode_words.specs.declared.tasks.Task.{Task}
-use Rattle.conode_words.specs.declared.tasks.Task.TheVariants.{Check, Lint, Decode, Replay, LoopBack, Show}
+use Rattle.conode_words.specs.declared.tasks.Task.TheVariants.{Check, Lint, Decode, Replay, LoopBack, Show, Explain}
+use Rattle.conode_words.specs.declared.tasks.Stamps.{Stamps}
+use Rattle.conode_words.specs.declared.tasks.Stamps.TheVariants.{Relative, Absolute, Delta}
 use Rattle.conode_words.specs.declared.tasks.ShownAs.{ShownAs}
 use Rattle.conode_words.specs.declared.tasks.ShownAs.TheVariants.{Columns, Markdown}
 
@@ -124,6 +126,12 @@ abbrev pub show_command : App
 show_command =
     with_rule (with_rule (with_rule (new_app (codes "show")) (wanted (codes "SHEET"))) node_option) shown_option
 
+-- `explain TRACE [--sheet SHEET] [--stamps FORM]`
+abbrev pub explain_command : App
+explain_command =
+    with_rule (with_rule (with_rule (new_app (codes "explain")) (wanted (codes "TRACE"))) sheet_option)
+    (worded (codes "stamps") (codes "relative"))
+
 -- a command with `--version`
 abbrev pub versioned : App → App
 versioned app = record app { top = record app.top { has_version = true } }
@@ -132,8 +140,8 @@ versioned app = record app { top = record app.top { has_version = true } }
 abbrev pub conode_command : App
 conode_command =
     with_subcommand (with_subcommand (with_subcommand (with_subcommand (with_subcommand (with_subcommand
-    (versioned (new_app (codes "conode"))) check_command.top) lint_command.top) decode_command.top)
-    replay_command.top) loop_command.top) show_command.top
+    (with_subcommand (versioned (new_app (codes "conode"))) check_command.top) lint_command.top) decode_command.top)
+    replay_command.top) loop_command.top) show_command.top) explain_command.top
 
 -- what the words after `check` ask for: texts and numbers
 pub record AskedCheck : Type 0 where
@@ -176,6 +184,12 @@ pub record AskedShow : Type 0 where
   pub node : Option ℕ
   pub shown_as : ShownAs
 
+-- what the words after `explain` ask for
+pub record AskedExplain : Type 0 where
+  pub trace : Text
+  pub sheet : Option Text
+  pub stamps : Stamps
+
 -- what the words ask for
 pub data Asked : Type 0 where
   check : AskedCheck → Asked
@@ -184,6 +198,7 @@ pub data Asked : Type 0 where
   replay : AskedReplay → Asked
   loop_back : AskedLoop → Asked
   show : AskedShow → Asked
+  explain : AskedExplain → Asked
 
 -- what a task asks for
 abbrev pub asked_by : Task → Asked
@@ -205,6 +220,8 @@ asked_by (Replay sheet trace device) =
 asked_by (LoopBack sheet key bytes mode device) =
     loop_back (record { sheet = sheet.now; key = key.now; bytes = bytes.now; mode = mode; device = device })
 asked_by (Show sheet node form) = show (record { sheet = sheet.now; node = node; shown_as = form })
+asked_by (Explain trace sheet stamps) =
+    explain (record { trace = trace.now; sheet = option_copied sheet; stamps = stamps })
 
 -- the number that a word is, of so many bits: decimal digits, perhaps after a plus
 abbrev pub number_of_bits : ℕ → Text → Option ℕ
@@ -334,6 +351,24 @@ asked_show rows =
     show (record { sheet = sheet; node = number_for 8 (codes "node") rows; shown_as = form }))
     (shown_for rows)) (first_of (codes "SHEET") rows)
 
+-- the form of stamps that a word names
+abbrev pub stamps_of : Text → Option Stamps
+stamps_of word =
+    if bytes_eq word (codes "relative") then Some Relative
+    else (if bytes_eq word (codes "absolute") then Some Absolute
+    else (if bytes_eq word (codes "delta") then Some Delta else None))
+
+-- the form of stamps of matches
+abbrev pub stamps_for : List Row → Option Stamps
+stamps_for rows = option_and_then stamps_of (first_of (codes "stamps") rows)
+
+-- what the matches of `explain` ask for
+abbrev pub asked_explain : List Row → Option Asked
+asked_explain rows =
+    option_and_then (λ trace. option_map (λ stamps.
+    explain (record { trace = trace; sheet = first_of (codes "sheet") rows; stamps = stamps }))
+    (stamps_for rows)) (first_of (codes "TRACE") rows)
+
 -- what the matches of a subcommand other than `lint` ask for
 abbrev pub asked_other : Text → List Row → Option Asked
 asked_other name rows =
@@ -341,7 +376,8 @@ asked_other name rows =
     else (if bytes_eq name (codes "decode") then asked_decode rows
     else (if bytes_eq name (codes "replay") then asked_replay rows
     else (if bytes_eq name (codes "loop") then asked_loop rows
-    else (if bytes_eq name (codes "show") then asked_show rows else None))))
+    else (if bytes_eq name (codes "show") then asked_show rows
+    else (if bytes_eq name (codes "explain") then asked_explain rows else None)))))
 
 -- what the matches of a subcommand ask for
 abbrev pub asked_in : Text → List Row → Option Asked
@@ -352,12 +388,13 @@ abbrev pub asked_of : Option (Text × List Row) → Option Asked
 asked_of matches = option_and_then (λ m. asked_in m.0 m.1) matches
 
 -- the matches of a subcommand have a word that is none of those that it takes: the mode of `loop`, the format and
--- the colours of `lint`, the form of `show`
+-- the colours of `lint`, the form of `show`, the stamps of `explain`
 abbrev pub is_other : Text → List Row → Bool
 is_other name rows =
     if bytes_eq name (codes "loop") then is_none (mode_for rows)
     else (if bytes_eq name (codes "lint") then is_none (format_for rows) || is_none (colours_for rows)
-    else (if bytes_eq name (codes "show") then is_none (shown_for rows) else false))
+    else (if bytes_eq name (codes "show") then is_none (shown_for rows)
+    else (if bytes_eq name (codes "explain") then is_none (stamps_for rows) else false)))
 
 abbrev pub has_other_word : Option (Text × List Row) → Bool
 has_other_word matches = option_map_or (λ m. is_other m.0 m.1) matches false

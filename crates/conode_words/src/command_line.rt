@@ -10,6 +10,7 @@ ghost use Rattle.conode_words.specs.Tasks.{
   asked_decode,
   asked_device,
   asked_dictionary,
+  asked_explain,
   asked_in,
   asked_lint,
   asked_lint_of,
@@ -24,6 +25,7 @@ ghost use Rattle.conode_words.specs.Tasks.{
   conode_command,
   decode_command,
   domains_option,
+  explain_command,
   flag,
   format_for,
   format_of,
@@ -47,6 +49,8 @@ ghost use Rattle.conode_words.specs.Tasks.{
   shown_as,
   shown_for,
   shown_option,
+  stamps_for,
+  stamps_of,
   strings_option,
   task_fault,
   time_option,
@@ -58,7 +62,9 @@ ghost use Rattle.conode_words.specs.Tasks.{
 };
 
 use crate::help;
-use crate::tasks::{Colours, DeviceWords, DictionaryWords, Format, LintWords, ShownAs, Task};
+use crate::tasks::{
+    Colours, DeviceWords, DictionaryWords, Format, LintWords, ShownAs, Stamps, Task,
+};
 use clap::builder::ValueParser;
 use clap::error::ErrorKind;
 use clap::{Arg, ArgAction, ArgMatches, Command, Error};
@@ -359,6 +365,32 @@ fn show_command<'a>(alloc: Global) -> Result<Command<'a>, AllocError>
         .arg(format)
 }
 
+fn stamps_arg<'a>(alloc: Global) -> Arg<'a>
+    ensures rule { rule_of result ≡ worded (codes "stamps") (codes "relative") }
+    ensures local { result.global ≡ false }
+{
+    worded(alloc, "stamps", "FORM", "relative").help("Stamps: relative, absolute or delta")
+}
+
+fn explain_command<'a>(alloc: Global) -> Result<Command<'a>, AllocError>
+    ensures shape { IfOk result (λ command. app_of command ≡ explain_command) }
+    ensures local { IfOk result (λ command. (out-Command command).has_globals ≡ false) }
+{
+    let trace = wanted(
+        alloc,
+        "TRACE",
+        "The recording, as `candump -L` writes it",
+    );
+    let sheet = sheet_option(alloc);
+    let stamps = stamps_arg(alloc);
+    Command::new(alloc, "explain")
+        .about("Explains a recording: each frame with its times and what it says")
+        .after_help(help::EXPLAINED)
+        .arg(trace)?
+        .arg(sheet)?
+        .arg(stamps)
+}
+
 fn conode_command<'a>(alloc: Global) -> Result<Command<'a>, AllocError>
     ensures { IfOk result (λ command. app_of command ≡ conode_command) }
 {
@@ -368,6 +400,7 @@ fn conode_command<'a>(alloc: Global) -> Result<Command<'a>, AllocError>
     let replay = replay_command(alloc)?;
     let looped = loop_command(alloc)?;
     let show = show_command(alloc)?;
+    let explain = explain_command(alloc)?;
     Command::new(alloc, "conode")
         .version(help::VERSION)
         .about("Checks data sheets of CANopen devices, decodes and answers CAN traces")
@@ -377,7 +410,8 @@ fn conode_command<'a>(alloc: Global) -> Result<Command<'a>, AllocError>
         .subcommand(decode)?
         .subcommand(replay)?
         .subcommand(looped)?
-        .subcommand(show)
+        .subcommand(show)?
+        .subcommand(explain)
 }
 
 // the number of an option, of 8 bits
@@ -638,6 +672,42 @@ fn asked_show<'a>(found: &ArgMatches<'a>) -> Option<Task<'a>>
     })
 }
 
+// the form of stamps that a word names
+fn stamps_of(word: &str) -> Option<Stamps>
+    ensures { result ≡ stamps_of word.now }
+{
+    if word == "relative" {
+        Some(Stamps::Relative)
+    } else if word == "absolute" {
+        Some(Stamps::Absolute)
+    } else if word == "delta" {
+        Some(Stamps::Delta)
+    } else {
+        None
+    }
+}
+
+#[tactic(auto, using(crate::proofs::TaskLemmas::first_in_rows))]
+fn stamps_for(found: &ArgMatches<'_>) -> Option<Stamps>
+    ensures { result ≡ stamps_for (rows_of (found_of found.now)) }
+{
+    stamps_of(found.get_str("stamps")?)
+}
+
+// what the words after `explain` ask for
+#[tactic(auto, using(crate::proofs::TaskLemmas::first_in_rows))]
+fn asked_explain<'a>(found: &ArgMatches<'a>) -> Option<Task<'a>>
+    ensures { option_map asked_by result ≡ asked_explain (rows_of (found_of found.now)) }
+{
+    let trace = found.get_str("TRACE")?;
+    let stamps = stamps_for(found)?;
+    Some(Task::Explain {
+        trace,
+        sheet: found.get_str("sheet"),
+        stamps,
+    })
+}
+
 // what the words after the name of a subcommand other than `lint` ask for
 fn asked_other<'a>(name: &str, found: &ArgMatches<'a>) -> Option<Task<'a>>
     ensures { option_map asked_by result ≡ asked_other name.now (rows_of (found_of found.now)) }
@@ -652,6 +722,8 @@ fn asked_other<'a>(name: &str, found: &ArgMatches<'a>) -> Option<Task<'a>>
         asked_loop(found)
     } else if name == "show" {
         asked_show(found)
+    } else if name == "explain" {
+        asked_explain(found)
     } else {
         None
     }
@@ -688,8 +760,12 @@ fn other_of(name: &str, found: &ArgMatches<'_>) -> Option<&'static str>
         if colours_for(found).is_none() {
             return Some(help::COLOURS);
         }
-    } else if name == "show" && shown_for(found).is_none() {
-        return Some(help::SHOWN_FORMS);
+    } else if name == "show" {
+        if shown_for(found).is_none() {
+            return Some(help::SHOWN_FORMS);
+        }
+    } else if name == "explain" && stamps_for(found).is_none() {
+        return Some(help::STAMPS);
     }
     None
 }

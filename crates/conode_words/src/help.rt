@@ -186,3 +186,27 @@ Empty lines, comments (`;`), event lines (`!`) and other frames print nothing.
 Status: 0 if all of the trace was decoded, 1 if not; then the last line says
 why, as `stopped: BadLine 3`, or `fault 9 BadList line 1` for the sheet; 2 if
 the words are wrong.";
+
+/// What is said of a form of stamps that is none.
+pub const STAMPS: &str =
+    "invalid value for '--stamps <FORM>': relative, absolute or delta";
+
+/// What `explain` prints.
+pub const EXPLAINED: &str = "\
+Prints a line for each frame of a recording, of every kind: its stamp, the time
+since the frame before it, its interface, its identifier, its length and data,
+and what it says, an SDO abort in words:
+
+       0.000400  +0.000012  can0  581  [8] 80 00 20 00 11 00 09 06  SDO answer \
+node 1 abort 2000:00 06090011 (no such sub-index)
+
+With --sheet the entry's name follows in quotes; `--sheet 5=sensor.eds` is for
+node-ID 5 alone. Empty lines, comments (`;`) and event lines (`!`) print nothing.
+A bad line is named on standard error, with its number and what is wrong, and the
+rest goes on. `-` as TRACE is standard input; each line is out before the next
+read that could wait.
+
+  candump -L can0 | conode explain - --sheet 5=sensor.eds
+
+Status: 0 if all lines are good, or only the last is bad and no line feed ends
+it; 1 if a line is bad or the recording can't be read; 2 if the words are wrong.";

@@ -7,4 +7,6 @@ mod tasks;
 
 pub use command_line::task;
 pub use help::VERSION;
-pub use tasks::{Colours, DeviceWords, DictionaryWords, Format, LintWords, ShownAs, Task};
+pub use tasks::{
+    Colours, DeviceWords, DictionaryWords, Format, LintWords, ShownAs, Stamps, Task,
+};

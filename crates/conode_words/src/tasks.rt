@@ -31,6 +31,17 @@ pub enum ShownAs {
     Markdown,
 }
 
+/// In which form `explain` writes stamps.
+#[derive(Clone, Copy, Debug, PartialEq, Eq)]
+pub enum Stamps {
+    /// Since the first frame.
+    Relative,
+    /// As the recording has them.
+    Absolute,
+    /// Since the frame before.
+    Delta,
+}
+
 /// How `lint` writes what it finds.
 #[derive(Clone, Copy, Debug, PartialEq, Eq)]
 pub enum Format {
@@ -119,5 +130,15 @@ pub enum Task<'a> {
         node: Option<u8>,
         /// In which form.
         shown_as: ShownAs,
+    },
+    /// To explain a recording.
+    Explain {
+        /// The recording's path, `-` for standard input.
+        trace: &'a str,
+        /// The path of the data sheet that has the names of entries, perhaps with the node-ID that it is for, as
+        /// `5=sensor.eds`; `None`: they aren't named.
+        sheet: Option<&'a str>,
+        /// In which form stamps are written.
+        stamps: Stamps,
     },
 }

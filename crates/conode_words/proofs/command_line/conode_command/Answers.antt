@@ -15,4 +15,5 @@ returns c =
     let three = c.in_ok-subcommand-3.ensures.shape c.in_ok-decode.ensures.local ∙ ap₂ with_subcommand two (ap top c.in_ok-decode.ensures.shape) in
     let four = c.in_ok-subcommand-4.ensures.shape c.in_ok-replay.ensures.local ∙ ap₂ with_subcommand three (ap top c.in_ok-replay.ensures.shape) in
     let five = c.in_ok-subcommand-5.ensures.shape c.in_ok-looped.ensures.local ∙ ap₂ with_subcommand four (ap top c.in_ok-looped.ensures.shape) in
-    IfOk-weaker c.subcommand-6.result _ _ (λ r h. h.shape c.in_ok-show.ensures.local ∙ ap₂ with_subcommand five (ap top c.in_ok-show.ensures.shape)) c.subcommand-6.ensures
+    let six = c.in_ok-subcommand-6.ensures.shape c.in_ok-show.ensures.local ∙ ap₂ with_subcommand five (ap top c.in_ok-show.ensures.shape) in
+    IfOk-weaker c.subcommand-7.result _ _ (λ r h. h.shape c.in_ok-explain.ensures.local ∙ ap₂ with_subcommand six (ap top c.in_ok-explain.ensures.shape)) c.subcommand-7.ensures

@@ -1,0 +1,2 @@
+pub mod AbortLemmas
+pub mod Explaining

@@ -1,0 +1,5 @@
+//! Tests of recordings explained.
+#![tactic(auto)]
+
+#[cfg(test)]
+mod recordings;
