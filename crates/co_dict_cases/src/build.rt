@@ -1,6 +1,6 @@
 //! Dictionaries that a data sheet makes, and the faults of those that it doesn't.
 
-use crate::sheet::{LARGE, LIMITS, SheetStore, built};
+use crate::sheet::{LARGE, LIMITS, SheetStore, built, plain};
 use co_dict::ObjectStore;
 use co_dict_image::ImageStore;
 use co_dict_list::{Limits, ListStore};
@@ -12,10 +12,7 @@ use std::test::Fail;
 
 /// Each line is a node-ID, what is answered, and changes of the sheet.
 const BUILDS: &str = "\
-1|ok|HighLimit=1000/>HighLimit=1000/DefaultValue=$NODEID+999/
-127|ok|
 0|build fault 1 NodeId|HighLimit=1000/>HighLimit=1000/DefaultValue=$NODEID+999/
-128|build fault 1 NodeId|
 5|build fault 2 ValueRange 2003:00|HighLimit=1000/>HighLimit=1000/DefaultValue=$NODEID+999/;$NODEID+0x180>0x101
 5|build fault 2 ValueRange 1800:01|$NODEID+0x180>$NODEID+0xFFFFFFFF;HighLimit=1000/>HighLimit=1000/\
     DefaultValue=$NODEID+999/
@@ -31,8 +28,6 @@ const BUILDS: &str = "\
 5|build fault 3 BadCobId 1005:00|=0x80/>=0x40000080/
 5|build fault 4 PdoPair 1801|14=0x1A01/15=0x1010/16=0x1011/17=0x1019/>14=0x1010/15=0x1011/16=0x1019/;\
     Objects=17>Objects=16
-5|build fault 5 BadMapping 1A00:00|[1A00sub0]/DataType=5/AccessType=rw/DefaultValue=1/>[1A00sub0]/DataType=5/\
-    AccessType=rw/DefaultValue=2/
 5|build fault 5 BadMapping 1600:00|[1A00sub0]/DataType=5/AccessType=rw/DefaultValue=1/>[1A00sub0]/DataType=5/\
     AccessType=rw/DefaultValue=2/;[1600sub0]/DataType=5/AccessType=rw/DefaultValue=1/>[1600sub0]/DataType=5/\
     AccessType=rw/DefaultValue=3/";
@@ -57,6 +52,58 @@ fn other_build<S: SheetStore>(alloc: Global) -> Result<Option<&'static str>, Fai
 fn faults(rt: HostRuntime) -> Result<(), Fail> {
     assert_eq!(rt; other_build::<ListStore>(rt.alloc())?, None);
     assert_eq!(rt; other_build::<ImageStore>(rt.alloc())?, None);
+    Ok(())
+}
+
+/// Each line is a node-ID, what is answered, and changed defaults; `-` is for a TPDO whose mapping isn't listed.
+const PLAIN_BUILDS: &str = "\
+5|ok|
+0|build fault 1 NodeId|
+128|build fault 1 NodeId|
+1|ok|2003=$NODEID+999
+5|build fault 2 ValueRange 2003:00|2003=$NODEID+999
+5|build fault 3 BadCobId 1800:01|1800sub1=0x101
+5|build fault 4 PdoPair 1801|-
+5|build fault 5 BadMapping 1A00:00|1A00sub0=2";
+
+/// The text without 1A01h in its list.
+fn unlisted(alloc: Global, text: &str) -> Result<String, Fail> {
+    let (front, rest) = text
+        .split_once("14=0x1A01\nSupportedObjects=14\n")
+        .ok_or("no such object")?;
+    Ok(format!(in alloc; "{front}SupportedObjects=13\n{rest}")?)
+}
+
+/// What a store answers to a line.
+fn plain_build<S: SheetStore>(alloc: Global, node_id: u8, changes: &str) -> Result<String, Fail> {
+    let mut text = plain(alloc, changes)?;
+    if changes == "-" {
+        text = unlisted(alloc, text.as_str())?;
+    }
+    let sheet = read(alloc, text.as_bytes())?;
+    match S::of_sheet(alloc, &sheet, node_id, &LIMITS) {
+        Ok(_) => Ok(format!(in alloc; "ok")?),
+        Err(fault) => Ok(format!(in alloc; "{fault}")?),
+    }
+}
+
+/// The first line that a store answers otherwise.
+fn other_plain_build<S: SheetStore>(alloc: Global) -> Result<Option<&'static str>, Fail> {
+    for line in PLAIN_BUILDS.lines() {
+        let (node_id, rest) = line.split_once('|').ok_or("no node-ID")?;
+        let (expected, changes) = rest.split_once('|').ok_or("no answer")?;
+        let answered = plain_build::<S>(alloc, node_id.parse()?, changes)?;
+        if answered.as_str() != expected {
+            return Ok(Some(line));
+        }
+    }
+    Ok(None)
+}
+
+#[test]
+fn faults_of_the_plain_sheet(rt: HostRuntime) -> Result<(), Fail> {
+    assert_eq!(rt; other_plain_build::<ListStore>(rt.alloc())?, None);
+    assert_eq!(rt; other_plain_build::<ImageStore>(rt.alloc())?, None);
     Ok(())
 }
 
@@ -142,24 +189,29 @@ fn limits_of_strings_and_domains(rt: HostRuntime) -> Result<(), Fail> {
     Ok(())
 }
 
-/// Whether a store of node 127 has its COB-ID, 1FFh, and the dummy entry of the sheet.
-fn is_of_node_127<S: SheetStore>(alloc: Global) -> Result<bool, Fail> {
-    let store: S = built(alloc, "", 127, &LIMITS)??;
+/// Whether a store of node 127 of the plain sheet has its COB-ID, 1FFh.
+fn has_cob_id_of_127<S: SheetStore>(alloc: Global) -> Result<bool, Fail> {
+    let text = plain(alloc, "")?;
+    let sheet = read(alloc, text.as_bytes())?;
+    let store = S::of_sheet(alloc, &sheet, 127, &LIMITS)?;
     let cob_id = Key {
         index: 0x1800,
         sub: 1,
     };
-    Ok(
-        store.node_id() == 127
-            && store.dummy(5)
-            && !store.dummy(6)
-            && store.bytes(cob_id) == Some([0xFF, 1, 0, 0].as_slice()),
-    )
+    Ok(store.node_id() == 127 && store.bytes(cob_id) == Some([0xFF, 1, 0, 0].as_slice()))
+}
+
+/// Whether a store has the dummy entry of the large sheet.
+fn has_dummy<S: SheetStore>(alloc: Global) -> Result<bool, Fail> {
+    let store: S = built(alloc, "", 127, &LIMITS)??;
+    Ok(store.dummy(5) && !store.dummy(6))
 }
 
 #[test]
 fn a_dictionary_is_made_for_its_node(rt: HostRuntime) -> Result<(), Fail> {
-    assert!(rt; is_of_node_127::<ListStore>(rt.alloc())?);
-    assert!(rt; is_of_node_127::<ImageStore>(rt.alloc())?);
+    assert!(rt; has_cob_id_of_127::<ListStore>(rt.alloc())? && has_dummy::<ListStore>(rt.alloc())?);
+    assert!(rt;
+        has_cob_id_of_127::<ImageStore>(rt.alloc())? && has_dummy::<ImageStore>(rt.alloc())?
+    );
     Ok(())
 }

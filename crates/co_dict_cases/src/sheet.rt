@@ -3,8 +3,9 @@
 use co_dict::ObjectStore;
 use co_dict_image::ImageStore;
 use co_dict_list::{BuildFault, Limits, ListStore};
+use co_fixtures::{MANUFACTURER, PDOS, PROFILE, sheet_of};
 use co_sheet::{Sheet, read};
-use std::alloc::Global;
+use std::alloc::{AllocError, Global};
 use std::string::String;
 use std::test::Fail;
 
@@ -15,7 +16,12 @@ pub(crate) const LIMITS: Limits<'static> = Limits {
     own: &[],
 };
 
-/// The sheet's text after changes, each of a part that is there: `PART>OTHER`, after `;`, with `/` for a line feed.
+/// The sheet of 22 objects and 46 entries that tests of channels and devices are of too, with changed defaults.
+pub(crate) fn plain(alloc: Global, changes: &str) -> Result<String, AllocError> {
+    sheet_of(alloc, &[PROFILE, PDOS], &[MANUFACTURER], changes)
+}
+
+/// The large sheet's text after changes, each of a part that is there: `PART>OTHER`, after `;`, with `/` for a line feed.
 pub(crate) fn text_with(alloc: Global, changes: &str) -> Result<String, Fail> {
     let mut text = format!(in alloc; "{LARGE}")?;
     for change in changes.split(';') {
@@ -74,7 +80,7 @@ impl SheetStore for ImageStore {
     }
 }
 
-/// What the changed sheet makes.
+/// What the changed large sheet makes.
 pub(crate) fn built<S: SheetStore>(
     alloc: Global,
     changes: &str,
