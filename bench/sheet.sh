@@ -1,5 +1,5 @@
 #!/bin/sh
-# Checks a data sheet of 1 MiB and one of half its size, and reads the first by the C library inih and by Python's
+# Checks a data sheet of 1 MiB and one of half its size, lints the first, and reads it by the C library inih and by Python's
 # configparser, side by side. Status 1 where the first takes more than 2.5 times as long as the second.
 set -eu
 # shellcheck source=bench/program.sh
@@ -61,6 +61,12 @@ time_of_whole=$spent_best
 status=0
 awk -v a="$time_of_whole" -v b="$time_of_half" \
     'BEGIN { printf "whole / half: %8.2f (at most 2.5)\n", a / b; exit (a > 2.5 * b) }' || status=1
+
+# What lint finds in it are warnings alone.
+time_of_lint=$(best_of 5 "$program" lint "$whole")
+grep -q '^0 errors, ' "$folder/out" || { echo "lint finds errors: $(tail -n 1 "$folder/out")" >&2; exit 1; }
+awk -v a="$time_of_lint" -v b="$time_of_whole" \
+    'BEGIN { printf "conode lint:  %8.1f ms for the same text\nratio:        %8.2f (aim: at most 2)\n", a / 1000, a / b }'
 
 # The C library cuts the text into sections, names and values, and this hashes them.
 cat > "$folder/inih.c" << 'END'

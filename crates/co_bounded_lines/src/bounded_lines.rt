@@ -2,7 +2,7 @@
 
 ghost use Rattle.std.specs.Prelude.{◌≡◌, ◌+◌, ◌<◌, ◌≤◌, IfOk, Err, length, true, false};
 ghost use Rattle.co_stream.specs.Lines.{has_line_feed};
-ghost use Rattle.co_stream.specs.Readings.{LosesPartOfLine};
+ghost use Rattle.co_stream.specs.Readings.{Gave, LosesPartOfLine};
 ghost use Rattle.co_bounded_lines.specs.Held.{nothing_held, to_come};
 ghost use Rattle.co_bounded_lines.specs.Founds.{Finds};
 
@@ -80,10 +80,12 @@ impl BoundedLines {
     ///
     /// After a fault what the reader gave of the line may be lost: no further call says anything of it.
     pub fn advance<R: Read>(&mut self, reader: &mut R) -> Result<Found, ReadFault>
-        ensures found { IfOk result (Finds (to_come self.old (R.remaining reader.old))
-            (to_come self.new (R.remaining reader.new)) self.new.line) }
-        ensures within { result ≡ Err ReadFault.Read →
-            LosesPartOfLine (to_come self.old (R.remaining reader.old)) (R.remaining reader.new) }
+        ensures found { IfOk result (λ found. Gave self.old.ended self.new.ended
+            (R.remaining reader.old) (R.remaining reader.new)
+            (λ had has. Finds (to_come self.old had) (to_come self.new has) self.new.line found)) }
+        ensures within { result ≡ Err ReadFault.Read → Gave self.old.ended self.new.ended
+            (R.remaining reader.old) (R.remaining reader.new)
+            (λ had has. LosesPartOfLine (to_come self.old had) has) }
         ensures held { has_line_feed self.old.rest ≡ true → reader.new ≡ reader.old }
         ensures ended { self.old.ended ≡ true →
             (reader.new ≡ reader.old) × (self.new.ended ≡ true) }

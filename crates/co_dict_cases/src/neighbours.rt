@@ -2,13 +2,12 @@
 
 ghost use Rattle.std.specs.Prelude.{◌≡◌, ◌≤◌, length};
 
-use crate::sheet::{LARGE, SheetStore};
 use co_dict::{Area, ObjectStore, store_laws};
 use co_dict_image::ImageStore;
 use co_dict_list::{Limits, ListStore};
+use co_fixtures::{MANUFACTURER, PDOS, PROFILE, sheet_of};
 use co_sheet::{EntryRow, read};
 use co_value::Key;
-use std::alloc::Global;
 use std::test::Fail;
 
 /// Strings of three bytes and domains of seven, so that no entry has room for more than eight.
@@ -68,21 +67,17 @@ fn first_to_change<S: ObjectStore>(
     None
 }
 
-fn check<S: SheetStore>(alloc: Global) -> Result<(), Fail> {
-    let sheet = read(alloc, LARGE.as_bytes())?;
-    let mut store = S::of_sheet(alloc, &sheet, 5, &LIMITS)?;
-    let untouched = S::of_sheet(alloc, &sheet, 5, &LIMITS)?;
-    if sheet.entries().len() != 54 {
-        return Err("not all entries")?;
-    }
-    match first_to_change(&mut store, &untouched, sheet.entries()) {
-        Some(_) => Err("another entry changed")?,
-        None => Ok(()),
-    }
-}
-
 #[test]
 fn neighbours(rt: HostRuntime) -> Result<(), Fail> {
-    check::<ListStore>(rt.alloc())?;
-    check::<ImageStore>(rt.alloc())
+    let alloc = rt.alloc();
+    let text = sheet_of(alloc, &[PROFILE, PDOS], &[MANUFACTURER], "")?;
+    let sheet = read(alloc, text.as_bytes())?;
+    assert_eq!(rt; sheet.entries().len(), 46);
+    let mut list = ListStore::build(alloc, &sheet, 5, &LIMITS)?;
+    let untouched = ListStore::build(alloc, &sheet, 5, &LIMITS)?;
+    assert!(rt; first_to_change(&mut list, &untouched, sheet.entries()).is_none());
+    let mut image = ImageStore::build(alloc, &sheet, 5, &LIMITS)?;
+    let untouched = ImageStore::build(alloc, &sheet, 5, &LIMITS)?;
+    assert!(rt; first_to_change(&mut image, &untouched, sheet.entries()).is_none());
+    Ok(())
 }

@@ -1,5 +1,5 @@
 -- A comment before a text: the same sections, one line later.
-use Rattle.std.proofs.Common.{◌≡◌, ℕ, suc, ◌+◌, ◌-◌, ◌<◌, Bool, true, false, ◌||◌, cond, true≢false, List, [], ◌∷◌, ◌++◌, length, reverse, take, map, codes, refl, sym, ◌∙◌, ap, arith, eqb, ltb}
+use Rattle.std.proofs.Common.{◌≡◌, ℕ, suc, ◌+◌, ◌-◌, ◌<◌, Bool, true, false, ◌||◌, cond, true≢false, List, [], ◌∷◌, ◌++◌, length, reverse, take, map, refl, sym, ◌∙◌, ap, arith}
 use Rattle.std.specs.Prelude.{Option, Some, None, option_map, filter_map, ◌==◌, nat_lt, if◌then◌else◌}
 use Rattle.std.specs.List.{list_any, slice_split, onto_first, enumerate_from, cons_option}
 use Rattle.std.specs.Str.Lines.{lines, lines_of_parts, strip_carriage_return}
@@ -9,10 +9,10 @@ use Rattle.std.proofs.lemmas.List.Folds.{list_any-append}
 use Rattle.std.proofs.lemmas.List.Splits.{length-slice_split}
 use Rattle.co_text.specs.Texts.{is_blank}
 use Rattle.co_sheet_text.specs.declared.section_kind.SectionKind.{SectionKind}
-use Rattle.co_sheet_text.specs.Text.{Line, trim, trim_front, lines_of, without_mark}
+use Rattle.co_sheet_text.specs.Text.{Line, trim, trim_front, without_mark}
 use Rattle.co_sheet_text.specs.Sections.{LineForm, skipped, section_line, unclosed, name_value, malformed, is_section_line, Property, TextSection, is_given, property_given, body_of, section_begun, sections_of, line_form, form_of}
 use Rattle.co_sheet.specs.Accepted.{sections_in}
-use Rattle.co_sheet_adapt.specs.Adapted.{shown_byte, comment_front, comment_end, comment_text, comment_line, commented, property_later, one_later}
+use Rattle.co_sheet_adapt.specs.Adapted.{shown_byte, comment_front, comment_end, comment_text, commented, property_later, one_later}
 use Rattle.co_sheet_adapt.proofs.PieceLemmas.{numbered}
 
 -- ---- lines one later

@@ -1,5 +1,5 @@
 -- What lines become: each kind of change, on both sides of each edge.
-use Rattle.std.proofs.Common.{◌≡◌, ℕ, List, [], ◌∷◌, ◌++◌, Some, None, true, false, refl, codes, map}
+use Rattle.std.proofs.Common.{◌≡◌, ℕ, List, [], ◌∷◌, Some, None, true, false, refl, codes, map}
 use Rattle.std.specs.Float.{float_is_finite}
 use Rattle.std.specs.Float.Ieee.{to_bits}
 use Rattle.fast_float.proofs.OnLiterals.{fast_float_on_literals}
@@ -7,13 +7,13 @@ use Rattle.co_value.specs.declared.data_type.DataType.TheVariants.{Integer8, Int
 use Rattle.co_text.specs.Printed.{digits_text}
 use Rattle.co_sheet_text.specs.Text.{lines_of}
 use Rattle.co_sheet_adapt.specs.declared.change.ChangeKind.{ChangeKind}
-use Rattle.co_sheet_adapt.specs.declared.change.ChangeKind.TheVariants.{SectionName, ListKey, SubIndex0, DataType, RealLimit, RealValue, UnsignedLimit, SignExtended}
-use Rattle.co_sheet_adapt.specs.declared.left_out.LeftOut.TheVariants.{Real32, Real64, UnicodeString, TimeOfDay}
+use Rattle.co_sheet_adapt.specs.declared.change.ChangeKind.TheVariants.{SectionName, ListKey, SubIndex0, DataType, RealLimit, RealValue, UnicodeValue, UnsignedLimit, SignExtended, OctetBlanks}
+use Rattle.co_sheet_adapt.specs.declared.left_out.LeftOut.TheVariants.{Real32, UnicodeString, TimeOfDay}
 use Rattle.co_sheet_adapt.specs.LeftOut.{left_out_with, real32_bits, real64_bits, value_in_place}
 use Rattle.co_sheet_adapt.specs.Values.{is_whole_unsigned, sign_extended, pairs_without_blanks}
 use Rattle.co_sheet_adapt.specs.Named.{index_named, sub_named}
 use Rattle.co_sheet_adapt.specs.Facts.{count_of}
-use Rattle.co_sheet_adapt.specs.Pieces.{Change, Piece, kept, changed, is_padded, is_written_first, all_pieces}
+use Rattle.co_sheet_adapt.specs.Pieces.{Piece, kept, changed, is_padded, is_written_first, all_pieces}
 use Rattle.co_sheet_adapt.specs.Entries.{assigned}
 use Rattle.co_sheet_adapt.specs.Adapted.{comment_front, comment_end, comment_line}
 
@@ -103,6 +103,34 @@ real : pieces (codes "[2200]\nDataType=0x0008\nLowLimit=0.0\nDefaultValue=12.5\n
     ∷ change_at 4 RealValue (codes "DefaultValue=12.5") (codes "DefaultValue=0x41480000\n") ∷ []
 unfolding fast_float_on_literals float_is_finite to_bits assigned digits_text
 real = refl
+
+real64 : pieces (codes "[2201]\nDataType=0x11\nHighLimit=9\nParameterValue=-2\n")
+    ≡ kept (codes "[2201]")
+    ∷ change_at 2 DataType (codes "DataType=0x11") (codes "DataType=0x001B\nOriginalDataType=0x0011\n")
+    ∷ change_at 3 RealLimit (codes "HighLimit=9") []
+    ∷ change_at 4 RealValue (codes "ParameterValue=-2") (codes "ParameterValue=0xC000000000000000\n") ∷ []
+unfolding fast_float_on_literals float_is_finite to_bits assigned digits_text
+real64 = refl
+
+unicode : pieces (codes "[2202]\nDataType=11\nDefaultValue=Az\n")
+    ≡ kept (codes "[2202]")
+    ∷ change_at 2 DataType (codes "DataType=11") (codes "DataType=0x000A\nOriginalDataType=0x000B\n")
+    ∷ change_at 3 UnicodeValue (codes "DefaultValue=Az") (codes "DefaultValue=41007A00\n") ∷ []
+unfolding assigned digits_text
+unicode = refl
+
+time_of_day : pieces (codes "[2203]\nDataType=0xC\nLowLimit=1\nDefaultValue=0x10\n")
+    ≡ kept (codes "[2203]")
+    ∷ change_at 2 DataType (codes "DataType=0xC") (codes "DataType=0x0019\nOriginalDataType=0x000C\n")
+    ∷ kept (codes "LowLimit=1") ∷ kept (codes "DefaultValue=0x10") ∷ []
+unfolding assigned digits_text
+time_of_day = refl
+
+time_difference : pieces (codes "[2204]\nDataType=0x0D\n")
+    ≡ kept (codes "[2204]")
+    ∷ change_at 2 DataType (codes "DataType=0x0D") (codes "DataType=0x0019\nOriginalDataType=0x000D\n") ∷ []
+unfolding assigned digits_text
+time_difference = refl
 
 real_by_comma : pieces (codes "[2200]\nDataType=8\nDefaultValue=12,5\n") ≡ kept (codes "[2200]") ∷ kept (codes "DataType=8") ∷ kept (codes "DefaultValue=12,5") ∷ []
 unfolding fast_float_on_literals float_is_finite to_bits
@@ -197,6 +225,12 @@ signed : pieces (codes "[2005]\nDataType=4\nLowLimit=0x0\nHighLimit=0xFFFFFFFF\n
     ∷ change_at 5 SignExtended (codes "DefaultValue=0xFFFFFFFFFFFFFFFF") (codes "DefaultValue=0xFFFFFFFF\n") ∷ []
 unfolding assigned digits_text
 signed = refl
+
+octets : pieces (codes "[2006]\nDataType=10\nLowLimit=0\nDefaultValue=00 A1\n")
+    ≡ kept (codes "[2006]") ∷ kept (codes "DataType=10") ∷ kept (codes "LowLimit=0")
+    ∷ change_at 4 OctetBlanks (codes "DefaultValue=00 A1") (codes "DefaultValue=00A1\n") ∷ []
+unfolding assigned
+octets = refl
 
 pairs : pairs_without_blanks (codes "00 A1  ff") ≡ Some (codes "00A1ff")
 pairs = refl

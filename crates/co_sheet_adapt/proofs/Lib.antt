@@ -4,3 +4,4 @@ mod PiecesLemmas
 mod CompactLemmas
 mod CommentLemmas
 mod Examples
+mod CompactExamples

@@ -1,6 +1,6 @@
 -- A text in pieces: what each line becomes, and what is added (CiA 306, structure of an EDS, object lists, object
 -- description, compact storage). A line that isn't changed stays as it is.
-use Rattle.std.specs.Prelude.{ℕ, Bool, true, false, ◌&&◌, ◌||◌, not, ◌==◌, nat_le, nat_lt, if◌then◌else◌, List, [], ◌∷◌, ◌++◌, length, map, flat_map, codes, Option, Some, None, is_none, option_map, option_and_then}
+use Rattle.std.specs.Prelude.{ℕ, Bool, ◌&&◌, ◌||◌, not, ◌==◌, nat_le, nat_lt, if◌then◌else◌, List, [], ◌∷◌, ◌++◌, length, map, flat_map, codes, Option, Some, None, is_none, option_and_then}
 use Rattle.std.specs.List.{list_all}
 use Rattle.std.specs.Option.{option_map_or}
 use Rattle.std.specs.Char.{is_digit}
@@ -13,7 +13,7 @@ use Rattle.co_sheet.specs.ObjectLists.{is_one_of}
 use Rattle.co_sheet_adapt.specs.declared.change.ChangeKind.{ChangeKind}
 use Rattle.co_sheet_adapt.specs.declared.change.ChangeKind.TheVariants as kind
 use Rattle.co_sheet_adapt.specs.declared.facts.Facts.{Facts}
-use Rattle.co_sheet_adapt.specs.Groups.{Given, Group, property_in, value_in, number_in_group, without_blanks, before_sections, groups_of}
+use Rattle.co_sheet_adapt.specs.Groups.{Group, property_in, value_in, number_in_group, without_blanks, before_sections, groups_of}
 use Rattle.co_sheet_adapt.specs.Facts.{facts_of}
 use Rattle.co_sheet_adapt.specs.Entries.{Mended, mended, assigned, entry_change}
 use Rattle.co_sheet_adapt.specs.Named.{text_in_groups}

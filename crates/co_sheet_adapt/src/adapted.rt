@@ -33,6 +33,8 @@ pub struct Adapted<'a> {
     pub text: Vec<u8>,
     /// The pieces after the comment, none where the text was accepted as it was.
     pub pieces: Vec<Piece<'a>>,
+    /// Whether the text is accepted as it was, and so stays.
+    pub stays: bool,
     /// Whether what is written is accepted.
     pub is_accepted: bool,
 }
@@ -145,13 +147,15 @@ pub fn adapt<'a>(alloc: Global, text: &'a [u8], by: &[u8]) -> Result<Adapted<'a>
     ensures pieces { IfOk result (λ made.
         map piece_view made.pieces.items ≡ pieces_in text.entry.now) }
     ensures text { IfOk result (λ made. made.text.items ≡ adapted_text by.now text.entry.now) }
+    ensures stays { IfOk result (λ made. made.stays ≡ is_none (first_fault text.entry.now)) }
     ensures accepted { IfOk result (λ made. made.is_accepted ≡ is_none (first_fault made.text.items)) }
 {
     if text.len() > GREATEST_SIZE {
         return Err(AdaptFault::TooLarge);
     }
     let mut made = comment_line(alloc, by)?;
-    let pieces = if is_accepted(alloc, text)? {
+    let stays = is_accepted(alloc, text)?;
+    let pieces = if stays {
         made.extend_from_slice(without_mark(text))?;
         Vec::new(alloc)
     } else {
@@ -163,6 +167,7 @@ pub fn adapt<'a>(alloc: Global, text: &'a [u8], by: &[u8]) -> Result<Adapted<'a>
     Ok(Adapted {
         text: made,
         pieces,
+        stays,
         is_accepted,
     })
 }

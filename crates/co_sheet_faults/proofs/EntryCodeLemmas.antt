@@ -3,7 +3,6 @@ use Rattle.std.proofs.Common.{◌≡◌, Bool, true, false, not, List, [], ◌�
 use Rattle.std.specs.List.{list_any}
 use Rattle.std.specs.Option.{option_map_or}
 use Rattle.std.proofs.lemmas.List.{append_assoc}
-use Rattle.co_value.specs.declared.data_type.DataType.{DataType}
 use Rattle.co_sheet_text.specs.Sections.{TextSection}
 use Rattle.co_sheet_rows.specs.declared.fault.FaultKind.TheVariants.{BadType, MissingSub0}
 use Rattle.co_sheet_rows.specs.declared.fault.SheetFault.{SheetFault}

@@ -4,8 +4,9 @@ use Rattle.std.specs.Prelude.{remove, take, drop, slice_set, ◌-◌, replicate}
 use Rattle.co_sheet_rows.specs.declared.fault.SheetFault.{SheetFault}
 use Rattle.co_sheet_rows.specs.declared.fault.FaultKind.TheVariants.{TooLarge, BadLine, KeyOutsideSection, DuplicateSection, DuplicateKey, MissingSection, BadNumber, AmbiguousNumber, BadList, ListedTwice, MissingKey, BadType, LeftOutType, BadAccess, BadLimits, BadDefault, MissingSub0, CompactForm, MissingMandatory}
 use Rattle.co_sheet.specs.Faults.{fault_at}
-use Rattle.co_sheet_faults.specs.AllFaults.{faults_of}
-use Rattle.co_sheet_faults.specs.FaultLaws.{IsLineKind}
+use Rattle.co_sheet_text.specs.Text.{Line, lines_of}
+use Rattle.co_sheet_faults.specs.AllFaults.{faults_in, faults_of}
+use Rattle.co_sheet_faults.specs.FaultLaws.{IsLineKind, emptied_at}
 
 -- lines as a text, each ended by LF
 abbrev joined : List (List ℕ) → List ℕ
@@ -221,3 +222,22 @@ last_line_kind = omega arith
 
 no_line_kind : IsLineKind MissingSection → ⊥
 no_line_kind h = absurd (omega arith)
+
+-- ---- lines at fault that are emptied
+
+abbrev lines_with : List (List ℕ) → List Line
+lines_with lines = lines_of (joined (small ++ lines))
+
+-- the default is held against the limit that was not at fault
+limits_emptied : faults_in (emptied_at BadLimits (lines_with (codes "LowLimit=2" ∷ codes "HighLimit=1" ∷ codes "DefaultValue=1" ∷ []))) ≡ fault_at 24 BadDefault ∷ []
+limits_emptied = refl
+
+default_emptied : faults_in (emptied_at BadDefault (lines_with (codes "LowLimit=2" ∷ codes "HighLimit=1" ∷ codes "DefaultValue=1" ∷ []))) ≡ fault_at 23 BadLimits ∷ []
+default_emptied = refl
+
+-- without a first limit, a second is none any more
+limit_twice : faults_in (lines_with (codes "LowLimit=-1" ∷ codes "LowLimit=2" ∷ [])) ≡ fault_at 23 DuplicateKey ∷ fault_at 22 BadLimits ∷ []
+limit_twice = refl
+
+first_limit_emptied : faults_in (emptied_at BadLimits (lines_with (codes "LowLimit=-1" ∷ codes "LowLimit=2" ∷ []))) ≡ []
+first_limit_emptied = refl

@@ -5,6 +5,11 @@ mod SoundLemmas
 mod CompleteLemmas
 mod KindLemmas
 mod AllLemmas
+mod ElementLemmas
+mod CutChecks
+mod CutEntries
+mod CutValues
+mod EmptiedLemmas
 mod EntryOrderLemmas
 mod CollectedLemmas
 mod FaultOrderLemmas

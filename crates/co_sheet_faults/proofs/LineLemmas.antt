@@ -37,18 +37,6 @@ clean before (l ∷ ls) h =
     let both = clean-line (own_fault before l) before ls l h (clean (before ++ l ∷ []) ls) in
     record { none = both.0; same = both.1 }
 
-first-line : (o : Option TextFaultKind) (before ls : List Line) (l : Line)
-    → fault_of_line l o ++ line_faults (before ++ read_as o l ∷ []) ls ≡ []
-    → (line_faults (before ++ l ∷ []) ls ≡ [] → first_line_fault (before ++ l ∷ []) ls ≡ None)
-    → option_or (option_map (fault_at l.number) o) (first_line_fault (before ++ l ∷ []) ls) ≡ None
-first-line None before ls l h more = more h
-first-line (Some k) before ls l h more = absurd (cc)
-
--- and the other way round
-pub no_first : (before ls : List Line) → line_faults before ls ≡ [] → first_line_fault before ls ≡ None
-no_first before [] h = refl
-no_first before (l ∷ ls) h = first-line (own_fault before l) before ls l h (no_first (before ++ l ∷ []) ls)
-
 -- ---- the first is among all
 
 pub contains-head : {X : Type 0} (x : X) (xs : List X) → Contains (x ∷ xs) x

@@ -1,17 +1,19 @@
 -- What all faults of a text keep, beside what is found: against the first fault that is answered for
 -- a sheet, and of a text without its lines of one kind (CiA 306).
-use Rattle.std.specs.Prelude.{◌≡◌, ◌⊎◌, ℕ, Bool, true, false, not, ◌==◌, ◌<◌, ◌≤◌, length, if◌then◌else◌, List, [], ◌∷◌, ◌++◌, Contains, filter}
+use Rattle.std.specs.Prelude.{◌≡◌, ◌⊎◌, ℕ, Bool, true, false, not, ◌&&◌, ◌==◌, ◌<◌, ◌≤◌, length, if◌then◌else◌, List, [], ◌∷◌, ◌++◌, Contains, map, filter}
+use Rattle.std.specs.List.{list_any}
 use Rattle.co_sheet_rows.specs.declared.fault.FaultKind.{FaultKind}
-use Rattle.co_sheet_rows.specs.declared.fault.FaultKind.TheVariants.{TooLarge}
+use Rattle.co_sheet_rows.specs.declared.fault.FaultKind.TheVariants.{TooLarge, DuplicateKey}
 use Rattle.co_sheet_rows.specs.declared.fault.SheetFault.{SheetFault}
 use Rattle.co_sheet_rows.specs.FaultTexts.{fault_number}
 use Rattle.co_sheet_text.specs.Text.{Line, lines_of}
+use Rattle.co_sheet_text.specs.SectionLaws.{RisesFrom}
 use Rattle.co_sheet_text.specs.Sections.{TextSection}
 use Rattle.co_sheet.specs.Faults.{fault_at}
 use Rattle.co_sheet.specs.Checks.{checks}
 use Rattle.co_sheet_text.specs.LinesAtFault.{emptied, own_fault, next_read, lines_read, sections_read}
 use Rattle.co_sheet_faults.specs.LinesAtFault.{fault_of_line}
-use Rattle.co_sheet_faults.specs.AllFaults.{found_by}
+use Rattle.co_sheet_faults.specs.AllFaults.{found_by, faults_in}
 
 -- a kind of a line's own fault: TooLarge, BadLine, KeyOutsideSection, DuplicateSection or
 -- DuplicateKey
@@ -36,6 +38,25 @@ emptied_of kind before (line ∷ lines) =
 -- faults without those of a kind
 abbrev pub without : FaultKind → List SheetFault → List SheetFault
 without kind faults = filter (λ f. not (is_of kind f)) faults
+
+-- whether a fault of a kind is at a line, and lines of which those are emptied
+abbrev pub is_at : FaultKind → List SheetFault → ℕ → Bool
+is_at kind faults line = list_any (λ f. is_of kind f && (f.line == line)) faults
+
+abbrev pub emptied_where : FaultKind → List SheetFault → List Line → List Line
+emptied_where kind faults lines =
+    map (λ l. if is_at kind faults l.number then emptied l else l) lines
+
+abbrev pub emptied_at : FaultKind → List Line → List Line
+emptied_at kind lines = emptied_where kind (faults_in lines) lines
+
+-- the numbers of lines rise, as those of a text do
+abbrev pub AreNumbered : List Line → Type 0
+AreNumbered lines = RisesFrom 1 (map (λ l. l.number) lines)
+
+-- no line has a key that its section has already
+abbrev pub HaveNoKeyTwice : List Line → Type 0
+HaveNoKeyTwice lines = has_kind DuplicateKey (faults_in lines) ≡ false
 
 -- a line has the fault, after the lines before it as they are read
 pub record IsLineFault (lines : List Line) (fault : SheetFault) : Type 0 where

@@ -2,13 +2,23 @@
 
 ghost use Rattle.std.specs.Prelude.{◌≡◌, ℕ, ◌<◌, ◌≤◌, length, List, [], ◌∷◌, Contains, Some};
 ghost use Rattle.co_sheet_rows.specs.declared.fault.FaultKind.{FaultKind as Kind};
-ghost use Rattle.co_sheet_rows.specs.declared.fault.FaultKind.TheVariants.{TooLarge};
+ghost use Rattle.co_sheet_rows.specs.declared.fault.FaultKind.TheVariants.{TooLarge, BadLimits, BadDefault};
 ghost use Rattle.co_sheet_rows.specs.declared.fault.SheetFault.{SheetFault as Fault};
 ghost use Rattle.co_sheet_text.specs.Text.{Line, lines_of};
 ghost use Rattle.co_sheet.specs.Accepted.{IsAccepted, first_fault};
 ghost use Rattle.co_sheet.specs.Faults.{fault_at};
 ghost use Rattle.co_sheet_faults.specs.AllFaults.{faults_in, faults_of};
-ghost use Rattle.co_sheet_faults.specs.FaultLaws.{IsLineKind, IsLineFault, IsFirstCheckFault, IsFaultOf, emptied_of, without};
+ghost use Rattle.co_sheet_faults.specs.FaultLaws.{
+  AreNumbered,
+  HaveNoKeyTwice,
+  IsLineKind,
+  IsLineFault,
+  IsFirstCheckFault,
+  IsFaultOf,
+  emptied_at,
+  emptied_of,
+  without,
+};
 
 /// All faults of a text against the reader of a sheet. There is none exactly where the text is accepted. The fault that
 /// the reader answers is among them. Each is a fault by its own definition: the text is too large, or a line has it, or
@@ -37,4 +47,16 @@ pub fn all_faults()
 pub fn emptied_lines()
     ensures gone { (kind : Kind) (lines : List Line) → IsLineKind kind →
         faults_in (emptied_of kind [] lines) ≡ without kind (faults_in lines) }
+{}
+
+/// Where the lines at which limits are at fault are emptied, exactly the faults `BadLimits` are gone, and all others stay;
+/// so it is with `BadDefault`. It is of lines whose numbers rise, as those of a text do (`numbered`), and of which none has
+/// a key that its section has already: with a first `LowLimit` emptied, a second one is no second one any more. This is a
+/// law: a call of it changes nothing.
+pub fn emptied_values()
+    ensures numbered { (text : List ℕ) → AreNumbered (lines_of text) }
+    ensures limits { (lines : List Line) → AreNumbered lines → HaveNoKeyTwice lines →
+        faults_in (emptied_at BadLimits lines) ≡ without BadLimits (faults_in lines) }
+    ensures defaults { (lines : List Line) → AreNumbered lines → HaveNoKeyTwice lines →
+        faults_in (emptied_at BadDefault lines) ≡ without BadDefault (faults_in lines) }
 {}

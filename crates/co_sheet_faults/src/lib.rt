@@ -12,5 +12,5 @@ mod words;
 
 pub use co_sheet::{FaultKind, SheetFault};
 pub use find::{find_faults, read_sections};
-pub use laws::{all_faults, emptied_lines};
+pub use laws::{all_faults, emptied_lines, emptied_values};
 pub use words::{fix_of, meaning_of, subject_of};

@@ -1,4 +1,5 @@
 mod Examples
 mod PieceLemmas
+pub mod QuestionLemmas
 mod ByLineLemmas
 pub mod NameLemmas

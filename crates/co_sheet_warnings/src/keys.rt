@@ -12,7 +12,7 @@ use co_text::split_at_first;
 use std::alloc::{AllocError, Global};
 
 /// What the keys of a section are about.
-#[derive(Clone, Copy, Debug, PartialEq, Eq)]
+#[derive(Clone, Copy)]
 pub(crate) enum Topic {
     FileInfo,
     DeviceInfo,
@@ -25,7 +25,7 @@ pub(crate) enum Topic {
 }
 
 /// A key with its value, as it is written.
-#[derive(Clone, Copy, Debug)]
+#[derive(Clone, Copy)]
 pub(crate) struct WrittenKey<'a> {
     pub(crate) topic: Topic,
     pub(crate) name: &'a [u8],

@@ -15,7 +15,7 @@ use std::alloc::{AllocError, Global};
 use std::str;
 
 /// A line of a text without its end, and its number, from 1.
-#[derive(Clone, Copy, Debug)]
+#[derive(Clone, Copy)]
 pub(crate) struct Line<'a> {
     pub(crate) number: usize,
     pub(crate) bytes: &'a [u8],
@@ -69,7 +69,12 @@ pub(crate) fn long_lines(alloc: Global, lines: &[Line]) -> Result<Vec<usize>, Al
 fn has_other_byte(line: &Line) -> bool
     ensures { result ≡ has_other_byte (line_view line.now) }
 {
-    line.bytes.iter().any(|byte| 0x7F < *byte)
+    for byte in line.bytes {
+        if 0x7F < *byte {
+            return true;
+        }
+    }
+    false
 }
 
 fn first_other(lines: &[Line]) -> Option<usize>

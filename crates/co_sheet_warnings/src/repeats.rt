@@ -74,7 +74,7 @@ fn enabled_cob_id(node: u8, value: &[u8]) -> Option<u64>
 }
 
 /// An identifier that an entry has, and the line of its value.
-#[derive(Clone, Copy, Debug)]
+#[derive(Clone, Copy)]
 pub(crate) struct UsedIdentifier {
     pub(crate) identifier: u64,
     pub(crate) line: usize,

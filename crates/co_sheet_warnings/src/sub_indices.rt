@@ -27,8 +27,10 @@ pub(crate) fn sub_number(section: &TextSection, count: usize) -> Option<usize>
         ≡ map (λ n. n.line) (sub_number_note (section_view section.now) count) }
 {
     let given = section.property(b"SubNumber")?;
-    let is_count = given.number().is_some_and(|number| number == count as u64);
-    if is_count { None } else { Some(given.line) }
+    match given.number() {
+        Some(number) if number == count as u64 => None,
+        _ => Some(given.line),
+    }
 }
 
 /// An object or a sub-index without a name.

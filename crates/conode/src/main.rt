@@ -1,18 +1,20 @@
-//! A CANopen device node on the command line: checks, lints and shows data sheets, decodes CAN traces as `candump -L` writes
-//! them, plays one to the device of a data sheet, and lets an SDO client download to it.
+//! A CANopen device node on the command line: checks, lints, shows and adapts data sheets, decodes and explains CAN traces
+//! as `candump -L` writes them, plays one to the device of a data sheet, and lets an SDO client download to it.
 #![tactic(auto)]
 
 use co_dict_build::Limits;
 use co_node::Config;
+use conode_adapt::adapt_file;
 use conode_check::check_file;
 use conode_decode::decode_files;
+use conode_explain::{StampForm, explain_files};
 use conode_io::{CmdFault, stopped};
 use conode_lint::{Checks, Form, LintOptions, lint_files};
 use conode_loop::loop_files;
 use conode_replay::{replay_files, replay_stored};
-use conode_show::{Format as ShowFormat, show_file};
+use conode_show::{Form as ShownForm, Format as ShownFormat, show_file};
 use conode_words::{
-    Colours, DeviceWords, DictionaryWords, Format, LintWords, ShownAs, Task, VERSION, task,
+    Colours, DeviceWords, DictionaryWords, Format, LintWords, ShownAs, Stamps, Task, VERSION, task,
 };
 use std::io::{BufWriter, IsTerminal, Write};
 use std::process::ExitCode;
@@ -36,10 +38,21 @@ fn config_of(device: &DeviceWords) -> Config<'static> {
 }
 
 /// The form in which a dictionary is shown.
-fn format_of(shown_as: ShownAs) -> ShowFormat {
+fn shown_form(shown_as: ShownAs) -> ShownForm {
     match shown_as {
-        ShownAs::Columns => ShowFormat::Text,
-        ShownAs::Markdown => ShowFormat::Markdown,
+        ShownAs::Columns => ShownForm::Lines(ShownFormat::Text),
+        ShownAs::Markdown => ShownForm::Lines(ShownFormat::Markdown),
+        ShownAs::Json => ShownForm::Json,
+    }
+}
+
+/// The form in which stamps are written.
+fn stamp_form(stamps: Stamps) -> StampForm {
+    match stamps {
+        Stamps::Relative => StampForm::Relative,
+        Stamps::Absolute => StampForm::Absolute,
+        Stamps::Delta => StampForm::Delta,
+        Stamps::Date => StampForm::Date,
     }
 }
 
@@ -69,6 +82,14 @@ fn form_of(rt: &HostRuntime, words: &LintWords<'_>) -> Form {
     }
 }
 
+/// The version of the program.
+fn version() -> &'static str {
+    match VERSION.split_once(", ") {
+        Some((version, _)) => version,
+        None => VERSION,
+    }
+}
+
 /// Lints the sheets that the words name.
 fn lint_sheets<O: Write, E: Write>(
     rt: &HostRuntime,
@@ -76,10 +97,6 @@ fn lint_sheets<O: Write, E: Write>(
     out: &mut O,
     err: &mut E,
 ) -> ExitCode {
-    let version = match VERSION.split_once(", ") {
-        Some((version, _)) => version,
-        None => VERSION,
-    };
     let options = LintOptions {
         checks: Checks {
             node: words.dictionary.node,
@@ -89,7 +106,7 @@ fn lint_sheets<O: Write, E: Write>(
         },
         form: form_of(rt, words),
         strict: words.strict,
-        version,
+        version: version(),
     };
     lint_files(rt, words.sheets.as_slice(), &options, out, err)
 }
@@ -131,7 +148,13 @@ fn carry_out_task<O: Write, E: Write>(
             sheet,
             node,
             shown_as,
-        } => show_file(rt, sheet, format_of(shown_as), node, out, err),
+        } => show_file(rt, sheet, shown_form(shown_as), node, out, err),
+        Task::Adapt { sheet } => adapt_file(rt, sheet, version(), out, err),
+        Task::Explain {
+            trace,
+            sheet,
+            stamps,
+        } => explain_files(rt, trace, sheet, stamp_form(stamps), out, err),
     }
 }
 

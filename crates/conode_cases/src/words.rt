@@ -19,7 +19,19 @@ replay s - --node 5 --time 0 => replay
 loop s 2001:00 05 --node=127 --mode block => loop
 loop s 2001:00 05 --node 5 --mode fast => status 2
 show s --node=5 --format markdown => show
+show s --format=json => show
 show s --format html => status 2
+show s --node 0 => status 2
+decode t --node 128 => status 2
+decode --sheet s => status 2
+replay s t --time 65536 => status 2
+loop s 2001:00 => status 2
+check a --domains 65536 => status 2
+explain t --sheet 5=s --stamps=absolute => explain
+explain - -td => explain
+explain t --stamps zero => status 2
+adapt s => adapt
+adapt s t => status 2
 replay s t => replay
 loop s 2001:00 05 => loop
 replay s --node 5 => status 2
@@ -30,6 +42,8 @@ check a --node 0 => status 2
 chek => status 2
 --all => status 2
 check --help => status 0
+--help => status 0
+--version => status 0
 help check => status 0";
 
 fn task_name(task: &Option<Task<'_>>) -> &'static str {
@@ -40,6 +54,8 @@ fn task_name(task: &Option<Task<'_>>) -> &'static str {
         Some(Task::Replay { .. }) => "replay",
         Some(Task::LoopBack { .. }) => "loop",
         Some(Task::Show { .. }) => "show",
+        Some(Task::Adapt { .. }) => "adapt",
+        Some(Task::Explain { .. }) => "explain",
         None => "nothing",
     }
 }

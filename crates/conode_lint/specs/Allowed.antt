@@ -1,5 +1,4 @@
 -- Which findings pass, and how many others there are.
-use denote.Ref.{Bor}
 use Rattle.std.specs.Prelude.{ℕ, Bool, true, false, nat_lt, ◌||◌, if◌then◌else◌, List, [], ◌∷◌, length, take, drop, option_to_list, codes, Option, Some, None}
 use Rattle.std.specs.List.{flat_map, list_any}
 use Rattle.std.specs.Str.{bytes_eq}
@@ -24,10 +23,13 @@ name_in line =
 abbrev pub names_in : List (List ℕ) → List (List ℕ)
 names_in lines = flat_map (λ line. option_to_list (name_in line)) lines
 
+-- a name is one of these
+abbrev pub is_among : List ℕ → List (List ℕ) → Bool
+is_among name names = list_any (λ one. bytes_eq one name) names
+
 -- a name passes: by the words or by the sheet
-unfoldable pub passes_by : List (Bor (List ℕ)) → List (Bor (List ℕ)) → List ℕ → Bool
-passes_by given in_sheet name =
-    list_any (λ one. bytes_eq one.now name) given || list_any (λ one. bytes_eq one.now name) in_sheet
+unfoldable pub passes_by : List (List ℕ) → List (List ℕ) → List ℕ → Bool
+passes_by given in_sheet name = is_among name given || is_among name in_sheet
 
 -- the mark, unless its name passes
 abbrev pub kept_of : (List ℕ → Bool) → Mark → List Mark

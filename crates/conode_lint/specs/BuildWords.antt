@@ -4,6 +4,8 @@ use Rattle.co_dict_build.specs.declared.build_fault.BuildFault.{BuildFault}
 use Rattle.co_dict_build.specs.declared.build_fault.BuildFault.TheVariants.{NodeId, ValueRange, BadCobId, PdoPair, BadMapping, TooMany, Memory}
 use Rattle.conode_lint_text.specs.declared.finding.About.{About}
 use Rattle.conode_lint_text.specs.declared.finding.About.TheVariants.{Line, Object, Entry}
+use Rattle.conode_lint_text.specs.declared.finding.Place.{Place}
+use Rattle.conode_lint_text.specs.declared.finding.Place.TheVariants.{Beginning, Value}
 
 -- the object or the entry that it is about
 abbrev pub build_about : BuildFault → About
@@ -14,6 +16,13 @@ build_about (PdoPair index) = Object index
 build_about (BadMapping key) = Entry key.index key.sub
 build_about TooMany = Line
 build_about Memory = Line
+
+-- which part of its line: the value of an entry
+abbrev pub build_place : BuildFault → Place
+build_place (ValueRange key) = Value
+build_place (BadCobId key) = Value
+build_place (BadMapping key) = Value
+build_place other = Beginning
 
 -- what is wrong
 abbrev pub build_meaning : BuildFault → List ℕ

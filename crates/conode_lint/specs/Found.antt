@@ -1,7 +1,5 @@
 -- The lines of a text, and what is found at them.
-use Rattle.std.specs.Prelude.{ℕ, ◌==◌, ◌-◌, Bool, ◌||◌, not, if◌then◌else◌, List, [], take, map, filter, get_or, length, codes}
-use Rattle.std.specs.List.{list_any}
-use Rattle.std.specs.Str.{bytes_eq}
+use Rattle.std.specs.Prelude.{ℕ, ◌==◌, ◌-◌, if◌then◌else◌, List, [], take, get_or}
 use Rattle.std.specs.Str.Lines.{lines}
 use Rattle.co_sheet_text.specs.Text.{without_mark}
 use Rattle.conode_lint_text.specs.declared.finding.About.{About}

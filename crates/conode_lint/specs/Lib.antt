@@ -1,7 +1,11 @@
+pub mod BuildLines
 pub mod BuildWords
+pub mod MappingWords
 pub mod FormatWords
+pub mod Formats
 pub mod Words
 pub mod Found
 pub mod Statuses
 pub mod Allowed
 pub mod Marks
+pub mod Linted

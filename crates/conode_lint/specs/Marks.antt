@@ -1,10 +1,29 @@
 -- What is marked at the lines of a text.
-use Rattle.std.specs.Prelude.{Bool, ◌||◌, not, if◌then◌else◌, List, [], ◌∷◌}
+use Rattle.std.specs.Prelude.{◌≡◌, ℕ, Bool, ◌||◌, not, if◌then◌else◌, List, [], ◌∷◌, ◌++◌, map, Contains, Option, Some, None, option_and_then}
+use Rattle.std.specs.List.{flat_map}
+use Rattle.std.specs.List.Sorted.{IsNonDecreasingBy, IsPermutation, IsStableByKey, IsStrictlySortedBy}
+use Rattle.std.specs.Ordering.{nat_cmp}
+use Rattle.std.specs.Option.{option_map_or, option_or}
 use Rattle.co_sheet_rows.specs.declared.fault.SheetFault.{SheetFault}
+use Rattle.co_sheet.specs.Accepted.{first_fault, sections_in}
+use Rattle.co_sheet.specs.Content.{SheetContent, content_of}
+use Rattle.co_sheet_text.specs.LinesAtFault.{sections_read}
+use Rattle.co_sheet_text.specs.Sections.{TextSection}
+use Rattle.co_sheet_text.specs.Text.{lines_of}
+use Rattle.co_sheet_faults.specs.AllFaults.{faults_of}
+use Rattle.co_sheet_faults.specs.FaultOrder.{fault_cmp}
 use Rattle.co_sheet_warnings.specs.declared.warning.Warning.{Warning as SheetWarning}
+use Rattle.co_sheet_warnings.specs.Warnings.{IsByLine as IsWarningsByLine, warnings_of}
 use Rattle.co_sheet_warnings.specs.WarningWords.{is_quiet}
+use Rattle.co_dict_build.specs.Built.{plan_of}
+use Rattle.co_dict_build.specs.Capacities.{Limits, limits_view}
 use Rattle.conode_lint.specs.declared.mark.Mark.{Mark}
-use Rattle.conode_lint.specs.declared.mark.Subject.TheVariants.{Fault, Warning}
+use Rattle.conode_lint.specs.declared.mark.OtherFormat.{OtherFormat}
+use Rattle.conode_lint.specs.declared.mark.Subject.TheVariants.{Fault, Format, Warning}
+use Rattle.conode_lint.specs.declared.marks.Checks.{Checks}
+use Rattle.conode_lint.specs.BuildLines.{built_marks}
+use Rattle.conode_lint.specs.Formats.{other_format}
+use Rattle.conode_lint.specs.Found.{text_lines}
 
 -- the mark of a fault
 abbrev pub fault_mark : SheetFault → Mark
@@ -15,3 +34,76 @@ abbrev pub warning_marks : Bool → SheetWarning → List Mark
 warning_marks all warning =
     if all || not (is_quiet warning.kind)
     then record { line = warning.line; subject = Warning warning.kind } ∷ [] else []
+
+-- the mark of a text of another format
+abbrev pub format_mark : OtherFormat → Mark
+format_mark format = record { line = 1; subject = Format format }
+
+-- ---- why no dictionary can be built
+
+-- the sheet that a text is, if it is one
+unfoldable pub sheet_of : List ℕ → Option SheetContent
+sheet_of text =
+    option_map_or (λ fault. None) (first_fault text) (Some (content_of (sections_in text)))
+
+-- the node-ID that is given, or else the sheet's own
+abbrev pub node_for : Option ℕ → Option SheetContent → Option ℕ
+node_for node sheet = option_or node (option_and_then (λ s. s.node_id) sheet)
+
+-- without a sheet or a node-ID nothing is built
+abbrev pub sheet_marks : Limits → List TextSection → Option SheetContent → Option ℕ → List Mark
+sheet_marks limits sections (Some sheet) (Some id) =
+    built_marks sheet sections (plan_of id limits sheet)
+sheet_marks limits sections other own = []
+
+-- the marks of a text's build
+unfoldable pub text_marks : List ℕ → Option ℕ → Limits → List Mark
+text_marks text node limits =
+    let sheet = sheet_of text in
+    sheet_marks limits (sections_read (lines_of text)) sheet (node_for node sheet)
+
+-- ---- all
+
+-- all faults of a text, in order
+pub record IsFaultList (text : List ℕ) (faults : List SheetFault) : Type 0 where
+  pub all : (fault : SheetFault) → Contains (faults_of text) fault → Contains faults fault
+  pub only : (fault : SheetFault) → Contains faults fault → Contains (faults_of text) fault
+  pub increase : IsStrictlySortedBy fault_cmp faults
+
+-- the marks of a text: its faults, its build and its warnings
+pub record IsMarked (text : List ℕ) (checks : Checks) (faults : List SheetFault) (marks : List Mark)
+    : Type 0 where
+  pub warnings : List SheetWarning
+  pub by_line : IsWarningsByLine (warnings_of text (node_for checks.node (sheet_of text))) warnings
+  pub are : marks ≡ map fault_mark faults
+      ++ (text_marks text checks.node (limits_view checks.limits)
+      ++ flat_map (warning_marks checks.all) warnings)
+
+-- these marks by line: the lines don't fall, and those of a line stay in their order
+pub record IsByLine (marks sorted : List Mark) : Type 0 where
+  pub moved : IsPermutation marks sorted
+  pub rises : IsNonDecreasingBy (λ m. m.line) sorted
+  pub stable : IsStableByKey (λ m. m.line) nat_cmp marks sorted
+
+-- all that is found in a text that is read, by line
+pub record IsAllFound (text : List ℕ) (checks : Checks) (faults : List SheetFault)
+    (found : List Mark) : Type 0 where
+  pub marks : List Mark
+  pub are : IsMarked text checks faults marks
+  pub by_line : IsByLine marks found
+
+-- the format of a text with faults, if it is another
+abbrev pub format_of : List (List ℕ) → List SheetFault → Option OtherFormat
+format_of lines [] = None
+format_of lines faults = other_format lines
+
+-- what is found where a text is of another format: that alone, else all
+abbrev pub IsFoundIn : List ℕ → Checks → List SheetFault → List Mark → Option OtherFormat → Type 0
+IsFoundIn text checks faults found (Some format) = found ≡ format_mark format ∷ []
+IsFoundIn text checks faults found None = IsAllFound text checks faults found
+
+-- what is found in a text
+pub record IsFound (text : List ℕ) (checks : Checks) (found : List Mark) : Type 0 where
+  pub faults : List SheetFault
+  pub are_faults : IsFaultList text faults
+  pub marks : IsFoundIn text checks faults found (format_of (text_lines text) faults)

@@ -1,5 +1,5 @@
 -- The words of what is found.
-use Rattle.std.specs.Prelude.{ℕ, ◌==◌, ◌-◌, if◌then◌else◌, List, [], take, map, get_or, codes}
+use Rattle.std.specs.Prelude.{ℕ, List, codes}
 use Rattle.co_dict_build.specs.BuildFaultTexts.{fault_name as build_fault_name}
 use Rattle.co_sheet_rows.specs.FaultTexts.{fault_name}
 use Rattle.co_sheet_rows.specs.declared.fault.FaultKind.{FaultKind}
@@ -8,15 +8,15 @@ use Rattle.co_sheet_faults.specs.FaultWords as faults
 use Rattle.co_sheet_warnings.specs.WarningWords as warnings
 use Rattle.conode_lint_text.specs.declared.finding.About.{About}
 use Rattle.conode_lint_text.specs.declared.finding.About.TheVariants as about
-use Rattle.conode_lint_text.specs.declared.finding.Finding.{Finding}
 use Rattle.conode_lint_text.specs.declared.finding.Place.{Place}
 use Rattle.conode_lint_text.specs.declared.finding.Place.TheVariants.{Beginning, Value}
 use Rattle.conode_lint_text.specs.declared.finding.Severity.{Severity}
 use Rattle.conode_lint_text.specs.declared.finding.Severity.TheVariants as severity
 use Rattle.conode_lint.specs.declared.mark.Mark.{Mark}
 use Rattle.conode_lint.specs.declared.mark.Subject.{Subject}
-use Rattle.conode_lint.specs.declared.mark.Subject.TheVariants.{Format, Fault, Build, Warning}
-use Rattle.conode_lint.specs.BuildWords.{build_about, build_fix, build_meaning, build_subject}
+use Rattle.conode_lint.specs.declared.mark.Subject.TheVariants.{Format, Fault, Build, Mapping, Warning}
+use Rattle.conode_lint.specs.BuildWords.{build_about, build_place, build_fix, build_meaning, build_subject}
+use Rattle.conode_lint.specs.MappingWords.{mapping_about, mapping_meaning, mapping_fix, mapping_subject}
 use Rattle.conode_lint.specs.FormatWords.{format_fix, format_meaning, format_subject}
 
 -- its name
@@ -24,6 +24,7 @@ abbrev pub name_of : Subject → List ℕ
 name_of (Format format) = codes "OtherFormat"
 name_of (Fault kind) = fault_name kind
 name_of (Build fault) = build_fault_name fault
+name_of (Mapping fault) = codes "BadMapping"
 name_of (Warning kind) = warnings.name_of kind
 
 abbrev pub severity_of : Subject → Severity
@@ -46,22 +47,27 @@ fault_place other = Beginning
 
 abbrev pub place_of : Subject → Place
 place_of (Fault kind) = fault_place kind
+place_of (Build fault) = build_place fault
+place_of (Mapping fault) = Value
 place_of other = Beginning
 
 abbrev pub about_of : Subject → About
 about_of (Build fault) = build_about fault
+about_of (Mapping fault) = mapping_about fault
 about_of other = about.Line
 
 abbrev pub fix_of : Subject → List ℕ
 fix_of (Format format) = format_fix format
 fix_of (Fault kind) = faults.fix_of kind
 fix_of (Build fault) = build_fix fault
+fix_of (Mapping fault) = mapping_fix fault.reason
 fix_of (Warning kind) = warnings.fix_of kind
 
 abbrev pub subject_of : Subject → List ℕ
 subject_of (Format format) = format_subject
 subject_of (Fault kind) = faults.subject_of kind
 subject_of (Build fault) = build_subject fault
+subject_of (Mapping fault) = mapping_subject
 subject_of (Warning kind) = warnings.subject_of kind
 
 -- what is wrong, at a line or where none is to blame
@@ -69,6 +75,7 @@ abbrev pub meaning_at : ℕ → Subject → List ℕ
 meaning_at line (Format format) = format_meaning format
 meaning_at line (Fault kind) = faults.meaning_of (record { kind = kind; line = line })
 meaning_at line (Build fault) = build_meaning fault
+meaning_at line (Mapping fault) = mapping_meaning fault.reason
 meaning_at line (Warning kind) = warnings.meaning_of kind
 
 abbrev pub meaning_of : Mark → List ℕ

@@ -1,10 +1,8 @@
 //! The names of findings that pass.
 
 ghost use Rattle.std.specs.Prelude.{◌≡◌, map, IfOk};
-ghost use Rattle.std.specs.List.{list_any};
 ghost use Rattle.std.specs.Option.{option_map};
-ghost use Rattle.std.specs.Str.{bytes_eq};
-ghost use Rattle.conode_lint.specs.Allowed.{kept, name_in, names_in, passes_by};
+ghost use Rattle.conode_lint.specs.Allowed.{is_among, kept, name_in, names_in, passes_by};
 
 use crate::mark::Mark;
 use crate::words::name_of;
@@ -46,20 +44,31 @@ pub(crate) fn names_in<'a>(alloc: Global, lines: &[&'a [u8]]) -> Result<Vec<&'a 
 }
 
 fn is_among(name: &[u8], names: &[&[u8]]) -> bool
-    ensures { result ≡ list_any (λ one. bytes_eq one.now name.now) names.now }
+    ensures { result ≡ is_among name.now (map (λ one. one.now) names.now) }
 {
-    names.iter().any(|one| *one == name)
+    for one in names {
+        if *one == name {
+            return true;
+        }
+    }
+    false
 }
 
 fn is_given(name: &str, names: &[&str]) -> bool
-    ensures { result ≡ list_any (λ one. bytes_eq one.now name.now) names.now }
+    ensures { result ≡ is_among name.now (map (λ one. one.now) names.now) }
 {
-    names.iter().any(|one| *one == name)
+    for one in names {
+        if *one == name {
+            return true;
+        }
+    }
+    false
 }
 
 #[tactic(auto, unfolding(crate::specs::Allowed::passes_by))]
 fn passes(name: &str, given: &[&str], in_sheet: &[&[u8]]) -> bool
-    ensures { result ≡ passes_by given.now in_sheet.now name.now }
+    ensures { result ≡ passes_by (map (λ one. one.now) given.now)
+        (map (λ one. one.now) in_sheet.now) name.now }
 {
     is_given(name, given) || is_among(name.as_bytes(), in_sheet)
 }
@@ -71,8 +80,9 @@ pub(crate) fn kept(
     given: &[&str],
     in_sheet: &[&[u8]],
 ) -> Result<Vec<Mark>, AllocError>
-    ensures { IfOk result (λ made.
-        made.items ≡ kept (passes_by given.now in_sheet.now) marks.now) }
+    ensures { IfOk result (λ made. made.items
+        ≡ kept (passes_by (map (λ one. one.now) given.now) (map (λ one. one.now) in_sheet.now))
+        marks.now) }
 {
     let mut left = Vec::new(alloc);
     for mark in marks {

@@ -1,10 +1,10 @@
 //! The words of a build fault.
 
 ghost use Rattle.std.specs.Prelude.{◌≡◌};
-ghost use Rattle.conode_lint.specs.BuildWords.{build_about, build_fix, build_meaning, build_subject};
+ghost use Rattle.conode_lint.specs.BuildWords.{build_about, build_place, build_fix, build_meaning, build_subject};
 
 use co_dict_build::BuildFault;
-use conode_lint_text::About;
+use conode_lint_text::{About, Place};
 
 /// The object or the entry.
 pub(crate) fn build_about(fault: BuildFault) -> About
@@ -16,6 +16,19 @@ pub(crate) fn build_about(fault: BuildFault) -> About
         }
         BuildFault::PdoPair(index) => About::Object(index),
         BuildFault::NodeId | BuildFault::TooMany | BuildFault::Memory => About::Line,
+    }
+}
+
+/// Which part of its line it is about: the value of an entry, where the line has it.
+pub(crate) fn build_place(fault: BuildFault) -> Place
+    ensures { result ≡ build_place fault }
+{
+    match fault {
+        BuildFault::ValueRange(_) | BuildFault::BadCobId(_) | BuildFault::BadMapping(_) => {
+            Place::Value
+        }
+        BuildFault::NodeId | BuildFault::PdoPair(_) | BuildFault::TooMany | BuildFault::Memory =>
+            Place::Beginning,
     }
 }
 

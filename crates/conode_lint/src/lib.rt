@@ -3,19 +3,25 @@
 #![tactic(auto)]
 
 mod allowed;
+mod build_lines;
+mod build_marks;
 mod build_words;
 mod files;
 mod folder;
 mod format_words;
+mod laws;
 mod lines;
 mod linted_text;
+mod mapping_words;
 mod mark;
 mod marks;
+mod other_format;
 mod report;
 mod rules;
 mod words;
 
 pub use files::{LintOptions, lint_files};
+pub use laws::linted_texts;
 pub use linted_text::{Linted, lint_text};
 pub use marks::Checks;
 pub use report::{Counts, Form, Report};

@@ -1,8 +1,9 @@
 //! A text linted.
 
-ghost use Rattle.std.specs.Prelude.{◌≡◌, ◌+◌, ◌-◌, map, take, length, IfOk};
+ghost use Rattle.std.specs.Prelude.{◌≡◌, map, take, IfOk};
 ghost use Rattle.conode_lint.specs.Allowed.{error_count, is_error};
 ghost use Rattle.conode_lint.specs.Found.{finding_of, seen};
+ghost use Rattle.conode_lint.specs.Linted.{IsLinted, IsMadeOf, left};
 
 use crate::allowed::{kept, names_in};
 use crate::lines::{line_at, text_lines};
@@ -92,13 +93,24 @@ fn first_marks(marks: &[Mark]) -> &[Mark]
     }
 }
 
+// the marks that neither the words nor the sheet let pass
+#[tactic(auto, unfolding(crate::specs::Linted::left))]
+fn left(
+    alloc: Global,
+    lines: &[&[u8]],
+    checks: &Checks<'_>,
+    found: &[Mark],
+) -> Result<Vec<Mark>, AllocError>
+    ensures { IfOk result (λ marks.
+        marks.items ≡ left (map (λ line. line.now) lines.now) checks.now found.now) }
+{
+    let in_sheet = names_in(alloc, lines)?;
+    kept(alloc, found, checks.allowed, in_sheet.as_slice())
+}
+
 // the findings of marks of which none passes
 fn made_of<'a>(alloc: Global, lines: &[&'a [u8]], marks: &[Mark]) -> Result<Linted<'a>, AllocError>
-    ensures findings { IfOk result (λ made. map seen made.findings.items
-        ≡ map (finding_of (map (λ line. line.now) lines.now)) (take 1000 marks.now)) }
-    ensures errors { IfOk result (λ made. made.errors ≡ error_count marks.now) }
-    ensures warnings { IfOk result (λ made. made.warnings ≡ length marks.now - made.errors) }
-    ensures more { IfOk result (λ made. made.more ≡ length marks.now - 1000) }
+    ensures { IfOk result (IsMadeOf (map (λ line. line.now) lines.now) marks.now) }
 {
     let errors = error_count(marks);
     Ok(Linted {
@@ -109,16 +121,17 @@ fn made_of<'a>(alloc: Global, lines: &[&'a [u8]], marks: &[Mark]) -> Result<Lint
     })
 }
 
-/// Everything that is found in a text: each fault of the sheet, else why no dictionary can be built, and what is
-/// suspicious; without what the words or a comment let pass. On an `Err` memory ran out.
+/// Everything that is found in a text: each fault of the sheet, else each reason why no dictionary can be built, and what
+/// is suspicious; without what the words or a comment let pass. On an `Err` memory ran out.
 pub fn lint_text<'a>(
     alloc: Global,
     text: &'a [u8],
     checks: &Checks<'_>,
-) -> Result<Linted<'a>, AllocError> {
+) -> Result<Linted<'a>, AllocError>
+    ensures { IfOk result (IsLinted text.now checks.now) }
+{
     let lines = text_lines(alloc, text)?;
     let found = marks_of(alloc, text, lines.as_slice(), checks)?;
-    let in_sheet = names_in(alloc, lines.as_slice())?;
-    let marks = kept(alloc, found.as_slice(), checks.allowed, in_sheet.as_slice())?;
+    let marks = left(alloc, lines.as_slice(), checks, found.as_slice())?;
     made_of(alloc, lines.as_slice(), marks.as_slice())
 }

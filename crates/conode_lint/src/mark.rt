@@ -1,6 +1,7 @@
 //! What is found at a line, before its words.
 
 use co_dict_build::BuildFault;
+use co_dict_faults::MappingFault;
 use co_sheet_faults::FaultKind;
 use co_sheet_warnings::WarningKind;
 
@@ -22,6 +23,8 @@ pub enum Subject {
     Fault(FaultKind),
     /// Why no dictionary can be built.
     Build(BuildFault),
+    /// Why a word of a mapping, or its count, can't be as it begins.
+    Mapping(MappingFault),
     /// What is legal and suspicious.
     Warning(WarningKind),
 }

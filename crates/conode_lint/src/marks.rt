@@ -1,17 +1,32 @@
 //! Everything that is found in a text, in the order of its lines.
 
-ghost use Rattle.std.specs.Prelude.{◌≡◌, ◌++◌, map, OnOk};
+ghost use Rattle.std.specs.Prelude.{◌≡◌, ◌≤◌, ◌++◌, [], ◌∷◌, length, map, IfOk, OnOk, IfSome};
 ghost use Rattle.std.specs.List.{flat_map};
-ghost use Rattle.conode_lint.specs.Marks.{fault_mark, warning_marks};
+ghost use Rattle.co_sheet_text.specs.LinesAtFault.{sections_read};
+ghost use Rattle.co_sheet_text.specs.Text.{lines_of};
+ghost use Rattle.co_dict_build.specs.Capacities.{limits_view};
+ghost use Rattle.conode_lint.specs.Found.{text_lines};
+ghost use Rattle.conode_lint.specs.Marks.{
+  IsByLine,
+  IsFaultList,
+  IsFound,
+  IsMarked,
+  fault_mark,
+  format_mark,
+  format_of,
+  node_for,
+  sheet_marks,
+  sheet_of,
+  warning_marks,
+};
 
+use crate::build_marks::add_build_marks;
 use crate::mark::{Mark, OtherFormat, Subject};
-use co_dict_build::{BuildFault, Limits};
-use co_dict_list::ListStore;
-use co_sheet::{EntryRow, FaultKind, Object, Sheet, SheetFault, read};
-use co_sheet_faults::find_faults;
-use co_sheet_text::{same_name, trim};
+use crate::other_format::other_format;
+use co_dict_build::Limits;
+use co_sheet::{FaultKind, Sheet, SheetFault, read};
+use co_sheet_faults::{all_faults, find_faults};
 use co_sheet_warnings::{Warning, find_warnings, is_quiet};
-use co_value::Key;
 use std::alloc::{AllocError, Global};
 
 /// What is looked for in a text.
@@ -38,6 +53,14 @@ fn add_faults(marks: &mut Vec<Mark>, faults: &[SheetFault]) -> Result<(), AllocE
     Ok(())
 }
 
+fn fault_marks(alloc: Global, faults: &[SheetFault]) -> Result<Vec<Mark>, AllocError>
+    ensures { IfOk result (λ marks. marks.items ≡ map fault_mark faults.now) }
+{
+    let mut marks = Vec::new(alloc);
+    add_faults(&mut marks, faults)?;
+    Ok(marks)
+}
+
 fn add_warnings(marks: &mut Vec<Mark>, warnings: &[Warning], all: bool) -> Result<(), AllocError>
     ensures { OnOk result
         (marks.new.items ≡ marks.old.items ++ flat_map (warning_marks all) warnings.now) }
@@ -53,127 +76,137 @@ fn add_warnings(marks: &mut Vec<Mark>, warnings: &[Warning], all: bool) -> Resul
     Ok(())
 }
 
-// whether a line begins with a word, in any case
-fn begins_with(line: &[u8], word: &[u8]) -> bool {
-    line.len() >= word.len() && same_name(&line[..word.len()], word)
-}
-
-fn has_line(lines: &[&[u8]], word: &[u8]) -> bool {
-    for line in lines {
-        if begins_with(trim(line), word) {
-            return true;
-        }
-    }
-    false
-}
-
-// what a text with faults is that is no data sheet of CANopen
-fn other_format(lines: &[&[u8]]) -> Option<OtherFormat> {
-    if has_line(lines, b"<?xml") || has_line(lines, b"<ISO15745") {
-        Some(OtherFormat::Xml)
-    } else if has_line(lines, b"[Device]") && has_line(lines, b"VendCode") {
-        Some(OtherFormat::EtherNetIp)
-    } else {
-        None
+// the sheet that a text is, if it is one
+#[tactic(auto, unfolding(crate::specs::Marks::sheet_of))]
+fn sheet_of(alloc: Global, text: &[u8]) -> Result<Option<Sheet<'_>>, AllocError>
+    ensures sheet { IfOk result (λ sheet. sheet ≡ sheet_of text.now) }
+    ensures small { IfOk result (λ sheet. IfSome sheet (λ _. length text.now ≤ 1048576)) }
+{
+    match read(alloc, text) {
+        Ok(sheet) => Ok(Some(sheet)),
+        Err(fault) if fault.kind == FaultKind::Memory => Err(AllocError),
+        Err(_) => Ok(None),
     }
 }
 
-// the line of the entry's section, 0 where there is none
-fn entry_line(entries: &[EntryRow<'_>], key: Key) -> usize {
-    for entry in entries {
-        if entry.key == key {
-            return entry.line;
-        }
-    }
-    0
+fn no_faults(alloc: Global) -> Vec<SheetFault>
+    ensures { result.items ≡ [] }
+{
+    Vec::new(alloc)
 }
 
-// the line of the object's section, 0 where there is none
-fn object_line(objects: &[Object<'_>], index: u16) -> usize {
-    for object in objects {
-        if object.index == index {
-            return object.line;
-        }
-    }
-    0
-}
-
-// the line that a build fault is about
-fn build_line(sheet: &Sheet<'_>, fault: BuildFault) -> usize {
-    match fault {
-        BuildFault::ValueRange(key) | BuildFault::BadCobId(key) | BuildFault::BadMapping(key) => {
-            entry_line(sheet.entries(), key)
-        }
-        BuildFault::PdoPair(index) => object_line(sheet.objects(), index),
-        BuildFault::NodeId | BuildFault::TooMany | BuildFault::Memory => 0,
-    }
-}
-
-// adds why no dictionary can be built of a sheet, if none can
-fn add_build_fault(
+// all faults of a text; of a sheet there is none
+fn faults_of(
     alloc: Global,
-    marks: &mut Vec<Mark>,
-    sheet: &Sheet<'_>,
-    node_id: u8,
-    limits: &Limits<'_>,
-) -> Result<(), AllocError> {
-    match ListStore::build(alloc, sheet, node_id, limits) {
-        Ok(_) => Ok(()),
-        Err(BuildFault::Memory) => Err(AllocError),
-        Err(fault) => {
-            marks.push(Mark {
-                line: build_line(sheet, fault),
-                subject: Subject::Build(fault),
-            })?;
-            Ok(())
-        }
+    text: &[u8],
+    sheet: &Option<Sheet<'_>>,
+) -> Result<Vec<SheetFault>, AllocError>
+    requires { sheet.now ≡ sheet_of text.now }
+    ensures { IfOk result (λ faults. IsFaultList text.now faults.items) }
+{
+    all_faults();
+    match sheet {
+        Some(_) => Ok(no_faults(alloc)),
+        None => find_faults(alloc, text),
     }
 }
 
-// the node-ID of a sheet, given or its own, and why no dictionary can be built for it
+// the node-ID that is given, or else the sheet's own
+fn node_for(node: Option<u8>, sheet: &Option<Sheet<'_>>) -> Option<u8>
+    ensures { result ≡ node_for node sheet.now }
+{
+    match (node, sheet) {
+        (Some(node_id), _) => Some(node_id),
+        (None, Some(sheet)) => sheet.node_id(),
+        (None, None) => None,
+    }
+}
+
+// why no dictionary can be built of a sheet
 fn add_built(
     alloc: Global,
     marks: &mut Vec<Mark>,
     text: &[u8],
-    checks: &Checks<'_>,
-) -> Result<Option<u8>, AllocError> {
-    let sheet = match read(alloc, text) {
-        Ok(sheet) => sheet,
-        Err(fault) if fault.kind == FaultKind::Memory => return Err(AllocError),
-        Err(_) => return Ok(checks.node),
-    };
-    let node = checks.node.or(sheet.node_id());
-    if let Some(node_id) = node {
-        add_build_fault(alloc, marks, &sheet, node_id, &checks.limits)?;
+    sheet: &Option<Sheet<'_>>,
+    node: Option<u8>,
+    limits: &Limits<'_>,
+) -> Result<(), AllocError>
+    requires { IfSome sheet.now (λ _. length text.now ≤ 1048576) }
+    ensures { OnOk result (marks.new.items ≡ marks.old.items
+        ++ sheet_marks (limits_view limits.now) (sections_read (lines_of text.now)) sheet.now node) }
+{
+    match (sheet, node) {
+        (Some(sheet), Some(node_id)) => add_build_marks(alloc, marks, text, sheet, node_id, limits),
+        _ => Ok(()),
     }
-    Ok(node)
 }
 
-/// Everything that is found in a text, in the order of its lines. A text with faults that is of another format has that
-/// alone.
+// the marks of a text: its faults, its build and its warnings
+#[tactic(auto, unfolding(crate::specs::Marks::text_marks))]
+fn marked(
+    alloc: Global,
+    text: &[u8],
+    sheet: &Option<Sheet<'_>>,
+    faults: &[SheetFault],
+    checks: &Checks<'_>,
+) -> Result<Vec<Mark>, AllocError>
+    requires sheet { sheet.now ≡ sheet_of text.now }
+    requires small { IfSome sheet.now (λ _. length text.now ≤ 1048576) }
+    ensures { IfOk result (λ marks. IsMarked text.now checks.now faults.now marks.items) }
+{
+    let mut marks = fault_marks(alloc, faults)?;
+    let node = node_for(checks.node, sheet);
+    add_built(alloc, &mut marks, text, sheet, node, &checks.limits)?;
+    let warnings = find_warnings(alloc, text, node)?;
+    add_warnings(&mut marks, warnings.as_slice(), checks.all)?;
+    Ok(marks)
+}
+
+// marks by line; those of a line stay in their order
+fn by_line(mut marks: Vec<Mark>) -> Result<Vec<Mark>, AllocError>
+    ensures { IfOk result (λ sorted. IsByLine marks.items sorted.items) }
+{
+    marks.sort_by_key(|mark| mark.line)?;
+    Ok(marks)
+}
+
+// the format of a text with faults, if it is another
+fn format_of(lines: &[&[u8]], faults: &[SheetFault]) -> Option<OtherFormat>
+    ensures { result ≡ format_of (map (λ line. line.now) lines.now) faults.now }
+{
+    if faults.is_empty() {
+        None
+    } else {
+        other_format(lines)
+    }
+}
+
+fn format_alone(alloc: Global, format: OtherFormat) -> Result<Vec<Mark>, AllocError>
+    ensures { IfOk result (λ marks. marks.items ≡ format_mark format ∷ []) }
+{
+    let mut marks = Vec::new(alloc);
+    marks.push(Mark {
+        line: 1,
+        subject: Subject::Format(format),
+    })?;
+    Ok(marks)
+}
+
+/// Everything that is found in a text, which has these lines, by line. A text with faults that is of another format has
+/// that alone.
 pub(crate) fn marks_of(
     alloc: Global,
     text: &[u8],
     lines: &[&[u8]],
     checks: &Checks<'_>,
-) -> Result<Vec<Mark>, AllocError> {
-    let mut marks = Vec::new(alloc);
-    let faults = find_faults(alloc, text)?;
-    if faults.is_empty() {
-        let node = add_built(alloc, &mut marks, text, checks)?;
-        let warnings = find_warnings(alloc, text, node)?;
-        add_warnings(&mut marks, warnings.as_slice(), checks.all)?;
-    } else if let Some(format) = other_format(lines) {
-        marks.push(Mark {
-            line: 1,
-            subject: Subject::Format(format),
-        })?;
-        return Ok(marks);
-    } else {
-        add_faults(&mut marks, faults.as_slice())?;
-        let warnings = find_warnings(alloc, text, checks.node)?;
-        add_warnings(&mut marks, warnings.as_slice(), checks.all)?;
+) -> Result<Vec<Mark>, AllocError>
+    requires { map (λ line. line.now) lines.now ≡ text_lines text.now }
+    ensures { IfOk result (λ found. IsFound text.now checks.now found.items) }
+{
+    let sheet = sheet_of(alloc, text)?;
+    let faults = faults_of(alloc, text, &sheet)?;
+    if let Some(format) = format_of(lines, faults.as_slice()) {
+        return format_alone(alloc, format);
     }
-    marks.sort_by_key(|mark| mark.line)?;
-    Ok(marks)
+    by_line(marked(alloc, text, &sheet, faults.as_slice(), checks)?)
 }

@@ -3,8 +3,9 @@
 ghost use Rattle.std.specs.Prelude.{◌≡◌};
 ghost use Rattle.conode_lint.specs.Words.{about_of, fault_place, fix_of, meaning_of, name_of, place_of, severity_of, subject_of};
 
-use crate::build_words::{build_about, build_fix, build_meaning, build_subject};
+use crate::build_words::{build_about, build_fix, build_meaning, build_place, build_subject};
 use crate::format_words::{format_fix, format_meaning, format_subject};
+use crate::mapping_words::{mapping_about, mapping_fix, mapping_meaning, mapping_subject};
 use crate::mark::{Mark, Subject};
 use co_sheet_faults::{FaultKind, SheetFault};
 use conode_lint_text::{About, Place, Severity};
@@ -17,6 +18,7 @@ pub(crate) fn name_of(subject: Subject) -> &'static str
         Subject::Format(_) => "OtherFormat",
         Subject::Fault(kind) => kind.name(),
         Subject::Build(fault) => fault.name(),
+        Subject::Mapping(_) => "BadMapping",
         Subject::Warning(kind) => co_sheet_warnings::name_of(kind),
     }
 }
@@ -26,7 +28,9 @@ pub(crate) fn severity_of(subject: Subject) -> Severity
 {
     match subject {
         Subject::Warning(_) => Severity::Warning,
-        Subject::Format(_) | Subject::Fault(_) | Subject::Build(_) => Severity::Error,
+        Subject::Format(_) | Subject::Fault(_) | Subject::Build(_) | Subject::Mapping(_) => {
+            Severity::Error
+        }
     }
 }
 
@@ -54,7 +58,9 @@ pub(crate) fn place_of(subject: Subject) -> Place
 {
     match subject {
         Subject::Fault(kind) => fault_place(kind),
-        Subject::Format(_) | Subject::Build(_) | Subject::Warning(_) => Place::Beginning,
+        Subject::Build(fault) => build_place(fault),
+        Subject::Mapping(_) => Place::Value,
+        Subject::Format(_) | Subject::Warning(_) => Place::Beginning,
     }
 }
 
@@ -64,6 +70,7 @@ pub(crate) fn about_of(subject: Subject) -> About
 {
     match subject {
         Subject::Build(fault) => build_about(fault),
+        Subject::Mapping(fault) => mapping_about(fault),
         Subject::Format(_) | Subject::Fault(_) | Subject::Warning(_) => About::Line,
     }
 }
@@ -82,6 +89,7 @@ pub(crate) fn meaning_of(mark: Mark) -> &'static str
             co_sheet_faults::meaning_of(&fault)
         }
         Subject::Build(fault) => build_meaning(fault),
+        Subject::Mapping(fault) => mapping_meaning(fault.reason),
         Subject::Warning(kind) => co_sheet_warnings::meaning_of(kind),
     }
 }
@@ -94,6 +102,7 @@ pub(crate) fn fix_of(subject: Subject) -> &'static str
         Subject::Format(format) => format_fix(format),
         Subject::Fault(kind) => co_sheet_faults::fix_of(kind),
         Subject::Build(fault) => build_fix(fault),
+        Subject::Mapping(fault) => mapping_fix(fault.reason),
         Subject::Warning(kind) => co_sheet_warnings::fix_of(kind),
     }
 }
@@ -106,6 +115,7 @@ pub(crate) fn subject_of(subject: Subject) -> &'static str
         Subject::Format(format) => format_subject(format),
         Subject::Fault(kind) => co_sheet_faults::subject_of(kind),
         Subject::Build(fault) => build_subject(fault),
+        Subject::Mapping(_) => mapping_subject(),
         Subject::Warning(kind) => co_sheet_warnings::subject_of(kind),
     }
 }

@@ -4,7 +4,8 @@ use Rattle.std.specs.Fmt.{digits}
 use Rattle.std.specs.Str.{chars, is_utf8}
 use Rattle.co_text.specs.Printed.{digits_text}
 use Rattle.conode_lint_text.specs.Characters.{characters_of, shown, shown_all, windows_1252}
-use Rattle.conode_lint_text.specs.Findings.{help_of, value_place}
+use Rattle.conode_lint_text.specs.declared.finding.About.TheVariants.{Line, Object, Entry, Bits}
+use Rattle.conode_lint_text.specs.Findings.{about_text, bits_text, entry_text, help_of, value_place}
 use Rattle.conode_lint_text.specs.TextForm.{counted, more_line, summary_line}
 
 -- a letter, the euro sign, a byte that Windows-1252 leaves open, and a letter of the upper half
@@ -29,6 +30,12 @@ controls = refl
 -- after `=` and blanks; without `=` where the line begins
 values : value_place (codes "a = 5") ∷ value_place (codes "a=5") ∷ value_place (codes "  a") ∷ value_place (codes "a=") ∷ [] ≡ 4 ∷ 2 ∷ 2 ∷ 2 ∷ []
 values = refl
+
+-- a line, an object, an entry, and how many bits a mapping maps
+abouts : about_text Line ∷ about_text (Object 0x1A00) ∷ about_text (Entry 0x1A00 3) ∷ about_text (Bits 0x1A02 72) ∷ []
+    ≡ [] ∷ codes "1A00: " ∷ codes "1A00:03: " ∷ codes "1A02:00: 72 bits in all: " ∷ []
+unfolding entry_text bits_text digits_text digits
+abouts = refl
 
 help_with_subject : help_of (codes "do it") (codes "CiA 301") ≡ codes "do it (CiA 301)"
 unfolding help_of

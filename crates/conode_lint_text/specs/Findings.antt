@@ -1,10 +1,10 @@
 -- What a finding is made of, in texts.
-use Rattle.std.specs.Prelude.{ℕ, ◌+◌, ◌==◌, nat_lt, Bool, not, if◌then◌else◌, List, [], ◌∷◌, ◌++◌, length, drop, codes}
+use Rattle.std.specs.Prelude.{ℕ, ◌+◌, ◌==◌, nat_lt, Bool, not, if◌then◌else◌, List, [], ◌∷◌, ◌++◌, length, drop, codes, decimal}
 use Rattle.std.specs.List.{position_or_len}
 use Rattle.co_text.specs.Printed.{digits_text}
 use Rattle.conode_lint_text.specs.Characters.{blanks, characters_of}
 use Rattle.conode_lint_text.specs.declared.finding.About.{About}
-use Rattle.conode_lint_text.specs.declared.finding.About.TheVariants.{Line, Object, Entry}
+use Rattle.conode_lint_text.specs.declared.finding.About.TheVariants.{Line, Object, Entry, Bits}
 use Rattle.conode_lint_text.specs.declared.finding.Finding.{Finding}
 use Rattle.conode_lint_text.specs.declared.finding.Place.{Place}
 use Rattle.conode_lint_text.specs.declared.finding.Place.TheVariants.{Beginning, Value}
@@ -33,12 +33,21 @@ unfoldable pub column_of : Finding → ℕ
 column_of finding =
     if finding.line == 0 then 0 else place_in finding.place (characters_of finding.text.now) + 1
 
--- what it is about, where the line alone doesn't say it: `1A00: `, `1A00:00: `
+-- an entry, `1A00:00: `
+unfoldable pub entry_text : ℕ → ℕ → List ℕ
+entry_text index sub_index =
+    digits_text 16 4 index ++ codes ":" ++ digits_text 16 2 sub_index ++ codes ": "
+
+-- how many bits a mapping maps, `72 bits in all: `
+unfoldable pub bits_text : ℕ → List ℕ
+bits_text bits = decimal bits ++ codes " bits in all: "
+
+-- what it is about, where the line alone doesn't say it: `1A00: `, `1A00:00: `, `1A00:00: 72 bits in all: `
 abbrev pub about_text : About → List ℕ
 about_text Line = []
 about_text (Object index) = digits_text 16 4 index ++ codes ": "
-about_text (Entry index sub_index) =
-    digits_text 16 4 index ++ codes ":" ++ digits_text 16 2 sub_index ++ codes ": "
+about_text (Entry index sub_index) = entry_text index sub_index
+about_text (Bits index bits) = entry_text index 0 ++ bits_text bits
 
 -- what is wrong
 unfoldable pub message_of : Finding → List ℕ

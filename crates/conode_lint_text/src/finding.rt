@@ -27,6 +27,8 @@ pub enum About {
     Object(u16),
     /// An entry, by its index and its sub-index.
     Entry(u16, u8),
+    /// The count of a PDO's mapping, by the index of the mapping, and how many bits it maps in all.
+    Bits(u16, u16),
 }
 
 /// What is found at a line of a file.

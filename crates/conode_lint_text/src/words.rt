@@ -1,10 +1,10 @@
 //! The words of a finding.
 
 ghost use Rattle.std.specs.Prelude.{◌≡◌, ◌++◌, OnOk, string_bytes};
-ghost use Rattle.conode_lint_text.specs.Findings.{about_text, help_of, message_of, severity_name};
+ghost use Rattle.conode_lint_text.specs.Findings.{about_text, bits_text, entry_text, help_of, message_of, severity_name};
 
 use crate::finding::{About, Finding, Severity};
-use co_text::{push_byte, push_u16};
+use co_text::{push_byte, push_decimal, push_u16};
 use std::alloc::AllocError;
 
 /// How severe it is, in a word.
@@ -17,6 +17,25 @@ pub(crate) fn severity_name(severity: Severity) -> &'static str
     }
 }
 
+#[tactic(auto, unfolding(crate::specs::Findings::entry_text))]
+fn push_entry(text: &mut String, index: u16, sub_index: u8) -> Result<(), AllocError>
+    ensures { OnOk result
+        (string_bytes text.new ≡ string_bytes text.old ++ entry_text index sub_index) }
+{
+    push_u16(text, index)?;
+    text.push_str(":")?;
+    push_byte(text, sub_index)?;
+    text.push_str(": ")
+}
+
+#[tactic(auto, unfolding(crate::specs::Findings::bits_text))]
+fn push_bits(text: &mut String, bits: u16) -> Result<(), AllocError>
+    ensures { OnOk result (string_bytes text.new ≡ string_bytes text.old ++ bits_text bits) }
+{
+    push_decimal(text, bits as u64)?;
+    text.push_str(" bits in all: ")
+}
+
 fn push_about(text: &mut String, about: About) -> Result<(), AllocError>
     ensures { OnOk result (string_bytes text.new ≡ string_bytes text.old ++ about_text about) }
 {
@@ -26,11 +45,10 @@ fn push_about(text: &mut String, about: About) -> Result<(), AllocError>
             push_u16(text, index)?;
             text.push_str(": ")
         }
-        About::Entry(index, sub_index) => {
-            push_u16(text, index)?;
-            text.push_str(":")?;
-            push_byte(text, sub_index)?;
-            text.push_str(": ")
+        About::Entry(index, sub_index) => push_entry(text, index, sub_index),
+        About::Bits(index, bits) => {
+            push_entry(text, index, 0)?;
+            push_bits(text, bits)
         }
     }
 }

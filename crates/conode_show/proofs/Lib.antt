@@ -1,5 +1,1 @@
-pub mod Examples
-pub mod LineExamples
-mod OrderLemmas
-pub mod Plain
-mod TypeLemmas
+pub mod JsonExamples

@@ -1,10 +1,2 @@
-pub mod Numbers
-pub mod Texts
-pub mod Layout
-pub mod Values
-pub mod Meanings
-pub mod Entries
-pub mod Services
-pub mod Pdos
-pub mod Document
+pub mod JsonForm
 pub mod Shown

@@ -1,20 +1,12 @@
-//! The object dictionary of a data sheet, shown as people read it (CiA 306, CiA 301).
+//! The object dictionary of a data sheet, shown as people read it (CiA 306, CiA 301), or as one document of JSON.
 #![tactic(auto)]
 
-mod document;
-mod entries;
-mod format;
-mod layout;
-mod meaning;
-mod numbers;
-mod ordering;
-mod pdos;
-mod sections;
-mod service;
+mod form;
+mod json_form;
+mod json_writer;
+mod own_text;
 mod shown_file;
-mod texts;
-mod type_names;
-mod values;
 
-pub use format::Format;
+pub use conode_show_text::Format;
+pub use form::Form;
 pub use shown_file::{show, show_file};

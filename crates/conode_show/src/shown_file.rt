@@ -1,6 +1,6 @@
 //! The file of a data sheet, shown.
 
-ghost use Rattle.std.specs.Prelude.{◌≡◌, ◌⊎◌, ◌≤◌, length, map, is_none, IfOk, IfErr, OnOk, Err, Some, None, string_bytes};
+ghost use Rattle.std.specs.Prelude.{◌≡◌, ◌⊎◌, ◌≤◌, length, map, is_none, IfOk, IfErr, OnOk, Err, Some, None};
 ghost use Rattle.std.specs.Io.KnownBytes.{Appends, Keeps};
 ghost use Rattle.std.specs.Process.{exit_status};
 ghost use Rattle.co_sheet_rows.specs.OutOfMemory.{out_of_memory};
@@ -8,17 +8,16 @@ ghost use Rattle.co_sheet_text.specs.Views.{section_view};
 ghost use Rattle.co_sheet.specs.Accepted.{first_bad_line, sections_in};
 ghost use Rattle.co_sheet.specs.Faults.{line_fault_kind, sheet_fault};
 ghost use Rattle.conode_io.specs.Written.{AppendsFront};
-ghost use Rattle.conode_show.specs.Document.{document, node_for, ordered};
-ghost use Rattle.conode_show.specs.Shown.{fault_line, shown, unreadable};
+ghost use Rattle.conode_show_text.specs.Document.{node_for, ordered};
+ghost use Rattle.conode_show.specs.Shown.{document_in, fault_in, fault_line, shown, unreadable};
 
-use crate::document::document;
-use crate::format::Format;
-use crate::ordering::order;
-use crate::sections::node_for;
+use crate::form::Form;
+use crate::json_form::{json_document, json_fault};
 use co_sheet::GREATEST_SIZE;
 use co_sheet_rows::{FaultKind, SheetFault};
 use co_sheet_text::{ParsedText, TextFault, TextFaultKind, TextSection};
 use conode_io::{CmdFault, file_text, flushed, hand_over, no_text, out_of_memory, stopped};
+use conode_show_text::{document, node_for, order};
 use std::alloc::{AllocError, Global};
 use std::io::Write;
 use std::process::ExitCode;
@@ -66,78 +65,104 @@ fn read_sections(alloc: Global, text: &[u8]) -> Result<ParsedText<'_>, SheetFaul
     }
 }
 
+// the document of sections in order
+fn document_in(
+    alloc: Global,
+    form: Form,
+    node: Option<u8>,
+    sections: &[TextSection],
+) -> Result<Vec<u8>, AllocError>
+    ensures { IfOk result
+        (λ text. text.items ≡ document_in form node (map section_view sections.now)) }
+{
+    match form {
+        Form::Lines(format) => document(alloc, format, node, sections),
+        Form::Json => json_document(alloc, node, sections),
+    }
+}
+
 // the document of sections, which it puts in order
 fn ordered_document(
     alloc: Global,
-    format: Format,
+    form: Form,
     node: Option<u8>,
     sections: &mut [TextSection],
 ) -> Result<Vec<u8>, AllocError>
     ensures { IfOk result (λ text. text.items
-        ≡ document format node (ordered (map section_view sections.old))) }
+        ≡ document_in form node (ordered (map section_view sections.old))) }
 {
     order(alloc, sections)?;
-    document(alloc, format, node, sections)
+    document_in(alloc, form, node, sections)
 }
 
 // the document of a text's sections
 fn document_of(
     alloc: Global,
-    format: Format,
+    form: Form,
     node: Option<u8>,
     parsed: &ParsedText<'_>,
 ) -> Result<Vec<u8>, AllocError>
     ensures { IfOk result (λ text. text.items
-        ≡ document format (node_for node parsed.now) (ordered parsed.now)) }
+        ≡ document_in form (node_for node parsed.now) (ordered parsed.now)) }
 {
     let mut sections = parsed.sections(alloc)?;
     let node = node_for(node, sections.as_slice());
-    ordered_document(alloc, format, node, sections.as_mut_slice())
+    ordered_document(alloc, form, node, sections.as_mut_slice())
 }
 
 #[tactic(auto, unfolding(crate::specs::Shown::fault_line))]
-fn fault_text(alloc: Global, fault: SheetFault) -> Result<String, AllocError>
-    ensures { IfOk result (λ text. string_bytes text ≡ fault_line fault) }
+fn fault_line(alloc: Global, fault: SheetFault) -> Result<Vec<u8>, AllocError>
+    ensures { IfOk result (λ text. text.items ≡ fault_line fault) }
 {
-    let mut text = String::new(alloc);
-    text.push_str(fault.text().as_str())?;
-    text.push('\n')?;
+    let mut text = Vec::new(alloc);
+    text.extend_from_slice(fault.text().as_str().as_bytes())?;
+    text.push(b'\n')?;
     Ok(text)
+}
+
+// why a text can't be shown
+fn fault_in(alloc: Global, form: Form, fault: SheetFault) -> Result<Vec<u8>, AllocError>
+    ensures { IfOk result (λ text. text.items ≡ fault_in form fault) }
+{
+    match form {
+        Form::Lines(_) => fault_line(alloc, fault),
+        Form::Json => json_fault(alloc, fault),
+    }
 }
 
 /// Shows the object dictionary of a data sheet (CiA 306): an entry in each line, by index and sub-index, then its PDOs and
 /// the other services of the communication profile in words. Where the text is too large, or a line is at fault by
-/// itself, it is the line of that fault. Whether the dictionary is shown.
+/// itself, it is that fault, in JSON as a document. Whether the dictionary is shown.
 ///
 /// All is written at once: after `Memory` nothing has been written, after `Write` a part of it.
 #[tactic(auto, unfolding(crate::specs::Shown::shown))]
 pub fn show<W: Write>(
     alloc: Global,
     text: &[u8],
-    format: Format,
+    form: Form,
     node: Option<u8>,
     writer: &mut W,
 ) -> Result<bool, CmdFault>
     ensures readable { IfOk result (λ is_shown. is_shown ≡ is_none (unreadable text.now)) }
     ensures text { OnOk result (Appends (W.contents writer.old) (W.contents writer.new)
-        (shown format node text.now)) }
+        (shown form node text.now)) }
     ensures write { result ≡ Err CmdFault.Write →
         AppendsFront (W.contents writer.old) (W.contents writer.new)
-        (shown format node text.now) }
+        (shown form node text.now) }
     ensures memory { result ≡ Err CmdFault.Memory →
         Keeps (W.contents writer.old) (W.contents writer.new) }
     ensures err { IfErr result (λ fault. (fault ≡ CmdFault.Write) ⊎ (fault ≡ CmdFault.Memory)) }
 {
     match read_sections(alloc, text) {
         Ok(parsed) => {
-            let text = document_of(alloc, format, node, &parsed)?;
+            let text = document_of(alloc, form, node, &parsed)?;
             hand_over(text.as_slice(), writer)?;
             Ok(true)
         }
         Err(fault) if fault.kind == FaultKind::Memory => Err(CmdFault::Memory),
         Err(fault) => {
-            let line = fault_text(alloc, fault)?;
-            hand_over(line.as_bytes(), writer)?;
+            let text = fault_in(alloc, form, fault)?;
+            hand_over(text.as_slice(), writer)?;
             Ok(false)
         }
     }
@@ -149,7 +174,7 @@ pub fn show<W: Write>(
 pub fn show_file<R: Files + AllocGlobal, O: Write, E: Write>(
     rt: &R,
     path: &str,
-    format: Format,
+    form: Form,
     node: Option<u8>,
     out: &mut O,
     err: &mut E,
@@ -160,7 +185,7 @@ pub fn show_file<R: Files + AllocGlobal, O: Write, E: Write>(
         Ok(text) => text,
         Err(fault) => return no_text(fault, path, out, err),
     };
-    let outcome = show(rt.alloc(), text.as_slice(), format, node, out);
+    let outcome = show(rt.alloc(), text.as_slice(), form, node, out);
     match flushed(out, outcome) {
         Ok(true) => ExitCode::SUCCESS,
         Ok(false) => ExitCode::FAILURE,

@@ -1,6 +1,6 @@
 -- What is asked for is what the fields say, and the fields say one thing at most.
 use Rattle.std.proofs.Common.{◌≡◌, Bool, true, false, List, Option, Some, None, IfSome, IsSomeAnd, codes, refl, sym, ap, subst, ◌∙◌}
-use Rattle.std.specs.Prelude.{option_and_then, option_map}
+use Rattle.std.specs.Prelude.{if◌then◌else◌, option_and_then, option_map}
 use Rattle.std.specs.Str.{bytes_eq}
 use Rattle.std.proofs.lemmas.Option.{option_and_then_some}
 use Rattle.std.proofs.lemmas.Slice.Eq.{bytes_eq-Decides}
@@ -9,11 +9,7 @@ use Rattle.conode_words.specs.declared.tasks.DeviceWords.{DeviceWords}
 use Rattle.conode_words.specs.declared.tasks.DictionaryWords.{DictionaryWords}
 use Rattle.conode_words.specs.declared.tasks.Task.{Task}
 use Rattle.conode_words.specs.Fields.{AsksFor, GivesDevice, GivesDictionary}
-use Rattle.conode_words.specs.Tasks.{Asked, asked_by, asked_check, asked_decode, asked_device, asked_dictionary, asked_in, asked_lint, asked_loop, asked_of, asked_replay, asked_show, check, colours_of, colours_for, decode, format_of, format_for, lint, loop_back, mode_for, mode_of, number_for, number_of_bits, replay, show, shown_as, shown_for}
-
-by_test : {P : Type 0} (b : Bool) → (b ≡ true → P) → (b ≡ false → P) → P
-by_test true then otherwise = then refl
-by_test false then otherwise = otherwise refl
+use Rattle.conode_words.specs.Tasks.{Asked, AskedAdapt, AskedCheck, AskedDecode, AskedExplain, AskedLint, AskedLoop, AskedReplay, AskedShow, adapt, asked_adapt, asked_by, asked_check, asked_decode, asked_device, asked_dictionary, asked_explain, asked_in, asked_lint, asked_lint_of, asked_loop, asked_of, asked_other, asked_replay, asked_show, check, colours_for, colours_of, decode, explain, format_for, format_of, lint, loop_back, mode_for, mode_of, number_for, number_of_bits, replay, show, shown_as, shown_for, stamps_for, stamps_of}
 
 -- a value that is made of another
 mapped : {A B P : Type 0} (f : A → B) (o : Option A) (b : B) → option_map f o ≡ Some b → ((a : A) → o ≡ Some a → f a ≡ b → P) → P
@@ -35,6 +31,7 @@ named name known e = (bytes_eq-Decides name known).0 e
 -- ---- what is asked for has its fields
 
 dictionary_fields : (rows : List Row) (d : DictionaryWords) → asked_dictionary rows ≡ Some d → GivesDictionary rows d
+unfolding asked_dictionary number_for
 dictionary_fields rows d e =
     option_and_then_some _ (number_for 16 (codes "strings") rows) d e (λ strings e0 f0.
     mapped _ (number_for 16 (codes "domains") rows) d f0 (λ domains e1 is.
@@ -45,6 +42,7 @@ dictionary_fields rows d e =
     })))
 
 device_fields : (rows : List Row) (d : DeviceWords) → asked_device rows ≡ Some d → GivesDevice rows d
+unfolding asked_device number_for
 device_fields rows d e =
     option_and_then_some _ (asked_dictionary rows) d e (λ dictionary e0 f0.
     mapped _ (number_for 16 (codes "time") rows) d f0 (λ time e1 is.
@@ -54,12 +52,14 @@ device_fields rows d e =
     })))
 
 check_fields : (rows : List Row) (a : Asked) → asked_check rows ≡ Some a → AsksFor (codes "check") rows a
+unfolding asked_check
 check_fields rows a e =
     option_and_then_some _ (first_of (codes "SHEET") rows) a e (λ sheet e0 f0.
     mapped _ (asked_dictionary rows) a f0 (λ dictionary e1 is.
     subst (AsksFor (codes "check") rows) is (refl, e0, dictionary_fields rows dictionary e1)))
 
 lint_fields : (rows : List Row) (a : Asked) → asked_lint rows ≡ Some a → AsksFor (codes "lint") rows a
+unfolding asked_lint asked_lint_of format_for colours_for
 lint_fields rows a e =
     option_and_then_some _ (asked_dictionary rows) a e (λ dictionary e0 f0.
     option_and_then_some _ (format_for rows) a f0 (λ format e1 f1.
@@ -76,10 +76,12 @@ lint_fields rows a e =
     ))))
 
 decode_fields : (rows : List Row) (a : Asked) → asked_decode rows ≡ Some a → AsksFor (codes "decode") rows a
+unfolding asked_decode
 decode_fields rows a e =
     mapped _ (first_of (codes "TRACE") rows) a e (λ trace e0 is. subst (AsksFor (codes "decode") rows) is (refl, e0, refl, refl))
 
 replay_fields : (rows : List Row) (a : Asked) → asked_replay rows ≡ Some a → AsksFor (codes "replay") rows a
+unfolding asked_replay
 replay_fields rows a e =
     option_and_then_some _ (first_of (codes "SHEET") rows) a e (λ sheet e0 f0.
     option_and_then_some _ (first_of (codes "TRACE") rows) a f0 (λ trace e1 f1.
@@ -87,6 +89,7 @@ replay_fields rows a e =
     subst (AsksFor (codes "replay") rows) is (refl, e0, e1, device_fields rows device e2))))
 
 loop_fields : (rows : List Row) (a : Asked) → asked_loop rows ≡ Some a → AsksFor (codes "loop") rows a
+unfolding asked_loop mode_for
 loop_fields rows a e =
     option_and_then_some _ (first_of (codes "SHEET") rows) a e (λ sheet e0 f0.
     option_and_then_some _ (first_of (codes "KEY") rows) a f0 (λ key e1 f1.
@@ -96,25 +99,54 @@ loop_fields rows a e =
     subst (AsksFor (codes "loop") rows) is (refl, e0, e1, e2, chosen mode_of (first_of (codes "mode") rows) mode e3, device_fields rows device e4))))))
 
 show_fields : (rows : List Row) (a : Asked) → asked_show rows ≡ Some a → AsksFor (codes "show") rows a
+unfolding asked_show shown_for
 show_fields rows a e =
     option_and_then_some _ (first_of (codes "SHEET") rows) a e (λ sheet e0 f0.
     mapped _ (shown_for rows) a f0 (λ form e1 is.
     subst (AsksFor (codes "show") rows) is (refl, e0, refl, chosen shown_as (first_of (codes "format") rows) form e1)))
 
+adapt_fields : (rows : List Row) (a : Asked) → asked_adapt rows ≡ Some a → AsksFor (codes "adapt") rows a
+unfolding asked_adapt
+adapt_fields rows a e =
+    mapped _ (first_of (codes "SHEET") rows) a e (λ sheet e0 is. subst (AsksFor (codes "adapt") rows) is (refl, e0))
+
+explain_fields : (rows : List Row) (a : Asked) → asked_explain rows ≡ Some a → AsksFor (codes "explain") rows a
+unfolding asked_explain stamps_for
+explain_fields rows a e =
+    option_and_then_some _ (first_of (codes "TRACE") rows) a e (λ trace e0 f0.
+    mapped _ (stamps_for rows) a f0 (λ stamps e1 is.
+    subst (AsksFor (codes "explain") rows) is (refl, e0, refl, chosen stamps_of (first_of (codes "stamps") rows) stamps e1)))
+
 at_name : (name known : Text) (rows : List Row) (a : Asked) → bytes_eq name known ≡ true → AsksFor known rows a → AsksFor name rows a
 at_name name known rows a same h = subst (λ (n : Text). AsksFor n rows a) (sym (named name known same)) h
 
+-- a test that chooses what gives a value
+either_way : {P : Type 0} (b : Bool) (x y : Option Asked) (a : Asked) → (if b then x else y) ≡ Some a → (b ≡ true → x ≡ Some a → P) → (b ≡ false → y ≡ Some a → P) → P
+either_way true x y a e on_true on_false = on_true refl e
+either_way false x y a e on_true on_false = on_false refl e
+
+none_is : (a : Asked) → None ≡ Some a → ⊥
+none_is a e = cc
+
+other_fields : (name : Text) (rows : List Row) (a : Asked) → asked_other name rows ≡ Some a → AsksFor name rows a
+unfolding asked_other
+other_fields name rows a e =
+    either_way _ _ _ a e (λ y f. at_name name (codes "check") rows a y (check_fields rows a f)) (λ _ f.
+    either_way _ _ _ a f (λ y f. at_name name (codes "decode") rows a y (decode_fields rows a f)) (λ _ f.
+    either_way _ _ _ a f (λ y f. at_name name (codes "replay") rows a y (replay_fields rows a f)) (λ _ f.
+    either_way _ _ _ a f (λ y f. at_name name (codes "loop") rows a y (loop_fields rows a f)) (λ _ f.
+    either_way _ _ _ a f (λ y f. at_name name (codes "show") rows a y (show_fields rows a f)) (λ _ f.
+    either_way _ _ _ a f (λ y f. at_name name (codes "adapt") rows a y (adapt_fields rows a f)) (λ _ f.
+    either_way _ _ _ a f (λ y f. at_name name (codes "explain") rows a y (explain_fields rows a f)) (λ _ f.
+    absurd (none_is a f))))))))
+
 pub fields_of : (name : Text) (rows : List Row) (a : Asked) → asked_in name rows ≡ Some a → AsksFor name rows a
+unfolding asked_in
 fields_of name rows a e =
-    by_test (bytes_eq name (codes "lint")) (λ y. at_name name (codes "lint") rows a y (lint_fields rows a (rw y at e))) (λ n0.
-    by_test (bytes_eq name (codes "check")) (λ y. at_name name (codes "check") rows a y (check_fields rows a (rw (n0, y) at e))) (λ n1.
-    by_test (bytes_eq name (codes "decode")) (λ y. at_name name (codes "decode") rows a y (decode_fields rows a (rw (n0, n1, y) at e))) (λ n2.
-    by_test (bytes_eq name (codes "replay")) (λ y. at_name name (codes "replay") rows a y (replay_fields rows a (rw (n0, n1, n2, y) at e))) (λ n3.
-    by_test (bytes_eq name (codes "loop")) (λ y. at_name name (codes "loop") rows a y (loop_fields rows a (rw (n0, n1, n2, n3, y) at e))) (λ n4.
-    by_test (bytes_eq name (codes "show")) (λ y. at_name name (codes "show") rows a y (show_fields rows a (rw (n0, n1, n2, n3, n4, y) at e))) (λ n5.
-    let none : None ≡ Some a = rw (n0, n1, n2, n3, n4, n5) at e in absurd cc))))))
+    either_way _ _ _ a e (λ y f. at_name name (codes "lint") rows a y (lint_fields rows a f)) (λ _ f. other_fields name rows a f)
 
 pub fields_in : (matches : Option (Text × List Row)) (asked : Option Asked) (a : Asked) → asked ≡ asked_of matches → asked ≡ Some a → IsSomeAnd matches (λ m. AsksFor m.0 m.1 a)
+unfolding asked_of
 fields_in None asked a same is = absurd (let none : None ≡ Some a = sym same ∙ is in cc)
 fields_in (Some m) asked a same is = fields_of m.0 m.1 a (sym same ∙ is)
 
@@ -125,35 +157,107 @@ task_fields matches (Some t) same = fields_in matches (Some (asked_by t)) (asked
 -- ---- and they say one thing at most
 
 dictionary_is : (rows : List Row) (d : DictionaryWords) → GivesDictionary rows d → asked_dictionary rows ≡ Some d
+unfolding asked_dictionary number_for
 dictionary_is rows d h =
     let strings = choice_is (number_of_bits 16) (first_of (codes "strings") rows) d.strings h.strings in
     let domains = choice_is (number_of_bits 16) (first_of (codes "domains") rows) d.domains h.domains in
     rw (strings, domains, ← h.node) refl
 
 device_is : (rows : List Row) (d : DeviceWords) → GivesDevice rows d → asked_device rows ≡ Some d
+unfolding asked_device number_for
 device_is rows d h =
     let dictionary = dictionary_is rows d.dictionary h.dictionary in
     let time = choice_is (number_of_bits 16) (first_of (codes "time") rows) d.time h.time in
     rw (dictionary, time) refl
 
-pub only_asked : (name : Text) (rows : List Row) (a : Asked) → AsksFor name rows a → asked_in name rows ≡ Some a
-only_asked name rows (check a) (name_is, sheet, d) =
+-- the matches of each command, by its name
+named_check : (rows : List Row) → asked_in (codes "check") rows ≡ asked_check rows
+unfolding asked_in asked_other
+named_check rows = refl
+
+named_lint : (rows : List Row) → asked_in (codes "lint") rows ≡ asked_lint rows
+unfolding asked_in asked_other
+named_lint rows = refl
+
+named_decode : (rows : List Row) → asked_in (codes "decode") rows ≡ asked_decode rows
+unfolding asked_in asked_other
+named_decode rows = refl
+
+named_replay : (rows : List Row) → asked_in (codes "replay") rows ≡ asked_replay rows
+unfolding asked_in asked_other
+named_replay rows = refl
+
+named_loop : (rows : List Row) → asked_in (codes "loop") rows ≡ asked_loop rows
+unfolding asked_in asked_other
+named_loop rows = refl
+
+named_show : (rows : List Row) → asked_in (codes "show") rows ≡ asked_show rows
+unfolding asked_in asked_other
+named_show rows = refl
+
+named_adapt : (rows : List Row) → asked_in (codes "adapt") rows ≡ asked_adapt rows
+unfolding asked_in asked_other
+named_adapt rows = refl
+
+named_explain : (rows : List Row) → asked_in (codes "explain") rows ≡ asked_explain rows
+unfolding asked_in asked_other
+named_explain rows = refl
+
+check_is : (rows : List Row) (a : AskedCheck) → AsksFor (codes "check") rows (check a) → asked_check rows ≡ Some (check a)
+unfolding asked_check
+check_is rows a (name_is, sheet, d) =
     let dictionary = dictionary_is rows a.dictionary d in
-    ap (λ (n : Text). asked_in n rows) name_is ∙ rw (sheet, dictionary) refl
-only_asked name rows (lint a) (name_is, sheets, allowed, d, f, c, strict, all) =
+    rw (sheet, dictionary) refl
+
+lint_is : (rows : List Row) (a : AskedLint) → AsksFor (codes "lint") rows (lint a) → asked_lint rows ≡ Some (lint a)
+unfolding asked_lint asked_lint_of format_for colours_for
+lint_is rows a (name_is, sheets, allowed, d, f, c, strict, all) =
     let dictionary = dictionary_is rows a.dictionary d in
     let format = choice_is format_of (first_of (codes "format") rows) a.format f in
     let colours = choice_is colours_of (first_of (codes "color") rows) a.colours c in
-    ap (λ (n : Text). asked_in n rows) name_is ∙ rw (dictionary, format, colours, ← sheets, ← allowed, ← strict, ← all) refl
-only_asked name rows (decode a) (name_is, trace, sheet, node) =
-    ap (λ (n : Text). asked_in n rows) name_is ∙ rw (trace, ← sheet, ← node) refl
-only_asked name rows (replay a) (name_is, sheet, trace, d) =
+    rw (dictionary, format, colours, ← sheets, ← allowed, ← strict, ← all) refl
+
+decode_is : (rows : List Row) (a : AskedDecode) → AsksFor (codes "decode") rows (decode a) → asked_decode rows ≡ Some (decode a)
+unfolding asked_decode
+decode_is rows a (name_is, trace, sheet, node) =
+    rw (trace, ← sheet, ← node) refl
+
+replay_is : (rows : List Row) (a : AskedReplay) → AsksFor (codes "replay") rows (replay a) → asked_replay rows ≡ Some (replay a)
+unfolding asked_replay
+replay_is rows a (name_is, sheet, trace, d) =
     let device = device_is rows a.device d in
-    ap (λ (n : Text). asked_in n rows) name_is ∙ rw (sheet, trace, device) refl
-only_asked name rows (loop_back a) (name_is, sheet, key, bytes, m, d) =
+    rw (sheet, trace, device) refl
+
+loop_is : (rows : List Row) (a : AskedLoop) → AsksFor (codes "loop") rows (loop_back a) → asked_loop rows ≡ Some (loop_back a)
+unfolding asked_loop mode_for
+loop_is rows a (name_is, sheet, key, bytes, m, d) =
     let device = device_is rows a.device d in
     let mode = choice_is mode_of (first_of (codes "mode") rows) a.mode m in
-    ap (λ (n : Text). asked_in n rows) name_is ∙ rw (sheet, key, bytes, mode, device) refl
-only_asked name rows (show a) (name_is, sheet, node, f) =
+    rw (sheet, key, bytes, mode, device) refl
+
+show_is : (rows : List Row) (a : AskedShow) → AsksFor (codes "show") rows (show a) → asked_show rows ≡ Some (show a)
+unfolding asked_show shown_for
+show_is rows a (name_is, sheet, node, f) =
     let form = choice_is shown_as (first_of (codes "format") rows) a.shown_as f in
-    ap (λ (n : Text). asked_in n rows) name_is ∙ rw (sheet, form, ← node) refl
+    rw (sheet, form, ← node) refl
+
+adapt_is : (rows : List Row) (a : AskedAdapt) → AsksFor (codes "adapt") rows (adapt a) → asked_adapt rows ≡ Some (adapt a)
+unfolding asked_adapt
+adapt_is rows a (name_is, sheet) =
+    rw (sheet) refl
+
+explain_is : (rows : List Row) (a : AskedExplain) → AsksFor (codes "explain") rows (explain a) → asked_explain rows ≡ Some (explain a)
+unfolding asked_explain stamps_for
+explain_is rows a (name_is, trace, sheet, s) =
+    let stamps = choice_is stamps_of (first_of (codes "stamps") rows) a.stamps s in
+    rw (trace, stamps, ← sheet) refl
+
+pub only_asked : (name : Text) (rows : List Row) (a : Asked) → AsksFor name rows a → asked_in name rows ≡ Some a
+only_asked name rows (check a) h = ap (λ (n : Text). asked_in n rows) h.0 ∙ named_check rows ∙ check_is rows a (subst (λ (n : Text). AsksFor n rows (check a)) h.0 h)
+only_asked name rows (lint a) h = ap (λ (n : Text). asked_in n rows) h.0 ∙ named_lint rows ∙ lint_is rows a (subst (λ (n : Text). AsksFor n rows (lint a)) h.0 h)
+only_asked name rows (decode a) h = ap (λ (n : Text). asked_in n rows) h.0 ∙ named_decode rows ∙ decode_is rows a (subst (λ (n : Text). AsksFor n rows (decode a)) h.0 h)
+only_asked name rows (replay a) h = ap (λ (n : Text). asked_in n rows) h.0 ∙ named_replay rows ∙ replay_is rows a (subst (λ (n : Text). AsksFor n rows (replay a)) h.0 h)
+only_asked name rows (loop_back a) h = ap (λ (n : Text). asked_in n rows) h.0 ∙ named_loop rows ∙ loop_is rows a (subst (λ (n : Text). AsksFor n rows (loop_back a)) h.0 h)
+only_asked name rows (show a) h = ap (λ (n : Text). asked_in n rows) h.0 ∙ named_show rows ∙ show_is rows a (subst (λ (n : Text). AsksFor n rows (show a)) h.0 h)
+only_asked name rows (adapt a) h = ap (λ (n : Text). asked_in n rows) h.0 ∙ named_adapt rows ∙ adapt_is rows a (subst (λ (n : Text). AsksFor n rows (adapt a)) h.0 h)
+only_asked name rows (explain a) h = ap (λ (n : Text). asked_in n rows) h.0 ∙ named_explain rows ∙ explain_is rows a (subst (λ (n : Text). AsksFor n rows (explain a)) h.0 h)

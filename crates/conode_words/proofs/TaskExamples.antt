@@ -1,17 +1,21 @@
 -- Command lines, evaluated.
-use Rattle.std.proofs.Common.{◌≡◌, ℕ, List, [], ◌∷◌, Option, Some, None, codes, refl, true, false}
+use Rattle.std.proofs.Common.{◌≡◌, ℕ, Bool, List, [], ◌∷◌, Option, Some, None, codes, map, refl, true, false}
 use Rattle.clap.specs.Kinds.{or_else}
-use Rattle.clap.specs.Words.{App, Text, fault_of, matches_of, subcommand_of}
+use Rattle.clap.specs.Takes.{value_passes}
+use Rattle.clap.specs.Words.{App, Rule, Shape, Text, fault_of, matches_of, subcommand_of}
 use Rattle.clap.specs.declared.error.kind.ErrorKind.{ErrorKind}
 use Rattle.clap.specs.declared.error.kind.ErrorKind.TheVariants as kind
-use Rattle.clap.proofs.OnLiterals.{clap_on_literals}
-use Rattle.co_sdo_client.specs.declared.mode.Mode.TheVariants.{Plain, Block}
+use Rattle.co_sdo_client.specs.declared.mode.Mode.TheVariants.{Plain, Segmented, Block}
 use Rattle.conode_words.specs.declared.tasks.DeviceWords.{DeviceWords}
 use Rattle.conode_words.specs.declared.tasks.DictionaryWords.{DictionaryWords}
 use Rattle.conode_words.specs.declared.tasks.ShownAs.TheVariants.{Columns, Markdown}
-use Rattle.conode_words.specs.declared.tasks.Colours.TheVariants.{Auto, Always}
-use Rattle.conode_words.specs.declared.tasks.Format.TheVariants.{Json, Text as AsText}
-use Rattle.conode_words.specs.Tasks.{Asked, check, lint, decode, replay, loop_back, show, asked_in, asked_of, check_command, conode_command, decode_command, lint_command, loop_command, replay_command, show_command, task_fault, word_fault}
+use Rattle.conode_words.specs.declared.tasks.ShownAs.TheVariants as shown_form
+use Rattle.conode_words.specs.declared.tasks.Stamps.TheVariants.{Relative, Absolute, Delta, Date}
+use Rattle.conode_words.specs.declared.tasks.Colours.TheVariants.{Auto, Always, Never}
+use Rattle.conode_words.specs.declared.tasks.Format.TheVariants.{Json, Sarif, Text as AsText}
+use Rattle.conode_words.specs.Commands.{adapt_command, check_command, conode_command, decode_command, domains_option, explain_command, lint_command, loop_command, node_option, replay_command, show_command, strings_option, time_option}
+use Rattle.conode_words.specs.Tasks.{Asked, check, lint, decode, replay, loop_back, show, adapt, explain, asked_in, asked_of, colours_of, format_of, mode_of, shown_as, stamps_of, word_fault}
+use Rattle.conode_words.proofs.OnLiterals.{words_on_literals}
 
 -- what all words ask for, by the program's command; and those after the name of a subcommand, by that alone, which is computed
 -- sooner
@@ -32,14 +36,80 @@ dictionary node strings domains = record { node = node; strings = strings; domai
 abbrev device : Option ℕ → ℕ → ℕ → ℕ → DeviceWords
 device node strings domains time = record { dictionary = dictionary node strings domains; time = time }
 
+-- ---- the values of options
+
+-- whether an option takes each of these words
+abbrev takes : Rule → List Text → List Bool
+takes option = map (value_passes option)
+
+node_ids : takes node_option (codes "0" ∷ codes "1" ∷ codes "127" ∷ codes "128" ∷ codes "x" ∷ []) ≡ false ∷ true ∷ true ∷ false ∷ false ∷ []
+unfolding words_on_literals
+node_ids = refl
+
+rooms_of_strings : takes strings_option (codes "0" ∷ codes "65535" ∷ codes "65536" ∷ []) ≡ true ∷ true ∷ false ∷ []
+unfolding words_on_literals
+rooms_of_strings = refl
+
+rooms_of_domains : takes domains_option (codes "0" ∷ codes "65535" ∷ codes "65536" ∷ []) ≡ true ∷ true ∷ false ∷ []
+unfolding words_on_literals
+rooms_of_domains = refl
+
+times : takes time_option (codes "0" ∷ codes "65535" ∷ codes "65536" ∷ []) ≡ true ∷ true ∷ false ∷ []
+unfolding words_on_literals
+times = refl
+
+formats_of_lint : map format_of (codes "text" ∷ codes "json" ∷ codes "sarif" ∷ codes "Text" ∷ codes "xml" ∷ []) ≡ Some AsText ∷ Some Json ∷ Some Sarif ∷ None ∷ None ∷ []
+unfolding words_on_literals
+formats_of_lint = refl
+
+colours_by_word : map colours_of (codes "auto" ∷ codes "always" ∷ codes "never" ∷ codes "red" ∷ []) ≡ Some Auto ∷ Some Always ∷ Some Never ∷ None ∷ []
+unfolding words_on_literals
+colours_by_word = refl
+
+modes : map mode_of (codes "plain" ∷ codes "segmented" ∷ codes "block" ∷ codes "Block" ∷ []) ≡ Some Plain ∷ Some Segmented ∷ Some Block ∷ None ∷ []
+unfolding words_on_literals
+modes = refl
+
+forms_of_show : map shown_as (codes "text" ∷ codes "markdown" ∷ codes "json" ∷ codes "html" ∷ []) ≡ Some Columns ∷ Some Markdown ∷ Some shown_form.Json ∷ None ∷ []
+unfolding words_on_literals
+forms_of_show = refl
+
+stamps_by_word : map stamps_of (codes "relative" ∷ codes "absolute" ∷ codes "delta" ∷ codes "date" ∷ codes "Delta" ∷ [])
+    ≡ Some Relative ∷ Some Absolute ∷ Some Delta ∷ Some Date ∷ None ∷ []
+unfolding words_on_literals
+stamps_by_word = refl
+
+stamps_by_letter : map stamps_of (codes "z" ∷ codes "a" ∷ codes "d" ∷ codes "A" ∷ codes "D" ∷ [])
+    ≡ Some Relative ∷ Some Absolute ∷ Some Delta ∷ Some Date ∷ None ∷ []
+unfolding words_on_literals
+stamps_by_letter = refl
+
+-- ---- the words of each command
+
 check_of_a_sheet : asked_after check_command (codes "check") (codes "a" ∷ []) ≡ Some (check (record { sheet = codes "a"; dictionary = dictionary None 16 889 }))
-unfolding clap_on_literals
+unfolding words_on_literals
 check_of_a_sheet = refl
 
 all_options : asked_after check_command (codes "check") (codes "--node" ∷ codes "127" ∷ codes "a" ∷ codes "--strings=0" ∷ codes "--domains" ∷ codes "65535" ∷ [])
     ≡ Some (check (record { sheet = codes "a"; dictionary = dictionary (Some 127) 0 65535 }))
-unfolding clap_on_literals
+unfolding words_on_literals
 all_options = refl
+
+check_for_node_0 : fault_of check_command (codes "check" ∷ codes "a" ∷ codes "--node" ∷ codes "0" ∷ []) ≡ kind.ValueValidation ∷ []
+unfolding words_on_literals
+check_for_node_0 = refl
+
+two_nodes : fault_of check_command (codes "check" ∷ codes "a" ∷ codes "--node" ∷ codes "5" ∷ codes "--node" ∷ codes "6" ∷ []) ≡ kind.ArgumentConflict ∷ []
+unfolding words_on_literals
+two_nodes = refl
+
+check_of_nothing : fault_of check_command (codes "check" ∷ []) ≡ kind.MissingRequiredArgument ∷ []
+unfolding words_on_literals
+check_of_nothing = refl
+
+check_of_two : fault_of check_command (codes "check" ∷ codes "a" ∷ codes "b" ∷ []) ≡ kind.UnknownArgument ∷ []
+unfolding words_on_literals
+check_of_two = refl
 
 lint_of_a_sheet : asked_after lint_command (codes "lint") (codes "a" ∷ [])
     ≡ Some (lint (record {
@@ -51,7 +121,7 @@ lint_of_a_sheet : asked_after lint_command (codes "lint") (codes "a" ∷ [])
       strict = false;
       all = false;
     }))
-unfolding clap_on_literals
+unfolding words_on_literals
 lint_of_a_sheet = refl
 
 lint_with_all_options : asked_after lint_command (codes "lint") (codes "a" ∷ codes "--allow" ∷ codes "x" ∷ codes "--strict" ∷ codes "-" ∷ codes "--node=127" ∷ codes "--format" ∷ codes "json" ∷ codes "--all" ∷ codes "--allow=y" ∷ codes "--color=always" ∷ codes "--strings=1" ∷ codes "--domains=2" ∷ [])
@@ -64,211 +134,89 @@ lint_with_all_options : asked_after lint_command (codes "lint") (codes "a" ∷ c
       strict = true;
       all = true;
     }))
-unfolding clap_on_literals
+unfolding words_on_literals
 lint_with_all_options = refl
 
-lint_of_nothing : fault_of lint_command (codes "lint" ∷ codes "--all" ∷ []) ≡ kind.MissingRequiredArgument ∷ []
-unfolding clap_on_literals
-lint_of_nothing = refl
-
 lint_in_another_format : fault_after lint_command (codes "lint") (codes "a" ∷ codes "--format" ∷ codes "xml" ∷ []) ≡ kind.InvalidValue ∷ []
-unfolding clap_on_literals
+unfolding words_on_literals
 lint_in_another_format = refl
 
 lint_in_other_colours : fault_after lint_command (codes "lint") (codes "a" ∷ codes "--color" ∷ codes "red" ∷ []) ≡ kind.InvalidValue ∷ []
-unfolding clap_on_literals
+unfolding words_on_literals
 lint_in_other_colours = refl
 
-lint_as_sarif : fault_after lint_command (codes "lint") (codes "a" ∷ codes "--format" ∷ codes "sarif" ∷ codes "--color" ∷ codes "never" ∷ []) ≡ []
-unfolding clap_on_literals
-lint_as_sarif = refl
-
 decode_of_a_trace : asked_after decode_command (codes "decode") (codes "t" ∷ []) ≡ Some (decode (record { trace = codes "t"; sheet = None; node = None }))
-unfolding clap_on_literals
+unfolding words_on_literals
 decode_of_a_trace = refl
 
 decode_with_options : asked_after decode_command (codes "decode") (codes "--node" ∷ codes "5" ∷ codes "t" ∷ codes "--sheet" ∷ codes "s" ∷ []) ≡ Some (decode (record { trace = codes "t"; sheet = Some (codes "s"); node = Some 5 }))
-unfolding clap_on_literals
+unfolding words_on_literals
 decode_with_options = refl
-
-decode_of_nothing : fault_of decode_command (codes "decode" ∷ codes "--sheet" ∷ codes "s" ∷ []) ≡ kind.MissingRequiredArgument ∷ []
-unfolding clap_on_literals
-decode_of_nothing = refl
-
-decode_for_node_128 : fault_of decode_command (codes "decode" ∷ codes "t" ∷ codes "--node" ∷ codes "128" ∷ []) ≡ kind.ValueValidation ∷ []
-unfolding clap_on_literals
-decode_for_node_128 = refl
-
--- the faults of `check a` and an option with a word
-abbrev with_option : Text → Text → List ErrorKind
-with_option option word = fault_of check_command (codes "check" ∷ codes "a" ∷ option ∷ word ∷ [])
-
-node_0 : with_option (codes "--node") (codes "0") ≡ kind.ValueValidation ∷ []
-unfolding clap_on_literals
-node_0 = refl
-
-node_1 : with_option (codes "--node") (codes "1") ≡ []
-unfolding clap_on_literals
-node_1 = refl
-
-node_127 : with_option (codes "--node") (codes "127") ≡ []
-unfolding clap_on_literals
-node_127 = refl
-
-node_128 : with_option (codes "--node") (codes "128") ≡ kind.ValueValidation ∷ []
-unfolding clap_on_literals
-node_128 = refl
-
-node_x : with_option (codes "--node") (codes "x") ≡ kind.ValueValidation ∷ []
-unfolding clap_on_literals
-node_x = refl
-
-strings_65536 : with_option (codes "--strings") (codes "65536") ≡ kind.ValueValidation ∷ []
-unfolding clap_on_literals
-strings_65536 = refl
-
-domains_65536 : with_option (codes "--domains") (codes "65536") ≡ kind.ValueValidation ∷ []
-unfolding clap_on_literals
-domains_65536 = refl
-
-two_nodes : fault_of check_command (codes "check" ∷ codes "a" ∷ codes "--node" ∷ codes "5" ∷ codes "--node" ∷ codes "6" ∷ []) ≡ kind.ArgumentConflict ∷ []
-unfolding clap_on_literals
-two_nodes = refl
-
-check_is_taken : fault_of check_command (codes "check" ∷ codes "a" ∷ []) ≡ []
-unfolding clap_on_literals
-check_is_taken = refl
-
-check_of_nothing : fault_of check_command (codes "check" ∷ []) ≡ kind.MissingRequiredArgument ∷ []
-unfolding clap_on_literals
-check_of_nothing = refl
-
-check_of_two : fault_of check_command (codes "check" ∷ codes "a" ∷ codes "b" ∷ []) ≡ kind.UnknownArgument ∷ []
-unfolding clap_on_literals
-check_of_two = refl
-
--- ---- the program's command
-
-check_asked : asked (codes "check" ∷ codes "a" ∷ []) ≡ asked_after check_command (codes "check") (codes "a" ∷ [])
-unfolding clap_on_literals
-check_asked = refl
-
-lint_asked : asked (codes "lint" ∷ codes "a" ∷ []) ≡ asked_after lint_command (codes "lint") (codes "a" ∷ [])
-unfolding clap_on_literals
-lint_asked = refl
-
-decode_asked : asked (codes "decode" ∷ codes "t" ∷ []) ≡ asked_after decode_command (codes "decode") (codes "t" ∷ [])
-unfolding clap_on_literals
-decode_asked = refl
-
-replay_asked : asked (codes "replay" ∷ codes "s" ∷ codes "t" ∷ [])
-    ≡ Some (replay (record { sheet = codes "s"; trace = codes "t"; device = device None 16 889 1000 }))
-unfolding clap_on_literals
-replay_asked = refl
-
-loop_asked : asked (codes "loop" ∷ codes "s" ∷ codes "k" ∷ codes "-" ∷ [])
-    ≡ Some (loop_back (record { sheet = codes "s"; key = codes "k"; bytes = codes "-"; mode = Plain; device = device None 16 889 1000 }))
-unfolding clap_on_literals
-loop_asked = refl
-
-show_asked : asked (codes "show" ∷ codes "a" ∷ []) ≡ asked_after show_command (codes "show") (codes "a" ∷ [])
-unfolding clap_on_literals
-show_asked = refl
-
-other_mode : task_fault (codes "conode" ∷ codes "loop" ∷ codes "s" ∷ codes "k" ∷ codes "-" ∷ codes "--mode=Block" ∷ []) ≡ kind.InvalidValue ∷ []
-unfolding clap_on_literals
-other_mode = refl
-
-no_words : asked [] ≡ None
-unfolding clap_on_literals
-no_words = refl
-
-no_words_are_taken : fault_of conode_command (codes "conode" ∷ []) ≡ []
-unfolding clap_on_literals
-no_words_are_taken = refl
-
-asked_for_help : fault_of conode_command (codes "conode" ∷ codes "--help" ∷ []) ≡ kind.DisplayHelp ∷ []
-unfolding clap_on_literals
-asked_for_help = refl
-
-asked_for_version : fault_of conode_command (codes "conode" ∷ codes "--version" ∷ []) ≡ kind.DisplayVersion ∷ []
-unfolding clap_on_literals
-asked_for_version = refl
 
 replay_of_a_trace : asked_after replay_command (codes "replay") (codes "s" ∷ codes "-" ∷ codes "--node" ∷ codes "5" ∷ [])
     ≡ Some (replay (record { sheet = codes "s"; trace = codes "-"; device = device (Some 5) 16 889 1000 }))
-unfolding clap_on_literals
+unfolding words_on_literals
 replay_of_a_trace = refl
-
-replay_without_node : asked_after replay_command (codes "replay") (codes "s" ∷ codes "t" ∷ [])
-    ≡ Some (replay (record { sheet = codes "s"; trace = codes "t"; device = device None 16 889 1000 }))
-unfolding clap_on_literals
-replay_without_node = refl
-
-replay_without_node_is_taken : fault_of replay_command (codes "replay" ∷ codes "s" ∷ codes "t" ∷ []) ≡ []
-unfolding clap_on_literals
-replay_without_node_is_taken = refl
-
-replay_for_node_0 : fault_of replay_command (codes "replay" ∷ codes "s" ∷ codes "t" ∷ codes "--node" ∷ codes "0" ∷ []) ≡ kind.ValueValidation ∷ []
-unfolding clap_on_literals
-replay_for_node_0 = refl
-
-replay_without_trace : fault_of replay_command (codes "replay" ∷ codes "s" ∷ []) ≡ kind.MissingRequiredArgument ∷ []
-unfolding clap_on_literals
-replay_without_trace = refl
-
-time_65536 : fault_of replay_command (codes "replay" ∷ codes "s" ∷ codes "t" ∷ codes "--node" ∷ codes "5" ∷ codes "--time" ∷ codes "65536" ∷ []) ≡ kind.ValueValidation ∷ []
-unfolding clap_on_literals
-time_65536 = refl
-
-loop_of_bytes : asked_after loop_command (codes "loop") (codes "s" ∷ codes "2001:00" ∷ codes "-" ∷ codes "--node" ∷ codes "127" ∷ [])
-    ≡ Some (loop_back (record { sheet = codes "s"; key = codes "2001:00"; bytes = codes "-"; mode = Plain; device = device (Some 127) 16 889 1000 }))
-unfolding clap_on_literals
-loop_of_bytes = refl
 
 loop_without_node : asked_after loop_command (codes "loop") (codes "s" ∷ codes "k" ∷ codes "-" ∷ codes "--time" ∷ codes "0" ∷ [])
     ≡ Some (loop_back (record { sheet = codes "s"; key = codes "k"; bytes = codes "-"; mode = Plain; device = device None 16 889 0 }))
-unfolding clap_on_literals
+unfolding words_on_literals
 loop_without_node = refl
-
-loop_for_node_128 : fault_after loop_command (codes "loop") (codes "s" ∷ codes "k" ∷ codes "-" ∷ codes "--node" ∷ codes "128" ∷ []) ≡ kind.ValueValidation ∷ []
-unfolding clap_on_literals
-loop_for_node_128 = refl
 
 loop_with_options : asked_after loop_command (codes "loop") (codes "--mode" ∷ codes "block" ∷ codes "s" ∷ codes "k" ∷ codes "01" ∷ codes "--node=1" ∷ codes "--strings" ∷ codes "1" ∷ codes "--domains" ∷ codes "2" ∷ codes "--time" ∷ codes "3" ∷ [])
     ≡ Some (loop_back (record { sheet = codes "s"; key = codes "k"; bytes = codes "01"; mode = Block; device = device (Some 1) 1 2 3 }))
-unfolding clap_on_literals
+unfolding words_on_literals
 loop_with_options = refl
 
-loop_in_another_mode : fault_after loop_command (codes "loop") (codes "s" ∷ codes "k" ∷ codes "01" ∷ codes "--node" ∷ codes "5" ∷ codes "--mode" ∷ codes "Block" ∷ []) ≡ kind.InvalidValue ∷ []
-unfolding clap_on_literals
+loop_in_another_mode : fault_after loop_command (codes "loop") (codes "s" ∷ codes "k" ∷ codes "-" ∷ codes "--mode=Block" ∷ []) ≡ kind.InvalidValue ∷ []
+unfolding words_on_literals
 loop_in_another_mode = refl
 
-loop_in_segments : fault_after loop_command (codes "loop") (codes "s" ∷ codes "k" ∷ codes "01" ∷ codes "--node" ∷ codes "5" ∷ codes "--mode" ∷ codes "segmented" ∷ []) ≡ []
-unfolding clap_on_literals
-loop_in_segments = refl
-
-loop_without_bytes : fault_after loop_command (codes "loop") (codes "s" ∷ codes "k" ∷ codes "--node" ∷ codes "5" ∷ []) ≡ kind.MissingRequiredArgument ∷ []
-unfolding clap_on_literals
-loop_without_bytes = refl
+show_as_text : fault_after show_command (codes "show") (codes "a" ∷ []) ≡ []
+unfolding words_on_literals
+show_as_text = refl
 
 show_of_a_sheet : asked_after show_command (codes "show") (codes "a" ∷ []) ≡ Some (show (record { sheet = codes "a"; node = None; shown_as = Columns }))
-unfolding clap_on_literals
+unfolding words_on_literals
 show_of_a_sheet = refl
 
 show_with_options : asked_after show_command (codes "show") (codes "--format" ∷ codes "markdown" ∷ codes "a" ∷ codes "--node" ∷ codes "127" ∷ [])
     ≡ Some (show (record { sheet = codes "a"; node = Some 127; shown_as = Markdown }))
-unfolding clap_on_literals
+unfolding words_on_literals
 show_with_options = refl
 
 show_in_another_format : fault_after show_command (codes "show") (codes "a" ∷ codes "--format" ∷ codes "html" ∷ []) ≡ kind.InvalidValue ∷ []
-unfolding clap_on_literals
+unfolding words_on_literals
 show_in_another_format = refl
 
-show_as_text : fault_after show_command (codes "show") (codes "a" ∷ codes "--format" ∷ codes "text" ∷ []) ≡ []
-unfolding clap_on_literals
-show_as_text = refl
+adapt_of_a_sheet : asked_after adapt_command (codes "adapt") (codes "a" ∷ []) ≡ Some (adapt (record { sheet = codes "a" }))
+unfolding words_on_literals
+adapt_of_a_sheet = refl
 
-show_for_node_128 : fault_after show_command (codes "show") (codes "a" ∷ codes "--node" ∷ codes "128" ∷ []) ≡ kind.ValueValidation ∷ []
-unfolding clap_on_literals
-show_for_node_128 = refl
+adapt_without_sheet : fault_after adapt_command (codes "adapt") [] ≡ kind.MissingRequiredArgument ∷ []
+unfolding words_on_literals
+adapt_without_sheet = refl
+
+explain_of_a_trace : asked_after explain_command (codes "explain") (codes "t" ∷ []) ≡ Some (explain (record { trace = codes "t"; sheet = None; stamps = Relative }))
+unfolding words_on_literals
+explain_of_a_trace = refl
+
+explain_with_options : asked_after explain_command (codes "explain") (codes "-t" ∷ codes "A" ∷ codes "-" ∷ codes "--sheet" ∷ codes "5=s" ∷ [])
+    ≡ Some (explain (record { trace = codes "-"; sheet = Some (codes "5=s"); stamps = Date }))
+unfolding words_on_literals
+explain_with_options = refl
+
+explain_in_other_stamps : fault_after explain_command (codes "explain") (codes "t" ∷ codes "--stamps=zero" ∷ []) ≡ kind.InvalidValue ∷ []
+unfolding words_on_literals
+explain_in_other_stamps = refl
+
+-- ---- the program's command
+
+commands_by_name : map (λ (s : Shape). s.name) conode_command.subs ≡ codes "check" ∷ codes "lint" ∷ codes "decode" ∷ codes "replay" ∷ codes "loop" ∷ codes "show" ∷ codes "adapt" ∷ codes "explain" ∷ []
+unfolding words_on_literals
+commands_by_name = refl
+
+replay_asked : asked (codes "replay" ∷ codes "s" ∷ codes "t" ∷ [])
+    ≡ Some (replay (record { sheet = codes "s"; trace = codes "t"; device = device None 16 889 1000 }))
+unfolding words_on_literals
+replay_asked = refl

@@ -1,5 +1,5 @@
 -- What clap makes of the program's command, and Rust's `parse` of a word.
-use Rattle.std.proofs.Common.{◌≡◌, ℕ, ◌^◌, Bool, true, false, List, [], ◌∷◌, Some, None, Option, IsSomeAnd, Result, Ok, Err, inl, inr, refl, sym, ap}
+use Rattle.std.proofs.Common.{◌≡◌, ℕ, ◌^◌, Bool, true, false, List, [], ◌∷◌, Some, None, Result, Ok, Err, inl, inr, refl, sym, ap}
 use Rattle.std.proofs.lemmas.Bool.{ltb-true, lt-ltb}
 use Rattle.std.specs.Prelude.{◌&&◌, nat_lt, length, option_map}
 use Rattle.std.specs.Result.{result_ok}
@@ -7,26 +7,22 @@ use Rattle.std.specs.Char.{digit_value}
 use Rattle.std.specs.List.{list_all}
 use Rattle.std.specs.Str.Parse.{AllDigits, ParsesUnsigned, digits_value, without_leading_plus}
 use Rattle.clap.specs.Kinds.{Kinds, HasKind, or_else}
-use Rattle.clap.specs.Words.{Text, all_of, first_of, first_value, matched_of, raw_values, rows_of, is_simple, is_simple_and_free}
-use Rattle.clap.specs.declared.builder.range.ValueRange.{ValueRange}
+use Rattle.clap.specs.Words.{Text, all_of, first_of, first_value, matched_of, raw_values, rows_of, built, is_simple, is_simple_and_free}
+use Rattle.clap.specs.Faults.{is_free_app}
 use Rattle.clap.specs.declared.error.Error.{Error}
 use Rattle.clap.specs.ValueTests.{is_numeral}
 use Rattle.clap.specs.declared.parser.matches.Found.{Found}
-use Rattle.clap.proofs.OnLiterals.{clap_on_literals}
 use Rattle.clap.proofs.WalkLemmas.{both, first_value-rows, raw_values-rows}
-use Rattle.conode_words.specs.Tasks.{conode_command, number_of_bits}
+use Rattle.conode_words.specs.Commands.{conode_command}
+use Rattle.conode_words.specs.Tasks.{number_of_bits}
+use Rattle.conode_words.proofs.OnLiterals.{words_on_literals}
 
 pub is_free_command : is_simple_and_free conode_command ≡ true
-unfolding clap_on_literals
+unfolding words_on_literals
 is_free_command = refl
 
 pub first_in_rows : (found : Found) (name : Text) → first_of name (rows_of found) ≡ first_value found name
 first_in_rows found name = sym (first_value-rows found name)
-
--- a range that is there is the one that it has to be
-pub some_range : (given : Option ValueRange) (range : ValueRange) → IsSomeAnd given (λ r. r ≡ range) → given ≡ Some range
-some_range None range h = absurd h
-some_range (Some r) range h = ap Some h
 
 pub all_in_rows : (found : Found) (name : Text) → all_of name (rows_of found) ≡ option_map raw_values (matched_of found name)
 all_in_rows found name = sym (raw_values-rows found name)
@@ -44,6 +40,7 @@ digits_from (d ∷ ds) e =
 
 -- what `parse` gives of a word
 pub number_read : {E : Type 0} (bits : ℕ) (word : Text) (r : Result ℕ E) → ParsesUnsigned bits 10 word r → result_ok r ≡ number_of_bits bits word
+unfolding number_of_bits
 number_read bits word (Ok n) h =
     let ds = without_leading_plus word in
     rw (lt-ltb 0 (length ds) h.0.0.0, digits_pass ds h.0.0.1, lt-ltb (digits_value 10 ds) (2 ^ bits) h.0.1) (ap (λ (k : ℕ). Some k) h.1)
@@ -72,5 +69,4 @@ pub word_decides : {Rows : Type 0} (fault : Rows → Kinds) (kinds : Kinds) (row
 word_decides fault kinds rows given none same = rw (none, same) refl
 
 pub is_simple_command : is_simple conode_command ≡ true
-unfolding clap_on_literals
-is_simple_command = refl
+is_simple_command = (both (is_simple conode_command) (is_free_app (built conode_command)) is_free_command).0

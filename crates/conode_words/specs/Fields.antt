@@ -3,7 +3,7 @@ use Rattle.std.specs.Prelude.{◌≡◌, ℕ, List, codes, Option, Some, IsSomeA
 use Rattle.clap.specs.Words.{Row, Text, first_of}
 use Rattle.conode_words.specs.declared.tasks.DeviceWords.{DeviceWords}
 use Rattle.conode_words.specs.declared.tasks.DictionaryWords.{DictionaryWords}
-use Rattle.conode_words.specs.Tasks.{Asked, check, lint, decode, replay, loop_back, show, colours_of, format_of, is_used, mode_of, number_for, number_of_bits, shown_as, words_for}
+use Rattle.conode_words.specs.Tasks.{Asked, check, lint, decode, replay, loop_back, show, adapt, explain, colours_of, format_of, is_used, mode_of, number_for, number_of_bits, shown_as, stamps_of, words_for}
 
 -- the word, or the value of an option, is this one
 abbrev pub IsWord : Text → List Row → Text → Type 0
@@ -54,3 +54,7 @@ AsksFor name rows (loop_back a) =
 AsksFor name rows (show a) =
     (name ≡ codes "show") × IsWord (codes "SHEET") rows a.sheet × IsNode rows a.node
     × IsChoice shown_as (codes "format") rows a.shown_as
+AsksFor name rows (adapt a) = (name ≡ codes "adapt") × IsWord (codes "SHEET") rows a.sheet
+AsksFor name rows (explain a) =
+    (name ≡ codes "explain") × IsWord (codes "TRACE") rows a.trace
+    × (a.sheet ≡ first_of (codes "sheet") rows) × IsChoice stamps_of (codes "stamps") rows a.stamps

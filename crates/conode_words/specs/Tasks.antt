@@ -5,13 +5,11 @@ use Rattle.std.specs.Str.{bytes_eq}
 use Rattle.std.specs.Str.Parse.{digits_value, without_leading_plus}
 use Rattle.clap.specs.ValueTests.{is_numeral}
 use Rattle.clap.specs.Kinds.{Kinds, or_else}
-use Rattle.clap.specs.Lexer.{usize_max}
-use Rattle.clap.specs.Words.{App, Row, Rule, Text, all_of, fault_of, first_of, new_app, new_rule, subcommand_of, with_rule, with_subcommand}
-use Rattle.clap.specs.declared.builder.action.ArgAction.TheVariants.{Append, SetTrue}
-use Rattle.clap.specs.declared.builder.value_parser.ValueParser.TheVariants.{Unsigned}
+use Rattle.clap.specs.Words.{Row, Text, all_of, fault_of, first_of, subcommand_of}
 use Rattle.clap.specs.declared.error.kind.ErrorKind.TheVariants.{InvalidValue}
 use Rattle.co_sdo_client.specs.declared.mode.Mode.{Mode}
 use Rattle.co_sdo_client.specs.declared.mode.Mode.TheVariants.{Plain, Segmented, Block}
+use Rattle.conode_words.specs.Commands.{conode_command}
 use Rattle.conode_words.specs.declared.tasks.DeviceWords.{DeviceWords}
 use Rattle.conode_words.specs.declared.tasks.DictionaryWords.{DictionaryWords}
 use Rattle.conode_words.specs.declared.tasks.Colours.{Colours}
@@ -19,121 +17,12 @@ use Rattle.conode_words.specs.declared.tasks.Colours.TheVariants.{Auto, Always, 
 use Rattle.conode_words.specs.declared.tasks.Format.{Format}
 use Rattle.conode_words.specs.declared.tasks.Format.TheVariants as format
 use Rattle.conode_words.specs.declared.tasks.Task.{Task}
-use Rattle.conode_words.specs.declared.tasks.Task.TheVariants.{Check, Lint, Decode, Replay, LoopBack, Show}
+use Rattle.conode_words.specs.declared.tasks.Task.TheVariants.{Check, Lint, Decode, Replay, LoopBack, Show, Adapt, Explain}
+use Rattle.conode_words.specs.declared.tasks.Stamps.{Stamps}
+use Rattle.conode_words.specs.declared.tasks.Stamps.TheVariants.{Relative, Absolute, Delta, Date}
 use Rattle.conode_words.specs.declared.tasks.ShownAs.{ShownAs}
 use Rattle.conode_words.specs.declared.tasks.ShownAs.TheVariants.{Columns, Markdown}
-
--- a word that has to be there
-abbrev pub wanted : Text → Rule
-wanted id = record (new_rule id) { required = true }
-
--- an option `--NAME N` with a number from one to another, and what stands for it where it isn't used
-abbrev pub numbered : Text → ℕ → ℕ → List Text → Rule
-numbered name low high default = record (new_rule name) {
-  long = Some name;
-  value_names = 1;
-  parser = Some (Unsigned low high);
-  defaults = default;
-}
-
--- `--node N`, a node-ID; `--strings N` and `--domains N`, bytes of room
-abbrev pub node_option : Rule
-node_option = numbered (codes "node") 1 127 []
-
-abbrev pub strings_option : Rule
-strings_option = numbered (codes "strings") 0 65535 (codes "16" ∷ [])
-
-abbrev pub domains_option : Rule
-domains_option = numbered (codes "domains") 0 65535 (codes "889" ∷ [])
-
--- `check SHEET [--node N] [--strings N] [--domains N]`
-abbrev pub check_command : App
-check_command =
-    with_rule (with_rule (with_rule (with_rule (new_app (codes "check"))
-    (wanted (codes "SHEET"))) node_option) strings_option) domains_option
-
--- words that have to be there, one at least
-abbrev pub many_wanted : Text → Rule
-many_wanted id =
-    record (wanted id) { range = Some (record { start_inclusive = 1; end_inclusive = usize_max }) }
-
--- an option `--NAME` without a value; one with a word and what stands for it where it isn't used; and one that may
--- be used again and again
-abbrev pub flag : Text → Rule
-flag name = record (new_rule name) { long = Some name; action = Some SetTrue }
-
-abbrev pub worded : Text → Text → Rule
-worded name default =
-    record (new_rule name) { long = Some name; value_names = 1; defaults = default ∷ [] }
-
-abbrev pub repeated : Text → Rule
-repeated name =
-    record (new_rule name) { long = Some name; value_names = 1; action = Some Append }
-
--- `lint SHEET|DIR.. [--node N] [--strings N] [--domains N] [--format FORMAT] [--strict] [--all] [--allow NAME]..
--- [--color WHEN]`
-abbrev pub lint_of_sheets : App
-lint_of_sheets =
-    with_rule (with_rule (with_rule (with_rule (new_app (codes "lint")) (many_wanted (codes "SHEET")))
-    node_option) strings_option) domains_option
-
-abbrev pub lint_command : App
-lint_command =
-    with_rule (with_rule (with_rule (with_rule (with_rule lint_of_sheets
-    (worded (codes "format") (codes "text"))) (flag (codes "strict"))) (flag (codes "all")))
-    (repeated (codes "allow"))) (worded (codes "color") (codes "auto"))
-
--- `--sheet SHEET`, a path
-abbrev pub sheet_option : Rule
-sheet_option = record (new_rule (codes "sheet")) { long = Some (codes "sheet"); value_names = 1 }
-
--- `decode TRACE [--sheet SHEET] [--node N]`
-abbrev pub decode_command : App
-decode_command =
-    with_rule (with_rule (with_rule (new_app (codes "decode")) (wanted (codes "TRACE"))) sheet_option) node_option
-
--- `--time N`, ms; `--mode MODE`
-abbrev pub time_option : Rule
-time_option = numbered (codes "time") 0 65535 (codes "1000" ∷ [])
-
-abbrev pub mode_option : Rule
-mode_option = worded (codes "mode") (codes "plain")
-
--- a command with the room of strings and domains, and the time
-abbrev pub with_rooms : App → App
-with_rooms app = with_rule (with_rule (with_rule app strings_option) domains_option) time_option
-
--- `replay SHEET TRACE [--node N] [--strings N] [--domains N] [--time N]`
-abbrev pub replay_command : App
-replay_command =
-    with_rooms (with_rule (with_rule (with_rule (new_app (codes "replay"))
-    (wanted (codes "SHEET"))) (wanted (codes "TRACE"))) node_option)
-
--- `loop SHEET KEY HEX [--node N] [--mode MODE] [--strings N] [--domains N] [--time N]`
-abbrev pub loop_command : App
-loop_command =
-    with_rooms (with_rule (with_rule (with_rule (with_rule (with_rule (new_app (codes "loop"))
-    (wanted (codes "SHEET"))) (wanted (codes "KEY"))) (wanted (codes "HEX"))) node_option) mode_option)
-
--- `--format FORMAT`
-abbrev pub shown_option : Rule
-shown_option = worded (codes "format") (codes "text")
-
--- `show SHEET [--node N] [--format FORMAT]`
-abbrev pub show_command : App
-show_command =
-    with_rule (with_rule (with_rule (new_app (codes "show")) (wanted (codes "SHEET"))) node_option) shown_option
-
--- a command with `--version`
-abbrev pub versioned : App → App
-versioned app = record app { top = record app.top { has_version = true } }
-
--- the program's command
-abbrev pub conode_command : App
-conode_command =
-    with_subcommand (with_subcommand (with_subcommand (with_subcommand (with_subcommand (with_subcommand
-    (versioned (new_app (codes "conode"))) check_command.top) lint_command.top) decode_command.top)
-    replay_command.top) loop_command.top) show_command.top
+use Rattle.conode_words.specs.declared.tasks.ShownAs.TheVariants as shown_form
 
 -- what the words after `check` ask for: texts and numbers
 pub record AskedCheck : Type 0 where
@@ -176,6 +65,16 @@ pub record AskedShow : Type 0 where
   pub node : Option ℕ
   pub shown_as : ShownAs
 
+-- what the words after `adapt` ask for
+pub record AskedAdapt : Type 0 where
+  pub sheet : Text
+
+-- what the words after `explain` ask for
+pub record AskedExplain : Type 0 where
+  pub trace : Text
+  pub sheet : Option Text
+  pub stamps : Stamps
+
 -- what the words ask for
 pub data Asked : Type 0 where
   check : AskedCheck → Asked
@@ -184,6 +83,8 @@ pub data Asked : Type 0 where
   replay : AskedReplay → Asked
   loop_back : AskedLoop → Asked
   show : AskedShow → Asked
+  adapt : AskedAdapt → Asked
+  explain : AskedExplain → Asked
 
 -- what a task asks for
 abbrev pub asked_by : Task → Asked
@@ -205,67 +106,70 @@ asked_by (Replay sheet trace device) =
 asked_by (LoopBack sheet key bytes mode device) =
     loop_back (record { sheet = sheet.now; key = key.now; bytes = bytes.now; mode = mode; device = device })
 asked_by (Show sheet node form) = show (record { sheet = sheet.now; node = node; shown_as = form })
+asked_by (Adapt sheet) = adapt (record { sheet = sheet.now })
+asked_by (Explain trace sheet stamps) =
+    explain (record { trace = trace.now; sheet = option_copied sheet; stamps = stamps })
 
 -- the number that a word is, of so many bits: decimal digits, perhaps after a plus
-abbrev pub number_of_bits : ℕ → Text → Option ℕ
+unfoldable pub number_of_bits : ℕ → Text → Option ℕ
 number_of_bits bits word =
     let number = digits_value 10 (without_leading_plus word) in
     if is_numeral (without_leading_plus word) && nat_lt number (2 ^ bits) then Some number else None
 
 -- the number of an option
-abbrev pub number_for : ℕ → Text → List Row → Option ℕ
+unfoldable pub number_for : ℕ → Text → List Row → Option ℕ
 number_for bits name rows = option_and_then (number_of_bits bits) (first_of name rows)
 
 -- what the matches say of a dictionary
-abbrev pub asked_dictionary : List Row → Option DictionaryWords
+unfoldable pub asked_dictionary : List Row → Option DictionaryWords
 asked_dictionary rows =
     option_and_then (λ strings. option_map (λ domains.
     record { node = number_for 8 (codes "node") rows; strings = strings; domains = domains })
     (number_for 16 (codes "domains") rows)) (number_for 16 (codes "strings") rows)
 
 -- what the matches say of a device
-abbrev pub asked_device : List Row → Option DeviceWords
+unfoldable pub asked_device : List Row → Option DeviceWords
 asked_device rows =
     option_and_then (λ dictionary. option_map (λ time. record { dictionary = dictionary; time = time })
     (number_for 16 (codes "time") rows)) (asked_dictionary rows)
 
 -- what the matches of `check` ask for
-abbrev pub asked_check : List Row → Option Asked
+unfoldable pub asked_check : List Row → Option Asked
 asked_check rows =
     option_and_then (λ sheet. option_map (λ dictionary.
     check (record { sheet = sheet; dictionary = dictionary }))
     (asked_dictionary rows)) (first_of (codes "SHEET") rows)
 
 -- all words of an option or of what has to be there
-abbrev pub words_for : Text → List Row → List Text
+unfoldable pub words_for : Text → List Row → List Text
 words_for name rows = option_map_or (λ words. words) (all_of name rows) []
 
 -- whether a flag is used
-abbrev pub is_used : Text → List Row → Bool
+unfoldable pub is_used : Text → List Row → Bool
 is_used name rows = option_map_or (λ word. bytes_eq word (codes "true")) (first_of name rows) false
 
 -- the format that a word names
-abbrev pub format_of : Text → Option Format
+unfoldable pub format_of : Text → Option Format
 format_of word =
     if bytes_eq word (codes "text") then Some format.Text
     else (if bytes_eq word (codes "json") then Some format.Json
     else (if bytes_eq word (codes "sarif") then Some format.Sarif else None))
 
 -- when there are colours, as a word names it
-abbrev pub colours_of : Text → Option Colours
+unfoldable pub colours_of : Text → Option Colours
 colours_of word =
     if bytes_eq word (codes "auto") then Some Auto
     else (if bytes_eq word (codes "always") then Some Always
     else (if bytes_eq word (codes "never") then Some Never else None))
 
-abbrev pub format_for : List Row → Option Format
+unfoldable pub format_for : List Row → Option Format
 format_for rows = option_and_then format_of (first_of (codes "format") rows)
 
-abbrev pub colours_for : List Row → Option Colours
+unfoldable pub colours_for : List Row → Option Colours
 colours_for rows = option_and_then colours_of (first_of (codes "color") rows)
 
 -- what the matches of `lint` ask for, with its sheets and what it allows
-abbrev pub asked_lint_of : List Text → List Text → List Row → Option Asked
+unfoldable pub asked_lint_of : List Text → List Text → List Row → Option Asked
 asked_lint_of sheets allowed rows =
     option_and_then (λ dictionary. option_and_then (λ format. option_map (λ colours.
     lint (record {
@@ -279,37 +183,37 @@ asked_lint_of sheets allowed rows =
     }))
     (colours_for rows)) (format_for rows)) (asked_dictionary rows)
 
-abbrev pub asked_lint : List Row → Option Asked
+unfoldable pub asked_lint : List Row → Option Asked
 asked_lint rows =
     asked_lint_of (words_for (codes "SHEET") rows) (words_for (codes "allow") rows) rows
 
 -- what the matches of `decode` ask for
-abbrev pub asked_decode : List Row → Option Asked
+unfoldable pub asked_decode : List Row → Option Asked
 asked_decode rows =
     option_map (λ trace. decode
     (record { trace = trace; sheet = first_of (codes "sheet") rows; node = number_for 8 (codes "node") rows }))
     (first_of (codes "TRACE") rows)
 
 -- what the matches of `replay` ask for
-abbrev pub asked_replay : List Row → Option Asked
+unfoldable pub asked_replay : List Row → Option Asked
 asked_replay rows =
     option_and_then (λ sheet. option_and_then (λ trace. option_map (λ device.
     replay (record { sheet = sheet; trace = trace; device = device }))
     (asked_device rows)) (first_of (codes "TRACE") rows)) (first_of (codes "SHEET") rows)
 
 -- the mode that a word names
-abbrev pub mode_of : Text → Option Mode
+unfoldable pub mode_of : Text → Option Mode
 mode_of word =
     if bytes_eq word (codes "plain") then Some Plain
     else (if bytes_eq word (codes "segmented") then Some Segmented
     else (if bytes_eq word (codes "block") then Some Block else None))
 
 -- the mode of matches
-abbrev pub mode_for : List Row → Option Mode
+unfoldable pub mode_for : List Row → Option Mode
 mode_for rows = option_and_then mode_of (first_of (codes "mode") rows)
 
 -- what the matches of `loop` ask for
-abbrev pub asked_loop : List Row → Option Asked
+unfoldable pub asked_loop : List Row → Option Asked
 asked_loop rows =
     option_and_then (λ sheet. option_and_then (λ key. option_and_then (λ bytes. option_and_then (λ mode.
     option_map (λ device.
@@ -318,54 +222,82 @@ asked_loop rows =
     (first_of (codes "SHEET") rows)
 
 -- the form that a word names
-abbrev pub shown_as : Text → Option ShownAs
+unfoldable pub shown_as : Text → Option ShownAs
 shown_as word =
     if bytes_eq word (codes "text") then Some Columns
-    else (if bytes_eq word (codes "markdown") then Some Markdown else None)
+    else (if bytes_eq word (codes "markdown") then Some Markdown
+    else (if bytes_eq word (codes "json") then Some shown_form.Json else None))
 
 -- the form of matches
-abbrev pub shown_for : List Row → Option ShownAs
+unfoldable pub shown_for : List Row → Option ShownAs
 shown_for rows = option_and_then shown_as (first_of (codes "format") rows)
 
 -- what the matches of `show` ask for
-abbrev pub asked_show : List Row → Option Asked
+unfoldable pub asked_show : List Row → Option Asked
 asked_show rows =
     option_and_then (λ sheet. option_map (λ form.
     show (record { sheet = sheet; node = number_for 8 (codes "node") rows; shown_as = form }))
     (shown_for rows)) (first_of (codes "SHEET") rows)
 
+-- what the matches of `adapt` ask for
+unfoldable pub asked_adapt : List Row → Option Asked
+asked_adapt rows =
+    option_map (λ sheet. adapt (record { sheet = sheet })) (first_of (codes "SHEET") rows)
+
+-- the form of stamps that a word names, or a letter, as candump has them
+unfoldable pub stamps_of : Text → Option Stamps
+stamps_of word =
+    if bytes_eq word (codes "relative") || bytes_eq word (codes "z") then Some Relative
+    else (if bytes_eq word (codes "absolute") || bytes_eq word (codes "a") then Some Absolute
+    else (if bytes_eq word (codes "delta") || bytes_eq word (codes "d") then Some Delta
+    else (if bytes_eq word (codes "date") || bytes_eq word (codes "A") then Some Date else None)))
+
+-- the form of stamps of matches
+unfoldable pub stamps_for : List Row → Option Stamps
+stamps_for rows = option_and_then stamps_of (first_of (codes "stamps") rows)
+
+-- what the matches of `explain` ask for
+unfoldable pub asked_explain : List Row → Option Asked
+asked_explain rows =
+    option_and_then (λ trace. option_map (λ stamps.
+    explain (record { trace = trace; sheet = first_of (codes "sheet") rows; stamps = stamps }))
+    (stamps_for rows)) (first_of (codes "TRACE") rows)
+
 -- what the matches of a subcommand other than `lint` ask for
-abbrev pub asked_other : Text → List Row → Option Asked
+unfoldable pub asked_other : Text → List Row → Option Asked
 asked_other name rows =
     if bytes_eq name (codes "check") then asked_check rows
     else (if bytes_eq name (codes "decode") then asked_decode rows
     else (if bytes_eq name (codes "replay") then asked_replay rows
     else (if bytes_eq name (codes "loop") then asked_loop rows
-    else (if bytes_eq name (codes "show") then asked_show rows else None))))
+    else (if bytes_eq name (codes "show") then asked_show rows
+    else (if bytes_eq name (codes "adapt") then asked_adapt rows
+    else (if bytes_eq name (codes "explain") then asked_explain rows else None))))))
 
 -- what the matches of a subcommand ask for
-abbrev pub asked_in : Text → List Row → Option Asked
+unfoldable pub asked_in : Text → List Row → Option Asked
 asked_in name rows = if bytes_eq name (codes "lint") then asked_lint rows else asked_other name rows
 
 -- what the matches of the program's command ask for; nothing without a subcommand
-abbrev pub asked_of : Option (Text × List Row) → Option Asked
+unfoldable pub asked_of : Option (Text × List Row) → Option Asked
 asked_of matches = option_and_then (λ m. asked_in m.0 m.1) matches
 
 -- the matches of a subcommand have a word that is none of those that it takes: the mode of `loop`, the format and
--- the colours of `lint`, the form of `show`
-abbrev pub is_other : Text → List Row → Bool
+-- the colours of `lint`, the form of `show`, the stamps of `explain`
+unfoldable pub is_other : Text → List Row → Bool
 is_other name rows =
     if bytes_eq name (codes "loop") then is_none (mode_for rows)
     else (if bytes_eq name (codes "lint") then is_none (format_for rows) || is_none (colours_for rows)
-    else (if bytes_eq name (codes "show") then is_none (shown_for rows) else false))
+    else (if bytes_eq name (codes "show") then is_none (shown_for rows)
+    else (if bytes_eq name (codes "explain") then is_none (stamps_for rows) else false)))
 
-abbrev pub has_other_word : Option (Text × List Row) → Bool
+unfoldable pub has_other_word : Option (Text × List Row) → Bool
 has_other_word matches = option_map_or (λ m. is_other m.0 m.1) matches false
 
 -- why matches are refused for such a word
-abbrev pub word_fault : Option (Text × List Row) → Kinds
+unfoldable pub word_fault : Option (Text × List Row) → Kinds
 word_fault matches = if has_other_word matches then InvalidValue ∷ [] else []
 
 -- why words are refused: by the rules of the command, or for such a word
-abbrev pub task_fault : List Text → Kinds
+unfoldable pub task_fault : List Text → Kinds
 task_fault words = or_else (fault_of conode_command words) (word_fault (subcommand_of conode_command words))

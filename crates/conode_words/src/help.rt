@@ -1,7 +1,7 @@
 //! The longer texts of help, in lines of at most 80 columns.
 
 /// What `--version` prints after the program's name: its version, and the kit that proves it.
-pub const VERSION: &str = "0.4.0, proved with rattle-kit-13f logic dac8208d650f15bf";
+pub const VERSION: &str = "0.5.0, proved with rattle-kit-13b logic dac8208d650f15bf";
 
 /// What the program does without a command.
 pub const TRACES: &str = "\
@@ -154,7 +154,7 @@ are wrong, or there is no node-ID.";
 pub const MODES: &str = "invalid value for '--mode <MODE>': plain, segmented or block";
 
 /// What is said of a form of `show` that is none.
-pub const SHOWN_FORMS: &str = "invalid value for '--format <FORMAT>': text or markdown";
+pub const SHOWN_FORMS: &str = "invalid value for '--format <FORMAT>': text, markdown or json";
 
 /// What `show` prints.
 pub const SHOWN: &str = "\
@@ -169,9 +169,28 @@ DCF with a node-ID, `$NODEID+600h` has its value beside it.
 
 A sheet with a fault is shown too, a value that can't be read as it is written:
 `check` finds faults. Where a line by itself is at fault, as `fault 2 BadLine
-line 7`, that is all that is printed.
+line 7`, that is all that is printed. --format json prints one document.
 
 Status: 0 if the dictionary is shown, 1 if not, 2 if the words are wrong.";
+
+/// What `adapt` prints.
+pub const ADAPTED: &str = "\
+Prints the sheet with what can be rewritten safely: CompactSubObj as sections of
+its own, REAL32 and REAL64 by their bits, times and texts in UTF-16 by their
+bytes (the original type stays in OriginalDataType), keys of lists with leading
+zeros, blanks in names of sections, a sub-index 0 without type or access, values
+with an extended sign, unsigned limits of signed numbers. Each change goes to
+standard error, as `NAME:LINE: what changed: old -> new`; all other lines stay.
+
+  conode adapt vendor.eds > adapted.eds
+
+Where something remains that no rule mends, nothing is printed but its faults,
+on standard error, as `lint` prints them. A sheet that is accepted already
+stays as it is. The first line says what the sheet was made from: it is for this
+program, not for configuration tools.
+
+Status: 0 if a sheet is printed, 1 if not or if memory ran out, 2 if the file
+can't be read or the words are wrong.";
 
 /// What `decode` prints.
 pub const DECODED: &str = "\
@@ -186,3 +205,29 @@ Empty lines, comments (`;`), event lines (`!`) and other frames print nothing.
 Status: 0 if all of the trace was decoded, 1 if not; then the last line says
 why, as `stopped: BadLine 3`, or `fault 9 BadList line 1` for the sheet; 2 if
 the words are wrong.";
+
+/// What is said of a form of stamps that is none.
+pub const STAMPS: &str = "invalid value for '--stamps <FORM>': relative, absolute, delta or date";
+
+/// What `explain` prints.
+pub const EXPLAINED: &str = "\
+Prints a line for each frame of a recording, of every kind: its stamp, the time
+since the frame before it, its interface (from the first frame of a second one
+on), its identifier, its length and data, and what it says, the code of an SDO
+abort in words:
+
+     0.000400  +0.000012  581  [8] 80 00 20 00 11 00 09 06  SDO answer node 1
+     abort 2000:00 06090011 (no such sub-index)        (this is one line)
+
+With --sheet the entry's name follows in quotes; `--sheet 5=sensor.eds` is for
+node-ID 5 alone. Empty lines, comments (`;`) and event lines (`!`) print
+nothing. A bad line is named on standard error, with its number and what is
+wrong, and the rest goes on. `-` as TRACE is standard input; each line is out
+before the next read that could wait. Values of PDOs and whole transfers are not
+explained yet. The stamps' forms have the letters z, a, d and A too, those of
+candump.
+
+  candump -L can0 | conode explain - --sheet 5=sensor.eds
+
+Status: 0 if all lines are good, or only the last is bad and no line feed ends
+it; 1 if a line is bad or the recording can't be read; 2 if the words are wrong.";

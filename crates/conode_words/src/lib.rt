@@ -1,10 +1,13 @@
 //! What the words of the command line ask for, and the text of help.
 #![tactic(auto)]
 
+mod asked;
 mod command_line;
+mod commands;
 mod help;
+mod options;
 mod tasks;
 
 pub use command_line::task;
 pub use help::VERSION;
-pub use tasks::{Colours, DeviceWords, DictionaryWords, Format, LintWords, ShownAs, Task};
+pub use tasks::{Colours, DeviceWords, DictionaryWords, Format, LintWords, ShownAs, Stamps, Task};

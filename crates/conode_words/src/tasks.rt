@@ -29,6 +29,21 @@ pub enum ShownAs {
     Columns,
     /// As tables and headings of Markdown.
     Markdown,
+    /// As one document of JSON.
+    Json,
+}
+
+/// In which form `explain` writes stamps.
+#[derive(Clone, Copy, Debug, PartialEq, Eq)]
+pub enum Stamps {
+    /// Since the first frame.
+    Relative,
+    /// As the recording has them.
+    Absolute,
+    /// Since the frame before.
+    Delta,
+    /// As dates and times of day, UTC.
+    Date,
 }
 
 /// How `lint` writes what it finds.
@@ -52,7 +67,7 @@ pub enum Colours {
 }
 
 /// What the words say of `lint`.
-#[derive(Debug, Drop)]
+#[derive(Drop)]
 pub struct LintWords<'a> {
     /// The paths of sheets and folders, `-` for standard input.
     pub sheets: Vec<&'a str>,
@@ -69,7 +84,7 @@ pub struct LintWords<'a> {
 }
 
 /// What the program is asked to do.
-#[derive(Debug, Drop)]
+#[derive(Drop)]
 pub enum Task<'a> {
     /// To check a data sheet.
     Check {
@@ -119,5 +134,20 @@ pub enum Task<'a> {
         node: Option<u8>,
         /// In which form.
         shown_as: ShownAs,
+    },
+    /// To rewrite a vendor's data sheet to one that is accepted.
+    Adapt {
+        /// The sheet's path.
+        sheet: &'a str,
+    },
+    /// To explain a recording.
+    Explain {
+        /// The recording's path, `-` for standard input.
+        trace: &'a str,
+        /// The path of the data sheet that has the names of entries, perhaps with the node-ID that it is for, as
+        /// `5=sensor.eds`; `None`: they aren't named.
+        sheet: Option<&'a str>,
+        /// In which form stamps are written.
+        stamps: Stamps,
     },
 }

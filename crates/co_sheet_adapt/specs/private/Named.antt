@@ -1,5 +1,5 @@
 -- What a table of names or values gives a sub-index.
-use Rattle.std.specs.Prelude.{◌≡◌, ℕ, List, Option, option_map, codes}
+use Rattle.std.specs.Prelude.{◌≡◌, ℕ, List, Option, codes}
 use Rattle.std.specs.Option.{option_copied}
 use Rattle.indexmap.specs.IndexMap.{get}
 use Rattle.co_value.specs.declared.key.Key.{Key}

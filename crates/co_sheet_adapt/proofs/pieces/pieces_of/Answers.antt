@@ -1,13 +1,6 @@
-use Rattle.std.proofs.Common.{◌≡◌, ℕ, List, ◌++◌, ap, ◌∙◌, map}
-use Rattle.std.specs.Prelude.{Option}
-use Rattle.std.specs.List.{flat_map}
-use Rattle.co_value.specs.declared.key.Key.{Key}
-use Rattle.co_sheet_text.specs.Text.{Line}
-use Rattle.co_sheet_adapt.specs.Groups.{Group, before_sections, groups_of}
-use Rattle.co_sheet_adapt.specs.Pieces.{Piece, group_pieces, kept_piece, all_pieces}
+use Rattle.std.proofs.Common.{ap, ◌∙◌, map}
 use Rattle.co_sheet_adapt.specs.Views.{piece_view}
 use Rattle.co_sheet_adapt.specs.private.Views.{line_view, group_view}
-use Rattle.co_sheet_adapt.specs.private.Named.{texts_at}
 use Rattle.co_sheet_adapt.proofs.PiecesLemmas.{put-together}
 use Rattle.co_sheet_adapt.proofs.pieces.pieces_of.Goals as goal
 

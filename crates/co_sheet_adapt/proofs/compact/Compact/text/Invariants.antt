@@ -1,4 +1,4 @@
-use Rattle.std.proofs.Common.{◌≡◌, ◌++◌, ◌≤◌}
+use Rattle.std.proofs.Common.{◌≡◌, ◌++◌}
 use Rattle.co_sheet_adapt.specs.Compact.{copied_lines, first_section, sub_section, sub_sections}
 use Rattle.co_sheet_adapt.specs.private.Named.{texts_at}
 use Rattle.co_sheet_adapt.specs.private.Views.{group_view}

@@ -1,0 +1,9 @@
+use Rattle.std.proofs.Common.{◌≡◌, ◌++◌, map, take}
+use Rattle.std.specs.List.{flat_map}
+use Rattle.co_sheet_adapt.specs.Views.{piece_view}
+use Rattle.conode_adapt.specs.Listing.{piece_line}
+use Rattle.conode_adapt.proofs.listing.push_changes.Given as goal
+
+-- those so far
+abbrev pub invariant-loop-piece : goal.invariant-loop-piece
+invariant-loop-piece l = l.text.items ≡ l.fn.text.items ++ flat_map (piece_line l.name) (map piece_view (take l.piece-index l.pieces))

@@ -1,0 +1,77 @@
+-- The changes of a text, a line each: `NAME:LINE: what changed: old -> new`.
+use Rattle.std.specs.Prelude.{ℕ, ◌+◌, ◌-◌, Bool, false, length, take, slice_index, ◌==◌, ◌||◌, nat_eq, nat_lt, if◌then◌else◌, List, [], ◌∷◌, ◌++◌, map, codes, decimal}
+use Rattle.std.specs.List.{flat_map, starts_with}
+use Rattle.co_text.specs.Printed.{digits_text}
+use Rattle.co_sheet_text.specs.Text.{trim, is_empty}
+use Rattle.co_sheet_adapt.specs.declared.change.ChangeKind.{ChangeKind}
+use Rattle.co_sheet_adapt.specs.declared.change.ChangeKind.TheVariants.{CompactSubObj}
+use Rattle.co_sheet_adapt.specs.Pieces.{Change, Piece, changed}
+use Rattle.co_sheet_adapt.specs.Words.{change_name}
+
+-- a control character is shown as `?`
+abbrev pub shown_byte : ℕ → ℕ
+shown_byte byte = if nat_lt byte 32 || (byte == 127) then 63 else byte
+
+abbrev pub shown : List ℕ → List ℕ
+shown bytes = map shown_byte bytes
+
+-- lines on one line: a comma between them
+abbrev pub new_byte : ℕ → List ℕ
+new_byte byte = if byte == 10 then codes ", " else shown_byte byte ∷ []
+
+-- lines without the last end
+abbrev pub front_of : List ℕ → List ℕ
+front_of lines =
+    if slice_index lines (length lines - 1) == 10 then take (length lines - 1) lines else lines
+
+unfoldable pub new_text : List ℕ → List ℕ
+new_text lines = if is_empty lines then codes "dropped" else flat_map new_byte (front_of lines)
+
+-- the sections that an object in compact form gets
+abbrev pub sections_text : ℕ → ℕ → List ℕ
+sections_text index count =
+    codes ", [" ++ digits_text 16 4 index ++ codes "sub0] and " ++ decimal count ++ codes " more"
+
+unfoldable pub sub_indices_text : ChangeKind → List ℕ
+sub_indices_text (CompactSubObj index count) = sections_text index count
+sub_indices_text kind = []
+
+-- `NAME:LINE: `
+unfoldable pub place_text : List ℕ → ℕ → List ℕ
+place_text name line = shown name ++ 58 ∷ [] ++ decimal line ++ codes ": "
+
+-- `old -> new`
+unfoldable pub old_and_new : Change → List ℕ
+old_and_new c =
+    shown (trim c.old) ++ codes " -> " ++ new_text c.new ++ sub_indices_text c.kind ++ 10 ∷ []
+
+unfoldable pub change_line : List ℕ → Change → List ℕ
+change_line name c = place_text name c.line ++ change_name c.kind ++ codes ": " ++ old_and_new c
+
+abbrev pub piece_line : List ℕ → Piece → List ℕ
+piece_line name (changed c) = change_line name c
+piece_line name piece = []
+
+-- a byte order mark, which is part of no line
+unfoldable pub mark_line : List ℕ → List ℕ → List ℕ
+mark_line name text =
+    if starts_with nat_eq text (0xEF ∷ 0xBB ∷ 0xBF ∷ [])
+    then place_text name 1 ++ codes "byte order mark: EF BB BF -> dropped\n" else []
+
+-- the lines that end with CR and LF, of the bytes of a text from this line on; `after_cr` says whether CR is before them
+abbrev pub returns_from : ℕ → Bool → List ℕ → List ℕ
+returns_from line after_cr [] = []
+returns_from line after_cr (b ∷ bs) =
+    if b == 10 then (if after_cr then line ∷ [] else []) ++ returns_from (line + 1) false bs
+    else returns_from line (b == 13) bs
+
+-- CR before LF: the first line that has it, and how many do
+unfoldable pub ends_text : List ℕ → List ℕ → List ℕ
+ends_text name [] = []
+ends_text name (line ∷ lines) =
+    place_text name line ++ codes "ends of lines, " ++ decimal (length (line ∷ lines))
+    ++ codes " in all: CR LF -> LF\n"
+
+-- none of a text that stays
+abbrev pub ends_line : Bool → List ℕ → List ℕ → List ℕ
+ends_line stays name text = if stays then [] else ends_text name (returns_from 1 false text)

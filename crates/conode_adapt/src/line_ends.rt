@@ -1,0 +1,84 @@
+//! What is dropped of a text that no line has: its byte order mark, and CR before LF.
+
+ghost use Rattle.std.specs.Prelude.{◌≡◌, ◌++◌, false, OnOk, IfOk};
+ghost use Rattle.conode_adapt.specs.Listing.{ends_line, ends_text, mark_line, returns_from};
+
+use crate::listing::push_place;
+use co_text::push_decimal;
+use std::alloc::{AllocError, Global};
+
+/// Appends the line of a byte order mark, if there is one.
+#[tactic(auto, unfolding(crate::specs::Listing::mark_line))]
+pub(crate) fn push_mark(
+    alloc: Global,
+    text: &mut Vec<u8>,
+    name: &[u8],
+    source: &[u8],
+) -> Result<(), AllocError>
+    ensures { OnOk result (text.new.items ≡ text.old.items ++ mark_line name.now source.now) }
+{
+    if !source.starts_with(b"\xEF\xBB\xBF") {
+        return Ok(());
+    }
+    push_place(alloc, text, name, 1)?;
+    text.extend_from_slice(b"byte order mark: EF BB BF -> dropped\n")
+}
+
+// the numbers of the lines that end with CR and LF
+fn returns_in(alloc: Global, source: &[u8]) -> Result<Vec<usize>, AllocError>
+    ensures { IfOk result (λ lines. lines.items ≡ returns_from 1 false source.now) }
+{
+    let mut lines = Vec::new(alloc);
+    let mut line = 1;
+    let mut after_cr = false;
+    for byte in source {
+        if *byte == b'\n' {
+            if after_cr {
+                lines.push(line)?;
+            }
+            line += 1;
+            after_cr = false;
+        } else {
+            after_cr = *byte == b'\r';
+        }
+    }
+    Ok(lines)
+}
+
+#[tactic(auto, unfolding(crate::specs::Listing::ends_text))]
+fn push_ends(
+    alloc: Global,
+    text: &mut Vec<u8>,
+    name: &[u8],
+    lines: &[usize],
+) -> Result<(), AllocError>
+    ensures { OnOk result (text.new.items ≡ text.old.items ++ ends_text name.now lines.now) }
+{
+    let [first, ..] = lines else {
+        return Ok(());
+    };
+    let mut count = String::new(alloc);
+    push_decimal(&mut count, lines.len() as u64)?;
+    push_place(alloc, text, name, *first)?;
+    text.extend_from_slice(b"ends of lines, ")?;
+    text.extend_from_slice(count.as_bytes())?;
+    text.extend_from_slice(b" in all: CR LF -> LF\n")
+}
+
+/// Appends the line of the ends of lines that are dropped, if there are any, and the text doesn't stay.
+pub(crate) fn push_line_ends(
+    alloc: Global,
+    text: &mut Vec<u8>,
+    name: &[u8],
+    source: &[u8],
+    stays: bool,
+) -> Result<(), AllocError>
+    ensures { OnOk result
+        (text.new.items ≡ text.old.items ++ ends_line stays name.now source.now) }
+{
+    if stays {
+        return Ok(());
+    }
+    let lines = returns_in(alloc, source)?;
+    push_ends(alloc, text, name, lines.as_slice())
+}

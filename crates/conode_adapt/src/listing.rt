@@ -1,0 +1,186 @@
+//! The changes of a text, a line each. Each function appends to a text; on an `Err` memory ran out, and a part of it may
+//! be there.
+
+ghost use Rattle.std.specs.Prelude.{◌≡◌, ◌++◌, ◌∷◌, [], map, OnOk, string_bytes};
+ghost use Rattle.std.specs.List.{flat_map};
+ghost use Rattle.co_sheet_adapt.specs.Views.{change_view, piece_view};
+ghost use Rattle.conode_adapt.specs.Listing.{
+  shown_byte,
+  shown,
+  new_byte,
+  front_of,
+  new_text,
+  sub_indices_text,
+  place_text,
+  old_and_new,
+  change_line,
+  piece_line,
+};
+
+use co_sheet_adapt::{Change, ChangeKind, Piece, change_name};
+use co_sheet_text::trim;
+use co_text::{push_decimal, push_u16};
+use std::alloc::{AllocError, Global};
+
+fn shown_byte(byte: u8) -> u8
+    ensures { result ≡ shown_byte byte }
+{
+    if byte < 32 || byte == 127 { b'?' } else { byte }
+}
+
+// bytes without control characters
+fn push_shown(text: &mut Vec<u8>, bytes: &[u8]) -> Result<(), AllocError>
+    ensures { OnOk result (text.new.items ≡ text.old.items ++ shown bytes.now) }
+{
+    for byte in bytes {
+        text.push(shown_byte(*byte))?;
+    }
+    Ok(())
+}
+
+// a line's end is a comma here
+fn push_new_byte(text: &mut Vec<u8>, byte: u8) -> Result<(), AllocError>
+    ensures { OnOk result (text.new.items ≡ text.old.items ++ new_byte byte) }
+{
+    if byte == b'\n' {
+        text.extend_from_slice(b", ")
+    } else {
+        text.push(shown_byte(byte))?;
+        Ok(())
+    }
+}
+
+// lines without the last end
+fn front_of(lines: &[u8]) -> &[u8]
+    ensures { result.now ≡ front_of lines.now }
+{
+    match lines {
+        [front @ .., b'\n'] => front,
+        _ => lines,
+    }
+}
+
+fn push_new_bytes(text: &mut Vec<u8>, bytes: &[u8]) -> Result<(), AllocError>
+    ensures { OnOk result (text.new.items ≡ text.old.items ++ flat_map new_byte bytes.now) }
+{
+    for byte in bytes {
+        push_new_byte(text, *byte)?;
+    }
+    Ok(())
+}
+
+#[tactic(auto, unfolding(crate::specs::Listing::new_text))]
+fn push_new(text: &mut Vec<u8>, lines: &[u8]) -> Result<(), AllocError>
+    ensures { OnOk result (text.new.items ≡ text.old.items ++ new_text lines.now) }
+{
+    if lines.is_empty() {
+        text.extend_from_slice(b"dropped")
+    } else {
+        push_new_bytes(text, front_of(lines))
+    }
+}
+
+// the sections that an object in compact form gets
+#[tactic(auto, unfolding(crate::specs::Listing::sub_indices_text))]
+fn push_sub_indices(text: &mut Vec<u8>, alloc: Global, kind: ChangeKind) -> Result<(), AllocError>
+    ensures { OnOk result (text.new.items ≡ text.old.items ++ sub_indices_text kind) }
+{
+    let ChangeKind::CompactSubObj { index, count } = kind else {
+        return Ok(());
+    };
+    let mut words = String::new(alloc);
+    words.push_str(", [")?;
+    push_u16(&mut words, index)?;
+    words.push_str("sub0] and ")?;
+    push_decimal(&mut words, u64::from(count))?;
+    words.push_str(" more")?;
+    text.extend_from_slice(words.as_bytes())?;
+    Ok(())
+}
+
+// where a change is
+#[tactic(auto, unfolding(crate::specs::Listing::place_text))]
+pub(crate) fn push_place(
+    alloc: Global,
+    text: &mut Vec<u8>,
+    name: &[u8],
+    line: usize,
+) -> Result<(), AllocError>
+    ensures { OnOk result (text.new.items ≡ text.old.items ++ place_text name.now line) }
+{
+    let mut number = String::new(alloc);
+    push_decimal(&mut number, line as u64)?;
+    push_shown(text, name)?;
+    text.push(b':')?;
+    text.extend_from_slice(number.as_bytes())?;
+    text.extend_from_slice(b": ")?;
+    Ok(())
+}
+
+// what it was, and what it is
+#[tactic(auto, unfolding(crate::specs::Listing::old_and_new))]
+fn push_old_and_new(
+    alloc: Global,
+    text: &mut Vec<u8>,
+    change: &Change<'_>,
+) -> Result<(), AllocError>
+    ensures { OnOk result
+        (text.new.items ≡ text.old.items ++ old_and_new (change_view change.now)) }
+{
+    push_shown(text, trim(change.old))?;
+    text.extend_from_slice(b" -> ")?;
+    push_new(text, change.new.as_slice())?;
+    push_sub_indices(text, alloc, change.kind)?;
+    text.push(b'\n')?;
+    Ok(())
+}
+
+// the line of a change: `NAME:LINE: what changed: old -> new`
+#[tactic(auto, unfolding(crate::specs::Listing::change_line))]
+fn push_change(
+    alloc: Global,
+    text: &mut Vec<u8>,
+    name: &[u8],
+    change: &Change<'_>,
+) -> Result<(), AllocError>
+    ensures { OnOk result
+        (text.new.items ≡ text.old.items ++ change_line name.now (change_view change.now)) }
+{
+    push_place(alloc, text, name, change.line)?;
+    text.extend_from_slice(change_name(change.kind).as_bytes())?;
+    text.extend_from_slice(b": ")?;
+    push_old_and_new(alloc, text, change)?;
+    Ok(())
+}
+
+// the line of a piece that is changed
+fn push_piece(
+    alloc: Global,
+    text: &mut Vec<u8>,
+    name: &[u8],
+    piece: &Piece<'_>,
+) -> Result<(), AllocError>
+    ensures { OnOk result
+        (text.new.items ≡ text.old.items ++ piece_line name.now (piece_view piece.now)) }
+{
+    match piece {
+        Piece::Changed(change) => push_change(alloc, text, name, change),
+        Piece::Kept(_) | Piece::Added { .. } => Ok(()),
+    }
+}
+
+/// A line for each change.
+pub(crate) fn push_changes(
+    alloc: Global,
+    text: &mut Vec<u8>,
+    name: &[u8],
+    pieces: &[Piece<'_>],
+) -> Result<(), AllocError>
+    ensures { OnOk result (text.new.items
+        ≡ text.old.items ++ flat_map (piece_line name.now) (map piece_view pieces.now)) }
+{
+    for piece in pieces {
+        push_piece(alloc, text, name, piece)?;
+    }
+    Ok(())
+}

@@ -1,0 +1,188 @@
+//! What no rule mends: the faults of a text that was rewritten, at the lines that they come from.
+
+use co_sheet_adapt::Piece;
+use co_sheet_faults::{FaultKind, SheetFault, find_faults, fix_of, meaning_of, subject_of};
+use co_sheet_text::{number_in, same_name, trim, without_mark};
+use co_text::{push_decimal, split_at_first, split_line};
+use conode_lint_text::{About, Finding, Place, Severity, characters_of, push_finding, push_more};
+use std::alloc::{AllocError, Global};
+
+/// How many faults are printed.
+const MOST: usize = 1000;
+
+/// The most bytes of a line that are printed.
+const LONGEST: usize = 512;
+
+// a number for each line that was written in a line's place
+fn push_lines(sources: &mut Vec<usize>, text: &[u8], number: usize) -> Result<(), AllocError> {
+    for byte in text {
+        if *byte == b'\n' {
+            sources.push(number)?;
+        }
+    }
+    Ok(())
+}
+
+// for each line of the text that was rewritten the line that it comes from; the first is a comment
+fn sources_of(alloc: Global, pieces: &[Piece<'_>]) -> Result<Vec<usize>, AllocError> {
+    let mut sources = Vec::new(alloc);
+    sources.push(0)?;
+    let mut number: usize = 0;
+    for piece in pieces {
+        match piece {
+            Piece::Kept(_) => {
+                number = number.saturating_add(1);
+                sources.push(number)?;
+            }
+            Piece::Changed(change) => {
+                number = number.saturating_add(1);
+                push_lines(&mut sources, change.new.as_slice(), number)?;
+            }
+            Piece::Added { line, text } => push_lines(&mut sources, text.as_slice(), *line)?,
+        }
+    }
+    Ok(sources)
+}
+
+fn lines_of(alloc: Global, text: &[u8]) -> Result<Vec<&[u8]>, AllocError> {
+    let mut lines = Vec::new(alloc);
+    let mut rest = without_mark(text);
+    while let Some((line, after)) = split_line(rest) {
+        lines.push(line)?;
+        rest = after;
+    }
+    Ok(lines)
+}
+
+// a line by its number, from 1, at most its first bytes
+fn line_at<'a>(lines: &[&'a [u8]], number: usize) -> &'a [u8] {
+    let Some(place) = number.checked_sub(1) else {
+        return &[];
+    };
+    let Some(line) = lines.get(place) else {
+        return &[];
+    };
+    let (front, _) = line.split_at(line.len().min(LONGEST));
+    front
+}
+
+// which part of its line a fault is about
+fn place_of(kind: FaultKind) -> Place {
+    match kind {
+        FaultKind::BadNumber
+        | FaultKind::AmbiguousNumber
+        | FaultKind::MissingSection
+        | FaultKind::ListedTwice
+        | FaultKind::BadType
+        | FaultKind::LeftOutType
+        | FaultKind::BadAccess
+        | FaultKind::BadLimits
+        | FaultKind::BadDefault
+        | FaultKind::CompactForm => Place::Value,
+        _ => Place::Beginning,
+    }
+}
+
+fn finding_of<'a>(fault: SheetFault, text: &'a [u8]) -> Finding<'a> {
+    Finding {
+        line: fault.line,
+        place: place_of(fault.kind),
+        about: About::Line,
+        severity: Severity::Error,
+        name: fault.kind.name(),
+        meaning: meaning_of(&fault),
+        fix: fix_of(fault.kind),
+        subject: subject_of(fault.kind),
+        text,
+    }
+}
+
+// the digits of a value with a leading zero: without `-`, and without `$NODEID` in a sum
+fn digits_of(line: &[u8]) -> &[u8] {
+    let Some((_, value)) = split_at_first(line, b'=') else {
+        return &[];
+    };
+    let part = match split_at_first(value, b'+') {
+        Some((left, right)) if same_name(trim(left), b"$NODEID") => right,
+        Some((left, _)) => left,
+        None => value,
+    };
+    match trim(part) {
+        [b'-', digits @ ..] => digits,
+        digits => digits,
+    }
+}
+
+// the two numbers that a value with a leading zero may be
+fn push_both(report: &mut String, line: &[u8]) -> Result<(), AllocError> {
+    let digits = digits_of(line);
+    if let (Some(octal), Some(decimal)) = (number_in(8, digits), number_in(10, digits)) {
+        report.push_str("  note: ")?;
+        push_decimal(report, octal)?;
+        report.push_str(" in octal, ")?;
+        push_decimal(report, decimal)?;
+        report.push_str(" in decimal\n")?;
+    }
+    Ok(())
+}
+
+/// Appends these faults of a file as `lint` prints them, with the lines of the source.
+pub(crate) fn push_faults(
+    alloc: Global,
+    report: &mut String,
+    name: &str,
+    source: &[u8],
+    sources: &[usize],
+    faults: &[SheetFault],
+) -> Result<(), AllocError> {
+    let file = characters_of(alloc, name.as_bytes())?;
+    let lines = lines_of(alloc, source)?;
+    let (first, more) = faults.split_at(faults.len().min(MOST));
+    for fault in first {
+        let line = match fault.line.checked_sub(1) {
+            Some(place) => sources.get(place).copied().unwrap_or(0),
+            None => 0,
+        };
+        let fault = SheetFault {
+            kind: fault.kind,
+            line,
+        };
+        let text = line_at(lines.as_slice(), line);
+        push_finding(
+            alloc,
+            report,
+            false,
+            file.as_slice(),
+            &finding_of(fault, text),
+        )?;
+        if fault.kind == FaultKind::AmbiguousNumber {
+            push_both(report, text)?;
+        }
+    }
+    if !more.is_empty() {
+        push_more(report, file.as_slice(), more.len())?;
+    }
+    Ok(())
+}
+
+/// What remains of a text that was rewritten, as `lint` prints it.
+pub(crate) fn remaining(
+    alloc: Global,
+    name: &str,
+    source: &[u8],
+    rewritten: &[u8],
+    pieces: &[Piece<'_>],
+) -> Result<String, AllocError> {
+    let mut report = String::new(alloc);
+    let faults = find_faults(alloc, rewritten)?;
+    let sources = sources_of(alloc, pieces)?;
+    push_faults(
+        alloc,
+        &mut report,
+        name,
+        source,
+        sources.as_slice(),
+        faults.as_slice(),
+    )?;
+    Ok(report)
+}

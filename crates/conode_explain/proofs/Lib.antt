@@ -1,0 +1,3 @@
+pub mod AbortLemmas
+pub mod DecodedLemmas
+pub mod Explaining

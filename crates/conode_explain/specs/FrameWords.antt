@@ -1,0 +1,26 @@
+-- What a frame says.
+use Rattle.std.specs.Prelude.{ℕ, List, ◌++◌, codes}
+use Rattle.conode_decode.specs.Names.{Names}
+use Rattle.conode_decode.specs.Texts.{text_of_frame}
+use Rattle.conode_record.specs.declared.content.Content.{Content}
+use Rattle.conode_record.specs.declared.content.Content.TheVariants.{Data, Remote, Fd}
+use Rattle.conode_record.specs.declared.fields.Identifier.{Identifier}
+use Rattle.conode_record.specs.declared.fields.Identifier.TheVariants.{Base, Extended, Error}
+use Rattle.co_frame.specs.FrameContent.{FrameContent}
+use Rattle.conode_explain.specs.AbortWords.{abort_words}
+
+-- what a frame with an identifier of 11 bits says, and what an abort's code means
+abbrev pub frame_words : Names → FrameContent → List ℕ
+frame_words names frame = text_of_frame names frame ++ abort_words frame
+
+-- what data say, by the identifier
+abbrev pub data_words : Names → Identifier → List ℕ → List ℕ
+data_words names (Base id) bytes = frame_words names (record { id = id; bytes = bytes })
+data_words names (Extended id) bytes = codes "frame with an identifier of 29 bits"
+data_words names (Error class) bytes = codes "error frame"
+
+-- what a frame says
+unfoldable pub words_of_content : Names → Identifier → Content → List ℕ
+words_of_content names id (Data bytes) = data_words names id bytes
+words_of_content names id (Remote count) = codes "remote frame"
+words_of_content names id (Fd flags bytes) = codes "CAN FD frame"

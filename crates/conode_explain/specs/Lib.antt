@@ -1,0 +1,5 @@
+pub mod AbortWords
+pub mod BadWords
+pub mod Explained
+pub mod FrameWords
+pub mod Taking

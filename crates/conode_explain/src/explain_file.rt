@@ -1,0 +1,124 @@
+//! The file of a recording, explained.
+
+ghost use Rattle.std.specs.Prelude.{◌≡◌, ◌⊎◌};
+ghost use Rattle.std.specs.Process.{exit_status};
+
+use crate::explained::explain;
+use crate::step::Settings;
+use co_sheet::read;
+use co_text::decimal_in;
+use conode_decode::Names;
+use conode_explain_text::StampForm;
+use conode_io::{cannot_read, faulty_sheet, file_text, flushed, no_text, stopped};
+use std::alloc::Global;
+use std::fs;
+use std::io::{Input, Read, Write};
+use std::process::ExitCode;
+use std::rt::Files;
+
+/// The path that stands for standard input.
+const STANDARD_INPUT: &str = "-";
+
+// Explains an input, and says how many lines are bad, on `err`, or why it stopped where it did.
+fn explain_input<R: Read, O: Write, E: Write>(
+    alloc: Global,
+    input: &mut R,
+    settings: &Settings<'_, '_>,
+    out: &mut O,
+    err: &mut E,
+) -> ExitCode
+    ensures { (exit_status result ≡ 0) ⊎ (exit_status result ≡ 1) }
+{
+    let outcome = explain(alloc, input, settings, out, err);
+    match flushed(out, outcome) {
+        Ok(0) => ExitCode::SUCCESS,
+        Ok(bad) => {
+            let _ = writeln!(err, "bad lines: {bad}");
+            ExitCode::FAILURE
+        }
+        Err(fault) => stopped(fault, out, err).status(),
+    }
+}
+
+// explains the recording of a path, or where that is `-` standard input
+fn explain_path<R: Files + AllocGlobal + Input, O: Write, E: Write>(
+    rt: &R,
+    path: &str,
+    settings: &Settings<'_, '_>,
+    out: &mut O,
+    err: &mut E,
+) -> ExitCode
+    ensures { (exit_status result ≡ 0) ⊎ (exit_status result ≡ 1) }
+{
+    if path == STANDARD_INPUT {
+        return explain_input(rt.alloc(), &mut rt.reader(), settings, out, err);
+    }
+    match fs::open(rt, path) {
+        Ok(mut file) => explain_input(rt.alloc(), &mut file, settings, out, err),
+        Err(_) => cannot_read(path, err),
+    }
+}
+
+// explains the recording of a path with the names of a sheet, if the text is one
+fn explain_named<R: Files + AllocGlobal + Input, O: Write, E: Write>(
+    rt: &R,
+    path: &str,
+    text: &[u8],
+    node: Option<u8>,
+    form: StampForm,
+    out: &mut O,
+    err: &mut E,
+) -> ExitCode
+    ensures { (exit_status result ≡ 0) ⊎ (exit_status result ≡ 1) }
+{
+    match read(rt.alloc(), text) {
+        Ok(sheet) => {
+            let names = Names {
+                sheet: Some(&sheet),
+                only: node,
+            };
+            explain_path(rt, path, &Settings { form, names }, out, err)
+        }
+        Err(fault) => faulty_sheet(fault, out),
+    }
+}
+
+// The node-ID that a sheet is for, and its path: `5=sensor.eds` is for node 5, and a word that doesn't begin with a
+// node-ID, 1 to 127, and `=` is a path as it is.
+fn node_and_path(word: &str) -> (Option<u8>, &str) {
+    match word.split_once('=') {
+        Some((front, path)) => match decimal_in(front.as_bytes(), 1, 127) {
+            Some(node) => (Some(node as u8), path),
+            None => (None, word),
+        },
+        None => (None, word),
+    }
+}
+
+/// Explains the recording of a path, or of standard input where that is `-`, with the names of a data sheet, where a
+/// word names one: a path, perhaps with the node-ID that the sheet is for before it, as `5=sensor.eds`. The sheet is read
+/// first: its fault goes to `out`. Bad lines, and a file that can't be read, are named on `err`. The status is 0 where
+/// all lines are good, else 1.
+pub fn explain_files<R: Files + AllocGlobal + Input, O: Write, E: Write>(
+    rt: &R,
+    recording: &str,
+    sheet: Option<&str>,
+    form: StampForm,
+    out: &mut O,
+    err: &mut E,
+) -> ExitCode
+    ensures { (exit_status result ≡ 0) ⊎ (exit_status result ≡ 1) }
+{
+    let Some(word) = sheet else {
+        let names = Names {
+            sheet: None,
+            only: None,
+        };
+        return explain_path(rt, recording, &Settings { form, names }, out, err);
+    };
+    let (node, path) = node_and_path(word);
+    match file_text(rt, path) {
+        Ok(text) => explain_named(rt, recording, text.as_slice(), node, form, out, err),
+        Err(fault) => no_text(fault, path, out, err),
+    }
+}

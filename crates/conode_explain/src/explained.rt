@@ -1,0 +1,49 @@
+//! A recording explained: each of its frames on a line.
+
+ghost use Rattle.std.specs.Prelude.{IfOk, IfSome};
+ghost use Rattle.conode_decode.specs.Names.{names_view};
+ghost use Rattle.conode_lines.specs.TraceTexts.{GaveText};
+ghost use Rattle.conode_explain.specs.Taking.{Explains};
+
+use crate::step::{Explaining, Settings};
+use conode_io::CmdFault;
+use std::alloc::Global;
+use std::io::{Read, Write};
+
+/// Explains a recording as `candump -L` writes it, line by line and in constant memory: for each frame a line is
+/// written on `out`, with its times and what it says. A bad line, or one of more than 512 bytes, is named on `err` with
+/// its number and what is wrong with it, and the rest goes on. Gives the number of bad lines; a last line that no line
+/// feed ends is counted only where it is too long, since whoever stops a recording cuts it off there.
+///
+/// `out` is flushed before each read, and not while a whole line is held.
+///
+/// * `Read`: the reader failed. `NeverEnds`: there are 2^64 - 1 lines.
+/// * `Write`: `out` failed. `Memory`: memory ran out.
+pub fn explain<R: Read, W: Write, E: Write>(
+    alloc: Global,
+    reader: &mut R,
+    settings: &Settings<'_, '_>,
+    out: &mut W,
+    err: &mut E,
+) -> Result<u64, CmdFault>
+    // The lines of all frames are written, and so many lines are bad.
+    ensures known { IfOk result (λ bad. IfSome (R.remaining reader.old)
+        (Explains settings.now.form (names_view settings.now.names)
+        (W.contents out.old) (W.contents out.new) bad)) }
+    // Whatever the reader: it gave a text, and this is so of that text.
+    ensures any_reader { IfOk result (λ bad.
+        GaveText (R.remaining reader.old) (R.remaining reader.new)
+        (Explains settings.now.form (names_view settings.now.names)
+        (W.contents out.old) (W.contents out.new) bad)) }
+{
+    let mut explaining = Explaining::new(alloc);
+    let mut bad: u64 = 0;
+    for number in 1..u64::MAX {
+        explaining.let_out(out)?;
+        match explaining.take_line(reader, settings, number, out, err)? {
+            Some(more) => bad += more,
+            None => return Ok(bad),
+        }
+    }
+    Err(CmdFault::NeverEnds)
+}

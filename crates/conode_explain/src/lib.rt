@@ -1,0 +1,15 @@
+//! A recording of a CAN bus explained: each frame on a line with its times and what it says; a bad line is named, and the
+//! rest goes on.
+#![tactic(auto)]
+
+mod abort_words;
+mod bad_words;
+mod explain_file;
+mod explained;
+mod frame_words;
+mod step;
+
+pub use conode_explain_text::StampForm;
+pub use explain_file::explain_files;
+pub use explained::explain;
+pub use step::Settings;

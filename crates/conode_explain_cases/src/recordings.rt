@@ -1,0 +1,97 @@
+//! Recordings explained: what is written, and what is said of bad lines.
+
+use co_fixtures::Pieces;
+use conode_decode::Names;
+use conode_explain::{Settings, StampForm, explain};
+use std::process::Abort;
+use std::str;
+use std::test::Fail;
+
+const RECORDING: &[u8] = b"; a recording
+(100.250000) can0 000#0105
+(100.250412) can0 185#E8031027
+(100.250400) can0 581#8000200011000906
+(101.000000) can1 00000185#0102030405060708 R
+no frame
+(113.000000) can0 20000004#0000000000000000
+(113.000001) can0 705#R
+(113.000001) can0 185##1000102030405060708090A0B
+(113.500000) can0 185#0";
+
+const RELATIVE: &str = "     0.000000  +0.000000  000  [2] 01 05                    NMT start 5
+     0.000412  +0.000412  185  [4] E8 03 10 27              TPDO1 node 5
+     0.000400  -0.000012  581  [8] 80 00 20 00 11 00 09 06  SDO answer node 1 abort 2000:00 06090011 (no such sub-index)  note: the stamp steps back
+     0.750000  +0.749600  can1  00000185  [8] 01 02 03 04 05 06 07 08  frame with an identifier of 29 bits
+    12.750000  +12.000000  can0  20000004  [8] 00 00 00 00 00 00 00 00  error frame
+    12.750001  +0.000001  can0  705  [0]                          remote frame
+    12.750001  +0.000000  can0  185  [12] 00 01 02 03 04 05 06 07 08 09 0A 0B  CAN FD frame
+";
+
+/// All of a recording is explained, over each cut of its bytes; a bad line is named and counted, and the last one, which
+/// is cut off, is named.
+#[test]
+fn each_cut_gives_the_same(rt: HostRuntime) -> Result<(), Fail> {
+    for size in [1, 17, 512, 10_000] {
+        let mut out = Vec::new(rt.alloc());
+        let mut err = Vec::new(rt.alloc());
+        let settings = Settings {
+            form: StampForm::Relative,
+            names: Names {
+                sheet: None,
+                only: None,
+            },
+        };
+        let mut reader = Pieces::new(RECORDING, size);
+        let outcome = explain(rt.alloc(), &mut reader, &settings, &mut out, &mut err);
+        assert_eq!(rt; outcome, Ok(1));
+        assert_eq!(rt; str::from_utf8(out.as_slice())?, RELATIVE);
+        assert_eq!(rt;
+            str::from_utf8(err.as_slice())?,
+            "line 6: it doesn't begin with a stamp, as (1700000000.250000): seconds, and microseconds in six digits\nline 10: the data are no pairs of hexadecimal digits\n"
+        );
+    }
+    Ok(())
+}
+
+/// The stamps of two frames, in each form.
+#[test]
+fn forms_of_stamps(rt: HostRuntime) -> Result<(), Fail> {
+    for (form, wanted) in [
+        (
+            StampForm::Absolute,
+            "1436509052.249713  +0.000000  \n1436509053.000000  +0.750287  \n",
+        ),
+        (
+            StampForm::Date,
+            "2015-07-10 06:17:32.249713  +0.000000  \n2015-07-10 06:17:33.000000  +0.750287  \n",
+        ),
+        (
+            StampForm::Delta,
+            "+0.000000  +0.000000  \n+0.750287  +0.750287  \n",
+        ),
+        (
+            StampForm::Relative,
+            "     0.000000  +0.000000  \n     0.750287  +0.750287  \n",
+        ),
+    ] {
+        let mut out = Vec::new(rt.alloc());
+        let mut err = Vec::new(rt.alloc());
+        let settings = Settings {
+            form,
+            names: Names {
+                sheet: None,
+                only: None,
+            },
+        };
+        let mut reader: &[u8] = b"(1436509052.249713) c 080#\n(1436509053.000000) c 080#\n";
+        let outcome = explain(rt.alloc(), &mut reader, &settings, &mut out, &mut err);
+        assert_eq!(rt; outcome, Ok(0));
+        let mut fronts = String::new(rt.alloc());
+        for line in str::from_utf8(out.as_slice())?.lines() {
+            let (front, _) = line.split_once("080").ok_or("no frame")?;
+            writeln!(fronts, "{front}")?;
+        }
+        assert_eq!(rt; fronts.as_str(), wanted);
+    }
+    Ok(())
+}

@@ -1,0 +1,6 @@
+pub mod Columns
+pub mod Dates
+pub mod Lines
+pub mod Said
+pub mod SoFar
+pub mod Stamps

@@ -1,0 +1,95 @@
+//! Interface, identifier, length and data of a frame. Each function appends a text; on an `Err` memory ran out, and a
+//! part of it may be there.
+
+ghost use Rattle.std.specs.Prelude.{◌≡◌, ◌≤◌, ◌<◌, ◌++◌, OnOk, string_bytes, length};
+ghost use Rattle.std.specs.List.{flat_map};
+ghost use Rattle.co_text.specs.Printed.{digits_text};
+ghost use Rattle.conode_record.specs.Grammar.{IsIdentifier};
+ghost use Rattle.conode_explain_text.specs.Columns.{
+  escaped,
+  escaped_name,
+  id_text,
+  blank_byte,
+  bytes_text,
+  content_text,
+};
+
+use crate::stamps::push_blanks;
+use co_text::{push_byte, push_decimal, push_digit, push_u32};
+use conode_record::{Content, Identifier};
+use std::alloc::AllocError;
+
+fn push_escaped(text: &mut String, byte: u8) -> Result<(), AllocError>
+    ensures { OnOk result (string_bytes text.new ≡ string_bytes text.old ++ escaped byte) }
+{
+    if (0x21..=0x7E).contains(&byte) {
+        return text.push(byte as char);
+    }
+    text.push_str("\\x")?;
+    push_byte(text, byte)
+}
+
+/// Appends a name, its bytes that can't be printed as `\x07`.
+pub(crate) fn push_name(text: &mut String, name: &[u8]) -> Result<(), AllocError>
+    ensures { OnOk result (string_bytes text.new ≡ string_bytes text.old ++ escaped_name name.now) }
+{
+    for byte in name {
+        push_escaped(text, *byte)?;
+    }
+    Ok(())
+}
+
+/// Appends an identifier.
+#[tactic(auto, unfolding(co_text::specs::Printed::digits_text))]
+pub(crate) fn push_id(text: &mut String, id: Identifier) -> Result<(), AllocError>
+    requires { IsIdentifier id }
+    ensures { OnOk result (string_bytes text.new ≡ string_bytes text.old ++ id_text id) }
+{
+    match id {
+        Identifier::Base(id) => {
+            push_digit(text, (id / 256) as u8)?;
+            push_byte(text, (id % 256) as u8)
+        }
+        Identifier::Extended(id) => push_u32(text, id),
+        Identifier::Error(class) => push_u32(text, class + 0x2000_0000),
+    }
+}
+
+fn push_bytes(text: &mut String, bytes: &[u8]) -> Result<(), AllocError>
+    ensures { OnOk result
+        (string_bytes text.new ≡ string_bytes text.old ++ flat_map blank_byte bytes.now) }
+{
+    for byte in bytes {
+        text.push_str(" ")?;
+        push_byte(text, *byte)?;
+    }
+    Ok(())
+}
+
+#[tactic(auto, unfolding(crate::specs::Columns::bytes_text))]
+fn push_counted(text: &mut String, count: usize, bytes: &[u8]) -> Result<(), AllocError>
+    requires { length bytes.now ≤ 64 }
+    ensures { OnOk result
+        (string_bytes text.new ≡ string_bytes text.old ++ bytes_text count bytes.now) }
+{
+    text.push_str("[")?;
+    push_decimal(text, count as u64)?;
+    text.push_str("]")?;
+    push_bytes(text, bytes)?;
+    push_blanks(text, 24usize.saturating_sub(3 * bytes.len()))
+}
+
+/// Appends the length and the data of a frame.
+pub(crate) fn push_content(text: &mut String, content: &Content) -> Result<(), AllocError>
+    ensures { OnOk result
+        (string_bytes text.new ≡ string_bytes text.old ++ content_text content.now) }
+{
+    match content {
+        Content::Data(bytes) => {
+            let bytes = bytes.to_list();
+            push_counted(text, bytes.len(), bytes.as_slice())
+        }
+        Content::Remote(count) => push_counted(text, usize::from(*count), &[]),
+        Content::Fd(_, data) => push_counted(text, data.bytes().len(), data.bytes()),
+    }
+}

@@ -1,0 +1,13 @@
+//! The line of a frame of a recording, for people: its parts, and their text.
+#![tactic(auto)]
+
+mod columns;
+mod dates;
+mod line;
+mod said;
+mod so_far;
+mod stamps;
+
+pub use line::set_line;
+pub use so_far::{Seen, Times};
+pub use stamps::{StampForm, push_day, push_time_of_day};

@@ -1,0 +1,139 @@
+//! The line of a frame.
+
+ghost use Rattle.std.specs.Prelude.{◌≡◌, ◌++◌, [], ◌∷◌, OnOk, string_bytes};
+ghost use Rattle.std.specs.List.{flat_map};
+ghost use Rattle.conode_record.specs.Grammar.{IsIdentifier};
+ghost use Rattle.conode_explain_text.specs.Lines.{
+  stamp,
+  gap,
+  identifier,
+  content,
+  said,
+  part_text,
+  after_blanks,
+  interface_parts,
+  notes,
+  front_text,
+  line_parts,
+  line_text,
+};
+ghost use Rattle.conode_explain_text.specs.SoFar.{shows_interface, times_at};
+
+use crate::columns::{push_content, push_id, push_name};
+use crate::said::add_shown;
+use crate::so_far::{Seen, Times};
+use crate::stamps::{StampForm, push_gap, push_stamp};
+use conode_record::{Content, Identifier, Record};
+use std::alloc::AllocError;
+
+fn push_times(text: &mut String, form: StampForm, times: Times) -> Result<(), AllocError>
+    ensures { OnOk result (string_bytes text.new
+        ≡ string_bytes text.old ++ part_text (stamp form times) ++ after_blanks (gap times)) }
+{
+    push_stamp(text, form, times)?;
+    text.push_str("  ")?;
+    push_gap(text, times)
+}
+
+fn push_interface(text: &mut String, shows: bool, name: &[u8]) -> Result<(), AllocError>
+    ensures { OnOk result (string_bytes text.new
+        ≡ string_bytes text.old ++ flat_map after_blanks (interface_parts shows name.now)) }
+{
+    if shows {
+        text.push_str("  ")?;
+        push_name(text, name)
+    } else {
+        Ok(())
+    }
+}
+
+fn push_frame(text: &mut String, id: Identifier, has: &Content) -> Result<(), AllocError>
+    requires { IsIdentifier id }
+    ensures { OnOk result (string_bytes text.new ≡ string_bytes text.old
+        ++ after_blanks (identifier id) ++ after_blanks (content has.now)) }
+{
+    text.push_str("  ")?;
+    push_id(text, id)?;
+    text.push_str("  ")?;
+    push_content(text, has)
+}
+
+fn add_said(line: &mut Vec<u8>, words: &[u8]) -> Result<(), AllocError>
+    ensures { OnOk result (line.new.items ≡ line.old.items ++ after_blanks (said words.now)) }
+{
+    line.extend_from_slice(b"  ")?;
+    add_shown(line, words)
+}
+
+// what comes after what the frame says
+fn end_text(times: Times) -> &'static [u8]
+    ensures { result.now ≡ flat_map after_blanks (notes times) ++ 10 ∷ [] }
+{
+    if times.now < times.before {
+        b"  note: the stamp steps back\n"
+    } else {
+        b"\n"
+    }
+}
+
+// makes the text what comes before what the frame says
+#[tactic(auto, unfolding(crate::specs::Lines::front_text))]
+fn set_front(
+    text: &mut String,
+    form: StampForm,
+    times: Times,
+    shows: bool,
+    frame: &Record<'_>,
+) -> Result<(), AllocError>
+    requires { IsIdentifier frame.now.id }
+    ensures { OnOk result (string_bytes text.new ≡ front_text form times shows frame.now) }
+{
+    text.clear();
+    push_times(text, form, times)?;
+    push_interface(text, shows, frame.interface.bytes())?;
+    push_frame(text, frame.id, &frame.content)
+}
+
+// the line of a frame in the order in which it is written
+fn write_line(
+    line: &mut Vec<u8>,
+    text: &mut String,
+    form: StampForm,
+    seen: &Seen,
+    frame: &Record<'_>,
+    words: &[u8],
+) -> Result<(), AllocError>
+    requires { IsIdentifier frame.now.id }
+    ensures { OnOk result (line.new.items
+        ≡ front_text form (times_at seen.now frame.now.micros)
+        (shows_interface seen.now frame.now.interface) frame.now ++ after_blanks (said words.now)
+        ++ flat_map after_blanks (notes (times_at seen.now frame.now.micros)) ++ 10 ∷ []) }
+{
+    let times = seen.times(frame.micros);
+    let shows = seen.shows_interface(frame.interface.bytes());
+    set_front(text, form, times, shows, frame)?;
+    line.clear();
+    line.extend_from_slice(text.as_bytes())?;
+    add_said(line, words)?;
+    line.extend_from_slice(end_text(times))
+}
+
+/// Makes `line` the line of a frame that says these words, where `seen` is what the recording showed before it: its
+/// stamp, the time since the frame before it, its interface where there are several, its identifier, its length and
+/// data, the words, a note where its stamp steps back, and a line feed, as
+/// `    12.345678  +0.000412  185  [4] E8 03 10 27              TPDO1 node 5`. `text` is room for the work. On an `Err`
+/// memory ran out, and the line is any part of it.
+pub fn set_line(
+    line: &mut Vec<u8>,
+    text: &mut String,
+    form: StampForm,
+    seen: &Seen,
+    frame: &Record<'_>,
+    words: &[u8],
+) -> Result<(), AllocError>
+    requires { IsIdentifier frame.now.id }
+    ensures { OnOk result
+        (line.new.items ≡ line_text (line_parts form seen.now frame.now words.now)) }
+{
+    write_line(line, text, form, seen, frame, words)
+}

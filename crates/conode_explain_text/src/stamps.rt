@@ -1,0 +1,174 @@
+//! Stamps and times. Each function appends a text; on an `Err` memory ran out, and a part of it may be there.
+
+ghost use Rattle.std.specs.Prelude.{◌≡◌, ◌++◌, ◌<◌, ◌^◌, OnOk, string_bytes, replicate};
+ghost use Rattle.co_text.specs.Printed.{digits_text};
+ghost use Rattle.conode_explain_text.specs.Dates.{date_of};
+ghost use Rattle.conode_explain_text.specs.Stamps.{
+  padded,
+  micros_text,
+  time_text,
+  difference_text,
+  gap_text,
+  two_digits,
+  date_text,
+  time_of_day_text,
+  moment_text,
+  stamp_text,
+};
+
+use crate::dates::{Date, date_of};
+use crate::so_far::Times;
+use co_text::{decimal_digits, push_decimal, push_digit};
+use std::alloc::AllocError;
+
+/// In which form stamps are written.
+#[derive(Clone, Copy, Debug, PartialEq, Eq)]
+pub enum StampForm {
+    /// Since the first frame.
+    Relative,
+    /// As the recording has them.
+    Absolute,
+    /// Since the frame before.
+    Delta,
+    /// The date and the time of day in UTC, where stamps are counted from the begin of 1970.
+    Date,
+}
+
+pub(crate) fn push_blanks(text: &mut String, count: usize) -> Result<(), AllocError>
+    ensures { OnOk result (string_bytes text.new ≡ string_bytes text.old ++ replicate count 32) }
+{
+    for _blank in 0..count {
+        text.push(' ')?;
+    }
+    Ok(())
+}
+
+fn push_padded(text: &mut String, number: u64, width: usize) -> Result<(), AllocError>
+    ensures { OnOk result (string_bytes text.new ≡ string_bytes text.old ++ padded width number) }
+{
+    let digits = decimal_digits(number);
+    push_blanks(text, width.saturating_sub(digits.len()))?;
+    text.push_str(digits.as_str())
+}
+
+#[tactic(auto, unfolding(co_text::specs::Printed::digits_text))]
+fn push_micros(text: &mut String, micros: u32) -> Result<(), AllocError>
+    requires { micros < 10 ^ 6 }
+    ensures { OnOk result
+        (string_bytes text.new ≡ string_bytes text.old ++ micros_text micros) }
+{
+    push_digit(text, (micros / 10 / 10 / 10 / 10 / 10 % 10) as u8)?;
+    push_digit(text, (micros / 10 / 10 / 10 / 10 % 10) as u8)?;
+    push_digit(text, (micros / 10 / 10 / 10 % 10) as u8)?;
+    push_digit(text, (micros / 10 / 10 % 10) as u8)?;
+    push_digit(text, (micros / 10 % 10) as u8)?;
+    push_digit(text, (micros % 10) as u8)
+}
+
+// seconds, blanks before them up to this width, and six digits of microseconds
+#[tactic(auto, unfolding(crate::specs::Stamps::time_text))]
+fn push_time(text: &mut String, micros: u64, width: usize) -> Result<(), AllocError>
+    ensures { OnOk result
+        (string_bytes text.new ≡ string_bytes text.old ++ time_text width micros) }
+{
+    push_padded(text, micros / 1_000_000, width)?;
+    text.push('.')?;
+    push_micros(text, (micros % 1_000_000) as u32)
+}
+
+// the time from one stamp to another: a hyphen before it where the other is the earlier one, else this text
+#[tactic(auto, unfolding(crate::specs::Stamps::difference_text))]
+fn push_difference(
+    text: &mut String,
+    plus: &str,
+    width: usize,
+    from: u64,
+    to: u64,
+) -> Result<(), AllocError>
+    ensures { OnOk result (string_bytes text.new
+        ≡ string_bytes text.old ++ difference_text plus.now width from to) }
+{
+    if from <= to {
+        text.push_str(plus)?;
+        push_time(text, to - from, width)
+    } else {
+        text.push_str("-")?;
+        push_time(text, from - to, width)
+    }
+}
+
+#[tactic(auto, unfolding(co_text::specs::Printed::digits_text))]
+fn push_two_digits(text: &mut String, number: u64) -> Result<(), AllocError>
+    ensures { OnOk result
+        (string_bytes text.new ≡ string_bytes text.old ++ two_digits number) }
+{
+    push_digit(text, (number / 10 % 10) as u8)?;
+    push_digit(text, (number % 10) as u8)
+}
+
+#[tactic(auto, unfolding(crate::specs::Stamps::date_text))]
+fn push_date(text: &mut String, date: Date) -> Result<(), AllocError>
+    ensures { OnOk result (string_bytes text.new ≡ string_bytes text.old ++ date_text date) }
+{
+    push_decimal(text, date.year)?;
+    text.push('-')?;
+    push_two_digits(text, date.month)?;
+    text.push('-')?;
+    push_two_digits(text, date.day)
+}
+
+/// Appends the date of a day that is counted from 1 January 1970, as `2015-07-10`.
+pub fn push_day(text: &mut String, day: u64) -> Result<(), AllocError>
+    requires { day < 2 ^ 50 }
+    ensures { OnOk result
+        (string_bytes text.new ≡ string_bytes text.old ++ date_text (date_of day)) }
+{
+    push_date(text, date_of(day))
+}
+
+/// Appends seconds as hours, minutes and seconds, as `06:17:32`.
+#[tactic(auto, unfolding(crate::specs::Stamps::time_of_day_text))]
+pub fn push_time_of_day(text: &mut String, seconds: u64) -> Result<(), AllocError>
+    ensures { OnOk result
+        (string_bytes text.new ≡ string_bytes text.old ++ time_of_day_text seconds) }
+{
+    push_two_digits(text, seconds / 3600)?;
+    text.push(':')?;
+    push_two_digits(text, seconds / 60 % 60)?;
+    text.push(':')?;
+    push_two_digits(text, seconds % 60)
+}
+
+#[tactic(auto, unfolding(crate::specs::Stamps::moment_text))]
+fn push_moment(text: &mut String, micros: u64) -> Result<(), AllocError>
+    ensures { OnOk result (string_bytes text.new ≡ string_bytes text.old ++ moment_text micros) }
+{
+    let seconds = micros / 1_000_000;
+    push_day(text, seconds / 86_400)?;
+    text.push(' ')?;
+    push_time_of_day(text, seconds % 86_400)?;
+    text.push('.')?;
+    push_micros(text, (micros % 1_000_000) as u32)
+}
+
+/// Appends the stamp of a frame.
+#[tactic(auto, unfolding(crate::specs::Stamps::stamp_text))]
+pub(crate) fn push_stamp(text: &mut String, form: StampForm, times: Times) -> Result<(), AllocError>
+    ensures { OnOk result (string_bytes text.new
+        ≡ string_bytes text.old ++ stamp_text form times) }
+{
+    match form {
+        StampForm::Relative => push_difference(text, " ", 5, times.first, times.now),
+        StampForm::Absolute => push_time(text, times.now, 10),
+        StampForm::Delta => push_gap(text, times),
+        StampForm::Date => push_moment(text, times.now),
+    }
+}
+
+/// Appends the time since the frame before, with its sign; that of the first frame is 0.
+#[tactic(auto, unfolding(crate::specs::Stamps::gap_text))]
+pub(crate) fn push_gap(text: &mut String, times: Times) -> Result<(), AllocError>
+    ensures { OnOk result (string_bytes text.new ≡ string_bytes text.old ++ gap_text times) }
+{
+    push_difference(text, "+", 1, times.before, times.now)
+}

@@ -1,0 +1,66 @@
+-- The marks of a text, put together.
+use Rattle.std.proofs.Common.{◌≡◌, ◌∙◌, ℕ, List, ◌++◌, map, Option, ap, subst, append_assoc}
+use Rattle.std.specs.List.{flat_map}
+use Rattle.co_sheet_rows.specs.declared.fault.SheetFault.{SheetFault}
+use Rattle.co_sheet.specs.Content.{SheetContent}
+use Rattle.co_sheet_text.specs.LinesAtFault.{sections_read}
+use Rattle.co_sheet_text.specs.Sections.{TextSection}
+use Rattle.co_sheet_text.specs.Text.{lines_of}
+use Rattle.co_sheet_warnings.specs.declared.warning.Warning.{Warning}
+use Rattle.co_sheet_warnings.specs.Warnings.{IsByLine as IsWarningsByLine, warnings_of}
+use Rattle.co_dict_build.specs.Built.{Plan}
+use Rattle.co_dict_build.specs.Capacities.{limits_view}
+use Rattle.co_dict_build.specs.declared.build_fault.BuildFault.{BuildFault}
+use Rattle.co_dict_faults.specs.AllBuildFaults.{build_faults_of, mapping_faults_of}
+use Rattle.co_dict_faults.specs.declared.mapping_fault.MappingFault.{MappingFault}
+use Rattle.conode_lint.specs.declared.linted_text.Linted.{Linted}
+use Rattle.conode_lint.specs.declared.mark.Mark.{Mark}
+use Rattle.conode_lint.specs.declared.marks.Checks.{Checks}
+use Rattle.conode_lint.specs.BuildLines.{built_marks, marks_with}
+use Rattle.conode_lint.specs.Found.{text_lines}
+use Rattle.conode_lint.specs.Linted.{IsLinted, IsMadeOf, left}
+use Rattle.conode_lint.specs.Marks.{IsFound, IsMarked, fault_mark, node_for, sheet_marks, sheet_of, text_marks, warning_marks}
+
+-- of all faults of a build
+pub plan_marks : (sheet : SheetContent) (sections : List TextSection) (plan : Plan) (faults : List BuildFault) (mappings : List MappingFault) → faults ≡ build_faults_of plan → mappings ≡ mapping_faults_of plan
+    → marks_with sheet sections faults mappings ≡ built_marks sheet sections plan
+unfolding built_marks
+plan_marks sheet sections plan faults mappings is_faults is_mappings =
+    ap (λ (l : List BuildFault). marks_with sheet sections l mappings) is_faults ∙ ap (marks_with sheet sections (build_faults_of plan)) is_mappings
+
+text_marks_with : (text : List ℕ) (checks : Checks) (sheet : Option SheetContent) (node : Option ℕ) → sheet ≡ sheet_of text → node ≡ node_for checks.node sheet
+    → sheet_marks (limits_view checks.limits) (sections_read (lines_of text)) sheet node ≡ text_marks text checks.node (limits_view checks.limits)
+unfolding text_marks
+text_marks_with text checks sheet own is_sheet is_node =
+    ap (sheet_marks (limits_view checks.limits) (sections_read (lines_of text)) sheet) is_node
+    ∙ ap (λ (s : Option SheetContent). sheet_marks (limits_view checks.limits) (sections_read (lines_of text)) s (node_for checks.node s)) is_sheet
+
+-- faults, what the build gives, and warnings
+pub marked_from : (text : List ℕ) (checks : Checks) (faults : List SheetFault) (sheet : Option SheetContent) (node : Option ℕ) (warnings : List Warning) (with_faults with_build all : List Mark)
+    → sheet ≡ sheet_of text → node ≡ node_for checks.node sheet → IsWarningsByLine (warnings_of text node) warnings
+    → with_faults ≡ map fault_mark faults
+    → with_build ≡ with_faults ++ sheet_marks (limits_view checks.limits) (sections_read (lines_of text)) sheet node
+    → all ≡ with_build ++ flat_map (warning_marks checks.all) warnings
+    → IsMarked text checks faults all
+marked_from text checks faults sheet node warnings with_faults with_build all is_sheet is_node by_line is_faults is_build is_all =
+    let last = flat_map (warning_marks checks.all) warnings in
+    let limits = limits_view checks.limits in
+    record {
+      warnings = warnings;
+      by_line = subst (λ (n : Option ℕ). IsWarningsByLine (warnings_of text n) warnings) (is_node ∙ ap (node_for checks.node) is_sheet) by_line;
+      are = is_all ∙ ap (λ (l : List Mark). l ++ last) (is_build ∙ ap (λ (l : List Mark). l ++ sheet_marks limits (sections_read (lines_of text)) sheet node) is_faults ∙ ap (λ (l : List Mark). map fault_mark faults ++ l) (text_marks_with text checks sheet node is_sheet is_node))
+          ∙ append_assoc (map fault_mark faults) (text_marks text checks.node limits) last;
+    }
+
+-- a text linted
+pub linted_from : (text : List ℕ) (checks : Checks) (lines lines_made : List (List ℕ)) (found found_left marks marks_made : List Mark) (made : Linted) → IsFound text checks found
+    → lines ≡ text_lines text → lines_made ≡ text_lines text → found_left ≡ found → marks ≡ left lines checks found_left → marks_made ≡ marks
+    → IsMadeOf lines_made marks_made made → IsLinted text checks made
+linted_from text checks lines lines_made found found_left marks marks_made made is_found is_lines is_lines_made is_found_left is_marks is_marks_made is_made =
+    let all : marks_made ≡ left (text_lines text) checks found =
+    is_marks_made ∙ is_marks ∙ ap (λ (l : List (List ℕ)). left l checks found_left) is_lines ∙ ap (left (text_lines text) checks) is_found_left in
+    record {
+      found = found;
+      is_found = is_found;
+      made = subst (λ (l : List (List ℕ)). IsMadeOf l (left (text_lines text) checks found) made) is_lines_made (subst (λ (l : List Mark). IsMadeOf lines_made l made) all is_made);
+    }

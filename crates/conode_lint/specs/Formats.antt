@@ -1,0 +1,23 @@
+-- Which texts with faults are of another format, and no data sheet of CANopen.
+use Rattle.std.specs.Prelude.{ℕ, nat_le, Bool, ◌&&◌, ◌||◌, if◌then◌else◌, List, length, take, codes, Option, Some, None}
+use Rattle.std.specs.List.{list_any}
+use Rattle.co_sheet_text.specs.Text.{same_name, trim}
+use Rattle.conode_lint.specs.declared.mark.OtherFormat.{OtherFormat}
+use Rattle.conode_lint.specs.declared.mark.OtherFormat.TheVariants.{Xml, EtherNetIp}
+
+-- a line begins with a word, in any case of letters
+abbrev pub begins_with : List ℕ → List ℕ → Bool
+begins_with word line =
+    nat_le (length word) (length line) && same_name (take (length word) line) word
+
+-- one of the lines does, after its blanks
+unfoldable pub has_line : List (List ℕ) → List ℕ → Bool
+has_line lines word = list_any (λ line. begins_with word (trim line)) lines
+
+-- XML, as an XDD (CiA 311); an EDS of EtherNet/IP
+unfoldable pub other_format : List (List ℕ) → Option OtherFormat
+other_format lines =
+    if has_line lines (codes "<?xml") || has_line lines (codes "<ISO15745") then Some Xml
+    else if has_line lines (codes "[Device]") && has_line lines (codes "VendCode")
+    then Some EtherNetIp
+    else None

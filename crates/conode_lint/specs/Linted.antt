@@ -1,0 +1,51 @@
+-- What a text is linted to, and what that says of it.
+use Rattle.std.specs.Prelude.{◌≡◌, ℕ, ◌-◌, Bool, ◌&&◌, List, length, map, take, Option, Some, None, is_none}
+use Rattle.std.specs.List.{list_any}
+use Rattle.co_sheet.specs.Accepted.{first_fault}
+use Rattle.co_sheet.specs.Content.{SheetContent}
+use Rattle.co_dict_build.specs.Built.{plan_of}
+use Rattle.co_dict_build.specs.BuildFaults.{build_fault}
+use Rattle.co_dict_build.specs.Capacities.{Limits}
+use Rattle.co_dict_build.specs.declared.build_fault.BuildFault.{BuildFault}
+use Rattle.conode_lint.specs.declared.linted_text.Linted.{Linted}
+use Rattle.conode_lint.specs.declared.mark.Mark.{Mark}
+use Rattle.conode_lint.specs.declared.marks.Checks.{Checks}
+use Rattle.conode_lint.specs.Allowed.{error_count, is_error, kept, names_in, passes_by}
+use Rattle.conode_lint.specs.Found.{finding_of, seen, text_lines}
+use Rattle.conode_lint.specs.Marks.{IsFound, node_for, sheet_of}
+use Rattle.conode_lint.specs.Words.{severity_of}
+
+-- what is left where the names pass that the words and the sheet let pass
+unfoldable pub left : List (List ℕ) → Checks → List Mark → List Mark
+left lines checks found =
+    kept (passes_by (map (λ name. name.now) checks.allowed.now) (names_in lines)) found
+
+-- the findings of these marks: of the first 1,000, and how many there are
+pub record IsMadeOf (lines : List (List ℕ)) (marks : List Mark) (linted : Linted) : Type 0 where
+  pub findings : map seen linted.findings.items ≡ map (finding_of lines) (take 1000 marks)
+  pub errors : linted.errors ≡ error_count marks
+  pub warnings : linted.warnings ≡ length marks - linted.errors
+  pub more : linted.more ≡ length marks - 1000
+
+-- a text linted: the findings of all that is found in it, but for what passes
+pub record IsLinted (text : List ℕ) (checks : Checks) (linted : Linted) : Type 0 where
+  pub found : List Mark
+  pub is_found : IsFound text checks found
+  pub made : IsMadeOf (text_lines text) (left (text_lines text) checks found) linted
+
+-- ---- what that says of a text
+
+-- one of these marks is an error
+abbrev pub has_error : List Mark → Bool
+has_error marks = list_any (λ mark. is_error (severity_of mark.subject)) marks
+
+-- why no dictionary can be built, the fault that is answered; without a sheet or a node-ID none is built
+abbrev pub first_build_fault : Limits → Option SheetContent → Option ℕ → Option BuildFault
+first_build_fault limits (Some sheet) (Some id) = build_fault (plan_of id limits sheet)
+first_build_fault limits other own = None
+
+-- a text has neither a fault as a sheet nor, with a node-ID that is given or its own, a build fault
+unfoldable pub is_good : List ℕ → Option ℕ → Limits → Bool
+is_good text node limits =
+    is_none (first_fault text)
+    && is_none (first_build_fault limits (sheet_of text) (node_for node (sheet_of text)))

@@ -1,0 +1,48 @@
+-- The words of a fault of a mapping for people.
+use Rattle.std.specs.Prelude.{List, ℕ, codes}
+use Rattle.co_dict_faults.specs.declared.mapping_fault.MappingFault.{MappingFault}
+use Rattle.co_dict_faults.specs.declared.mapping_fault.MappingReason.{MappingReason}
+use Rattle.co_dict_faults.specs.declared.mapping_fault.MappingReason.TheVariants.{CountsMore, TooLong, Missing, Zero, NoEntry, NotMappable, NoNumber, BelowProfile, WrongAccess, OneBit, WrongLength}
+use Rattle.co_value.specs.declared.key.Key.{Key}
+use Rattle.conode_lint_text.specs.declared.finding.About.{About}
+use Rattle.conode_lint_text.specs.declared.finding.About.TheVariants.{Entry, Bits}
+
+-- the entry that it is about; of too many bits how many
+abbrev pub about_reason : Key → MappingReason → About
+about_reason key (TooLong bits) = Bits key.index bits
+about_reason key other = Entry key.index key.sub
+
+abbrev pub mapping_about : MappingFault → About
+mapping_about fault = about_reason fault.key fault.reason
+
+-- what is wrong
+abbrev pub mapping_meaning : MappingReason → List ℕ
+mapping_meaning CountsMore = codes "the count is greater than the number of mapping words"
+mapping_meaning (TooLong bits) = codes "a PDO has at most 64"
+mapping_meaning Missing = codes "the mapping counts this word, and it is missing"
+mapping_meaning Zero = codes "the mapping counts this word, and it is 0"
+mapping_meaning NoEntry = codes "it maps an entry that the sheet doesn't have"
+mapping_meaning NotMappable = codes "it maps an entry that may not be mapped"
+mapping_meaning NoNumber = codes "it maps a string or a domain"
+mapping_meaning BelowProfile = codes "an RPDO maps no entry below 2000h"
+mapping_meaning WrongAccess = codes "it maps an entry with an access that doesn't fit"
+mapping_meaning OneBit = codes "it maps 1 bit of an entry of 8 bits"
+mapping_meaning WrongLength = codes "its length isn't that of the entry"
+
+-- how it is fixed
+abbrev pub mapping_fix : MappingReason → List ℕ
+mapping_fix CountsMore = codes "lower the count, or describe the sub-indices that are missing"
+mapping_fix (TooLong bits) = codes "lower the count, or map some of them in another PDO"
+mapping_fix Missing = codes "describe this sub-index"
+mapping_fix Zero = codes "give an entry to map, or lower the count"
+mapping_fix NoEntry = codes "list and describe that entry, or map another"
+mapping_fix NotMappable = codes "set PDOMapping=1 for that entry, or map another"
+mapping_fix NoNumber = codes "map an entry of a numeric type"
+mapping_fix BelowProfile = codes "map an entry from 2000h on"
+mapping_fix WrongAccess = codes "an RPDO maps rw, rww and wo, a TPDO ro, rw, rwr and const"
+mapping_fix OneBit = codes "give the length as 8 bits (08h), for a BOOLEAN too"
+mapping_fix WrongLength = codes "give 8 bits for each byte of the type of that entry"
+
+-- where the standard says so
+abbrev pub mapping_subject : List ℕ
+mapping_subject = codes "CiA 301, PDO mapping parameter"

@@ -1,7 +1,0 @@
-use Rattle.std.proofs.Common.{◌≡◌, ◌++◌, take}
-use Rattle.std.specs.List.{flat_map}
-use Rattle.conode_show.specs.Layout.{cell_byte}
-use Rattle.conode_show.proofs.layout.push_cell.Given as goal
-
-abbrev pub invariant-loop-byte : goal.invariant-loop-byte
-invariant-loop-byte l = l.line.items ≡ l.fn.line.items ++ flat_map cell_byte (take l.byte-index l.part)

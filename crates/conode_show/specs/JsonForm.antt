@@ -1,0 +1,240 @@
+-- The object dictionary of a sheet as one document of JSON, in tokens (RFC 8259).
+use Rattle.std.specs.Prelude.{ℕ, ◌%◌, ◌^◌, ◌-◌, nat_lt, Bool, if◌then◌else◌, List, [], ◌∷◌, ◌++◌, ℤ, pos, negsuc, codes, Option, Some, None, option_map, option_and_then}
+use Rattle.std.specs.Fmt.{signed_decimal}
+use Rattle.std.specs.List.{flat_map}
+use Rattle.std.specs.Option.{option_map_or}
+use Rattle.json.specs.Token.{Token, begin_object, end_object, begin_array, end_array, key, string, number, boolean}
+use Rattle.json.specs.Print.{print}
+use Rattle.co_value.specs.declared.key.Key.{Key}
+use Rattle.co_value.specs.declared.data_type.DataType.{DataType}
+use Rattle.co_sheet_rows.specs.declared.fault.SheetFault.{SheetFault}
+use Rattle.co_sheet_rows.specs.FaultTexts.{fault_text}
+use Rattle.co_sheet_text.specs.declared.section_kind.SectionKind.{SectionKind}
+use Rattle.co_sheet_text.specs.declared.section_kind.SectionKind.TheVariants.{Object, SubIndex}
+use Rattle.co_sheet_text.specs.Sections.{Property, TextSection, property_at, section_at}
+use Rattle.conode_lint_text.specs.JsonForm.{utf8_of}
+use Rattle.conode_show_text.specs.declared.meaning.Meaning.{Meaning}
+use Rattle.conode_show_text.specs.declared.meaning.Meaning.TheVariants.{PdoCobId, Transmission, PdoInhibit, EventTimer, Mapped}
+use Rattle.conode_show_text.specs.declared.service.Service.{Service}
+use Rattle.conode_show_text.specs.declared.values.Word.{Word}
+use Rattle.conode_show_text.specs.Entries.{has_sub_indices, is_mappable, type_text}
+use Rattle.conode_show_text.specs.Meanings.{mapped_key, said}
+use Rattle.conode_show_text.specs.Pdos.{entry_section, is_counted, is_pdo_cob_id, mapping_count, mapping_index, pdo_name, section_word}
+use Rattle.conode_show_text.specs.Services.{key_of, service_meaning, service_name, service_of}
+use Rattle.conode_show_text.specs.Values.{limit_number, type_of, value_number}
+
+-- ---- members
+
+unfoldable pub text_member : List ℕ → List ℕ → List Token
+text_member name text = key name ∷ string text ∷ []
+
+unfoldable pub flag_member : List ℕ → Bool → List Token
+flag_member name is = key name ∷ boolean is ∷ []
+
+-- the beginning of a member that is an object, and of one that is an array
+unfoldable pub object_begin : List ℕ → List Token
+object_begin name = key name ∷ begin_object ∷ []
+
+unfoldable pub array_begin : List ℕ → List Token
+array_begin name = key name ∷ begin_array ∷ []
+
+-- up to 2^53 - 1 in magnitude, which every reader of JSON keeps
+abbrev pub is_exact : ℤ → Bool
+is_exact (pos n) = nat_lt n (2 ^ 53)
+is_exact (negsuc n) = nat_lt n (2 ^ 53 - 1)
+
+-- a number; a greater one as a string
+abbrev pub number_token : ℤ → Token
+number_token z = if is_exact z then number (signed_decimal z) else string (signed_decimal z)
+
+unfoldable pub number_member : List ℕ → ℤ → List Token
+number_member name z = key name ∷ number_token z ∷ []
+
+-- left out where there is none
+abbrev pub number_if : List ℕ → Option ℤ → List Token
+number_if name n = option_map_or (number_member name) n []
+
+-- a text of the sheet: in UTF-8 as it is, else read as Windows-1252; left out where the section has none
+unfoldable pub property_member : List ℕ → List ℕ → TextSection → List Token
+property_member name property section =
+    option_map_or (λ k. text_member name (utf8_of k.value)) (property_at property section) []
+
+-- ---- entries
+
+-- what the sheet has, and its number, left out where it is none
+unfoldable pub quantity_member : List ℕ → Option ℤ → List ℕ → List Token
+quantity_member name n value =
+    object_begin name ++ number_if (codes "number") n ++ text_member (codes "text") (utf8_of value)
+    ++ end_object ∷ []
+
+-- a value and a limit, left out where the section has none
+unfoldable pub value_member : List ℕ → Option ℕ → Option DataType → Option Property → List Token
+value_member name node t property =
+    option_map_or (λ k. quantity_member name (value_number node t k.value) k.value) property []
+
+unfoldable pub limit_member : List ℕ → Option DataType → Option Property → List Token
+limit_member name t limit =
+    option_map_or (λ k. quantity_member name (limit_number t k.value) k.value) limit []
+
+-- name and type
+unfoldable pub named_members : TextSection → List Token
+named_members section =
+    property_member (codes "name") (codes "ParameterName") section
+    ++ text_member (codes "type") (type_text section)
+
+-- the default, the value of a device configuration file, and the limits
+unfoldable pub value_members : Option ℕ → TextSection → List Token
+value_members node section =
+    value_member (codes "default") node (type_of section) (property_at (codes "DefaultValue") section)
+    ++ value_member (codes "value") node (type_of section) (property_at (codes "ParameterValue") section)
+    ++ limit_member (codes "low") (type_of section) (property_at (codes "LowLimit") section)
+    ++ limit_member (codes "high") (type_of section) (property_at (codes "HighLimit") section)
+
+unfoldable pub key_members : Key → List Token
+key_members k = number_member (codes "index") (pos k.index) ++ number_member (codes "subIndex") (pos k.sub)
+
+unfoldable pub entry_tokens : Option ℕ → Key → TextSection → List Token
+entry_tokens node k section =
+    begin_object
+    ∷ (key_members k ++ named_members section
+    ++ property_member (codes "access") (codes "AccessType") section
+    ++ value_members node section
+    ++ flag_member (codes "mappable") (is_mappable section) ++ end_object ∷ [])
+
+-- an object with sub-indices
+unfoldable pub object_tokens : ℕ → TextSection → List Token
+object_tokens index section =
+    begin_object
+    ∷ (number_member (codes "index") (pos index) ++ named_members section ++ end_object ∷ [])
+
+abbrev pub described_tokens : Option ℕ → TextSection → SectionKind → List Token
+described_tokens given section (Object index) =
+    if has_sub_indices section then object_tokens index section
+    else entry_tokens given (record { index = index; sub = 0 }) section
+described_tokens given section (SubIndex k) = entry_tokens given k section
+described_tokens given section other = []
+
+abbrev pub section_tokens : Option ℕ → TextSection → List Token
+section_tokens node section = described_tokens node section section.kind
+
+-- ---- words of the communication profile
+
+-- the number of a word, where it is known without `$NODEID`
+abbrev pub absolute_number : Word → Option ℤ
+absolute_number word = if word.relative then None else Some (pos word.number)
+
+abbrev pub word_number : Option ℕ → TextSection → Option ℤ
+word_number node section = option_and_then absolute_number (section_word node section)
+
+-- what an entry says: its number, left out where it isn't known, and its words
+unfoldable pub said_members : Meaning → Option ℕ → TextSection → List Token
+said_members meaning node section =
+    number_if (codes "number") (word_number node section)
+    ++ text_member (codes "words") (said meaning node section)
+
+unfoldable pub said_member : List ℕ → Meaning → Option ℕ → TextSection → List Token
+said_member name meaning node section =
+    object_begin name ++ said_members meaning node section ++ end_object ∷ []
+
+-- that of a sub-index, left out where it isn't there
+unfoldable pub said_at_member : List ℕ → Meaning → Option ℕ → List TextSection → Key → List Token
+said_at_member name meaning node sections k =
+    option_map_or (said_member name meaning node) (section_at (SubIndex k) sections) []
+
+-- ---- PDOs
+
+-- the name of an entry, left out where there is none
+abbrev pub name_at : List TextSection → Key → List Token
+name_at sections k =
+    option_map_or (property_member (codes "name") (codes "ParameterName")) (entry_section sections k) []
+
+unfoldable pub mapped_members : List TextSection → Word → List Token
+mapped_members sections word =
+    key_members (mapped_key word.number) ++ number_member (codes "bits") (pos (word.number % 0x100))
+    ++ name_at sections (mapped_key word.number)
+
+-- a word of a mapping: what it names, left out where it is no number, and the word in words
+unfoldable pub mapped_tokens : Option ℕ → List TextSection → TextSection → List Token
+mapped_tokens node sections section =
+    begin_object
+    ∷ (option_map_or (mapped_members sections) (section_word node section) []
+    ++ text_member (codes "words") (said Mapped node section) ++ end_object ∷ [])
+
+abbrev pub counted_tokens : Option ℕ → List TextSection → ℕ → ℕ → TextSection → List Token
+counted_tokens node sections index count section =
+    if is_counted index count section.kind then mapped_tokens node sections section else []
+
+-- what a PDO maps
+unfoldable pub mapping_tokens : Option ℕ → List TextSection → ℕ → List Token
+mapping_tokens node sections index =
+    flat_map (counted_tokens node sections index (mapping_count node sections index)) sections
+
+-- its COB-ID, transmission type and timers
+unfoldable pub pdo_members : Option ℕ → List TextSection → ℕ → TextSection → List Token
+pdo_members node sections index section =
+    text_member (codes "pdo") (pdo_name index) ++ number_member (codes "index") (pos index)
+    ++ said_member (codes "cobId") PdoCobId node section
+    ++ said_at_member (codes "transmissionType") Transmission node sections (record { index = index; sub = 2 })
+    ++ said_at_member (codes "inhibitTime") PdoInhibit node sections (record { index = index; sub = 3 })
+    ++ said_at_member (codes "eventTimer") EventTimer node sections (record { index = index; sub = 5 })
+
+unfoldable pub pdo_tokens : Option ℕ → List TextSection → ℕ → TextSection → List Token
+pdo_tokens node sections index section =
+    begin_object
+    ∷ (pdo_members node sections index section ++ array_begin (codes "mapped")
+    ++ mapping_tokens node sections (mapping_index index) ++ (end_array ∷ end_object ∷ []))
+
+abbrev pub pdo_with : Option ℕ → List TextSection → TextSection → SectionKind → List Token
+pdo_with given sections section (SubIndex k) =
+    if is_pdo_cob_id k then pdo_tokens given sections k.index section else []
+pdo_with given sections section other = []
+
+abbrev pub pdo_of : Option ℕ → List TextSection → TextSection → List Token
+pdo_of node sections section = pdo_with node sections section section.kind
+
+-- ---- services
+
+unfoldable pub service_tokens : Option ℕ → TextSection → Key → Service → List Token
+service_tokens node section k service =
+    begin_object
+    ∷ (key_members k ++ text_member (codes "service") (service_name service)
+    ++ said_members (service_meaning service) node section ++ end_object ∷ [])
+
+abbrev pub service_with : Option ℕ → TextSection → Key → List Token
+service_with node section k = option_map_or (service_tokens node section k) (service_of k) []
+
+abbrev pub service_of_section : Option ℕ → TextSection → List Token
+service_of_section node section = option_map_or (service_with node section) (key_of section.kind) []
+
+-- ---- the document
+
+unfoldable pub entries_member : Option ℕ → List TextSection → List Token
+entries_member node sections =
+    array_begin (codes "entries") ++ flat_map (section_tokens node) sections ++ end_array ∷ []
+
+unfoldable pub pdos_member : Option ℕ → List TextSection → List Token
+pdos_member node sections =
+    array_begin (codes "pdos") ++ flat_map (pdo_of node sections) sections ++ end_array ∷ []
+
+unfoldable pub services_member : Option ℕ → List TextSection → List Token
+services_member node sections =
+    array_begin (codes "services") ++ flat_map (service_of_section node) sections ++ end_array ∷ []
+
+unfoldable pub document_tokens : Option ℕ → List TextSection → List Token
+document_tokens node sections =
+    begin_object
+    ∷ (number_member (codes "version") (pos 1) ++ number_if (codes "node") (option_map pos node)
+    ++ entries_member node sections ++ pdos_member node sections ++ services_member node sections
+    ++ end_object ∷ [])
+
+-- the document as a text, and that of a text that can't be shown
+unfoldable pub json_document : Option ℕ → List TextSection → List ℕ
+json_document node sections = print (document_tokens node sections) ++ 10 ∷ []
+
+unfoldable pub fault_tokens : SheetFault → List Token
+fault_tokens fault =
+    begin_object
+    ∷ (number_member (codes "version") (pos 1) ++ text_member (codes "fault") (fault_text fault) ++ end_object ∷ [])
+
+unfoldable pub json_fault : SheetFault → List ℕ
+json_fault fault = print (fault_tokens fault) ++ 10 ∷ []

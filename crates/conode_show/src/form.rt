@@ -1,0 +1,12 @@
+//! The forms in which a dictionary is shown.
+
+use conode_show_text::Format;
+
+/// What is written.
+#[derive(Clone, Copy, Debug, PartialEq, Eq)]
+pub enum Form {
+    /// Lines.
+    Lines(Format),
+    /// One document of JSON.
+    Json,
+}

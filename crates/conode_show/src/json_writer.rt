@@ -1,0 +1,180 @@
+//! A document of JSON that is being written (RFC 8259).
+
+ghost use Rattle.std.specs.Prelude.{◌≡◌, ◌++◌, [], ◌∷◌, IfOk, OnOk};
+ghost use Rattle.json.specs.Print.{print};
+ghost use Rattle.json.specs.Token.{begin_object, end_object, end_array};
+ghost use Rattle.conode_lint_text.specs.JsonForm.{utf8_of};
+ghost use Rattle.conode_show.specs.JsonForm.{array_begin, flag_member, is_exact, number_if, number_member, number_token, object_begin, text_member};
+
+use crate::own_text::own_text;
+use conode_show_text::push_decimal_of;
+use json::Writer;
+use std::alloc::{AllocError, Global};
+use std::marker::Model;
+
+/// The greatest number that every reader of JSON keeps as it is, 2^53 - 1, and the least one.
+const GREATEST_EXACT: i128 = 9_007_199_254_740_991;
+
+const LEAST_EXACT: i128 = -9_007_199_254_740_991;
+
+fn is_exact(number: i128) -> bool
+    ensures { result ≡ is_exact number }
+{
+    LEAST_EXACT <= number && number <= GREATEST_EXACT
+}
+
+/// A document that is being written. Contracts see its tokens. Each method appends tokens; on an `Err` memory ran out, and
+/// some of them may be there.
+#[derive(Drop)]
+pub(crate) struct JsonWriter {
+    writer: Writer,
+}
+
+impl Model for JsonWriter {
+    ghost use Rattle.std.specs.Prelude.{◌≡◌, List, []};
+    ghost use Rattle.json.specs.Token.{Token, tokens_code};
+
+    ghost Value = { List Token };
+
+    ghost coded = { tokens_code };
+
+    ghost view = { λ w. w.writer.tokens };
+
+    // nothing is before the document
+    ghost invariant = { λ w. w.writer.before ≡ [] };
+}
+
+impl JsonWriter {
+    pub(crate) fn new(alloc: Global) -> Self
+        ensures { result ≡ [] }
+    {
+        JsonWriter {
+            writer: Writer::new(Vec::new(alloc)),
+        }
+    }
+
+    /// The document, ended by a line feed.
+    pub(crate) fn into_text(self) -> Result<Vec<u8>, AllocError>
+        ensures { IfOk result (λ text. text.items ≡ print self ++ 10 ∷ []) }
+    {
+        let JsonWriter { writer } = self;
+        let mut text = writer.into_inner();
+        text.push(b'\n')?;
+        Ok(text)
+    }
+
+    pub(crate) fn begin_object(&mut self) -> Result<(), AllocError>
+        ensures { OnOk result (self.new ≡ self.old ++ begin_object ∷ []) }
+    {
+        self.writer.begin_object()?;
+        Ok(())
+    }
+
+    pub(crate) fn end_object(&mut self) -> Result<(), AllocError>
+        ensures { OnOk result (self.new ≡ self.old ++ end_object ∷ []) }
+    {
+        self.writer.end_object()?;
+        Ok(())
+    }
+
+    pub(crate) fn end_array(&mut self) -> Result<(), AllocError>
+        ensures { OnOk result (self.new ≡ self.old ++ end_array ∷ []) }
+    {
+        self.writer.end_array()?;
+        Ok(())
+    }
+
+    /// Begins a member that is an object.
+    #[tactic(auto, unfolding(crate::specs::JsonForm::object_begin))]
+    pub(crate) fn begin_object_of(&mut self, name: &str) -> Result<(), AllocError>
+        ensures { OnOk result (self.new ≡ self.old ++ object_begin name.now) }
+    {
+        self.writer.key(name)?;
+        self.writer.begin_object()?;
+        Ok(())
+    }
+
+    /// Begins a member that is an array.
+    #[tactic(auto, unfolding(crate::specs::JsonForm::array_begin))]
+    pub(crate) fn begin_array_of(&mut self, name: &str) -> Result<(), AllocError>
+        ensures { OnOk result (self.new ≡ self.old ++ array_begin name.now) }
+    {
+        self.writer.key(name)?;
+        self.writer.begin_array()?;
+        Ok(())
+    }
+
+    #[tactic(auto, unfolding(crate::specs::JsonForm::text_member))]
+    pub(crate) fn put_text(&mut self, name: &str, text: &str) -> Result<(), AllocError>
+        ensures { OnOk result (self.new ≡ self.old ++ text_member name.now text.now) }
+    {
+        self.writer.key(name)?;
+        self.writer.string(text)?;
+        Ok(())
+    }
+
+    /// A text of the sheet, in UTF-8.
+    pub(crate) fn put_own(
+        &mut self,
+        alloc: Global,
+        name: &str,
+        bytes: &[u8],
+    ) -> Result<(), AllocError>
+        ensures { OnOk result (self.new ≡ self.old ++ text_member name.now (utf8_of bytes.now)) }
+    {
+        let text = own_text(alloc, bytes)?;
+        self.put_text(name, text.as_str())
+    }
+
+    #[tactic(auto, unfolding(crate::specs::JsonForm::flag_member))]
+    pub(crate) fn put_flag(&mut self, name: &str, is: bool) -> Result<(), AllocError>
+        ensures { OnOk result (self.new ≡ self.old ++ flag_member name.now is) }
+    {
+        self.writer.key(name)?;
+        self.writer.boolean(is)?;
+        Ok(())
+    }
+
+    // a number as a value
+    fn number(&mut self, alloc: Global, number: i128) -> Result<(), AllocError>
+        ensures { OnOk result (self.new ≡ self.old ++ number_token number ∷ []) }
+    {
+        if is_exact(number) {
+            self.writer.i64(number as i64)?;
+            return Ok(());
+        }
+        let mut digits = String::new(alloc);
+        push_decimal_of(&mut digits, number)?;
+        self.writer.string(digits.as_str())?;
+        Ok(())
+    }
+
+    /// A number; one that readers might not keep as it is becomes a string of its digits.
+    #[tactic(auto, unfolding(crate::specs::JsonForm::number_member))]
+    pub(crate) fn put_number(
+        &mut self,
+        alloc: Global,
+        name: &str,
+        number: i128,
+    ) -> Result<(), AllocError>
+        ensures { OnOk result (self.new ≡ self.old ++ number_member name.now number) }
+    {
+        self.writer.key(name)?;
+        self.number(alloc, number)
+    }
+
+    /// The same, left out where there is none.
+    pub(crate) fn put_number_if(
+        &mut self,
+        alloc: Global,
+        name: &str,
+        number: Option<i128>,
+    ) -> Result<(), AllocError>
+        ensures { OnOk result (self.new ≡ self.old ++ number_if name.now number) }
+    {
+        match number {
+            Some(number) => self.put_number(alloc, name, number),
+            None => Ok(()),
+        }
+    }
+}

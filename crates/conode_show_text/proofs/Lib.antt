@@ -1,0 +1,5 @@
+pub mod Examples
+pub mod LineExamples
+mod OrderLemmas
+pub mod Plain
+mod TypeLemmas

@@ -1,0 +1,213 @@
+-- What sections give, evaluated: each kind of line, and both sides of each edge.
+use Rattle.std.proofs.Common.{◌≡◌, ℕ, [], ◌∷◌, List, Some, None, refl, false, true}
+use Rattle.std.specs.Prelude.{codes, nat_lt}
+use Rattle.std.specs.Fmt.{digits}
+use Rattle.std.specs.Str.{is_utf8, chars}
+use lib.Utf8.{encode}
+use Rattle.co_text.specs.Printed.{digits_text}
+use Rattle.co_value.specs.declared.key.Key.{Key}
+use Rattle.co_sheet_text.specs.declared.section_kind.SectionKind.{SectionKind}
+use Rattle.co_sheet_text.specs.declared.section_kind.SectionKind.TheVariants.{Object, SubIndex}
+use Rattle.co_sheet_text.specs.Sections.{TextSection, Property}
+use Rattle.conode_show_text.specs.declared.format.Format.TheVariants.{Text}
+use Rattle.conode_show_text.specs.declared.service.Service.TheVariants.{Sync, Emcy, EmcyInhibitTime, HeartbeatConsumer, HeartbeatProducer, SdoRequests, SdoResponses}
+use Rattle.conode_show_text.specs.Numbers.{hex_text, in_parentheses, number_text}
+use Rattle.conode_show_text.specs.Texts.{plain_text, property_text}
+use Rattle.conode_show_text.specs.Layout.{placed}
+use Rattle.conode_show_text.specs.Values.{default_text, known_text, limit_text, limits_text, property_value, sum_text, value_text}
+use Rattle.conode_show_text.specs.Meanings.{cob_id_text, identifier_text, pdo_cob_id_text, said, word_text}
+use Rattle.conode_show_text.specs.declared.meaning.Meaning.TheVariants.{PdoCobId}
+use Rattle.conode_show_text.specs.Entries.{entry_line, entry_type, mappable_text, object_line, section_text, object_head, type_name, type_text}
+use Rattle.conode_show_text.specs.Services.{service_of}
+use Rattle.conode_show_text.specs.Pdos.{is_counted, is_pdo_cob_id, mapping_count, pdo_name}
+use Rattle.conode_show_text.specs.Document.{rank}
+
+abbrev key : ℕ → ℕ → Key
+key index sub = record { index = index; sub = sub }
+
+abbrev property : List ℕ → List ℕ → Property
+property name value = record { name = name; value = value; line = 1 }
+
+abbrev section : SectionKind → List Property → TextSection
+section kind properties = record { kind = kind; name = []; line = 1; properties = properties }
+
+-- ---- entries and objects
+
+whole_entry : section_text Text None (section (SubIndex (key 0x2000 1)) (property (codes "ParameterName") (codes "Gain") ∷ property (codes "DataType") (codes "0x0003") ∷ property (codes "AccessType") (codes "rw") ∷ property (codes "PDOMapping") (codes "1") ∷ property (codes "DefaultValue") (codes "10") ∷ property (codes "LowLimit") (codes "0xFF9C") ∷ property (codes "HighLimit") (codes "100") ∷ []))
+    ≡ codes "2000:01 Gain                              INTEGER16  rw     PDO 10 (Ah)                -100..100\n"
+unfolding entry_line placed property_text plain_text is_utf8 chars encode type_text entry_type type_name mappable_text default_text property_value value_text known_text number_text in_parentheses hex_text limits_text limit_text digits digits_text
+whole_entry = refl
+
+variable : section_text Text None (section (Object 0x1001) (property (codes "DataType") (codes "5") ∷ [])) ≡ codes "1001:00                                   UNSIGNED8\n"
+unfolding entry_line object_head placed property_text plain_text is_utf8 chars encode type_text entry_type type_name mappable_text default_text property_value limits_text limit_text digits digits_text
+variable = refl
+
+object_of_records : section_text Text None (section (Object 0x1018) (property (codes "ObjectType") (codes "9") ∷ property (codes "ParameterName") (codes "Identity") ∷ [])) ≡ codes "1018    Identity                          RECORD\n"
+unfolding object_head object_line placed property_text plain_text is_utf8 chars encode type_text digits_text
+object_of_records = refl
+
+domain : entry_type (section (Object 0x2F00) (property (codes "ObjectType") (codes "2") ∷ [])) ≡ codes "DOMAIN"
+unfolding entry_type
+domain = refl
+
+no_type : entry_type (section (Object 0x2F00) []) ≡ []
+unfolding entry_type
+no_type = refl
+
+not_mappable : mappable_text (section (Object 0x2000) (property (codes "PDOMapping") (codes "0x0") ∷ [])) ≡ []
+unfolding mappable_text
+not_mappable = refl
+
+mappable : mappable_text (section (Object 0x2000) (property (codes "pdomapping") (codes "0x2") ∷ [])) ≡ codes "PDO"
+unfolding mappable_text
+mappable = refl
+
+beside_default : default_text (Some 5) (section (Object 0x1014) (property (codes "DataType") (codes "7") ∷ property (codes "DefaultValue") (codes "$NODEID+0x80") ∷ property (codes "ParameterValue") (codes "0x85") ∷ []))
+    ≡ codes "133 (85h), default $NODEID+80h = 85h"
+unfolding default_text property_value value_text known_text sum_text number_text in_parentheses hex_text digits
+beside_default = refl
+
+value_alone : default_text None (section (Object 0x1017) (property (codes "DataType") (codes "6") ∷ property (codes "ParameterValue") (codes "7") ∷ [])) ≡ codes "7"
+unfolding default_text property_value value_text known_text number_text digits
+value_alone = refl
+
+one_limit : limits_text (section (Object 0x1017) (property (codes "DataType") (codes "6") ∷ property (codes "HighLimit") (codes "0x10") ∷ [])) ≡ codes "..16"
+unfolding limits_text limit_text digits
+one_limit = refl
+
+no_limit : limits_text (section (Object 0x1017) []) ≡ []
+unfolding limits_text limit_text
+no_limit = refl
+
+-- ---- services
+
+sync : service_of (key 0x1005 0) ≡ Some Sync
+sync = refl
+
+sync_sub_1 : service_of (key 0x1005 1) ≡ None
+sync_sub_1 = refl
+
+emcy : service_of (key 0x1014 0) ≡ Some Emcy
+emcy = refl
+
+emcy_inhibit_time : service_of (key 0x1015 0) ≡ Some EmcyInhibitTime
+emcy_inhibit_time = refl
+
+consumers : service_of (key 0x1016 0) ≡ None
+consumers = refl
+
+first_consumer : service_of (key 0x1016 1) ≡ Some HeartbeatConsumer
+first_consumer = refl
+
+producer : service_of (key 0x1017 0) ≡ Some HeartbeatProducer
+producer = refl
+
+before_channels : service_of (key 0x11FF 1) ≡ None
+before_channels = refl
+
+first_channel : service_of (key 0x1200 1) ≡ Some (SdoRequests 1)
+first_channel = refl
+
+last_channel : service_of (key 0x127F 2) ≡ Some (SdoResponses 128)
+last_channel = refl
+
+channel_client : service_of (key 0x127F 3) ≡ None
+channel_client = refl
+
+after_channels : service_of (key 0x1280 1) ≡ None
+after_channels = refl
+
+-- ---- PDOs
+
+before_rpdos : is_pdo_cob_id (key 0x13FF 1) ≡ false
+before_rpdos = refl
+
+first_rpdo : is_pdo_cob_id (key 0x1400 1) ≡ true
+first_rpdo = refl
+
+transmission_type : is_pdo_cob_id (key 0x1400 2) ≡ false
+transmission_type = refl
+
+last_rpdo : is_pdo_cob_id (key 0x15FF 1) ≡ true
+last_rpdo = refl
+
+rpdo_mapping : is_pdo_cob_id (key 0x1600 1) ≡ false
+rpdo_mapping = refl
+
+before_tpdos : is_pdo_cob_id (key 0x17FF 1) ≡ false
+before_tpdos = refl
+
+first_tpdo : is_pdo_cob_id (key 0x1800 1) ≡ true
+first_tpdo = refl
+
+last_tpdo : is_pdo_cob_id (key 0x19FF 1) ≡ true
+last_tpdo = refl
+
+tpdo_mapping : is_pdo_cob_id (key 0x1A00 1) ≡ false
+tpdo_mapping = refl
+
+rpdo_1 : pdo_name 0x1400 ≡ codes "RPDO 1"
+unfolding pdo_name digits
+rpdo_1 = refl
+
+rpdo_512 : pdo_name 0x15FF ≡ codes "RPDO 512"
+unfolding pdo_name digits
+rpdo_512 = refl
+
+tpdo_1 : pdo_name 0x1800 ≡ codes "TPDO 1"
+unfolding pdo_name digits
+tpdo_1 = refl
+
+tpdo_512 : pdo_name 0x19FF ≡ codes "TPDO 512"
+unfolding pdo_name digits
+tpdo_512 = refl
+
+relative_cob_id : said PdoCobId None (section (SubIndex (key 0x1800 1)) (property (codes "DefaultValue") (codes "$NODEID+0x40000180") ∷ [])) ≡ codes "$NODEID+180h, enabled, no RTR"
+unfolding said word_text pdo_cob_id_text cob_id_text identifier_text hex_text digits
+relative_cob_id = refl
+
+cob_id_of_node : said PdoCobId (Some 5) (section (SubIndex (key 0x1800 1)) (property (codes "DefaultValue") (codes "$NODEID+0x80000180") ∷ [])) ≡ codes "185h, disabled"
+unfolding said word_text pdo_cob_id_text cob_id_text identifier_text hex_text digits
+cob_id_of_node = refl
+
+no_cob_id : said PdoCobId None (section (SubIndex (key 0x1800 1)) (property (codes "DefaultValue") (codes "x") ∷ [])) ≡ codes "x"
+unfolding said plain_text is_utf8 chars encode
+no_cob_id = refl
+
+abbrev count_is : List ℕ → ℕ
+count_is text = mapping_count None (section (SubIndex (key 0x1A00 0)) (property (codes "DefaultValue") text ∷ []) ∷ []) 0x1A00
+
+count_64 : count_is (codes "64") ≡ 64
+count_64 = refl
+
+count_65 : count_is (codes "65") ≡ 0
+count_65 = refl
+
+count_missing : mapping_count None [] 0x1A00 ≡ 0
+count_missing = refl
+
+number_itself : is_counted 0x1A00 2 (SubIndex (key 0x1A00 0)) ≡ false
+number_itself = refl
+
+first_counted : is_counted 0x1A00 2 (SubIndex (key 0x1A00 1)) ≡ true
+first_counted = refl
+
+last_counted : is_counted 0x1A00 2 (SubIndex (key 0x1A00 2)) ≡ true
+last_counted = refl
+
+not_counted : is_counted 0x1A00 2 (SubIndex (key 0x1A00 3)) ≡ false
+not_counted = refl
+
+of_another : is_counted 0x1A00 2 (SubIndex (key 0x1A01 1)) ≡ false
+of_another = refl
+
+-- ---- the order
+
+object_first : nat_lt (rank (Object 0x1018)) (rank (SubIndex (key 0x1018 0))) ≡ true
+object_first = refl
+
+by_sub_index : nat_lt (rank (SubIndex (key 0x1018 0))) (rank (SubIndex (key 0x1018 1))) ≡ true
+by_sub_index = refl
+
+by_index : nat_lt (rank (SubIndex (key 0x1018 0xFF))) (rank (Object 0x1019)) ≡ true
+by_index = refl

@@ -1,0 +1,119 @@
+-- The lines of entries and objects (CiA 306, object description).
+use Rattle.std.specs.Prelude.{ℕ, ◌==◌, ◌||◌, Bool, if◌then◌else◌, List, [], ◌∷◌, ◌++◌, codes, Option, option_map, find}
+use Rattle.std.specs.Option.{option_map_or}
+use Rattle.std.specs.List.{flat_map}
+use Rattle.co_text.specs.Printed.{digits_text}
+use Rattle.co_value.specs.declared.key.Key.{Key}
+use Rattle.co_value.specs.KeyTexts.{key_text}
+use Rattle.co_sheet_text.specs.declared.section_kind.SectionKind.{SectionKind}
+use Rattle.co_sheet_text.specs.declared.section_kind.SectionKind.TheVariants.{Object, SubIndex}
+use Rattle.co_sheet_text.specs.Sections.{TextSection, property_at}
+use Rattle.co_sheet_text.specs.Properties.{property_number, number_at}
+use Rattle.co_sheet.specs.ObjectLists.{is_one_of}
+use Rattle.co_sheet.specs.Entries.{object_code, is_other_than_zero}
+use Rattle.conode_show_text.specs.declared.format.Format.{Format}
+use Rattle.conode_show_text.specs.declared.format.Format.TheVariants.{Text, Markdown}
+use Rattle.conode_show_text.specs.Numbers.{hex_text}
+use Rattle.conode_show_text.specs.Texts.{plain_text, property_text}
+use Rattle.conode_show_text.specs.Values.{default_text, limits_text}
+use Rattle.conode_show_text.specs.Layout.{Part, line_of, cell_byte}
+
+-- data types by their codes (CiA 301, 7.4.7.1)
+abbrev pub type_names : List (ℕ × List ℕ)
+type_names =
+    (0x01, codes "BOOLEAN") ∷ (0x02, codes "INTEGER8") ∷ (0x03, codes "INTEGER16") ∷ (0x04, codes "INTEGER32")
+    ∷ (0x05, codes "UNSIGNED8") ∷ (0x06, codes "UNSIGNED16") ∷ (0x07, codes "UNSIGNED32") ∷ (0x08, codes "REAL32")
+    ∷ (0x09, codes "VISIBLE_STRING") ∷ (0x0A, codes "OCTET_STRING") ∷ (0x0B, codes "UNICODE_STRING")
+    ∷ (0x0C, codes "TIME_OF_DAY") ∷ (0x0D, codes "TIME_DIFFERENCE") ∷ (0x0F, codes "DOMAIN") ∷ (0x10, codes "INTEGER24")
+    ∷ (0x11, codes "REAL64") ∷ (0x12, codes "INTEGER40") ∷ (0x13, codes "INTEGER48") ∷ (0x14, codes "INTEGER56")
+    ∷ (0x15, codes "INTEGER64") ∷ (0x16, codes "UNSIGNED24") ∷ (0x18, codes "UNSIGNED40") ∷ (0x19, codes "UNSIGNED48")
+    ∷ (0x1A, codes "UNSIGNED56") ∷ (0x1B, codes "UNSIGNED64") ∷ []
+
+-- the name of a data type; that of a code that is none is its number
+unfoldable pub type_name : ℕ → List ℕ
+type_name code =
+    option_map_or (λ name. name) (option_map (λ row. row.1) (find (λ row. row.0 == code) type_names))
+    (codes "type " ++ hex_text code)
+
+-- the name of an object type (CiA 301, object codes)
+abbrev pub is_array : TextSection → Bool
+is_array section = is_one_of (8 ∷ []) (object_code section)
+
+abbrev pub is_record : TextSection → Bool
+is_record section = is_one_of (9 ∷ []) (object_code section)
+
+-- the type of an entry; DOMAIN where object type 2 states none
+unfoldable pub entry_type : TextSection → List ℕ
+entry_type section =
+    option_map_or (λ k. option_map_or type_name (property_number k) (plain_text k.value))
+    (property_at (codes "DataType") section)
+    (if is_one_of (2 ∷ []) (object_code section) then codes "DOMAIN" else [])
+
+-- the type of an object with sub-indices, or of an entry
+unfoldable pub type_text : TextSection → List ℕ
+type_text section =
+    if is_array section then codes "ARRAY"
+    else if is_record section then codes "RECORD" else entry_type section
+
+-- whether an object's entries have sections of their own
+abbrev pub has_sub_indices : TextSection → Bool
+has_sub_indices section = is_array section || is_record section
+
+-- whether the entry may be mapped into a PDO
+abbrev pub is_mappable : TextSection → Bool
+is_mappable section = is_other_than_zero (number_at (codes "PDOMapping") section)
+
+unfoldable pub mappable_text : TextSection → List ℕ
+mappable_text section = if is_mappable section then codes "PDO" else []
+
+-- an entry: key, name, type, access, whether it may be mapped, default, limits
+abbrev pub entry_parts : Option ℕ → Key → TextSection → List Part
+entry_parts node key section =
+    record { column = 0; text = key_text key }
+    ∷ record { column = 8; text = property_text (codes "ParameterName") section }
+    ∷ record { column = 42; text = type_text section }
+    ∷ record { column = 53; text = property_text (codes "AccessType") section }
+    ∷ record { column = 60; text = mappable_text section }
+    ∷ record { column = 64; text = default_text node section }
+    ∷ record { column = 87; text = limits_text section } ∷ []
+
+unfoldable pub entry_line : Format → Option ℕ → Key → TextSection → List ℕ
+entry_line format node key section = line_of format (entry_parts node key section)
+
+-- an object with sub-indices: index, name, type
+abbrev pub object_parts : ℕ → TextSection → List Part
+object_parts index section =
+    record { column = 0; text = digits_text 16 4 index }
+    ∷ record { column = 8; text = property_text (codes "ParameterName") section }
+    ∷ record { column = 42; text = type_text section } ∷ []
+
+unfoldable pub object_line : ℕ → TextSection → List ℕ
+object_line index section = line_of Text (object_parts index section)
+
+-- the head of a table of entries
+abbrev pub entries_head : Format → List ℕ
+entries_head Text = codes "Entry   Name                              Type       Access PDO Default                Limits\n"
+entries_head Markdown =
+    codes "| Entry | Name | Type | Access | PDO | Default | Limits |\n| --- | --- | --- | --- | --- | --- | --- |\n"
+
+-- the heading of an object, as `### 1018h Identity object`, and the head of its table
+unfoldable pub object_heading : ℕ → TextSection → List ℕ
+object_heading index section =
+    codes "\n### " ++ digits_text 16 4 index ++ codes "h "
+    ++ flat_map cell_byte (property_text (codes "ParameterName") section) ++ codes "\n\n" ++ entries_head Markdown
+
+-- what is before the entries of an object: in columns the line of an object with sub-indices, in Markdown a heading
+unfoldable pub object_head : Format → ℕ → TextSection → List ℕ
+object_head Text index section = if has_sub_indices section then object_line index section else []
+object_head Markdown index section = object_heading index section
+
+-- what a section of a sheet says: an object, with its entry where it has no sub-indices, or the entry of a sub-index
+abbrev pub described : Format → Option ℕ → TextSection → SectionKind → List ℕ
+described format given section (Object index) =
+    object_head format index section
+    ++ (if has_sub_indices section then [] else entry_line format given (record { index = index; sub = 0 }) section)
+described format given section (SubIndex key) = entry_line format given key section
+described format given section other = []
+
+abbrev pub section_text : Format → Option ℕ → TextSection → List ℕ
+section_text format node section = described format node section section.kind

@@ -1,0 +1,9 @@
+pub mod Numbers
+pub mod Texts
+pub mod Layout
+pub mod Values
+pub mod Meanings
+pub mod Entries
+pub mod Services
+pub mod Pdos
+pub mod Document

@@ -1,0 +1,109 @@
+-- PDOs in words: COB-ID, transmission type, timers, what they map (CiA 301, 7.5.2.35 to 7.5.2.38).
+use Rattle.std.specs.Prelude.{ℕ, ◌+◌, ◌-◌, ◌==◌, nat_le, Bool, ◌&&◌, ◌||◌, if◌then◌else◌, List, [], ◌∷◌, ◌++◌, codes, decimal, Option, None, false, option_and_then}
+use Rattle.std.specs.List.{flat_map}
+use Rattle.std.specs.Option.{option_map_or, option_or}
+use Rattle.co_value.specs.declared.key.Key.{Key}
+use Rattle.co_profile.specs.Indices.{is_within, rpdo_communication, tpdo_communication}
+use Rattle.co_sheet_text.specs.declared.section_kind.SectionKind.{SectionKind}
+use Rattle.co_sheet_text.specs.declared.section_kind.SectionKind.TheVariants.{Object, SubIndex}
+use Rattle.co_sheet_text.specs.Sections.{TextSection, section_at}
+use Rattle.conode_show_text.specs.declared.format.Format.{Format}
+use Rattle.conode_show_text.specs.declared.meaning.Meaning.{Meaning}
+use Rattle.conode_show_text.specs.declared.meaning.Meaning.TheVariants.{PdoCobId, Transmission, PdoInhibit, EventTimer, Mapped}
+use Rattle.conode_show_text.specs.Layout.{Part, line_of}
+use Rattle.conode_show_text.specs.Texts.{property_text}
+use Rattle.conode_show_text.specs.declared.values.Word.{Word}
+use Rattle.conode_show_text.specs.Values.{word_of, value_of}
+use Rattle.conode_show_text.specs.Meanings.{mapped_key, said}
+
+-- the number of a PDO, from 1, by the index of its communication parameter
+unfoldable pub pdo_name : ℕ → List ℕ
+pdo_name index =
+    if is_within rpdo_communication index then codes "RPDO " ++ decimal (index - 0x13FF)
+    else codes "TPDO " ++ decimal (index - 0x17FF)
+
+-- the COB-ID of a PDO
+abbrev pub is_pdo_cob_id : Key → Bool
+is_pdo_cob_id key =
+    key.sub == 1 && (is_within rpdo_communication key.index || is_within tpdo_communication key.index)
+
+-- the section of an entry: of its sub-index, or where there is none at sub-index 0 of its object
+abbrev pub entry_section : List TextSection → Key → Option TextSection
+entry_section sections key =
+    option_or (section_at (SubIndex key) sections)
+    (if key.sub == 0 then section_at (Object key.index) sections else None)
+
+-- what a sub-index says in words, nothing where it isn't there
+unfoldable pub said_at : Meaning → Option ℕ → List TextSection → Key → List ℕ
+said_at meaning node sections key = option_map_or (said meaning node) (section_at (SubIndex key) sections) []
+
+-- PDO, COB-ID, transmission type, inhibit time, event timer
+abbrev pub pdo_parts : Option ℕ → List TextSection → ℕ → TextSection → List Part
+pdo_parts node sections index section =
+    record { column = 0; text = pdo_name index }
+    ∷ record { column = 8; text = said PdoCobId node section }
+    ∷ record { column = 38; text = said_at Transmission node sections (record { index = index; sub = 2 }) }
+    ∷ record { column = 72; text = said_at PdoInhibit node sections (record { index = index; sub = 3 }) }
+    ∷ record { column = 88; text = said_at EventTimer node sections (record { index = index; sub = 5 }) } ∷ []
+
+unfoldable pub pdo_line : Format → Option ℕ → List TextSection → ℕ → TextSection → List ℕ
+pdo_line format node sections index section = line_of format (pdo_parts node sections index section)
+
+-- the word that an entry has
+abbrev pub section_word : Option ℕ → TextSection → Option Word
+section_word node section = option_and_then (λ k. word_of node k.value) (value_of section)
+
+-- the name of the entry that a word of a mapping names
+unfoldable pub mapped_name : Option ℕ → List TextSection → TextSection → List ℕ
+mapped_name node sections section =
+    option_map_or (property_text (codes "ParameterName"))
+    (option_and_then (λ word. entry_section sections (mapped_key word.number)) (section_word node section)) []
+
+-- what is mapped, and its name
+abbrev pub mapped_parts : Option ℕ → List TextSection → TextSection → List Part
+mapped_parts node sections section =
+    record { column = 0; text = [] }
+    ∷ record { column = 8; text = said Mapped node section }
+    ∷ record { column = 38; text = mapped_name node sections section }
+    ∷ record { column = 72; text = [] } ∷ record { column = 88; text = [] } ∷ []
+
+unfoldable pub mapped_line : Format → Option ℕ → List TextSection → TextSection → List ℕ
+mapped_line format node sections section = line_of format (mapped_parts node sections section)
+
+-- the index of a PDO's mapping parameter
+abbrev pub mapping_index : ℕ → ℕ
+mapping_index index = index + 0x200
+
+-- how many words of a mapping count; more than 64 are none (CiA 301, 7.5.2.36)
+abbrev pub mapping_count : Option ℕ → List TextSection → ℕ → ℕ
+mapping_count node sections index =
+    option_map_or (λ word. if nat_le word.number 64 then word.number else 0)
+    (option_and_then (section_word node) (section_at (SubIndex (record { index = index; sub = 0 })) sections)) 0
+
+-- whether a section is a word of a mapping that counts
+abbrev pub is_counted : ℕ → ℕ → SectionKind → Bool
+is_counted index count (SubIndex key) = key.index == index && nat_le 1 key.sub && nat_le key.sub count
+is_counted index count other = false
+
+-- the line of such a section, and the lines of what a mapping maps
+abbrev pub counted_line : Format → Option ℕ → List TextSection → ℕ → ℕ → TextSection → List ℕ
+counted_line format node sections index count section =
+    if is_counted index count section.kind then mapped_line format node sections section else []
+
+unfoldable pub mapped_lines : Format → Option ℕ → List TextSection → ℕ → ℕ → List ℕ
+mapped_lines format node sections index count =
+    flat_map (counted_line format node sections index count) sections
+
+-- a PDO, by the section of its COB-ID
+unfoldable pub pdo_lines : Format → Option ℕ → List TextSection → ℕ → TextSection → List ℕ
+pdo_lines format node sections index section =
+    pdo_line format node sections index section
+    ++ mapped_lines format node sections (mapping_index index) (mapping_count node sections (mapping_index index))
+
+abbrev pub pdo_of_kind : Format → Option ℕ → List TextSection → TextSection → SectionKind → List ℕ
+pdo_of_kind format given sections section (SubIndex key) =
+    if is_pdo_cob_id key then pdo_lines format given sections key.index section else []
+pdo_of_kind format given sections section other = []
+
+abbrev pub pdo_text : Format → Option ℕ → List TextSection → TextSection → List ℕ
+pdo_text format node sections section = pdo_of_kind format node sections section section.kind

@@ -1,0 +1,75 @@
+-- SYNC, EMCY, heartbeats and SDO channels in words (CiA 301, 7.5.2).
+use Rattle.std.specs.Prelude.{ℕ, ◌+◌, ◌-◌, ◌==◌, nat_le, ◌&&◌, if◌then◌else◌, List, [], ◌∷◌, ◌++◌, codes, decimal, Option, Some, None}
+use Rattle.std.specs.Option.{option_map_or}
+use Rattle.co_value.specs.declared.key.Key.{Key}
+use Rattle.co_value.specs.KeyTexts.{key_text}
+use Rattle.co_sheet_text.specs.declared.section_kind.SectionKind.{SectionKind}
+use Rattle.co_sheet_text.specs.declared.section_kind.SectionKind.TheVariants.{Object, SubIndex}
+use Rattle.co_sheet_text.specs.Sections.{TextSection}
+use Rattle.conode_show_text.specs.declared.format.Format.{Format}
+use Rattle.conode_show_text.specs.declared.meaning.Meaning.{Meaning}
+use Rattle.conode_show_text.specs.declared.meaning.Meaning.TheVariants.{CobId, SyncCobId, EmcyInhibit, Consumer, Producer}
+use Rattle.conode_show_text.specs.declared.service.Service.{Service}
+use Rattle.conode_show_text.specs.declared.service.Service.TheVariants.{Sync, Emcy, EmcyInhibitTime, HeartbeatConsumer, HeartbeatProducer, SdoRequests, SdoResponses}
+use Rattle.conode_show_text.specs.Layout.{Part, line_of}
+use Rattle.conode_show_text.specs.Meanings.{said}
+
+-- the service that an entry is of (CiA 301, 7.5.2)
+abbrev pub service_of : Key → Option Service
+service_of key =
+    if key.index == 0x1005 && key.sub == 0 then Some Sync
+    else if key.index == 0x1014 && key.sub == 0 then Some Emcy
+    else if key.index == 0x1015 && key.sub == 0 then Some EmcyInhibitTime
+    else if key.index == 0x1016 && nat_le 1 key.sub then Some HeartbeatConsumer
+    else if key.index == 0x1017 && key.sub == 0 then Some HeartbeatProducer
+    else if nat_le 0x1200 key.index && nat_le key.index 0x127F && key.sub == 1 then Some (SdoRequests (key.index - 0x1200 + 1))
+    else if nat_le 0x1200 key.index && nat_le key.index 0x127F && key.sub == 2 then Some (SdoResponses (key.index - 0x1200 + 1))
+    else None
+
+-- one way of an SDO channel
+unfoldable pub channel_name : ℕ → List ℕ → List ℕ
+channel_name channel way = codes "SDO " ++ decimal channel ++ way
+
+-- what it is called
+unfoldable pub service_name : Service → List ℕ
+service_name Sync = codes "SYNC"
+service_name Emcy = codes "EMCY"
+service_name EmcyInhibitTime = codes "EMCY inhibit time"
+service_name HeartbeatConsumer = codes "Heartbeat consumer"
+service_name HeartbeatProducer = codes "Heartbeat producer"
+service_name (SdoRequests channel) = channel_name channel (codes ", client to server")
+service_name (SdoResponses channel) = channel_name channel (codes ", server to client")
+
+-- what its number means
+abbrev pub service_meaning : Service → Meaning
+service_meaning Sync = SyncCobId
+service_meaning Emcy = CobId
+service_meaning EmcyInhibitTime = EmcyInhibit
+service_meaning HeartbeatConsumer = Consumer
+service_meaning HeartbeatProducer = Producer
+service_meaning (SdoRequests channel) = CobId
+service_meaning (SdoResponses channel) = CobId
+
+-- the key of the entry that a section describes
+abbrev pub key_of : SectionKind → Option Key
+key_of (Object index) = Some (record { index = index; sub = 0 })
+key_of (SubIndex key) = Some key
+key_of other = None
+
+-- key, service, and what the entry says in words
+abbrev pub service_parts : Option ℕ → Key → Service → TextSection → List Part
+service_parts node key service section =
+    record { column = 0; text = key_text key }
+    ∷ record { column = 8; text = service_name service }
+    ∷ record { column = 38; text = said (service_meaning service) node section } ∷ []
+
+unfoldable pub service_line : Format → Option ℕ → Key → Service → TextSection → List ℕ
+service_line format node key service section = line_of format (service_parts node key service section)
+
+-- of an entry that is of a service its line
+abbrev pub line_of_key : Format → Option ℕ → TextSection → Key → List ℕ
+line_of_key format node section key =
+    option_map_or (λ service. service_line format node key service section) (service_of key) []
+
+abbrev pub service_text : Format → Option ℕ → TextSection → List ℕ
+service_text format node section = option_map_or (line_of_key format node section) (key_of section.kind) []

@@ -1,0 +1,115 @@
+-- The values that a sheet states (CiA 306, object description, device configuration file).
+use Rattle.std.specs.Prelude.{ℕ, ◌+◌, ◌==◌, true, false, if◌then◌else◌, List, [], ◌∷◌, ◌++◌, ℤ, pos, negsuc, codes, Option, Some, None, is_some, option_map, option_and_then, unwrap_or, ◌&&◌, ◌||◌}
+use Rattle.std.specs.Option.{option_map_or, option_or}
+use Rattle.std.specs.Result.{result_ok}
+use Rattle.std.specs.Fmt.{signed_decimal}
+use Rattle.co_value.specs.declared.data_type.DataType.{DataType}
+use Rattle.co_value.specs.declared.data_type.DataType.TheVariants.{Unsigned32}
+use Rattle.co_value.specs.Types.{code_of, width_of}
+use Rattle.co_sheet_text.specs.Sections.{TextSection, Property, property_at}
+use Rattle.co_sheet_text.specs.Properties.{number_at}
+use Rattle.co_sheet.specs.Entries.{data_type_with}
+use Rattle.co_sheet.specs.Limits.{Default, absent, number, node_id, numeric_default, number_at_type}
+use Rattle.conode_show_text.specs.declared.values.Word.{Word}
+use Rattle.conode_show_text.specs.Numbers.{hex_text, number_text, if_small}
+use Rattle.conode_show_text.specs.Texts.{plain_text}
+
+-- ---- what an entry begins with
+
+-- a numeric text as a value: a number, a sum with the node-ID, or neither
+abbrev pub numeric_value : DataType → List ℕ → Default
+numeric_value t value = unwrap_or (result_ok (numeric_default t value)) absent
+
+-- a sum with the node-ID as it is written, and for a given node what it is, as `$NODEID+600h = 605h`
+unfoldable pub sum_text : Option ℕ → ℕ → List ℕ
+sum_text node addend =
+    codes "$NODEID" ++ (if addend == 0 then [] else codes "+" ++ hex_text addend)
+    ++ option_map_or (λ sum. codes " = " ++ hex_text sum) (option_and_then (λ id. if_small (addend + id)) node) []
+
+-- a numeric value of so many bytes; a text that is none is printed as it is
+unfoldable pub known_text : Option ℕ → ℕ → List ℕ → Default → List ℕ
+known_text given width value (number z) = number_text width z
+known_text given width value (node_id addend) = sum_text given addend
+known_text given width value other = plain_text value
+
+-- a string in double quotes
+unfoldable pub quoted : List ℕ → List ℕ
+quoted value = 34 ∷ plain_text value ++ 34 ∷ []
+
+-- a value of a type that isn't numeric
+unfoldable pub unnumbered_text : DataType → List ℕ → List ℕ
+unnumbered_text t value = if code_of t == 0x09 then quoted value else plain_text value
+
+-- the value of a text at a type
+unfoldable pub value_text : Option ℕ → Option DataType → List ℕ → List ℕ
+value_text given None value = plain_text value
+value_text given (Some t) value =
+    option_map_or (λ width. known_text given width value (numeric_value t value)) (width_of t)
+    (unnumbered_text t value)
+
+-- the number of a value; of a sum with the node-ID for the node that is given
+abbrev pub number_for : Option ℕ → Default → Option ℤ
+number_for given (number z) = Some z
+number_for given (node_id addend) = option_map (λ id. pos (addend + id)) given
+number_for given other = None
+
+-- the number of a text at a type, where that is numeric
+abbrev pub value_number : Option ℕ → Option DataType → List ℕ → Option ℤ
+value_number given None value = None
+value_number given (Some t) value =
+    option_and_then (λ width. number_for given (numeric_value t value)) (width_of t)
+
+-- the type that a section states, where its code is one of those that are supported
+abbrev pub type_of : TextSection → Option DataType
+type_of section = option_and_then data_type_with (number_at (codes "DataType") section)
+
+-- the value that a device configuration file gives, and beside it the default; or the one of both that is there
+unfoldable pub property_value : Option ℕ → Option DataType → Option Property → List ℕ
+property_value node t property = option_map_or (λ k. value_text node t k.value) property []
+
+unfoldable pub default_text : Option ℕ → TextSection → List ℕ
+default_text node section =
+    let value = property_at (codes "ParameterValue") section in
+    let default = property_at (codes "DefaultValue") section in
+    property_value node (type_of section) value
+    ++ (if is_some value && is_some default then codes ", default " else [])
+    ++ property_value node (type_of section) default
+
+-- a limit: its number at the type, or the text where it is none
+abbrev pub limit_number : Option DataType → List ℕ → Option ℤ
+limit_number t value = option_and_then (λ t. result_ok (number_at_type t value)) t
+
+unfoldable pub limit_text : Option DataType → Option Property → List ℕ
+limit_text t limit =
+    option_map_or (λ k. option_map_or signed_decimal (limit_number t k.value) (plain_text k.value)) limit []
+
+-- both limits, as `0..100`, empty where there is neither
+unfoldable pub limits_text : TextSection → List ℕ
+limits_text section =
+    let low = property_at (codes "LowLimit") section in
+    let high = property_at (codes "HighLimit") section in
+    limit_text (type_of section) low ++ (if is_some low || is_some high then codes ".." else [])
+    ++ limit_text (type_of section) high
+
+-- ---- words of the communication profile
+
+-- a value as a number of the communication profile; with a node-ID, the sum
+abbrev pub small_number : ℤ → Option ℕ
+small_number (pos n) = if_small n
+small_number (negsuc n) = None
+
+abbrev pub absolute : Option ℕ → Option Word
+absolute addend = option_map (λ n. record { relative = false; number = n }) addend
+
+abbrev pub word_with : Option ℕ → Default → Option Word
+word_with given (number z) = absolute (small_number z)
+word_with None (node_id addend) = Some (record { relative = true; number = addend })
+word_with (Some id) (node_id addend) = absolute (if_small (addend + id))
+word_with given other = None
+
+abbrev pub word_of : Option ℕ → List ℕ → Option Word
+word_of node value = word_with node (numeric_value Unsigned32 value)
+
+-- what states the value that an entry begins with: ParameterValue, or where it is absent DefaultValue
+abbrev pub value_of : TextSection → Option Property
+value_of section = option_or (property_at (codes "ParameterValue") section) (property_at (codes "DefaultValue") section)

@@ -1,0 +1,237 @@
+//! The lines of entries and objects (CiA 306, object description).
+
+ghost use Rattle.std.specs.Prelude.{◌≡◌, ◌++◌, OnOk, string_bytes};
+ghost use Rattle.co_sheet_text.specs.Views.{section_view};
+ghost use Rattle.conode_show_text.specs.Entries.{
+  entries_head,
+  entry_line,
+  entry_type,
+  has_sub_indices,
+  is_array,
+  is_mappable,
+  is_record,
+  mappable_text,
+  object_head,
+  object_heading,
+  object_line,
+  section_text,
+  type_text,
+};
+
+use crate::format::Format;
+use crate::layout::{begin, end, place, push_cell};
+use crate::numbers::push_words;
+use crate::sections::object_code;
+use crate::texts::{push_plain, push_property};
+use crate::type_names::push_type_name;
+use crate::values::{push_default, push_limits};
+use co_sheet_text::{SectionKind, TextSection};
+use co_text::push_u16;
+use co_value::Key;
+use std::alloc::AllocError;
+
+fn is_array(section: &TextSection<'_, '_>) -> bool
+    ensures { result ≡ is_array (section_view section.now) }
+{
+    matches!(object_code(section), Some(8))
+}
+
+fn is_record(section: &TextSection<'_, '_>) -> bool
+    ensures { result ≡ is_record (section_view section.now) }
+{
+    matches!(object_code(section), Some(9))
+}
+
+/// Whether an object's entries have sections of their own.
+pub fn has_sub_indices(section: &TextSection<'_, '_>) -> bool
+    ensures { result ≡ has_sub_indices (section_view section.now) }
+{
+    is_array(section) || is_record(section)
+}
+
+// the type of an entry
+#[tactic(auto, unfolding(crate::specs::Entries::entry_type))]
+fn push_entry_type(text: &mut String, section: &TextSection<'_, '_>) -> Result<(), AllocError>
+    ensures { OnOk result (string_bytes text.new
+        ≡ string_bytes text.old ++ entry_type (section_view section.now)) }
+{
+    let Some(property) = section.property(b"DataType") else {
+        return match object_code(section) {
+            Some(2) => push_words(text, "DOMAIN"),
+            _ => Ok(()),
+        };
+    };
+    match property.number() {
+        Some(code) => push_type_name(text, code),
+        None => push_plain(text, property.value),
+    }
+}
+
+/// Appends the type of an object with sub-indices, or of an entry. On an `Err` memory ran out, and a part may be there.
+#[tactic(auto, unfolding(crate::specs::Entries::type_text))]
+pub fn push_type(text: &mut String, section: &TextSection<'_, '_>) -> Result<(), AllocError>
+    ensures { OnOk result (string_bytes text.new
+        ≡ string_bytes text.old ++ type_text (section_view section.now)) }
+{
+    if is_array(section) {
+        push_words(text, "ARRAY")
+    } else if is_record(section) {
+        push_words(text, "RECORD")
+    } else {
+        push_entry_type(text, section)
+    }
+}
+
+/// Whether the entry may be mapped into a PDO.
+pub fn is_mappable(section: &TextSection<'_, '_>) -> bool
+    ensures { result ≡ is_mappable (section_view section.now) }
+{
+    !matches!(section.number_at(b"PDOMapping"), None | Some(0))
+}
+
+#[tactic(auto, unfolding(crate::specs::Entries::mappable_text))]
+fn push_mappable(text: &mut String, section: &TextSection<'_, '_>) -> Result<(), AllocError>
+    ensures { OnOk result (string_bytes text.new
+        ≡ string_bytes text.old ++ mappable_text (section_view section.now)) }
+{
+    if is_mappable(section) {
+        push_words(text, "PDO")
+    } else {
+        Ok(())
+    }
+}
+
+#[tactic(auto, unfolding(crate::specs::Entries::entry_line))]
+fn set_entry_line(
+    line: &mut Vec<u8>,
+    part: &mut String,
+    format: Format,
+    node: Option<u8>,
+    key: Key,
+    section: &TextSection<'_, '_>,
+) -> Result<(), AllocError>
+    ensures { OnOk result
+        (line.new.items ≡ entry_line format node key (section_view section.now)) }
+{
+    begin(line, format, part)?;
+    push_words(part, key.text().as_str())?;
+    place(line, format, 0, part)?;
+    push_property(part, section, b"ParameterName")?;
+    place(line, format, 8, part)?;
+    push_type(part, section)?;
+    place(line, format, 42, part)?;
+    push_property(part, section, b"AccessType")?;
+    place(line, format, 53, part)?;
+    push_mappable(part, section)?;
+    place(line, format, 60, part)?;
+    push_default(part, node, section)?;
+    place(line, format, 64, part)?;
+    push_limits(part, section)?;
+    place(line, format, 87, part)?;
+    end(line)
+}
+
+#[tactic(auto, unfolding(crate::specs::Entries::object_line))]
+fn set_object_line(
+    line: &mut Vec<u8>,
+    part: &mut String,
+    index: u16,
+    section: &TextSection<'_, '_>,
+) -> Result<(), AllocError>
+    ensures { OnOk result (line.new.items ≡ object_line index (section_view section.now)) }
+{
+    begin(line, Format::Text, part)?;
+    push_u16(part, index)?;
+    place(line, Format::Text, 0, part)?;
+    push_property(part, section, b"ParameterName")?;
+    place(line, Format::Text, 8, part)?;
+    push_type(part, section)?;
+    place(line, Format::Text, 42, part)?;
+    end(line)
+}
+
+/// The head of a table of entries.
+pub(crate) fn entries_head(format: Format) -> &'static str
+    ensures { result.now ≡ entries_head format }
+{
+    match format {
+        Format::Text =>
+            "Entry   Name                              Type       Access PDO Default                Limits\n",
+        Format::Markdown =>
+            "| Entry | Name | Type | Access | PDO | Default | Limits |\n| --- | --- | --- | --- | --- | --- | --- |\n",
+    }
+}
+
+// the heading of an object, and the head of its table
+#[tactic(auto, unfolding(crate::specs::Entries::object_heading))]
+fn push_heading(
+    text: &mut Vec<u8>,
+    part: &mut String,
+    index: u16,
+    section: &TextSection<'_, '_>,
+) -> Result<(), AllocError>
+    ensures { OnOk result
+        (text.new.items ≡ text.old.items ++ object_heading index (section_view section.now)) }
+{
+    part.clear();
+    push_words(part, "\n### ")?;
+    push_u16(part, index)?;
+    push_words(part, "h ")?;
+    text.extend_from_slice(part.as_bytes())?;
+    part.clear();
+    push_property(part, section, b"ParameterName")?;
+    push_cell(text, part.as_bytes())?;
+    text.extend_from_slice(b"\n\n")?;
+    text.extend_from_slice(entries_head(Format::Markdown).as_bytes())
+}
+
+// what is before the entries of an object
+#[tactic(auto, unfolding(crate::specs::Entries::object_head))]
+fn push_object_head(
+    text: &mut Vec<u8>,
+    line: &mut Vec<u8>,
+    part: &mut String,
+    format: Format,
+    index: u16,
+    section: &TextSection<'_, '_>,
+) -> Result<(), AllocError>
+    ensures { OnOk result (text.new.items
+        ≡ text.old.items ++ object_head format index (section_view section.now)) }
+{
+    match format {
+        Format::Text if has_sub_indices(section) => {
+            set_object_line(line, part, index, section)?;
+            text.extend_from_slice(line.as_slice())
+        }
+        Format::Text => Ok(()),
+        Format::Markdown => push_heading(text, part, index, section),
+    }
+}
+
+/// Appends what a section of a sheet says: an object, with its entry where it has no sub-indices, or the entry of a
+/// sub-index.
+pub(crate) fn push_section(
+    text: &mut Vec<u8>,
+    line: &mut Vec<u8>,
+    part: &mut String,
+    format: Format,
+    node: Option<u8>,
+    section: &TextSection<'_, '_>,
+) -> Result<(), AllocError>
+    ensures { OnOk result (text.new.items
+        ≡ text.old.items ++ section_text format node (section_view section.now)) }
+{
+    let key = match section.kind {
+        SectionKind::Object(index) => {
+            push_object_head(text, line, part, format, index, section)?;
+            if has_sub_indices(section) {
+                return Ok(());
+            }
+            Key { index, sub: 0 }
+        }
+        SectionKind::SubIndex(key) => key,
+        _ => return Ok(()),
+    };
+    set_entry_line(line, part, format, node, key, section)?;
+    text.extend_from_slice(line.as_slice())
+}

@@ -1,0 +1,140 @@
+//! A line, made of parts. Each function appends to a line; on an `Err` memory ran out, and a part may be there.
+
+ghost use Rattle.std.specs.Prelude.{◌≡◌, ◌++◌, [], ◌∷◌, replicate, OnOk, string_bytes};
+ghost use Rattle.std.specs.List.{flat_map};
+ghost use Rattle.conode_show_text.specs.Layout.{begins_character, begun, cell_byte, columns, gap, is_markup, placed};
+
+use crate::format::Format;
+use std::alloc::AllocError;
+
+fn begins_character(byte: u8) -> bool
+    ensures { result ≡ begins_character byte }
+{
+    byte < 128 || 192 <= byte
+}
+
+// how many columns a text has
+fn columns(text: &[u8]) -> usize
+    ensures { result ≡ columns text.now }
+{
+    let mut count = 0;
+    for byte in text {
+        if begins_character(*byte) {
+            count += 1;
+        }
+    }
+    count
+}
+
+fn gap(column: usize, line: &[u8]) -> usize
+    ensures { result ≡ gap column line.now }
+{
+    let at = columns(line);
+    if at < column {
+        column - at
+    } else if line.is_empty() {
+        0
+    } else {
+        1
+    }
+}
+
+fn push_blanks(line: &mut Vec<u8>, count: usize) -> Result<(), AllocError>
+    ensures { OnOk result (line.new.items ≡ line.old.items ++ replicate count 32) }
+{
+    for _blank in 0..count {
+        line.push(b' ')?;
+    }
+    Ok(())
+}
+
+// a part in its column
+#[tactic(auto, unfolding(crate::specs::Layout::placed))]
+fn place_in_column(line: &mut Vec<u8>, column: usize, part: &[u8]) -> Result<(), AllocError>
+    ensures { OnOk result
+        (line.new.items ≡ placed Format.Text column line.old.items part.now) }
+{
+    if part.is_empty() {
+        return Ok(());
+    }
+    let blanks = gap(column, line.as_slice());
+    push_blanks(line, blanks)?;
+    line.extend_from_slice(part)
+}
+
+fn is_markup(byte: u8) -> bool
+    ensures { result ≡ is_markup byte }
+{
+    matches!(byte, b'\\' | b'|' | b'<' | b'*' | b'_' | b'`' | b'[' | b'$')
+}
+
+fn push_cell_byte(line: &mut Vec<u8>, byte: u8) -> Result<(), AllocError>
+    ensures { OnOk result (line.new.items ≡ line.old.items ++ cell_byte byte) }
+{
+    if is_markup(byte) {
+        line.push(b'\\')?;
+    }
+    line.push(byte)?;
+    Ok(())
+}
+
+/// Appends a text of a table's cell, or of a heading.
+pub(crate) fn push_cell(line: &mut Vec<u8>, part: &[u8]) -> Result<(), AllocError>
+    ensures { OnOk result (line.new.items ≡ line.old.items ++ flat_map cell_byte part.now) }
+{
+    for byte in part {
+        push_cell_byte(line, *byte)?;
+    }
+    Ok(())
+}
+
+// a part in a row of a table
+#[tactic(auto, unfolding(crate::specs::Layout::placed))]
+fn place_in_row(line: &mut Vec<u8>, column: usize, part: &[u8]) -> Result<(), AllocError>
+    ensures { OnOk result
+        (line.new.items ≡ placed Format.Markdown column line.old.items part.now) }
+{
+    line.push(b' ')?;
+    push_cell(line, part)?;
+    line.extend_from_slice(b" |")
+}
+
+/// Appends a part to a line, and empties it.
+pub(crate) fn place(
+    line: &mut Vec<u8>,
+    format: Format,
+    column: usize,
+    part: &mut String,
+) -> Result<(), AllocError>
+    ensures line { OnOk result
+        (line.new.items ≡ placed format column line.old.items (string_bytes part.old)) }
+    ensures part { OnOk result (string_bytes part.new ≡ []) }
+{
+    match format {
+        Format::Text => place_in_column(line, column, part.as_bytes())?,
+        Format::Markdown => place_in_row(line, column, part.as_bytes())?,
+    }
+    part.clear();
+    Ok(())
+}
+
+/// Empties a line and its part, and begins it.
+pub(crate) fn begin(line: &mut Vec<u8>, format: Format, part: &mut String) -> Result<(), AllocError>
+    ensures line { OnOk result (line.new.items ≡ begun format) }
+    ensures part { OnOk result (string_bytes part.new ≡ []) }
+{
+    line.clear();
+    part.clear();
+    match format {
+        Format::Text => Ok(()),
+        Format::Markdown => line.extend_from_slice(b"|"),
+    }
+}
+
+/// Ends a line.
+pub(crate) fn end(line: &mut Vec<u8>) -> Result<(), AllocError>
+    ensures { OnOk result (line.new.items ≡ line.old.items ++ 10 ∷ []) }
+{
+    line.push(b'\n')?;
+    Ok(())
+}

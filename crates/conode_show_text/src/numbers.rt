@@ -1,0 +1,88 @@
+//! Numbers in both bases. Each function appends a text; on an `Err` memory ran out, and a part of it may be there.
+
+ghost use Rattle.std.specs.Prelude.{◌≡◌, ◌≤◌, ◌++◌, ◌*◌, ◌^◌, pos, OnOk, string_bytes};
+ghost use Rattle.std.specs.Fmt.{signed_decimal};
+ghost use Rattle.co_value.specs.Numbers.{bits_of};
+ghost use Rattle.conode_show_text.specs.Numbers.{hex_text, if_small, in_parentheses, is_one_digit, number_text};
+
+use std::alloc::AllocError;
+
+pub(crate) fn push_words(text: &mut String, words: &str) -> Result<(), AllocError>
+    ensures { OnOk result (string_bytes text.new ≡ string_bytes text.old ++ words.now) }
+{
+    text.push_str(words)
+}
+
+#[tactic(auto, unfolding(crate::specs::Numbers::hex_text))]
+pub(crate) fn push_hex(text: &mut String, number: u64) -> Result<(), AllocError>
+    ensures { OnOk result (string_bytes text.new ≡ string_bytes text.old ++ hex_text number) }
+{
+    write!(text, "{number:X}h")
+}
+
+// 2 ^ bits
+fn power_of_two(bits: usize) -> i128
+    requires { bits ≤ 64 }
+    ensures { result ≡ pos (2 ^ bits) }
+{
+    (1u128 << bits) as i128
+}
+
+// the bits of a number, where 64 are enough; a negative one is in two's complement
+fn small_bits(width: usize, number: i128) -> Option<u64>
+    requires { width ≤ 8 }
+    ensures { result ≡ if_small (bits_of (8 * width) number) }
+{
+    let bits = if number < 0 {
+        number + power_of_two(8 * width)
+    } else {
+        number
+    };
+    if bits < 0 {
+        return Some(0);
+    }
+    if bits > i128::from(u64::MAX) {
+        return None;
+    }
+    Some(bits as u64)
+}
+
+fn is_one_digit(number: i128) -> bool
+    ensures { result ≡ is_one_digit number }
+{
+    0 <= number && number < 10
+}
+
+#[tactic(auto, unfolding(crate::specs::Numbers::in_parentheses))]
+fn push_in_parentheses(text: &mut String, number: Option<u64>) -> Result<(), AllocError>
+    ensures { OnOk result (string_bytes text.new ≡ string_bytes text.old ++ in_parentheses number) }
+{
+    let Some(number) = number else {
+        return Ok(());
+    };
+    push_words(text, " (")?;
+    push_hex(text, number)?;
+    push_words(text, ")")
+}
+
+/// Appends a number in decimal. On an `Err` memory ran out, and a part may be there.
+pub fn push_decimal_of(text: &mut String, number: i128) -> Result<(), AllocError>
+    ensures { OnOk result
+        (string_bytes text.new ≡ string_bytes text.old ++ signed_decimal number) }
+{
+    write!(text, "{number}")
+}
+
+/// Appends a number of a type of so many bytes: decimal, and in hexadecimal digits where these differ.
+#[tactic(auto, unfolding(crate::specs::Numbers::number_text))]
+pub(crate) fn push_number(text: &mut String, width: usize, number: i128) -> Result<(), AllocError>
+    requires { width ≤ 8 }
+    ensures { OnOk result
+        (string_bytes text.new ≡ string_bytes text.old ++ number_text width number) }
+{
+    push_decimal_of(text, number)?;
+    if is_one_digit(number) {
+        return Ok(());
+    }
+    push_in_parentheses(text, small_bits(width, number))
+}

@@ -1,0 +1,301 @@
+//! PDOs in words: COB-ID, transmission type, timers, what they map (CiA 301, 7.5.2.35 to 7.5.2.38).
+
+ghost use Rattle.std.specs.Prelude.{◌≡◌, ◌≤◌, ◌++◌, map, option_map, OnOk, string_bytes};
+ghost use Rattle.std.specs.Option.{option_copied};
+ghost use Rattle.co_sheet_text.specs.Views.{section_view};
+ghost use Rattle.conode_show_text.specs.Pdos.{
+  counted_line,
+  entry_section,
+  is_counted,
+  is_pdo_cob_id,
+  mapped_line,
+  mapped_lines,
+  mapped_name,
+  mapping_count,
+  mapping_index,
+  pdo_line,
+  pdo_lines,
+  pdo_name,
+  pdo_text,
+  said_at,
+  section_word,
+};
+
+use crate::format::Format;
+use crate::layout::{begin, end, place};
+use crate::meaning::{Meaning, mapped_key, push_said};
+use crate::numbers::push_words;
+use crate::sections::section_at;
+use crate::texts::push_property;
+use crate::values::{Word, value_of, word_of};
+use co_profile::IndexRange;
+use co_sheet_text::{SectionKind, TextSection};
+use co_text::push_decimal;
+use co_value::Key;
+use std::alloc::AllocError;
+
+/// Whether an entry is the COB-ID of a PDO.
+pub fn is_pdo_cob_id(key: Key) -> bool
+    ensures { result ≡ is_pdo_cob_id key }
+{
+    key.sub == 1
+        && (IndexRange::RPDO_COMMUNICATION.contains(key.index)
+            || IndexRange::TPDO_COMMUNICATION.contains(key.index))
+}
+
+/// Appends a PDO's name, with its number, from 1, by the index of its communication parameter. On an `Err` memory ran out,
+/// and a part may be there.
+#[tactic(auto, unfolding(crate::specs::Pdos::pdo_name))]
+pub fn push_pdo_name(text: &mut String, index: u16) -> Result<(), AllocError>
+    ensures { OnOk result (string_bytes text.new ≡ string_bytes text.old ++ pdo_name index) }
+{
+    let (service, before) = if IndexRange::RPDO_COMMUNICATION.contains(index) {
+        ("RPDO ", 0x13FF)
+    } else {
+        ("TPDO ", 0x17FF)
+    };
+    push_words(text, service)?;
+    push_decimal(text, u64::from(index.saturating_sub(before)))
+}
+
+// what a sub-index says in words
+#[tactic(auto, unfolding(crate::specs::Pdos::said_at))]
+fn push_said_at(
+    text: &mut String,
+    meaning: Meaning,
+    node: Option<u8>,
+    sections: &[TextSection],
+    key: Key,
+) -> Result<(), AllocError>
+    ensures { OnOk result (string_bytes text.new ≡ string_bytes text.old
+        ++ said_at meaning node (map section_view sections.now) key) }
+{
+    match section_at(sections, SectionKind::SubIndex(key)) {
+        Some(section) => push_said(text, meaning, node, section),
+        None => Ok(()),
+    }
+}
+
+#[tactic(auto, unfolding(crate::specs::Pdos::pdo_line))]
+fn set_pdo_line(
+    line: &mut Vec<u8>,
+    part: &mut String,
+    format: Format,
+    node: Option<u8>,
+    sections: &[TextSection],
+    index: u16,
+    section: &TextSection<'_, '_>,
+) -> Result<(), AllocError>
+    ensures { OnOk result (line.new.items ≡ pdo_line format node (map section_view sections.now)
+        index (section_view section.now)) }
+{
+    begin(line, format, part)?;
+    push_pdo_name(part, index)?;
+    place(line, format, 0, part)?;
+    push_said(part, Meaning::PdoCobId, node, section)?;
+    place(line, format, 8, part)?;
+    push_said_at(
+        part,
+        Meaning::Transmission,
+        node,
+        sections,
+        Key { index, sub: 2 },
+    )?;
+    place(line, format, 38, part)?;
+    push_said_at(
+        part,
+        Meaning::PdoInhibit,
+        node,
+        sections,
+        Key { index, sub: 3 },
+    )?;
+    place(line, format, 72, part)?;
+    push_said_at(
+        part,
+        Meaning::EventTimer,
+        node,
+        sections,
+        Key { index, sub: 5 },
+    )?;
+    place(line, format, 88, part)?;
+    end(line)
+}
+
+/// The section of an entry: of its sub-index, or where there is none at sub-index 0 of its object.
+pub fn entry_section<'s, 'a>(
+    sections: &'s [TextSection<'s, 'a>],
+    key: Key,
+) -> Option<&'s TextSection<'s, 'a>>
+    ensures { option_map section_view (option_copied result)
+        ≡ entry_section (map section_view sections.now) key }
+{
+    match section_at(sections, SectionKind::SubIndex(key)) {
+        Some(section) => Some(section),
+        None if key.sub == 0 => section_at(sections, SectionKind::Object(key.index)),
+        None => None,
+    }
+}
+
+/// The word that an entry has.
+pub fn section_word(node: Option<u8>, section: &TextSection<'_, '_>) -> Option<Word>
+    ensures { result ≡ section_word node (section_view section.now) }
+{
+    word_of(node, value_of(section)?.value)
+}
+
+// the name of the entry that a word of a mapping names
+#[tactic(auto, unfolding(crate::specs::Pdos::mapped_name))]
+fn push_mapped_name(
+    text: &mut String,
+    node: Option<u8>,
+    sections: &[TextSection],
+    section: &TextSection<'_, '_>,
+) -> Result<(), AllocError>
+    ensures { OnOk result (string_bytes text.new ≡ string_bytes text.old
+        ++ mapped_name node (map section_view sections.now) (section_view section.now)) }
+{
+    let Some(word) = section_word(node, section) else {
+        return Ok(());
+    };
+    match entry_section(sections, mapped_key(word.number)) {
+        Some(entry) => push_property(text, entry, b"ParameterName"),
+        None => Ok(()),
+    }
+}
+
+#[tactic(auto, unfolding(crate::specs::Pdos::mapped_line))]
+fn set_mapped_line(
+    line: &mut Vec<u8>,
+    part: &mut String,
+    format: Format,
+    node: Option<u8>,
+    sections: &[TextSection],
+    section: &TextSection<'_, '_>,
+) -> Result<(), AllocError>
+    ensures { OnOk result (line.new.items ≡ mapped_line format node (map section_view sections.now)
+        (section_view section.now)) }
+{
+    begin(line, format, part)?;
+    place(line, format, 0, part)?;
+    push_said(part, Meaning::Mapped, node, section)?;
+    place(line, format, 8, part)?;
+    push_mapped_name(part, node, sections, section)?;
+    place(line, format, 38, part)?;
+    place(line, format, 72, part)?;
+    place(line, format, 88, part)?;
+    end(line)
+}
+
+/// How many words of a mapping count.
+pub fn mapping_count(node: Option<u8>, sections: &[TextSection], index: u16) -> u64
+    ensures { result ≡ mapping_count node (map section_view sections.now) index }
+{
+    let Some(section) = section_at(sections, SectionKind::SubIndex(Key { index, sub: 0 })) else {
+        return 0;
+    };
+    match section_word(node, section) {
+        Some(word) if word.number <= 64 => word.number,
+        _ => 0,
+    }
+}
+
+/// Whether a section is a word of a mapping that counts.
+pub fn is_counted(index: u16, count: u64, kind: SectionKind) -> bool
+    ensures { result ≡ is_counted index count kind }
+{
+    match kind {
+        SectionKind::SubIndex(key) => {
+            key.index == index && 1 <= key.sub && u64::from(key.sub) <= count
+        }
+        _ => false,
+    }
+}
+
+// the line of a section that is a word of a mapping that counts
+fn push_if_counted(
+    text: &mut Vec<u8>,
+    line: &mut Vec<u8>,
+    part: &mut String,
+    format: Format,
+    node: Option<u8>,
+    sections: &[TextSection],
+    index: u16,
+    count: u64,
+    section: &TextSection<'_, '_>,
+) -> Result<(), AllocError>
+    ensures { OnOk result (text.new.items ≡ text.old.items ++ counted_line format node
+        (map section_view sections.now) index count (section_view section.now)) }
+{
+    if !is_counted(index, count, section.kind) {
+        return Ok(());
+    }
+    set_mapped_line(line, part, format, node, sections, section)?;
+    text.extend_from_slice(line.as_slice())
+}
+
+// the lines of what a mapping maps
+#[tactic(auto, unfolding(crate::specs::Pdos::mapped_lines))]
+fn push_mapped_lines(
+    text: &mut Vec<u8>,
+    line: &mut Vec<u8>,
+    part: &mut String,
+    format: Format,
+    node: Option<u8>,
+    sections: &[TextSection],
+    index: u16,
+    count: u64,
+) -> Result<(), AllocError>
+    ensures { OnOk result (text.new.items ≡ text.old.items ++ mapped_lines format node
+        (map section_view sections.now) index count) }
+{
+    for section in sections {
+        push_if_counted(
+            text, line, part, format, node, sections, index, count, section,
+        )?;
+    }
+    Ok(())
+}
+
+// a PDO, by the section of its COB-ID
+#[tactic(auto, unfolding(crate::specs::Pdos::pdo_lines))]
+fn push_pdo_lines(
+    text: &mut Vec<u8>,
+    line: &mut Vec<u8>,
+    part: &mut String,
+    format: Format,
+    node: Option<u8>,
+    sections: &[TextSection],
+    index: u16,
+    section: &TextSection<'_, '_>,
+) -> Result<(), AllocError>
+    requires { index ≤ 0x1BFF }
+    ensures { OnOk result (text.new.items ≡ text.old.items ++ pdo_lines format node
+        (map section_view sections.now) index (section_view section.now)) }
+{
+    set_pdo_line(line, part, format, node, sections, index, section)?;
+    text.extend_from_slice(line.as_slice())?;
+    let mapping = index + 0x200;
+    let count = mapping_count(node, sections, mapping);
+    push_mapped_lines(text, line, part, format, node, sections, mapping, count)
+}
+
+/// Appends the lines of a PDO, by the section of its COB-ID; nothing for every other section.
+pub(crate) fn push_pdo(
+    text: &mut Vec<u8>,
+    line: &mut Vec<u8>,
+    part: &mut String,
+    format: Format,
+    node: Option<u8>,
+    sections: &[TextSection],
+    section: &TextSection<'_, '_>,
+) -> Result<(), AllocError>
+    ensures { OnOk result (text.new.items ≡ text.old.items ++ pdo_text format node
+        (map section_view sections.now) (section_view section.now)) }
+{
+    match section.kind {
+        SectionKind::SubIndex(key) if is_pdo_cob_id(key) => {
+            push_pdo_lines(text, line, part, format, node, sections, key.index, section)
+        }
+        _ => Ok(()),
+    }
+}

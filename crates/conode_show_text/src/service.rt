@@ -1,0 +1,141 @@
+//! SYNC, EMCY, heartbeats and SDO channels in words (CiA 301, 7.5.2).
+
+ghost use Rattle.std.specs.Prelude.{◌≡◌, ◌++◌, OnOk, string_bytes};
+ghost use Rattle.co_sheet_text.specs.Views.{section_view};
+ghost use Rattle.conode_show_text.specs.Services.{channel_name, key_of, service_line, service_meaning, service_name, service_of, service_text};
+
+use crate::format::Format;
+use crate::layout::{begin, end, place};
+use crate::meaning::{Meaning, push_said};
+use crate::numbers::push_words;
+use co_sheet_text::{SectionKind, TextSection};
+use co_text::push_decimal;
+use co_value::Key;
+use std::alloc::AllocError;
+
+/// A service that an entry of the communication profile is of.
+#[derive(Clone, Copy, Debug, PartialEq, Eq)]
+pub enum Service {
+    Sync,
+    Emcy,
+    EmcyInhibitTime,
+    HeartbeatConsumer,
+    HeartbeatProducer,
+    /// What an SDO channel's client sends, by the channel's number from 1.
+    SdoRequests(u16),
+    /// What an SDO channel's server sends.
+    SdoResponses(u16),
+}
+
+impl Service {
+    /// The service of an entry.
+    pub fn of(key: Key) -> Option<Service>
+        ensures { result ≡ service_of key }
+    {
+        match (key.index, key.sub) {
+            (0x1005, 0) => Some(Service::Sync),
+            (0x1014, 0) => Some(Service::Emcy),
+            (0x1015, 0) => Some(Service::EmcyInhibitTime),
+            (0x1016, sub) if 1 <= sub => Some(Service::HeartbeatConsumer),
+            (0x1017, 0) => Some(Service::HeartbeatProducer),
+            (index @ 0x1200..=0x127F, 1) => Some(Service::SdoRequests(index - 0x1200 + 1)),
+            (index @ 0x1200..=0x127F, 2) => Some(Service::SdoResponses(index - 0x1200 + 1)),
+            _ => None,
+        }
+    }
+
+    /// What its number means.
+    pub fn meaning(self) -> Meaning
+        ensures { result ≡ service_meaning self }
+    {
+        match self {
+            Service::Sync => Meaning::SyncCobId,
+            Service::Emcy | Service::SdoRequests(_) | Service::SdoResponses(_) => Meaning::CobId,
+            Service::EmcyInhibitTime => Meaning::EmcyInhibit,
+            Service::HeartbeatConsumer => Meaning::Consumer,
+            Service::HeartbeatProducer => Meaning::Producer,
+        }
+    }
+}
+
+#[tactic(auto, unfolding(crate::specs::Services::channel_name))]
+fn push_channel(text: &mut String, channel: u16, way: &str) -> Result<(), AllocError>
+    ensures { OnOk result
+        (string_bytes text.new ≡ string_bytes text.old ++ channel_name channel way.now) }
+{
+    push_words(text, "SDO ")?;
+    push_decimal(text, u64::from(channel))?;
+    push_words(text, way)
+}
+
+/// Appends what a service is called. On an `Err` memory ran out, and a part may be there.
+#[tactic(auto, unfolding(crate::specs::Services::service_name))]
+pub fn push_service_name(text: &mut String, service: Service) -> Result<(), AllocError>
+    ensures { OnOk result (string_bytes text.new ≡ string_bytes text.old ++ service_name service) }
+{
+    match service {
+        Service::Sync => push_words(text, "SYNC"),
+        Service::Emcy => push_words(text, "EMCY"),
+        Service::EmcyInhibitTime => push_words(text, "EMCY inhibit time"),
+        Service::HeartbeatConsumer => push_words(text, "Heartbeat consumer"),
+        Service::HeartbeatProducer => push_words(text, "Heartbeat producer"),
+        Service::SdoRequests(channel) => push_channel(text, channel, ", client to server"),
+        Service::SdoResponses(channel) => push_channel(text, channel, ", server to client"),
+    }
+}
+
+#[tactic(auto, unfolding(crate::specs::Services::service_line))]
+fn set_service_line(
+    line: &mut Vec<u8>,
+    part: &mut String,
+    format: Format,
+    node: Option<u8>,
+    key: Key,
+    service: Service,
+    section: &TextSection<'_, '_>,
+) -> Result<(), AllocError>
+    ensures { OnOk result (line.new.items
+        ≡ service_line format node key service (section_view section.now)) }
+{
+    begin(line, format, part)?;
+    push_words(part, key.text().as_str())?;
+    place(line, format, 0, part)?;
+    push_service_name(part, service)?;
+    place(line, format, 8, part)?;
+    push_said(part, service.meaning(), node, section)?;
+    place(line, format, 38, part)?;
+    end(line)
+}
+
+/// The key of the entry that a section describes.
+pub fn key_of(kind: SectionKind) -> Option<Key>
+    ensures { result ≡ key_of kind }
+{
+    match kind {
+        SectionKind::Object(index) => Some(Key { index, sub: 0 }),
+        SectionKind::SubIndex(key) => Some(key),
+        _ => None,
+    }
+}
+
+/// Appends the line of an entry that is of a service; nothing for every other section.
+pub(crate) fn push_service(
+    text: &mut Vec<u8>,
+    line: &mut Vec<u8>,
+    part: &mut String,
+    format: Format,
+    node: Option<u8>,
+    section: &TextSection<'_, '_>,
+) -> Result<(), AllocError>
+    ensures { OnOk result (text.new.items
+        ≡ text.old.items ++ service_text format node (section_view section.now)) }
+{
+    let Some(key) = key_of(section.kind) else {
+        return Ok(());
+    };
+    let Some(service) = Service::of(key) else {
+        return Ok(());
+    };
+    set_service_line(line, part, format, node, key, service, section)?;
+    text.extend_from_slice(line.as_slice())
+}

@@ -1,0 +1,340 @@
+//! The values that a sheet states (CiA 306, object description, device configuration file). Each function that appends
+//! a text does so up to an `Err`, where memory ran out; a part of it may be there then.
+
+ghost use Rattle.std.specs.Prelude.{◌≡◌, ◌++◌, ◌+◌, ◌≤◌, OnOk, option_map, option_and_then, string_bytes};
+ghost use Rattle.co_sheet_text.specs.Numerals.{result_map};
+ghost use Rattle.co_sheet_text.specs.Views.{property_view, section_view};
+ghost use Rattle.co_sheet.specs.Limits.{is_node_id, node_id_sum, numeric_default};
+ghost use Rattle.co_sheet.specs.Entries.{data_type_with};
+ghost use Rattle.co_sheet.specs.Views.{default_view};
+ghost use Rattle.conode_show_text.specs.Numbers.{if_small};
+ghost use Rattle.conode_show_text.specs.Values.{
+  default_text,
+  absolute,
+  known_text,
+  limit_number,
+  limit_text,
+  limits_text,
+  number_for,
+  numeric_value,
+  property_value,
+  quoted,
+  small_number,
+  sum_text,
+  type_of,
+  unnumbered_text,
+  value_number,
+  value_of,
+  value_text,
+  word_of,
+};
+
+use crate::numbers::{push_decimal_of, push_hex, push_number, push_words};
+use crate::texts::push_plain;
+use co_sheet_rows::Preset;
+use co_sheet_text::{
+    NumeralFault, Property, TextSection, same_name, signed_numeral, trim, unsigned_number,
+};
+use co_text::split_at_first;
+use co_value::DataType;
+use std::alloc::AllocError;
+
+/// A number of the communication profile.
+#[derive(Clone, Copy, Debug, PartialEq, Eq)]
+pub struct Word {
+    /// Whether the node-ID is to be added.
+    pub relative: bool,
+    pub number: u64,
+}
+
+fn is_node_id(text: &[u8]) -> bool
+    ensures { result ≡ is_node_id text.now }
+{
+    same_name(text, b"$NODEID")
+}
+
+fn node_id_sum(left: &[u8], right: &[u8]) -> Result<Preset<'static>, NumeralFault>
+    ensures { result_map default_view result ≡ node_id_sum left.now right.now }
+{
+    if is_node_id(left) {
+        Ok(Preset::NodeId(unsigned_number(right)?))
+    } else if is_node_id(right) {
+        Ok(Preset::NodeId(unsigned_number(left)?))
+    } else {
+        Err(NumeralFault::Malformed)
+    }
+}
+
+// a number, `$NODEID`, or a sum of both (CiA 306, object description)
+fn numeric_default(data_type: DataType, text: &[u8]) -> Result<Preset<'static>, NumeralFault>
+    ensures { result_map default_view result ≡ numeric_default data_type text.now }
+{
+    if is_node_id(text) {
+        return Ok(Preset::NodeId(0));
+    }
+    match split_at_first(text, b'+') {
+        Some((left, right)) => node_id_sum(trim(left), trim(right)),
+        None => Ok(Preset::Number(signed_numeral(text)?.value_at(data_type))),
+    }
+}
+
+// a numeric text as a value, `Absent` where it is none
+fn numeric_value(data_type: DataType, text: &[u8]) -> Preset<'static>
+    ensures { default_view result ≡ numeric_value data_type text.now }
+{
+    match numeric_default(data_type, text) {
+        Ok(value) => value,
+        Err(_) => Preset::Absent,
+    }
+}
+
+// the sum with a node-ID, of at most 64 bits
+fn sum_of(node: Option<u8>, addend: u64) -> Option<u64>
+    ensures { result ≡ option_and_then (λ id. if_small (addend + id)) node }
+{
+    addend.checked_add(u64::from(node?))
+}
+
+#[tactic(auto, unfolding(crate::specs::Values::sum_text))]
+fn push_sum(text: &mut String, node: Option<u8>, addend: u64) -> Result<(), AllocError>
+    ensures { OnOk result (string_bytes text.new ≡ string_bytes text.old ++ sum_text node addend) }
+{
+    push_words(text, "$NODEID")?;
+    if addend != 0 {
+        push_words(text, "+")?;
+        push_hex(text, addend)?;
+    }
+    let Some(sum) = sum_of(node, addend) else {
+        return Ok(());
+    };
+    push_words(text, " = ")?;
+    push_hex(text, sum)
+}
+
+#[tactic(auto, unfolding(crate::specs::Values::known_text))]
+fn push_known(
+    text: &mut String,
+    node: Option<u8>,
+    width: usize,
+    value: &[u8],
+    known: Preset<'static>,
+) -> Result<(), AllocError>
+    requires { width ≤ 8 }
+    ensures { OnOk result (string_bytes text.new
+        ≡ string_bytes text.old ++ known_text node width value.now (default_view known.entry)) }
+{
+    match known {
+        Preset::Number(number) => push_number(text, width, number),
+        Preset::NodeId(addend) => push_sum(text, node, addend),
+        Preset::Absent | Preset::Text(_) | Preset::Pairs(_) => push_plain(text, value),
+    }
+}
+
+#[tactic(auto, unfolding(crate::specs::Values::quoted))]
+fn push_quoted(text: &mut String, value: &[u8]) -> Result<(), AllocError>
+    ensures { OnOk result (string_bytes text.new ≡ string_bytes text.old ++ quoted value.now) }
+{
+    push_words(text, "\"")?;
+    push_plain(text, value)?;
+    push_words(text, "\"")
+}
+
+/// The code of VISIBLE_STRING (CiA 301, 7.4.7.1).
+const VISIBLE_STRING: u16 = 0x09;
+
+// a value of a type that isn't numeric
+#[tactic(auto, unfolding(crate::specs::Values::unnumbered_text))]
+fn push_unnumbered(text: &mut String, data_type: DataType, value: &[u8]) -> Result<(), AllocError>
+    ensures { OnOk result (string_bytes text.new
+        ≡ string_bytes text.old ++ unnumbered_text data_type value.now) }
+{
+    if data_type.code() == VISIBLE_STRING {
+        push_quoted(text, value)
+    } else {
+        push_plain(text, value)
+    }
+}
+
+// the value of a text at a type
+#[tactic(auto, unfolding(crate::specs::Values::value_text))]
+fn push_value(
+    text: &mut String,
+    node: Option<u8>,
+    data_type: Option<DataType>,
+    value: &[u8],
+) -> Result<(), AllocError>
+    ensures { OnOk result (string_bytes text.new
+        ≡ string_bytes text.old ++ value_text node data_type value.now) }
+{
+    let Some(data_type) = data_type else {
+        return push_plain(text, value);
+    };
+    match data_type.width() {
+        Some(width) => push_known(text, node, width, value, numeric_value(data_type, value)),
+        None => push_unnumbered(text, data_type, value),
+    }
+}
+
+fn number_for(node: Option<u8>, value: Preset<'static>) -> Option<i128>
+    ensures { result ≡ number_for node (default_view value.entry) }
+{
+    match value {
+        Preset::Number(number) => Some(number),
+        Preset::NodeId(addend) => Some(i128::from(addend) + i128::from(node?)),
+        Preset::Absent | Preset::Text(_) | Preset::Pairs(_) => None,
+    }
+}
+
+/// The number of a text at a type, where that is numeric; of a sum with the node-ID for the node that is given.
+pub fn value_number(node: Option<u8>, data_type: Option<DataType>, value: &[u8]) -> Option<i128>
+    ensures { result ≡ value_number node data_type value.now }
+{
+    let data_type = data_type?;
+    data_type.width()?;
+    number_for(node, numeric_value(data_type, value))
+}
+
+fn data_type_with(code: u64) -> Option<DataType>
+    ensures { result ≡ data_type_with code }
+{
+    if code > 0xFFFF {
+        return None;
+    }
+    DataType::from_code(code as u16)
+}
+
+/// The type that a section states, where its code is one of those that are supported.
+pub fn type_of(section: &TextSection<'_, '_>) -> Option<DataType>
+    ensures { result ≡ type_of (section_view section.now) }
+{
+    data_type_with(section.number_at(b"DataType")?)
+}
+
+// the value of a property, nothing where there is none
+#[tactic(auto, unfolding(crate::specs::Values::property_value))]
+fn push_value_of(
+    text: &mut String,
+    node: Option<u8>,
+    data_type: Option<DataType>,
+    property: Option<Property<'_>>,
+) -> Result<(), AllocError>
+    ensures { OnOk result (string_bytes text.new ≡ string_bytes text.old
+        ++ property_value node data_type (option_map property_view property.entry)) }
+{
+    match property {
+        Some(property) => push_value(text, node, data_type, property.value),
+        None => Ok(()),
+    }
+}
+
+/// Appends the value that a device configuration file gives, and beside it the default; or the one of both that is
+/// there.
+#[tactic(auto, unfolding(crate::specs::Values::default_text))]
+pub(crate) fn push_default(
+    text: &mut String,
+    node: Option<u8>,
+    section: &TextSection<'_, '_>,
+) -> Result<(), AllocError>
+    ensures { OnOk result (string_bytes text.new
+        ≡ string_bytes text.old ++ default_text node (section_view section.now)) }
+{
+    let data_type = type_of(section);
+    let value = section.property(b"ParameterValue");
+    let default = section.property(b"DefaultValue");
+    push_value_of(text, node, data_type, value)?;
+    if value.is_some() && default.is_some() {
+        push_words(text, ", default ")?;
+    }
+    push_value_of(text, node, data_type, default)
+}
+
+/// The number of a limit at a type.
+pub fn limit_number(data_type: Option<DataType>, value: &[u8]) -> Option<i128>
+    ensures { result ≡ limit_number data_type value.now }
+{
+    match signed_numeral(value) {
+        Ok(numeral) => Some(numeral.value_at(data_type?)),
+        Err(_) => None,
+    }
+}
+
+#[tactic(auto, unfolding(crate::specs::Values::limit_text))]
+fn push_limit(
+    text: &mut String,
+    data_type: Option<DataType>,
+    limit: Option<Property<'_>>,
+) -> Result<(), AllocError>
+    ensures { OnOk result (string_bytes text.new ≡ string_bytes text.old
+        ++ limit_text data_type (option_map property_view limit.entry)) }
+{
+    let Some(limit) = limit else {
+        return Ok(());
+    };
+    match limit_number(data_type, limit.value) {
+        Some(number) => push_decimal_of(text, number),
+        None => push_plain(text, limit.value),
+    }
+}
+
+/// Appends both limits, as `0..100`, nothing where there is neither.
+#[tactic(auto, unfolding(crate::specs::Values::limits_text))]
+pub(crate) fn push_limits(
+    text: &mut String,
+    section: &TextSection<'_, '_>,
+) -> Result<(), AllocError>
+    ensures { OnOk result (string_bytes text.new
+        ≡ string_bytes text.old ++ limits_text (section_view section.now)) }
+{
+    let data_type = type_of(section);
+    let low = section.property(b"LowLimit");
+    let high = section.property(b"HighLimit");
+    push_limit(text, data_type, low)?;
+    if low.is_some() || high.is_some() {
+        push_words(text, "..")?;
+    }
+    push_limit(text, data_type, high)
+}
+
+fn small_number(number: i128) -> Option<u64>
+    ensures { result ≡ small_number number }
+{
+    if number < 0 || i128::from(u64::MAX) < number {
+        return None;
+    }
+    Some(number as u64)
+}
+
+// a number as a word to which nothing is added
+fn absolute(number: Option<u64>) -> Option<Word>
+    ensures { result ≡ absolute number }
+{
+    Some(Word {
+        relative: false,
+        number: number?,
+    })
+}
+
+/// The number of the communication profile that a text is; with a node-ID, the sum.
+pub(crate) fn word_of(node: Option<u8>, value: &[u8]) -> Option<Word>
+    ensures { result ≡ word_of node value.now }
+{
+    match numeric_value(DataType::Unsigned32, value) {
+        Preset::Number(number) => absolute(small_number(number)),
+        Preset::NodeId(addend) if node.is_none() => Some(Word {
+            relative: true,
+            number: addend,
+        }),
+        Preset::NodeId(addend) => absolute(sum_of(node, addend)),
+        Preset::Absent | Preset::Text(_) | Preset::Pairs(_) => None,
+    }
+}
+
+/// What states the value that an entry begins with: ParameterValue, or where it is absent DefaultValue.
+pub(crate) fn value_of<'a>(section: &TextSection<'_, 'a>) -> Option<Property<'a>>
+    ensures { option_map property_view result ≡ value_of (section_view section.now) }
+{
+    match section.property(b"ParameterValue") {
+        Some(property) => Some(property),
+        None => section.property(b"DefaultValue"),
+    }
+}

@@ -1,0 +1,412 @@
+//! What the words after the name of a command ask for.
+
+ghost use Rattle.std.specs.Prelude.{◌≡◌, IfOk, map, option_map};
+ghost use Rattle.std.specs.Str.{bytes_eq};
+ghost use Rattle.clap.specs.Words.{first_of, found_of, rows_of};
+ghost use Rattle.conode_words.specs.Tasks.{
+  asked_adapt,
+  asked_by,
+  asked_check,
+  asked_decode,
+  asked_device,
+  asked_dictionary,
+  asked_explain,
+  asked_in,
+  asked_lint,
+  asked_lint_of,
+  asked_loop,
+  asked_other,
+  asked_replay,
+  asked_show,
+  colours_for,
+  colours_of,
+  format_for,
+  format_of,
+  is_used,
+  mode_for,
+  mode_of,
+  number_for,
+  shown_as,
+  shown_for,
+  stamps_for,
+  stamps_of,
+  words_for,
+};
+
+use crate::tasks::{
+    Colours, DeviceWords, DictionaryWords, Format, LintWords, ShownAs, Stamps, Task,
+};
+use clap::ArgMatches;
+use co_sdo_client::Mode;
+use std::alloc::{AllocError, Global};
+
+/// Whether a word is this one: the comparison, proved in one place for all that follow.
+pub(crate) fn is(word: &str, known: &str) -> bool
+    ensures { result ≡ bytes_eq word.now known.now }
+{
+    word == known
+}
+
+// a word, or the value of an option
+#[tactic(auto, using(crate::proofs::TaskLemmas::first_in_rows))]
+fn word_for<'a>(found: &ArgMatches<'a>, name: &str) -> Option<&'a str>
+    ensures { option_map (λ word. word.now) result
+        ≡ first_of name.now (rows_of (found_of found.now)) }
+{
+    found.get_str(name)
+}
+
+// the number of an option, of 8 bits
+#[tactic(auto, using(crate::proofs::TaskLemmas::number_read), unfolding(crate::specs::Tasks::number_for))]
+fn number_u8(found: &ArgMatches<'_>, name: &str) -> Option<u8>
+    ensures { result ≡ number_for 8 name.now (rows_of (found_of found.now)) }
+{
+    word_for(found, name)?.parse().ok()
+}
+
+// the number of an option, of 16 bits
+#[tactic(auto, using(crate::proofs::TaskLemmas::number_read), unfolding(crate::specs::Tasks::number_for))]
+fn number_u16(found: &ArgMatches<'_>, name: &str) -> Option<u16>
+    ensures { result ≡ number_for 16 name.now (rows_of (found_of found.now)) }
+{
+    word_for(found, name)?.parse().ok()
+}
+
+// what the words say of a dictionary
+#[tactic(auto, unfolding(crate::specs::Tasks::asked_dictionary))]
+fn dictionary_words(found: &ArgMatches<'_>) -> Option<DictionaryWords>
+    ensures { result ≡ asked_dictionary (rows_of (found_of found.now)) }
+{
+    let strings = number_u16(found, "strings")?;
+    let domains = number_u16(found, "domains")?;
+    Some(DictionaryWords {
+        node: number_u8(found, "node"),
+        strings,
+        domains,
+    })
+}
+
+// what the words say of a device
+#[tactic(auto, unfolding(crate::specs::Tasks::asked_device))]
+fn device_words(found: &ArgMatches<'_>) -> Option<DeviceWords>
+    ensures { result ≡ asked_device (rows_of (found_of found.now)) }
+{
+    let dictionary = dictionary_words(found)?;
+    let time = number_u16(found, "time")?;
+    Some(DeviceWords { dictionary, time })
+}
+
+// what the words after `check` ask for
+#[tactic(auto, unfolding(crate::specs::Tasks::asked_check))]
+fn asked_check<'a>(found: &ArgMatches<'a>) -> Option<Task<'a>>
+    ensures { option_map asked_by result ≡ asked_check (rows_of (found_of found.now)) }
+{
+    let sheet = word_for(found, "SHEET")?;
+    let dictionary = dictionary_words(found)?;
+    Some(Task::Check { sheet, dictionary })
+}
+
+// all words of an option
+#[tactic(auto, using(crate::proofs::TaskLemmas::all_in_rows), unfolding(crate::specs::Tasks::words_for))]
+fn words_for<'a>(
+    alloc: Global,
+    found: &ArgMatches<'a>,
+    name: &str,
+) -> Result<Vec<&'a str>, AllocError>
+    ensures { IfOk result (λ words. map (λ word. word.now) words.items
+        ≡ words_for name.now (rows_of (found_of found.now))) }
+{
+    let mut words = Vec::new(alloc);
+    if let Some(given) = found.get_strs(name) {
+        words.extend_from_slice(given)?;
+    }
+    Ok(words)
+}
+
+#[tactic(auto, unfolding(crate::specs::Tasks::is_used))]
+fn is_used(found: &ArgMatches<'_>, name: &str) -> bool
+    ensures { result ≡ is_used name.now (rows_of (found_of found.now)) }
+{
+    match word_for(found, name) {
+        Some(word) => is(word, "true"),
+        None => false,
+    }
+}
+
+// the format that a word names
+#[tactic(auto, unfolding(crate::specs::Tasks::format_of))]
+fn format_of(word: &str) -> Option<Format>
+    ensures { result ≡ format_of word.now }
+{
+    if is(word, "text") {
+        Some(Format::Text)
+    } else if is(word, "json") {
+        Some(Format::Json)
+    } else if is(word, "sarif") {
+        Some(Format::Sarif)
+    } else {
+        None
+    }
+}
+
+// when there are colours, as a word names it
+#[tactic(auto, unfolding(crate::specs::Tasks::colours_of))]
+fn colours_of(word: &str) -> Option<Colours>
+    ensures { result ≡ colours_of word.now }
+{
+    if is(word, "auto") {
+        Some(Colours::Auto)
+    } else if is(word, "always") {
+        Some(Colours::Always)
+    } else if is(word, "never") {
+        Some(Colours::Never)
+    } else {
+        None
+    }
+}
+
+#[tactic(auto, unfolding(crate::specs::Tasks::format_for))]
+pub(crate) fn format_for(found: &ArgMatches<'_>) -> Option<Format>
+    ensures { result ≡ format_for (rows_of (found_of found.now)) }
+{
+    format_of(word_for(found, "format")?)
+}
+
+#[tactic(auto, unfolding(crate::specs::Tasks::colours_for))]
+pub(crate) fn colours_for(found: &ArgMatches<'_>) -> Option<Colours>
+    ensures { result ≡ colours_for (rows_of (found_of found.now)) }
+{
+    colours_of(word_for(found, "color")?)
+}
+
+// what the words after `lint` ask for, with its sheets and what it allows
+#[tactic(auto, unfolding(crate::specs::Tasks::asked_lint_of))]
+fn lint_of<'a>(
+    found: &ArgMatches<'a>,
+    sheets: Vec<&'a str>,
+    allowed: Vec<&'a str>,
+) -> Option<Task<'a>>
+    ensures { option_map asked_by result
+        ≡ asked_lint_of (map (λ word. word.now) sheets.entry.items)
+        (map (λ word. word.now) allowed.entry.items) (rows_of (found_of found.now)) }
+{
+    let dictionary = dictionary_words(found)?;
+    let format = format_for(found)?;
+    let colours = colours_for(found)?;
+    Some(Task::Lint(LintWords {
+        sheets,
+        allowed,
+        dictionary,
+        format,
+        colours,
+        strict: is_used(found, "strict"),
+        all: is_used(found, "all"),
+    }))
+}
+
+// what the words after `lint` ask for
+#[tactic(auto, unfolding(crate::specs::Tasks::asked_lint))]
+fn asked_lint<'a>(alloc: Global, found: &ArgMatches<'a>) -> Result<Option<Task<'a>>, AllocError>
+    ensures { IfOk result (λ task.
+        option_map asked_by task ≡ asked_lint (rows_of (found_of found.now))) }
+{
+    let sheets = words_for(alloc, found, "SHEET")?;
+    let allowed = words_for(alloc, found, "allow")?;
+    Ok(lint_of(found, sheets, allowed))
+}
+
+// what the words after `decode` ask for
+#[tactic(auto, unfolding(crate::specs::Tasks::asked_decode))]
+fn asked_decode<'a>(found: &ArgMatches<'a>) -> Option<Task<'a>>
+    ensures { option_map asked_by result ≡ asked_decode (rows_of (found_of found.now)) }
+{
+    let trace = word_for(found, "TRACE")?;
+    Some(Task::Decode {
+        trace,
+        sheet: word_for(found, "sheet"),
+        node: number_u8(found, "node"),
+    })
+}
+
+// what the words after `replay` ask for
+#[tactic(auto, unfolding(crate::specs::Tasks::asked_replay))]
+fn asked_replay<'a>(found: &ArgMatches<'a>) -> Option<Task<'a>>
+    ensures { option_map asked_by result ≡ asked_replay (rows_of (found_of found.now)) }
+{
+    let sheet = word_for(found, "SHEET")?;
+    let trace = word_for(found, "TRACE")?;
+    let device = device_words(found)?;
+    Some(Task::Replay {
+        sheet,
+        trace,
+        device,
+    })
+}
+
+// the mode that a word names
+#[tactic(auto, unfolding(crate::specs::Tasks::mode_of))]
+fn mode_of(word: &str) -> Option<Mode>
+    ensures { result ≡ mode_of word.now }
+{
+    if is(word, "plain") {
+        Some(Mode::Plain)
+    } else if is(word, "segmented") {
+        Some(Mode::Segmented)
+    } else if is(word, "block") {
+        Some(Mode::Block)
+    } else {
+        None
+    }
+}
+
+#[tactic(auto, unfolding(crate::specs::Tasks::mode_for))]
+pub(crate) fn mode_for(found: &ArgMatches<'_>) -> Option<Mode>
+    ensures { result ≡ mode_for (rows_of (found_of found.now)) }
+{
+    mode_of(word_for(found, "mode")?)
+}
+
+// what the words after `loop` ask for
+#[tactic(auto, unfolding(crate::specs::Tasks::asked_loop))]
+fn asked_loop<'a>(found: &ArgMatches<'a>) -> Option<Task<'a>>
+    ensures { option_map asked_by result ≡ asked_loop (rows_of (found_of found.now)) }
+{
+    let sheet = word_for(found, "SHEET")?;
+    let key = word_for(found, "KEY")?;
+    let bytes = word_for(found, "HEX")?;
+    let mode = mode_for(found)?;
+    let device = device_words(found)?;
+    Some(Task::LoopBack {
+        sheet,
+        key,
+        bytes,
+        mode,
+        device,
+    })
+}
+
+// the form that a word names
+#[tactic(auto, unfolding(crate::specs::Tasks::shown_as))]
+fn shown_as(word: &str) -> Option<ShownAs>
+    ensures { result ≡ shown_as word.now }
+{
+    if is(word, "text") {
+        Some(ShownAs::Columns)
+    } else if is(word, "markdown") {
+        Some(ShownAs::Markdown)
+    } else if is(word, "json") {
+        Some(ShownAs::Json)
+    } else {
+        None
+    }
+}
+
+#[tactic(auto, unfolding(crate::specs::Tasks::shown_for))]
+pub(crate) fn shown_for(found: &ArgMatches<'_>) -> Option<ShownAs>
+    ensures { result ≡ shown_for (rows_of (found_of found.now)) }
+{
+    shown_as(word_for(found, "format")?)
+}
+
+// what the words after `show` ask for
+#[tactic(auto, unfolding(crate::specs::Tasks::asked_show))]
+fn asked_show<'a>(found: &ArgMatches<'a>) -> Option<Task<'a>>
+    ensures { option_map asked_by result ≡ asked_show (rows_of (found_of found.now)) }
+{
+    let sheet = word_for(found, "SHEET")?;
+    let shown_as = shown_for(found)?;
+    Some(Task::Show {
+        sheet,
+        node: number_u8(found, "node"),
+        shown_as,
+    })
+}
+
+// what the words after `adapt` ask for
+#[tactic(auto, unfolding(crate::specs::Tasks::asked_adapt))]
+fn asked_adapt<'a>(found: &ArgMatches<'a>) -> Option<Task<'a>>
+    ensures { option_map asked_by result ≡ asked_adapt (rows_of (found_of found.now)) }
+{
+    let sheet = word_for(found, "SHEET")?;
+    Some(Task::Adapt { sheet })
+}
+
+// the form of stamps that a word names
+#[tactic(auto, unfolding(crate::specs::Tasks::stamps_of))]
+fn stamps_of(word: &str) -> Option<Stamps>
+    ensures { result ≡ stamps_of word.now }
+{
+    if is(word, "relative") || is(word, "z") {
+        Some(Stamps::Relative)
+    } else if is(word, "absolute") || is(word, "a") {
+        Some(Stamps::Absolute)
+    } else if is(word, "delta") || is(word, "d") {
+        Some(Stamps::Delta)
+    } else if is(word, "date") || is(word, "A") {
+        Some(Stamps::Date)
+    } else {
+        None
+    }
+}
+
+#[tactic(auto, unfolding(crate::specs::Tasks::stamps_for))]
+pub(crate) fn stamps_for(found: &ArgMatches<'_>) -> Option<Stamps>
+    ensures { result ≡ stamps_for (rows_of (found_of found.now)) }
+{
+    stamps_of(word_for(found, "stamps")?)
+}
+
+// what the words after `explain` ask for
+#[tactic(auto, unfolding(crate::specs::Tasks::asked_explain))]
+fn asked_explain<'a>(found: &ArgMatches<'a>) -> Option<Task<'a>>
+    ensures { option_map asked_by result ≡ asked_explain (rows_of (found_of found.now)) }
+{
+    let trace = word_for(found, "TRACE")?;
+    let stamps = stamps_for(found)?;
+    Some(Task::Explain {
+        trace,
+        sheet: word_for(found, "sheet"),
+        stamps,
+    })
+}
+
+// what the words after the name of a subcommand other than `lint` ask for
+#[tactic(auto, unfolding(crate::specs::Tasks::asked_other))]
+fn asked_other<'a>(name: &str, found: &ArgMatches<'a>) -> Option<Task<'a>>
+    ensures { option_map asked_by result ≡ asked_other name.now (rows_of (found_of found.now)) }
+{
+    if is(name, "check") {
+        asked_check(found)
+    } else if is(name, "decode") {
+        asked_decode(found)
+    } else if is(name, "replay") {
+        asked_replay(found)
+    } else if is(name, "loop") {
+        asked_loop(found)
+    } else if is(name, "show") {
+        asked_show(found)
+    } else if is(name, "adapt") {
+        asked_adapt(found)
+    } else if is(name, "explain") {
+        asked_explain(found)
+    } else {
+        None
+    }
+}
+
+// what the words after the name of a subcommand ask for
+#[tactic(auto, unfolding(crate::specs::Tasks::asked_in))]
+pub(crate) fn asked_in<'a>(
+    alloc: Global,
+    name: &str,
+    found: &ArgMatches<'a>,
+) -> Result<Option<Task<'a>>, AllocError>
+    ensures { IfOk result (λ task.
+        option_map asked_by task ≡ asked_in name.now (rows_of (found_of found.now))) }
+{
+    if is(name, "lint") {
+        asked_lint(alloc, found)
+    } else {
+        Ok(asked_other(name, found))
+    }
+}

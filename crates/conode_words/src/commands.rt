@@ -1,0 +1,287 @@
+//! The program's commands, a function each.
+
+ghost use Rattle.std.specs.Prelude.{◌≡◌, IfOk, codes, false};
+ghost use Rattle.clap.specs.Words.{new_app, rule_of};
+ghost use Rattle.conode_words.specs.Commands.{
+  IsCommand,
+  adapt_command,
+  check_command,
+  conode_command,
+  decode_command,
+  explain_command,
+  lint_command,
+  lint_of_sheets,
+  loop_command,
+  replay_command,
+  show_command,
+  stamps_option,
+  versioned,
+};
+
+use crate::help;
+use crate::options::{
+    flag, many_wanted, new_command, node_arg, repeated, valued, wanted, with_arg, with_command,
+    with_limits, with_rooms, worded,
+};
+use clap::{Arg, Command};
+use std::alloc::{AllocError, Global};
+
+fn check_command<'a>(alloc: Global) -> Result<Command<'a>, AllocError>
+    ensures { IfOk result (λ command. IsCommand command check_command) }
+{
+    let command = new_command(
+        alloc,
+        "check",
+        "Checks a data sheet: what it has, or its first fault and its line",
+        help::FAULTS,
+    );
+    let sheet = wanted(alloc, "SHEET", "The data sheet to check (EDS, CiA 306)");
+    let command = with_arg(command, sheet)?;
+    let node = node_arg(alloc, "Also build its dictionary for node-ID 1 to 127");
+    let command = with_arg(command, node)?;
+    with_limits(alloc, command)
+}
+
+// `lint` with the sheets and the dictionary's options
+fn lint_of_sheets<'a>(alloc: Global) -> Result<Command<'a>, AllocError>
+    ensures { IfOk result (λ command. IsCommand command lint_of_sheets) }
+{
+    let command = new_command(
+        alloc,
+        "lint",
+        "Finds all faults of data sheets, and what is suspicious in them",
+        help::LINTED,
+    );
+    let sheets = many_wanted(
+        alloc,
+        "SHEET",
+        "Data sheets (EDS, DCF) and folders of them, - for standard input",
+    );
+    let command = with_arg(command, sheets)?;
+    let node = node_arg(alloc, "Also build dictionaries for node-ID 1 to 127");
+    let command = with_arg(command, node)?;
+    with_limits(alloc, command)
+}
+
+fn lint_command<'a>(alloc: Global) -> Result<Command<'a>, AllocError>
+    ensures { IfOk result (λ command. IsCommand command lint_command) }
+{
+    let command = lint_of_sheets(alloc)?;
+    let format = worded(
+        alloc,
+        "format",
+        "FORMAT",
+        "text",
+        "Form: text, json or sarif",
+    );
+    let command = with_arg(command, format)?;
+    let strict = flag(alloc, "strict", "Count warnings as errors");
+    let command = with_arg(command, strict)?;
+    let all = flag(alloc, "all", "Also give the warnings that are of taste");
+    let command = with_arg(command, all)?;
+    let allow = repeated(
+        alloc,
+        "allow",
+        "NAME",
+        "Let findings of this name pass; may be given again",
+    );
+    let command = with_arg(command, allow)?;
+    let colour = worded(
+        alloc,
+        "color",
+        "WHEN",
+        "auto",
+        "Colours: auto, always or never",
+    );
+    with_arg(command, colour)
+}
+
+fn decode_command<'a>(alloc: Global) -> Result<Command<'a>, AllocError>
+    ensures { IfOk result (λ command. IsCommand command decode_command) }
+{
+    let command = new_command(
+        alloc,
+        "decode",
+        "Decodes a CAN trace: each frame with what it says, by CiA 301",
+        help::DECODED,
+    );
+    let trace = wanted(
+        alloc,
+        "TRACE",
+        "The CAN trace to decode, as `candump -L` writes it",
+    );
+    let command = with_arg(command, trace)?;
+    let sheet = valued(
+        alloc,
+        "sheet",
+        "SHEET",
+        "A data sheet whose names follow the keys",
+    );
+    let command = with_arg(command, sheet)?;
+    let node = node_arg(alloc, "Name the entries of node-ID 1 to 127 alone");
+    with_arg(command, node)
+}
+
+fn replay_command<'a>(alloc: Global) -> Result<Command<'a>, AllocError>
+    ensures { IfOk result (λ command. IsCommand command replay_command) }
+{
+    let command = new_command(
+        alloc,
+        "replay",
+        "Plays a CAN trace to the device of a data sheet",
+        help::REPLAYED,
+    );
+    let sheet = wanted(alloc, "SHEET", "The device's data sheet (EDS, CiA 306)");
+    let command = with_arg(command, sheet)?;
+    let trace = wanted(
+        alloc,
+        "TRACE",
+        "What it receives, as `candump -L` writes it",
+    );
+    let command = with_arg(command, trace)?;
+    let node = node_arg(
+        alloc,
+        "The device's node-ID, 1 to 127; if not given, the sheet's",
+    );
+    let command = with_arg(command, node)?;
+    with_rooms(alloc, command)
+}
+
+fn loop_command<'a>(alloc: Global) -> Result<Command<'a>, AllocError>
+    ensures { IfOk result (λ command. IsCommand command loop_command) }
+{
+    let command = new_command(
+        alloc,
+        "loop",
+        "Downloads bytes to the device of a data sheet by an SDO client",
+        help::LOOPED,
+    );
+    let sheet = wanted(alloc, "SHEET", "The device's data sheet (EDS, CiA 306)");
+    let command = with_arg(command, sheet)?;
+    let key = wanted(alloc, "KEY", "The entry, as 2001:00");
+    let command = with_arg(command, key)?;
+    let bytes = wanted(alloc, "HEX", "The bytes, in hexadecimal digits");
+    let command = with_arg(command, bytes)?;
+    let node = node_arg(
+        alloc,
+        "The device's node-ID, 1 to 127; if not given, the sheet's",
+    );
+    let command = with_arg(command, node)?;
+    let mode = worded(
+        alloc,
+        "mode",
+        "MODE",
+        "plain",
+        "How to transfer: plain, segmented or block",
+    );
+    let command = with_arg(command, mode)?;
+    with_rooms(alloc, command)
+}
+
+fn show_command<'a>(alloc: Global) -> Result<Command<'a>, AllocError>
+    ensures { IfOk result (λ command. IsCommand command show_command) }
+{
+    let command = new_command(
+        alloc,
+        "show",
+        "Shows the object dictionary of a data sheet as people read it",
+        help::SHOWN,
+    );
+    let sheet = wanted(
+        alloc,
+        "SHEET",
+        "The data sheet to show (EDS or DCF, CiA 306)",
+    );
+    let command = with_arg(command, sheet)?;
+    let node = node_arg(alloc, "Show what $NODEID is for node-ID 1 to 127");
+    let command = with_arg(command, node)?;
+    let format = worded(
+        alloc,
+        "format",
+        "FORMAT",
+        "text",
+        "How to show it: text, markdown or json",
+    );
+    with_arg(command, format)
+}
+
+fn adapt_command<'a>(alloc: Global) -> Result<Command<'a>, AllocError>
+    ensures { IfOk result (λ command. IsCommand command adapt_command) }
+{
+    let command = new_command(
+        alloc,
+        "adapt",
+        "Rewrites a vendor's data sheet to be accepted, and lists each change",
+        help::ADAPTED,
+    );
+    let sheet = wanted(
+        alloc,
+        "SHEET",
+        "The vendor's data sheet (EDS or DCF, CiA 306)",
+    );
+    with_arg(command, sheet)
+}
+
+fn stamps_arg<'a>(alloc: Global) -> Arg<'a>
+    ensures rule { rule_of result ≡ stamps_option }
+    ensures local { result.global ≡ false }
+{
+    worded(
+        alloc,
+        "stamps",
+        "FORM",
+        "relative",
+        "relative, absolute, delta or date",
+    )
+    .short('t')
+}
+
+fn explain_command<'a>(alloc: Global) -> Result<Command<'a>, AllocError>
+    ensures { IfOk result (λ command. IsCommand command explain_command) }
+{
+    let command = new_command(
+        alloc,
+        "explain",
+        "Explains a recording: each frame with its times and what it says",
+        help::EXPLAINED,
+    );
+    let trace = wanted(alloc, "TRACE", "The recording, as `candump -L` writes it");
+    let command = with_arg(command, trace)?;
+    let sheet = valued(
+        alloc,
+        "sheet",
+        "SHEET",
+        "A data sheet with names of entries; 5=SHEET: of node 5",
+    );
+    let command = with_arg(command, sheet)?;
+    let stamps = stamps_arg(alloc);
+    with_arg(command, stamps)
+}
+
+// the command without the commands below it
+fn only_conode<'a>(alloc: Global) -> Command<'a>
+    ensures { IsCommand result (versioned (new_app (codes "conode"))) }
+{
+    new_command(
+        alloc,
+        "conode",
+        "Checks data sheets of CANopen devices, decodes and answers CAN traces",
+        help::TRACES,
+    )
+    .version(help::VERSION)
+}
+
+/// The command of the program, with one below it for each thing that it does.
+pub(crate) fn conode_command<'a>(alloc: Global) -> Result<Command<'a>, AllocError>
+    ensures { IfOk result (λ command. IsCommand command conode_command) }
+{
+    let command = only_conode(alloc);
+    let command = with_command(command, check_command(alloc)?)?;
+    let command = with_command(command, lint_command(alloc)?)?;
+    let command = with_command(command, decode_command(alloc)?)?;
+    let command = with_command(command, replay_command(alloc)?)?;
+    let command = with_command(command, loop_command(alloc)?)?;
+    let command = with_command(command, show_command(alloc)?)?;
+    let command = with_command(command, adapt_command(alloc)?)?;
+    with_command(command, explain_command(alloc)?)
+}
