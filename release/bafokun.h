@@ -10,7 +10,7 @@
  *     count = bafokun_tick(&node, frames, BAFOKUN_MOST_FRAMES);     each ms
  *     count = bafokun_take(&node, &frame, frames, BAFOKUN_MOST_FRAMES);
  *
- * For Linux on x86-64, on every such processor, with glibc. Link with libbafokun.a or libbafokun.so alone; it calls malloc,
+ * For Linux with glibc, on every x86-64 processor and on 64-bit ARM. Link with libbafokun.a or libbafokun.so alone; it calls malloc,
  * realloc and free of the program.
  *
  * What holds of every call:
@@ -37,9 +37,9 @@
 extern "C" {
 #endif
 
-#define BAFOKUN_VERSION "0.3.0"
+#define BAFOKUN_VERSION "0.5.0"
 #define BAFOKUN_VERSION_MAJOR 0
-#define BAFOKUN_VERSION_MINOR 3
+#define BAFOKUN_VERSION_MINOR 5
 #define BAFOKUN_VERSION_PATCH 0
 
 /* No input gives more frames: an array of so many has room for all. */
