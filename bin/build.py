@@ -136,17 +136,25 @@ def read_crates(wanted, target):
     return found
 
 
-def speed():
-    """How many turns of a small loop this machine makes in a second of a processor: the best of twenty short tries, as a processor
-    that shares its core with others is often slower for a moment."""
-    best = 0.0
-    for _ in range(20):
-        begun, count = time.process_time(), 0
-        while time.process_time() - begun < 0.05:
-            sum(it & 7 for it in range(1000))
-            count += 1
-        best = max(best, count / (time.process_time() - begun))
-    return best
+class Speed:
+    """How many turns of a small loop this machine makes in a second of a processor: the most that were seen so far, as a processor that
+    shares its core with others, or a machine that has just been started, is slower for a while."""
+
+    def __init__(self):
+        self.turns = 0.0
+        self.look(20)
+
+    def look(self, tries):
+        for _ in range(tries):
+            begun, count = time.process_time(), 0
+            while time.process_time() - begun < 0.05:
+                sum(it & 7 for it in range(1000))
+                count += 1
+            self.turns = max(self.turns, count / (time.process_time() - begun))
+
+    def rate(self):
+        """How many seconds one at SPEED is here."""
+        return SPEED / self.turns
 
 
 def read_measured(file):
@@ -163,25 +171,22 @@ def read_measured(file):
         return {}
 
 
-def foresee(crates):
-    """Gives each crate the seconds that it should take on this machine, and the memory. Returns how many seconds one at SPEED is
-    here."""
+def foresee(crates, rate):
+    """Gives each crate the seconds that it should take on this machine, where one at SPEED is so many, and the memory."""
     said = {**read_measured(MEASURED), **read_measured(MEASURED_HERE)}
-    rate = SPEED / speed()
     for it in crates:
         lines = sum(open(path, "rb").read().count(b"\n") for path in it.sources() if path.endswith(".rt"))
         seconds, it.megabytes = said.get(it.name, (SECONDS + SECONDS_A_LINE * lines, MEGABYTES))
         it.seconds = seconds * rate
-    return rate
 
 
-def write_measured(crate, seconds, megabytes):
-    """Notes what a crate took here, in seconds at SPEED."""
+def write_measured(took, rate):
+    """Notes what crates took here, by name their seconds and megabytes, in seconds at SPEED."""
     said = read_measured(MEASURED_HERE)
-    said[crate.name] = seconds, round(megabytes)
+    said.update((name, (seconds / rate, round(megabytes))) for name, (seconds, megabytes) in took.items())
     os.makedirs(os.path.dirname(MEASURED_HERE), exist_ok=True)
     with open(f"{MEASURED_HERE}.new", "w", encoding="utf-8") as new:
-        new.writelines(f"{name} {took:.0f} {held}\n" for name, (took, held) in sorted(said.items()))
+        new.writelines(f"{name} {seconds:.0f} {held}\n" for name, (seconds, held) in sorted(said.items()))
     os.replace(f"{MEASURED_HERE}.new", MEASURED_HERE)
 
 
@@ -303,8 +308,9 @@ def build(crates, kit, held):
     left = [it for it in crates if it.name in stale or any(below.name in stale for below in it.below)]
     if not left:
         return True
-    rate = foresee(crates)
-    cores, count, ended, running = processors(), len(left), 0, []
+    speed = Speed()
+    foresee(crates, speed.rate())
+    cores, count, ended, running, took = processors(), len(left), 0, [], {}
     say(
         f"proving {count} of {len(crates)} crates, about {minutes(estimate(left, [], cores))} on {cores} processors;"
         " Ctrl-C stops it, and the next start goes on from there"
@@ -329,7 +335,9 @@ def build(crates, kit, held):
                         return False
                     ended += 1
                     used, foreseen = used + it.used, foreseen + it.crate.seconds
-                    write_measured(it.crate, it.used / rate, it.megabytes)
+                    took[it.crate.name] = it.used, it.megabytes
+                    speed.look(1)
+                    write_measured(took, speed.rate())
                     # what has ended says how fast this machine really is
                     at_work = [(it.seconds_left(), it.crate, it.jobs) for it in running]
                     rest = used / foreseen * estimate([*schedule.left.values()], at_work, cores)
