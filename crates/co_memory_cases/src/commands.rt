@@ -1,5 +1,5 @@
-//! The calls of the program's commands, over a small trace and a download of 14 bytes, which are then read back. What they
-//! write goes into a text that has room for all of it, so each allocation is a command's own.
+//! The calls of the program's commands, over a small trace and a download of 14 bytes, which are then read back. What
+//! they write goes into a text that has room for all of it, so each allocation is a command's own.
 
 use crate::LIMITS;
 use crate::outcome::{Outcome, refused_if, right_if};

@@ -1,28 +1,28 @@
-//! Each call that takes memory, over a data sheet, with the dialogue that it begins. A call that answers that it is out of
-//! memory is made again. The status is 0 where all were right at once, 2 where one of all was out of memory, and 1 where one
-//! was wrong, whose name is then written. Where there is no memory for the text that the calls write to, the worked sequences
-//! of devices that are already built are run in place of the calls, and the status is 4 where all were right.
-//! `tests/refused_memory` refuses each allocation of a run in turn, from that text on, and all of them at once.
+//! Each call that takes memory, over a data sheet, with the dialogue that it begins. A call that answers that it is out
+//! of memory is made again. The status is 0 where all were right at once, 2 where one of all was out of memory, and 1
+//! where one was wrong, whose name is then written. Where there is no memory for the text that the calls write to, the
+//! worked sequences of devices that are already built are run in place of the calls, and the status is 4 where all were
+//! right. `tests/refused_memory` refuses each allocation of a run in turn, from that text on, and all of them at once.
 #![tactic(auto)]
 
 mod after_build;
 mod commands;
 mod minimal;
 mod outcome;
-mod sheet;
 mod transfers;
 
 use crate::after_build::{are_right, script_of};
 use crate::commands::{checked, decoded, linted, looped, replayed, words_read};
 use crate::minimal::minimal;
 use crate::outcome::{Outcome, refused_if, right_if};
-use crate::sheet::SHEET;
 use crate::transfers::{timed_out, uploaded, uploaded_too_long};
 use co_dict::ObjectStore;
 use co_dict_image::ImageStore;
 use co_dict_list::{BuildFault, Limits, ListStore};
+use co_fixtures::{MANUFACTURER, PDOS, PROFILE, sheet_of};
 use co_node::{Config, Node, Record};
 use co_node_scripts::devices_of;
+use co_node_worked::worked;
 use co_pdo::Schedule;
 use co_sheet::{FaultKind, Sheet, SheetFault, read};
 use co_stream::{StreamFault, read_text};
@@ -60,6 +60,7 @@ enum Call {
     UploadTooLong,
     Node,
     Record,
+    Worked,
     Minimal,
     NodeIdZero,
     TooLarge,
@@ -71,7 +72,7 @@ enum Call {
     Task,
 }
 
-const CALLS: [Call; 20] = [
+const CALLS: [Call; 21] = [
     Call::ReadText,
     Call::Read,
     Call::ReadFaulty,
@@ -83,6 +84,7 @@ const CALLS: [Call; 20] = [
     Call::UploadTooLong,
     Call::Node,
     Call::Record,
+    Call::Worked,
     Call::Minimal,
     Call::NodeIdZero,
     Call::TooLarge,
@@ -108,6 +110,7 @@ impl Call {
             Call::UploadTooLong => "Client::upload of too many bytes",
             Call::Node => "Node::build",
             Call::Record => "Record::new",
+            Call::Worked => "worked",
             Call::Minimal => "calls over the mandatory objects alone",
             Call::NodeIdZero => "builds with node-ID 0",
             Call::TooLarge => "read of a sheet that is too large",
@@ -125,20 +128,19 @@ fn is_memory(fault: SheetFault) -> bool {
     fault.kind == FaultKind::Memory && fault.line == 0
 }
 
-fn text_read(alloc: Global) -> Outcome {
+fn text_read(alloc: Global, whole: &[u8]) -> Outcome {
     let mut text = Vec::new(alloc);
-    match read_text(&mut SHEET.as_bytes(), &mut text) {
-        Ok(()) => right_if(text.as_slice() == SHEET.as_bytes()),
+    let mut left = whole;
+    match read_text(&mut left, &mut text) {
+        Ok(()) => right_if(text.as_slice() == whole),
         Err(fault) => {
-            refused_if(
-                fault == StreamFault::Memory && SHEET.as_bytes().starts_with(text.as_slice()),
-            )
+            refused_if(fault == StreamFault::Memory && whole.starts_with(text.as_slice()))
         }
     }
 }
 
-fn sheet_read(alloc: Global) -> Outcome {
-    match read(alloc, SHEET.as_bytes()) {
+fn sheet_read(alloc: Global, text: &[u8]) -> Outcome {
+    match read(alloc, text) {
         Ok(sheet) => right_if(
             sheet.objects().len() == 22
                 && sheet.entries().len() == 46
@@ -203,6 +205,14 @@ fn record_made(alloc: Global) -> Outcome {
     }
 }
 
+// what it sends is proved
+fn worked_out(alloc: Global) -> Outcome {
+    match worked(alloc) {
+        Some(sent) => right_if(sent.response.len() == 1 && sent.later.ends() == [0, 1].as_slice()),
+        None => Outcome::Refused,
+    }
+}
+
 // answered before any memory is asked for
 fn node_id_refused(alloc: Global, sheet: &Sheet<'_>) -> Outcome {
     let config = Config {
@@ -228,6 +238,7 @@ fn size_refused(alloc: Global, text: &[u8]) -> Outcome {
 #[derive(Clone, Copy)]
 struct Given<'a, 's> {
     alloc: Global,
+    text: &'a str,
     sheet: &'a Sheet<'s>,
     store: &'a ListStore,
     too_large: &'a [u8],
@@ -236,13 +247,14 @@ struct Given<'a, 's> {
 fn outcome_of(call: Call, given: &Given<'_, '_>, out: &mut Vec<u8>) -> Outcome {
     let Given {
         alloc,
+        text,
         sheet,
         store,
         too_large,
     } = *given;
     match call {
-        Call::ReadText => text_read(alloc),
-        Call::Read => sheet_read(alloc),
+        Call::ReadText => text_read(alloc, text.as_bytes()),
+        Call::Read => sheet_read(alloc, text.as_bytes()),
         Call::ReadFaulty => faulty_read(alloc),
         Call::ListStore => list_built(alloc, sheet),
         Call::ImageStore => image_built(alloc, sheet),
@@ -252,11 +264,12 @@ fn outcome_of(call: Call, given: &Given<'_, '_>, out: &mut Vec<u8>) -> Outcome {
         Call::UploadTooLong => uploaded_too_long(alloc),
         Call::Node => node_built(alloc, sheet),
         Call::Record => record_made(alloc),
-        Call::Minimal => minimal(alloc, out),
+        Call::Worked => worked_out(alloc),
+        Call::Minimal => minimal(alloc, text, out),
         Call::NodeIdZero => node_id_refused(alloc, sheet),
         Call::TooLarge => size_refused(alloc, too_large),
-        Call::Check => checked(alloc, SHEET, Some(5), CHECKED, out),
-        Call::Lint => linted(alloc, SHEET),
+        Call::Check => checked(alloc, text, Some(5), CHECKED, out),
+        Call::Lint => linted(alloc, text),
         Call::Decode => decoded(alloc, sheet, out),
         Call::Replay => replayed(alloc, sheet, out),
         Call::LoopBack => looped(alloc, sheet, out),
@@ -342,30 +355,38 @@ fn with_script(rt: &HostRuntime, given: &Given<'_, '_>) -> ExitCode {
     }
 }
 
-fn with_text(rt: &HostRuntime, sheet: &Sheet<'_>, store: &ListStore) -> ExitCode {
+fn with_text(rt: &HostRuntime, text: &str, sheet: &Sheet<'_>, store: &ListStore) -> ExitCode {
     let alloc = rt.alloc();
-    let Ok(text) = vec![in alloc; b'\n'; 1_048_577] else {
+    let Ok(too_large) = vec![in alloc; b'\n'; 1_048_577] else {
         return ExitCode::from(NO_MEMORY);
     };
     let given = Given {
         alloc,
+        text,
         sheet,
         store,
-        too_large: text.as_slice(),
+        too_large: too_large.as_slice(),
     };
     with_script(rt, &given)
 }
 
-fn with_store(rt: &HostRuntime, sheet: &Sheet<'_>) -> ExitCode {
+fn with_store(rt: &HostRuntime, text: &str, sheet: &Sheet<'_>) -> ExitCode {
     match ListStore::build(rt.alloc(), sheet, 5, &LIMITS) {
-        Ok(store) => with_text(rt, sheet, &store),
+        Ok(store) => with_text(rt, text, sheet, &store),
+        Err(_) => ExitCode::from(NO_MEMORY),
+    }
+}
+
+fn with_sheet(rt: &HostRuntime, text: &str) -> ExitCode {
+    match read(rt.alloc(), text.as_bytes()) {
+        Ok(sheet) => with_store(rt, text, &sheet),
         Err(_) => ExitCode::from(NO_MEMORY),
     }
 }
 
 fn main(rt: HostRuntime) -> ExitCode {
-    match read(rt.alloc(), SHEET.as_bytes()) {
-        Ok(sheet) => with_store(&rt, &sheet),
+    match sheet_of(rt.alloc(), &[PROFILE, PDOS], &[MANUFACTURER], "") {
+        Ok(text) => with_sheet(&rt, text.as_str()),
         Err(_) => ExitCode::from(NO_MEMORY),
     }
 }

@@ -1,10 +1,9 @@
-//! The least data sheet, with the mandatory objects alone: it is checked and read; its device is built, boots, and answers a
-//! frame into a record; and a schedule is made over its dictionary.
+//! The least data sheet, with the mandatory objects alone: it is checked and read; its device is built, boots, and
+//! answers a frame into a record; and a schedule is made over its dictionary.
 
 use crate::LIMITS;
 use crate::commands::checked;
 use crate::outcome::{Outcome, refused_if, right_if};
-use crate::sheet::minimal_sheet;
 use co_dict_list::{BuildFault, ListStore};
 use co_frame::Outbox;
 use co_node::{Config, Input, Node, Record};
@@ -70,8 +69,16 @@ fn sheet_read(alloc: Global, text: &str) -> Outcome {
     }
 }
 
-pub(crate) fn minimal(alloc: Global, out: &mut Vec<u8>) -> Outcome {
-    let text = minimal_sheet();
+// The front of a data sheet that is one by itself.
+fn mandatory(text: &str) -> &str {
+    match text.split_once("[1003]") {
+        Some((front, _)) => front,
+        None => "",
+    }
+}
+
+pub(crate) fn minimal(alloc: Global, sheet: &str, out: &mut Vec<u8>) -> Outcome {
+    let text = mandatory(sheet);
     match checked(alloc, text, None, CHECKED, out) {
         Outcome::Right => sheet_read(alloc, text),
         other => other,

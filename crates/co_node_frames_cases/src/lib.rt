@@ -2,10 +2,7 @@
 //! proved once.
 #![tactic(auto)]
 
-mod chain;
 #[cfg(test)]
 mod device;
 #[cfg(test)]
 mod every_frame;
-
-pub use chain::{Sent, worked};

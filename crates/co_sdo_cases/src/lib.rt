@@ -1,5 +1,5 @@
-//! Tests of an SDO channel, and of all channels of a device, through the public calls of their crates, so that these are proved
-//! once.
+//! Tests of an SDO channel, of all channels of a device, and of a client with a channel, through the public calls of their
+//! crates, so that these are proved once.
 #![tactic(auto)]
 
 #[cfg(test)]
@@ -12,5 +12,7 @@ mod device;
 mod dialogues;
 #[cfg(test)]
 mod states;
+#[cfg(test)]
+mod transfers;
 #[cfg(test)]
 mod two_channels;

@@ -1,14 +1,10 @@
-//! Tests of what the program does, by the public calls of its crates: whole runs over readers and writers in memory, and
-//! over files.
+//! Tests of what the program does over readers and writers that fail or never end, by the public calls of its crates.
+//! What it does otherwise is tested on command lines.
 #![tactic(auto)]
 
 #[cfg(test)]
-mod decode_tables;
+mod device;
 #[cfg(test)]
-mod decodes;
+mod loops;
 #[cfg(test)]
-mod fakes;
-#[cfg(test)]
-mod sheets;
-#[cfg(test)]
-mod words;
+mod replays;
