@@ -19,7 +19,7 @@ use co_sheet_text::TextSection;
 use std::alloc::{AllocError, Global};
 
 /// A chapter of what is shown.
-#[derive(Clone, Copy, Debug, PartialEq, Eq)]
+#[derive(Clone, Copy)]
 pub enum Chapter {
     /// Entries and objects.
     Entries,

@@ -30,7 +30,7 @@ use co_value::Key;
 use std::alloc::AllocError;
 
 /// What a number means.
-#[derive(Clone, Copy, Debug, PartialEq, Eq)]
+#[derive(Clone, Copy)]
 pub enum Meaning {
     /// The COB-ID of a PDO.
     PdoCobId,

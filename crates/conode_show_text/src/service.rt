@@ -14,7 +14,7 @@ use co_value::Key;
 use std::alloc::AllocError;
 
 /// A service that an entry of the communication profile is of.
-#[derive(Clone, Copy, Debug, PartialEq, Eq)]
+#[derive(Clone, Copy)]
 pub enum Service {
     Sync,
     Emcy,

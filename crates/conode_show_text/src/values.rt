@@ -36,7 +36,7 @@ use co_value::DataType;
 use std::alloc::AllocError;
 
 /// A number of the communication profile, of at most 32 bits.
-#[derive(Clone, Copy, Debug, PartialEq, Eq)]
+#[derive(Clone, Copy)]
 pub struct Word {
     /// Whether the node-ID is to be added.
     pub relative: bool,
