@@ -11,6 +11,7 @@ ghost use Rattle.co_sheet_warnings.specs.Infos.{
   is_date,
   is_day_and_year,
   is_info,
+  is_info_name,
   is_number_of,
   is_object_within,
   is_time,
@@ -25,7 +26,7 @@ ghost use Rattle.co_sheet_warnings.specs.Infos.{
 ghost use Rattle.co_sheet_warnings.specs.private.Views.{is_written, key_view};
 
 use crate::communication::number_at_sub;
-use crate::keys::{Topic, WrittenKey, topic_of};
+use crate::keys::{Topic, WrittenKey};
 use crate::known_key::KnownKey;
 use crate::read_text::ReadText;
 use co_sheet_text::{SectionKind, TextSection, same_name, unsigned_number};
@@ -108,6 +109,17 @@ fn lacks_any(info: Topic, keys: &[WrittenKey], required: &[KnownKey]) -> bool
     false
 }
 
+// whether a section's name is FileInfo, or DeviceInfo, in any case of its letters
+fn is_info_name(info: Topic, name: &[u8]) -> bool
+    ensures { result ≡ is_info_name info name.now }
+{
+    match info {
+        Topic::FileInfo => same_name(name, b"FileInfo"),
+        Topic::DeviceInfo => same_name(name, b"DeviceInfo"),
+        _ => false,
+    }
+}
+
 /// The section of FileInfo or of DeviceInfo that lacks a key which has to be there; 0 where there is no such section.
 pub(crate) fn missing_keys(info: Topic, text: &ReadText, required: &[KnownKey]) -> Option<usize>
     ensures { option_to_list result ≡ missing_keys info text.now required.now }
@@ -116,7 +128,7 @@ pub(crate) fn missing_keys(info: Topic, text: &ReadText, required: &[KnownKey]) 
         return None;
     }
     for section in text.sections() {
-        if is_info(info, topic_of(section.name)) {
+        if is_info_name(info, section.name) {
             return Some(section.line);
         }
     }
