@@ -1,6 +1,6 @@
 #!/bin/sh
-# Checks a data sheet of 1 MiB and one of half its size, lints the first, and reads it by the C library inih and by Python's
-# configparser, side by side. Status 1 where the first takes more than 2.5 times as long as the second.
+# Checks a data sheet of 1 MiB and one of half its size, lints the first beside its check, without and with a node-ID, and reads
+# it by the C library inih and by Python's configparser, side by side. Status 1 where the first takes more than 2.5 times as long as the second.
 set -eu
 # shellcheck source=bench/program.sh
 . "$(dirname "$(readlink -f "$0")")/program.sh"
@@ -62,11 +62,20 @@ status=0
 awk -v a="$time_of_whole" -v b="$time_of_half" \
     'BEGIN { printf "whole / half: %8.2f (at most 2.5)\n", a / b; exit (a > 2.5 * b) }' || status=1
 
-# What lint finds in it are warnings alone.
-time_of_lint=$(best_of 5 "$program" lint "$whole")
-grep -q '^0 errors, ' "$folder/out" || { echo "lint finds errors: $(tail -n 1 "$folder/out")" >&2; exit 1; }
-awk -v a="$time_of_lint" -v b="$time_of_whole" \
-    'BEGIN { printf "conode lint:  %8.1f ms for the same text\nratio:        %8.2f (aim: at most 2)\n", a / 1000, a / b }'
+# lints the text with these words, beside its check with them: what is found in it are warnings alone
+lint_beside() {
+    time_of_lint=$(best_of 9 "$program" lint "$whole" "$@")
+    grep -q '^0 errors, ' "$folder/out" || { echo "lint finds errors: $(tail -n 1 "$folder/out")" >&2; exit 1; }
+    time_of_check=$(best_of 9 "$program" check "$whole" "$@")
+    awk -v a="$time_of_lint" -v b="$time_of_check" -v words="$*" \
+        'BEGIN {
+            printf "%-13s %8.1f ms for the same text\n", "lint" (words == "" ? "" : " " words) ":", a / 1000
+            printf "ratio:        %8.2f of check %s (aim: at most 2)\n", a / b, words
+        }'
+}
+
+lint_beside
+lint_beside --node 5
 
 # The C library cuts the text into sections, names and values, and this hashes them.
 cat > "$folder/inih.c" << 'END'

@@ -1,6 +1,8 @@
 -- Small texts, and the lines at which each kind of warning applies: both sides of each edge.
-use Rattle.std.proofs.Common.{◌≡◌, ℕ, ◌+◌, List, [], ◌∷◌, ◌++◌, Some, None, true, false, refl, codes, map, take, drop}
-use Rattle.std.specs.Prelude.{replicate, filter_map, option_and_then}
+use Rattle.std.proofs.Common.{◌≡◌, ℕ, ◌+◌, List, [], ◌∷◌, ◌++◌, Some, None, true, false, refl, codes, map, take, drop, Option}
+use Rattle.co_sheet_warnings.specs.WarningWords.{is_quiet}
+use Rattle.std.specs.List.{list_any}
+use Rattle.std.specs.Prelude.{replicate, filter_map, option_and_then, not}
 use Rattle.std.specs.Str.{chars, is_utf8}
 use Rattle.co_sheet_text.specs.declared.section_kind.SectionKind.{SectionKind}
 use Rattle.co_sheet_text.specs.declared.section_kind.SectionKind.TheVariants.{MandatoryObjects, OptionalObjects, ManufacturerObjects, Object, SubIndex}
@@ -20,7 +22,7 @@ use Rattle.co_sheet_warnings.specs.KnownKeys.{is_near}
 use Rattle.co_sheet_warnings.specs.Infos.{is_date, is_time}
 use Rattle.co_sheet_warnings.specs.Repeats.{has_cob_id, enabled_cob_id, identifier_with}
 use Rattle.co_sheet_warnings.specs.Lines.{mixed_line_ends}
-use Rattle.co_sheet_warnings.specs.Warnings.{warning_at, misspelt, places_of, warnings_of, warnings_of_kinds}
+use Rattle.co_sheet_warnings.specs.Warnings.{warning_at, misspelt, places_of, warnings_of, warnings_of_kinds, first_kinds, last_kinds, quiet_kinds}
 
 -- lines as a text, each ended by LF
 abbrev joined : List (List ℕ) → List ℕ
@@ -40,8 +42,34 @@ several : warnings_of_kinds (read_text (codes "[2000]\nSubNumber=1\n[1800sub1]\n
     ≡ warning_at SubNumber 2 ∷ warning_at Unlisted 1 ∷ warning_at FixedCobId 5 ∷ warning_at MissingName 1 ∷ []
 several = refl
 
-none : warnings_of [] None ≡ warning_at FileInfoKeys 0 ∷ warning_at DeviceInfoKeys 0 ∷ []
+none : warnings_of [] None true ≡ warning_at FileInfoKeys 0 ∷ warning_at DeviceInfoKeys 0 ∷ []
 none = refl
+
+-- the kinds that a sheet is asked for without those of taste, and with them
+not_quiet : list_any is_quiet (first_kinds ++ last_kinds) ≡ false
+not_quiet = refl
+
+all_quiet : list_any (λ kind. not (is_quiet kind)) quiet_kinds ≡ false
+all_quiet = refl
+
+taste_left_out : warnings_of (codes "[2000]\n") None false ≡ warning_at FileInfoKeys 0 ∷ warning_at DeviceInfoKeys 0 ∷ warning_at Unlisted 1 ∷ []
+taste_left_out = refl
+
+taste_asked_for : warnings_of (codes "[2000]\n") None true ≡ warning_at FileInfoKeys 0 ∷ warning_at DeviceInfoKeys 0 ∷ warning_at Unlisted 1 ∷ warning_at MissingName 1 ∷ []
+taste_asked_for = refl
+
+-- the node-ID: given; the text's own, beside a line at fault; none, where it isn't 1 to 127
+abbrev node_for : Option ℕ → List ℕ → Option ℕ
+node_for node value = (read_text (codes "x\n[DeviceComissioning]\nnodeid=" ++ value) node).node
+
+given_node : node_for (Some 5) (codes "9") ≡ Some 5
+given_node = refl
+
+text_node : node_for None (codes "9") ≡ Some 9
+text_node = refl
+
+no_own_node : node_for None (codes "128") ≡ None
+no_own_node = refl
 
 -- a line at fault is passed over; the section that comes again isn't read
 in_spite_of_faults : warnings_of_kinds (read_text (codes "x\n[2000]\nSubNumber 3\nSubNumber=1\n[2000]\nSubNumber=2\n[2001\nSubNumber=3") None) (SubNumber ∷ Unlisted ∷ [])

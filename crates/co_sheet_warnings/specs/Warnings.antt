@@ -1,8 +1,53 @@
 -- All that is legal in a data sheet and suspicious: the places of each kind of warning (CiA 306-1, CiA 301).
-use Rattle.std.specs.Prelude.{◌≡◌, ℕ, ◌==◌, nat_lt, if◌then◌else◌, List, [], ◌∷◌, ◌++◌, length, map, flat_map, filter, filter_map, Option, None, option_map}
+use Rattle.std.specs.Prelude.{
+  ◌≡◌,
+  ℕ,
+  ◌==◌,
+  nat_lt,
+  Bool,
+  if◌then◌else◌,
+  List,
+  [],
+  ◌∷◌,
+  ◌++◌,
+  length,
+  map,
+  flat_map,
+  filter,
+  filter_map,
+  Option,
+  None,
+  option_map,
+}
 use Rattle.std.specs.List.Sorted.{IsNonDecreasingBy}
 use Rattle.co_sheet_warnings.specs.declared.warning.WarningKind.{WarningKind}
-use Rattle.co_sheet_warnings.specs.declared.warning.WarningKind.TheVariants.{SubNumber, SubIndex0, FileInfoKeys, DeviceInfoKeys, PdoCount, WrongList, Unlisted, IdentityNumber, FixedCobId, NodeIdPlace, MisspeltKey, SharedCobId, InhibitTime, OwnHeartbeat, HeartbeatTwice, NoErrorControl, LongLine, Utf8, NotAscii, ListOrder, EqualNames, MissingName, UnknownKey, DateFormat, LineEnds}
+use Rattle.co_sheet_warnings.specs.declared.warning.WarningKind.TheVariants.{
+  SubNumber,
+  SubIndex0,
+  FileInfoKeys,
+  DeviceInfoKeys,
+  PdoCount,
+  WrongList,
+  Unlisted,
+  IdentityNumber,
+  FixedCobId,
+  NodeIdPlace,
+  MisspeltKey,
+  SharedCobId,
+  InhibitTime,
+  OwnHeartbeat,
+  HeartbeatTwice,
+  NoErrorControl,
+  LongLine,
+  Utf8,
+  NotAscii,
+  ListOrder,
+  EqualNames,
+  MissingName,
+  UnknownKey,
+  DateFormat,
+  LineEnds,
+}
 use Rattle.co_sheet_warnings.specs.declared.warning.Warning.{Warning}
 use Rattle.co_sheet_text.specs.Sections.{TextSection}
 use Rattle.co_sheet_warnings.specs.ReadTexts.{ReadText, read_text}
@@ -14,7 +59,14 @@ use Rattle.co_sheet_warnings.specs.Lines.{long_lines, utf8, not_ascii, mixed_lin
 use Rattle.co_sheet_warnings.specs.declared.keys.Topic.TheVariants.{FileInfo, DeviceInfo}
 use Rattle.co_sheet_warnings.specs.Keys.{WrittenKey}
 use Rattle.co_sheet_warnings.specs.KnownKeys.{is_known, meant, unknown_key}
-use Rattle.co_sheet_warnings.specs.Infos.{missing_keys, file_keys, device_keys, pdo_counts, identity_numbers, date_formats}
+use Rattle.co_sheet_warnings.specs.Infos.{
+  missing_keys,
+  file_keys,
+  device_keys,
+  pdo_counts,
+  identity_numbers,
+  date_formats,
+}
 use Rattle.co_sheet_warnings.specs.Repeats.{shared_cob_ids, equal_names}
 
 -- a warning of a kind, at a line
@@ -53,7 +105,8 @@ places_of t DateFormat = date_formats t
 places_of t LineEnds = mixed_line_ends t.text
 places_of t kind = flat_map (places_in t kind) t.sections
 
--- the kinds, in the order in which the sheets of vendors show them: those before misspelt keys, and those after them
+-- the kinds, in the order in which the sheets of vendors show them: those before misspelt keys, those after them, and
+-- those of taste
 abbrev pub first_kinds : List WarningKind
 first_kinds =
     SubNumber ∷ SubIndex0 ∷ FileInfoKeys ∷ DeviceInfoKeys ∷ PdoCount ∷ WrongList ∷ Unlisted
@@ -62,7 +115,11 @@ first_kinds =
 abbrev pub last_kinds : List WarningKind
 last_kinds =
     SharedCobId ∷ InhibitTime ∷ OwnHeartbeat ∷ HeartbeatTwice ∷ NoErrorControl ∷ LongLine ∷ Utf8
-    ∷ NotAscii ∷ ListOrder ∷ EqualNames ∷ MissingName ∷ UnknownKey ∷ DateFormat ∷ LineEnds ∷ []
+    ∷ NotAscii ∷ []
+
+abbrev pub quiet_kinds : List WarningKind
+quiet_kinds =
+    ListOrder ∷ EqualNames ∷ MissingName ∷ UnknownKey ∷ DateFormat ∷ LineEnds ∷ []
 
 -- the warnings of a kind, of kinds, and of misspelt keys
 abbrev pub warnings_with : ReadText → WarningKind → List Warning
@@ -76,15 +133,21 @@ misspelt k =
     if is_known k then None
     else option_map (λ known. warning_at (MisspeltKey known) k.line) (meant k)
 
--- all warnings, kind by kind
-abbrev pub all_warnings : ReadText → List Warning
-all_warnings t =
-    warnings_of_kinds t first_kinds ++ filter_map misspelt t.keys ++ warnings_of_kinds t last_kinds
+-- those of taste, where all are asked for
+abbrev pub asked_kinds : Bool → List WarningKind
+asked_kinds all = if all then quiet_kinds else []
 
--- the warnings of a text for a node-ID, if one is given; a text that is too large isn't read
-abbrev pub warnings_of : List ℕ → Option ℕ → List Warning
-warnings_of text node =
-    if nat_lt 1048576 (length text) then [] else all_warnings (read_text text node)
+-- all warnings, kind by kind
+abbrev pub all_warnings : Bool → ReadText → List Warning
+all_warnings all t =
+    warnings_of_kinds t first_kinds ++ filter_map misspelt t.keys ++ warnings_of_kinds t last_kinds
+    ++ warnings_of_kinds t (asked_kinds all)
+
+-- the warnings of a text for the node-ID that is given or else its own, those of taste too or without them; a text that is
+-- too large isn't read
+abbrev pub warnings_of : List ℕ → Option ℕ → Bool → List Warning
+warnings_of text node all =
+    if nat_lt 1048576 (length text) then [] else all_warnings all (read_text text node)
 
 -- these warnings by line: the lines don't fall, and each line has its warnings in their order
 pub record IsByLine (warnings sorted : List Warning) : Type 0 where

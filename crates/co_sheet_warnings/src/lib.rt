@@ -10,6 +10,7 @@ mod keys;
 mod known_key;
 mod lines;
 mod lists;
+mod own_node;
 mod read_text;
 mod repeats;
 mod sub_indices;

@@ -10,8 +10,8 @@ use crate::infos::{
 };
 use crate::keys::Topic;
 use crate::known_key::unknown_key;
-use crate::lines::{long_lines, mixed_line_ends, not_ascii, utf8};
-use crate::lists::{list_orders, wrong_lists};
+use crate::lines::{long_lines, mixed_line_ends, other_bytes};
+use crate::lists::{ListCheck, list_places};
 use crate::read_text::ReadText;
 use crate::repeats::{equal_names, shared_cob_ids};
 use crate::warning::WarningKind;
@@ -61,18 +61,21 @@ pub(crate) fn places_of(
             )
         }
         WarningKind::PdoCount => listed(alloc, &pdo_counts(text)),
-        WarningKind::WrongList => wrong_lists(alloc, text.sections()),
+        WarningKind::WrongList => list_places(alloc, ListCheck::Objects, text.sections()),
         WarningKind::IdentityNumber => listed(alloc, &identity_numbers(text)),
-        WarningKind::SharedCobId => shared_cob_ids(alloc, text.node(), text.sections()),
+        WarningKind::SharedCobId => match text.node {
+            Some(node) => shared_cob_ids(alloc, node, text.sections()),
+            None => Ok(Vec::new(alloc)),
+        },
         WarningKind::NoErrorControl => listed(alloc, &[no_error_control(text)]),
-        WarningKind::LongLine => long_lines(alloc, text.lines()),
-        WarningKind::Utf8 => listed(alloc, &[utf8(text)]),
-        WarningKind::NotAscii => listed(alloc, &[not_ascii(text)]),
-        WarningKind::ListOrder => list_orders(alloc, text.sections()),
+        WarningKind::LongLine => long_lines(alloc, text.lines),
+        WarningKind::Utf8 => listed(alloc, &[other_bytes(text, true)]),
+        WarningKind::NotAscii => listed(alloc, &[other_bytes(text, false)]),
+        WarningKind::ListOrder => list_places(alloc, ListCheck::Order, text.sections()),
         WarningKind::EqualNames => equal_names(alloc, text.sections()),
-        WarningKind::UnknownKey => listed(alloc, &[unknown_key(text.keys())]),
+        WarningKind::UnknownKey => listed(alloc, &[unknown_key(text.keys)]),
         WarningKind::DateFormat => listed(alloc, &date_formats(text)),
-        WarningKind::LineEnds => listed(alloc, &[mixed_line_ends(text.bytes())]),
+        WarningKind::LineEnds => listed(alloc, &[mixed_line_ends(text.bytes)]),
         other => places_in(alloc, text, other),
     }
 }

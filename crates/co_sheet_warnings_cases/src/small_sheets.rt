@@ -60,7 +60,7 @@ const FOUND: [(usize, WarningKind); 14] = [
 
 #[test]
 fn sloppy(rt: HostRuntime) -> Result<(), Fail> {
-    let warnings = find_warnings(rt.alloc(), SLOPPY.as_bytes(), Some(5))?;
+    let warnings = find_warnings(rt.alloc(), SLOPPY.as_bytes(), Some(5), true)?;
     assert_eq!(rt; warnings.len(), FOUND.len() + 4);
     for (warning, expected) in warnings.iter().zip(FOUND.iter()) {
         assert_eq!(rt; warning.line, expected.0);

@@ -1,7 +1,6 @@
 -- What is found in a text, against its check.
 use Rattle.std.proofs.Common.{◌≡◌, ◌∙◌, ℕ, ◌<◌, Bool, true, false, not, ◌&&◌, ◌||◌, if◌then◌else◌, List, [], ◌∷◌, ◌++◌, map, Contains, Option, Some, None, refl, sym, ap, subst, arith}
 use Rattle.std.specs.Prelude.{is_none, is_some}
-use Rattle.std.specs.List.{flat_map}
 use Rattle.std.proofs.Math.ListN.{length-map}
 use Rattle.std.proofs.lemmas.List.{get_or-map}
 use Rattle.std.proofs.lemmas.List.Elements.{Contains-append_left}
@@ -15,7 +14,6 @@ use Rattle.co_sheet_text.specs.Sections.{TextSection}
 use Rattle.co_sheet_text.specs.Text.{lines_of}
 use Rattle.co_sheet_faults.specs.AllFaults.{faults_of}
 use Rattle.co_sheet_warnings.specs.declared.warning.Warning.{Warning}
-use Rattle.co_sheet_warnings.specs.WarningWords.{is_quiet}
 use Rattle.co_dict_build.specs.Built.{Plan, plan_of}
 use Rattle.co_dict_build.specs.BuildFaults.{build_fault}
 use Rattle.co_dict_build.specs.Capacities.{Limits, limits_view}
@@ -27,7 +25,7 @@ use Rattle.conode_lint.specs.BuildLines.{built_marks}
 use Rattle.conode_lint.specs.Formats.{other_format}
 use Rattle.conode_lint.specs.Found.{text_lines}
 use Rattle.conode_lint.specs.Linted.{first_build_fault, has_error, is_good}
-use Rattle.conode_lint.specs.Marks.{IsAllFound, IsFaultList, IsFound, IsFoundIn, fault_mark, format_of, node_for, sheet_marks, sheet_of, text_marks, warning_marks}
+use Rattle.conode_lint.specs.Marks.{IsAllFound, IsFaultList, IsFound, IsFoundIn, fault_mark, format_of, node_for, sheet_marks, sheet_of, text_marks, warning_mark}
 use Rattle.conode_lint.proofs.BuildLaws.{has_any}
 
 -- ---- marks that are errors, and warnings
@@ -36,13 +34,9 @@ faults_error : (faults : List SheetFault) → has_error (map fault_mark faults) 
 faults_error [] = refl
 faults_error (fault ∷ faults) = refl
 
-warnings_error : (all : Bool) (warnings : List Warning) → has_error (flat_map (warning_marks all) warnings) ≡ false
-warnings_error all [] = refl
-warnings_error all (warning ∷ warnings) = by_test (all || not (is_quiet warning.kind)) (warnings_error all warnings)
-  where
-    by_test : (b : Bool) → has_error (flat_map (warning_marks all) warnings) ≡ false → has_error ((if b then warning_marks true warning else []) ++ flat_map (warning_marks all) warnings) ≡ false
-    by_test true rest = rest
-    by_test false rest = rest
+warnings_error : (warnings : List Warning) → has_error (map warning_mark warnings) ≡ false
+warnings_error [] = refl
+warnings_error (warning ∷ warnings) = warnings_error warnings
 
 -- faults, what the build gives, and warnings
 parts_error : (faults build warnings : List Mark) (errors : Bool) → has_error faults ≡ errors → has_error warnings ≡ false
@@ -109,7 +103,7 @@ module _
     read_error faults found are all =
         sym (list_any-IsPermutation _ all.marks found all.by_line.moved)
         ∙ ap has_error all.are.are
-        ∙ parts_error (map fault_mark faults) (text_marks text checks.node (limits_view checks.limits)) (flat_map (warning_marks checks.all) all.are.warnings) (has_any faults) (faults_error faults) (warnings_error checks.all all.are.warnings)
+        ∙ parts_error (map fault_mark faults) (text_marks text checks.node (limits_view checks.limits)) (map warning_mark all.are.warnings) (has_any faults) (faults_error faults) (warnings_error all.are.warnings)
         ∙ marks_error built (limits_view checks.limits) checks.node faults are
 
     found_error : (faults : List SheetFault) (found : List Mark) → IsFaultList text faults

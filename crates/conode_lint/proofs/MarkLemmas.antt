@@ -1,6 +1,5 @@
 -- The marks of a text, put together.
 use Rattle.std.proofs.Common.{◌≡◌, ◌∙◌, ℕ, List, ◌++◌, map, Option, ap, subst, append_assoc}
-use Rattle.std.specs.List.{flat_map}
 use Rattle.co_sheet_rows.specs.declared.fault.SheetFault.{SheetFault}
 use Rattle.co_sheet.specs.Content.{SheetContent}
 use Rattle.co_sheet_text.specs.LinesAtFault.{sections_read}
@@ -19,7 +18,7 @@ use Rattle.conode_lint.specs.declared.marks.Checks.{Checks}
 use Rattle.conode_lint.specs.BuildLines.{built_marks, marks_with}
 use Rattle.conode_lint.specs.Found.{text_lines}
 use Rattle.conode_lint.specs.Linted.{IsLinted, IsMadeOf, left}
-use Rattle.conode_lint.specs.Marks.{IsFound, IsMarked, fault_mark, node_for, sheet_marks, sheet_of, text_marks, warning_marks}
+use Rattle.conode_lint.specs.Marks.{IsFound, IsMarked, fault_mark, node_for, sheet_marks, sheet_of, text_marks, warning_mark}
 
 -- of all faults of a build
 pub plan_marks : (sheet : SheetContent) (sections : List TextSection) (plan : Plan) (faults : List BuildFault) (mappings : List MappingFault) → faults ≡ build_faults_of plan → mappings ≡ mapping_faults_of plan
@@ -37,17 +36,17 @@ text_marks_with text checks sheet own is_sheet is_node =
 
 -- faults, what the build gives, and warnings
 pub marked_from : (text : List ℕ) (checks : Checks) (faults : List SheetFault) (sheet : Option SheetContent) (node : Option ℕ) (warnings : List Warning) (with_faults with_build all : List Mark)
-    → sheet ≡ sheet_of text → node ≡ node_for checks.node sheet → IsWarningsByLine (warnings_of text node) warnings
+    → sheet ≡ sheet_of text → node ≡ node_for checks.node sheet → IsWarningsByLine (warnings_of text checks.node checks.all) warnings
     → with_faults ≡ map fault_mark faults
     → with_build ≡ with_faults ++ sheet_marks (limits_view checks.limits) (sections_read (lines_of text)) sheet node
-    → all ≡ with_build ++ flat_map (warning_marks checks.all) warnings
+    → all ≡ with_build ++ map warning_mark warnings
     → IsMarked text checks faults all
 marked_from text checks faults sheet node warnings with_faults with_build all is_sheet is_node by_line is_faults is_build is_all =
-    let last = flat_map (warning_marks checks.all) warnings in
+    let last = map warning_mark warnings in
     let limits = limits_view checks.limits in
     record {
       warnings = warnings;
-      by_line = subst (λ (n : Option ℕ). IsWarningsByLine (warnings_of text n) warnings) (is_node ∙ ap (node_for checks.node) is_sheet) by_line;
+      by_line = by_line;
       are = is_all ∙ ap (λ (l : List Mark). l ++ last) (is_build ∙ ap (λ (l : List Mark). l ++ sheet_marks limits (sections_read (lines_of text)) sheet node) is_faults ∙ ap (λ (l : List Mark). map fault_mark faults ++ l) (text_marks_with text checks sheet node is_sheet is_node))
           ∙ append_assoc (map fault_mark faults) (text_marks text checks.node limits) last;
     }

@@ -1,6 +1,5 @@
 -- What is marked at the lines of a text.
-use Rattle.std.specs.Prelude.{◌≡◌, ℕ, Bool, ◌||◌, not, if◌then◌else◌, List, [], ◌∷◌, ◌++◌, map, Contains, Option, Some, None, option_and_then}
-use Rattle.std.specs.List.{flat_map}
+use Rattle.std.specs.Prelude.{◌≡◌, ℕ, List, [], ◌∷◌, ◌++◌, map, Contains, Option, Some, None, option_and_then}
 use Rattle.std.specs.List.Sorted.{IsNonDecreasingBy, IsPermutation, IsStableByKey, IsStrictlySortedBy}
 use Rattle.std.specs.Ordering.{nat_cmp}
 use Rattle.std.specs.Option.{option_map_or, option_or}
@@ -14,7 +13,6 @@ use Rattle.co_sheet_faults.specs.AllFaults.{faults_of}
 use Rattle.co_sheet_faults.specs.FaultOrder.{fault_cmp}
 use Rattle.co_sheet_warnings.specs.declared.warning.Warning.{Warning as SheetWarning}
 use Rattle.co_sheet_warnings.specs.Warnings.{IsByLine as IsWarningsByLine, warnings_of}
-use Rattle.co_sheet_warnings.specs.WarningWords.{is_quiet}
 use Rattle.co_dict_build.specs.Built.{plan_of}
 use Rattle.co_dict_build.specs.Capacities.{Limits, limits_view}
 use Rattle.conode_lint.specs.declared.mark.Mark.{Mark}
@@ -29,11 +27,9 @@ use Rattle.conode_lint.specs.Found.{text_lines}
 abbrev pub fault_mark : SheetFault → Mark
 fault_mark fault = record { line = fault.line; subject = Fault fault.kind }
 
--- the mark of a warning; of one that is left out, none
-abbrev pub warning_marks : Bool → SheetWarning → List Mark
-warning_marks all warning =
-    if all || not (is_quiet warning.kind)
-    then record { line = warning.line; subject = Warning warning.kind } ∷ [] else []
+-- the mark of a warning
+abbrev pub warning_mark : SheetWarning → Mark
+warning_mark warning = record { line = warning.line; subject = Warning warning.kind }
 
 -- the mark of a text of another format
 abbrev pub format_mark : OtherFormat → Mark
@@ -74,10 +70,9 @@ pub record IsFaultList (text : List ℕ) (faults : List SheetFault) : Type 0 whe
 pub record IsMarked (text : List ℕ) (checks : Checks) (faults : List SheetFault) (marks : List Mark)
     : Type 0 where
   pub warnings : List SheetWarning
-  pub by_line : IsWarningsByLine (warnings_of text (node_for checks.node (sheet_of text))) warnings
+  pub by_line : IsWarningsByLine (warnings_of text checks.node checks.all) warnings
   pub are : marks ≡ map fault_mark faults
-      ++ (text_marks text checks.node (limits_view checks.limits)
-      ++ flat_map (warning_marks checks.all) warnings)
+      ++ (text_marks text checks.node (limits_view checks.limits) ++ map warning_mark warnings)
 
 -- these marks by line: the lines don't fall, and those of a line stay in their order
 pub record IsByLine (marks sorted : List Mark) : Type 0 where

@@ -93,6 +93,9 @@ fn add_at_lines(
         ++ marks_with sheet.now (sections_read (lines_of text.now))
         found.now.faults.items found.now.mappings.items) }
 {
+    if found.faults.is_empty() && found.mappings.is_empty() {
+        return Ok(());
+    }
     let parsed = read_sections(alloc, text)?;
     let sections = parsed.sections(alloc)?;
     add_build_faults(marks, sheet, sections.as_slice(), found.faults.as_slice())?;

@@ -16,7 +16,7 @@ use std::process::ExitCode;
 use std::rt::Files;
 
 /// What is asked of `lint`.
-#[derive(Clone, Copy, Debug)]
+#[derive(Clone, Copy)]
 pub struct LintOptions<'a> {
     pub checks: Checks<'a>,
     pub form: Form,

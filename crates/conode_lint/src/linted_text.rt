@@ -17,7 +17,7 @@ use std::alloc::{AllocError, Global};
 const MOST: usize = 1000;
 
 /// What is found in a text.
-#[derive(Debug, Drop)]
+#[derive(Drop)]
 pub struct Linted<'a> {
     /// The first 1,000, in the order of the lines.
     pub findings: Vec<Finding<'a>>,

@@ -6,7 +6,7 @@ use co_sheet_faults::FaultKind;
 use co_sheet_warnings::WarningKind;
 
 /// What a text is that is no data sheet of CANopen.
-#[derive(Clone, Copy, Debug, PartialEq, Eq)]
+#[derive(Clone, Copy)]
 pub enum OtherFormat {
     /// XML, as an XDD is (CiA 311).
     Xml,
@@ -15,7 +15,7 @@ pub enum OtherFormat {
 }
 
 /// What is found.
-#[derive(Clone, Copy, Debug, PartialEq, Eq)]
+#[derive(Clone, Copy)]
 pub enum Subject {
     /// The text is of another format.
     Format(OtherFormat),
@@ -30,7 +30,7 @@ pub enum Subject {
 }
 
 /// What is found, and where.
-#[derive(Clone, Copy, Debug, PartialEq, Eq)]
+#[derive(Clone, Copy)]
 pub struct Mark {
     /// From 1; 0 where no line is to blame.
     pub line: usize,

@@ -1,7 +1,6 @@
 //! Everything that is found in a text, in the order of its lines.
 
 ghost use Rattle.std.specs.Prelude.{◌≡◌, ◌≤◌, ◌++◌, [], ◌∷◌, length, map, IfOk, OnOk, IfSome};
-ghost use Rattle.std.specs.List.{flat_map};
 ghost use Rattle.co_sheet_text.specs.LinesAtFault.{sections_read};
 ghost use Rattle.co_sheet_text.specs.Text.{lines_of};
 ghost use Rattle.co_dict_build.specs.Capacities.{limits_view};
@@ -17,7 +16,7 @@ ghost use Rattle.conode_lint.specs.Marks.{
   node_for,
   sheet_marks,
   sheet_of,
-  warning_marks,
+  warning_mark,
 };
 
 use crate::build_marks::add_build_marks;
@@ -26,11 +25,11 @@ use crate::other_format::other_format;
 use co_dict_build::Limits;
 use co_sheet::{FaultKind, Sheet, SheetFault, read};
 use co_sheet_faults::{all_faults, find_faults};
-use co_sheet_warnings::{Warning, find_warnings, is_quiet};
+use co_sheet_warnings::{Warning, find_warnings};
 use std::alloc::{AllocError, Global};
 
 /// What is looked for in a text.
-#[derive(Clone, Copy, Debug)]
+#[derive(Clone, Copy)]
 pub struct Checks<'a> {
     /// The node-ID that a dictionary is built for; `None`: the one that the sheet itself has, if any.
     pub node: Option<u8>,
@@ -61,17 +60,14 @@ fn fault_marks(alloc: Global, faults: &[SheetFault]) -> Result<Vec<Mark>, AllocE
     Ok(marks)
 }
 
-fn add_warnings(marks: &mut Vec<Mark>, warnings: &[Warning], all: bool) -> Result<(), AllocError>
-    ensures { OnOk result
-        (marks.new.items ≡ marks.old.items ++ flat_map (warning_marks all) warnings.now) }
+fn add_warnings(marks: &mut Vec<Mark>, warnings: &[Warning]) -> Result<(), AllocError>
+    ensures { OnOk result (marks.new.items ≡ marks.old.items ++ map warning_mark warnings.now) }
 {
     for warning in warnings {
-        if all || !is_quiet(warning.kind) {
-            marks.push(Mark {
-                line: warning.line,
-                subject: Subject::Warning(warning.kind),
-            })?;
-        }
+        marks.push(Mark {
+            line: warning.line,
+            subject: Subject::Warning(warning.kind),
+        })?;
     }
     Ok(())
 }
@@ -157,8 +153,8 @@ fn marked(
     let mut marks = fault_marks(alloc, faults)?;
     let node = node_for(checks.node, sheet);
     add_built(alloc, &mut marks, text, sheet, node, &checks.limits)?;
-    let warnings = find_warnings(alloc, text, node)?;
-    add_warnings(&mut marks, warnings.as_slice(), checks.all)?;
+    let warnings = find_warnings(alloc, text, checks.node, checks.all)?;
+    add_warnings(&mut marks, warnings.as_slice())?;
     Ok(marks)
 }
 

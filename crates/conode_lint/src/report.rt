@@ -10,7 +10,7 @@ use percent_encoding::{AsciiSet, NON_ALPHANUMERIC, percent_encode};
 use std::alloc::{AllocError, Global};
 
 /// In which form findings are written.
-#[derive(Clone, Copy, Debug, PartialEq, Eq)]
+#[derive(Clone, Copy)]
 pub enum Form {
     /// As compilers print, perhaps in colours.
     Text { colours: bool },
@@ -21,7 +21,7 @@ pub enum Form {
 }
 
 /// How much was found.
-#[derive(Clone, Copy, Debug, PartialEq, Eq)]
+#[derive(Clone, Copy)]
 pub struct Counts {
     pub errors: usize,
     pub warnings: usize,

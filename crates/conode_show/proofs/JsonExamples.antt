@@ -16,10 +16,11 @@ use Rattle.conode_lint_text.specs.Characters.{characters_of, windows_1252}
 use Rattle.conode_show_text.specs.declared.meaning.Meaning.TheVariants.{PdoCobId}
 use Rattle.conode_show_text.specs.Numbers.{hex_text}
 use Rattle.conode_show_text.specs.Texts.{plain_text}
-use Rattle.conode_show_text.specs.Meanings.{cob_id_text, identifier_text, mapped_text, pdo_cob_id_text, producer_text, said, word_text}
+use Rattle.conode_show_text.specs.CobIds.{cob_id_text, identifier_text, pdo_cob_id_text}
+use Rattle.conode_show_text.specs.Meanings.{mapped_text, millis_text, said, time_text, word_text}
 use Rattle.conode_show_text.specs.Entries.{entry_type, type_name, type_text}
 use Rattle.conode_show_text.specs.Services.{service_name}
-use Rattle.conode_show.specs.JsonForm.{array_begin, document_tokens, entries_member, entry_tokens, flag_member, json_document, key_members, limit_member, mapped_members, mapped_tokens, named_members, number_member, number_token, object_begin, object_tokens, pdos_member, property_member, quantity_member, said_at_member, said_member, said_members, section_tokens, service_of_section, service_tokens, services_member, text_member, value_member, value_members}
+use Rattle.conode_show.specs.JsonForm.{array_begin, chapter_member, document_tokens, entry_tokens, flag_member, json_document, key_members, limit_member, mapped_members, mapped_tokens, named_members, number_member, number_token, object_begin, object_tokens, property_member, quantity_member, said_at_member, said_member, said_members, section_tokens, service_of_section, service_tokens, text_member, value_member, value_members}
 
 abbrev key_at : ℕ → ℕ → Key
 key_at index sub = record { index = index; sub = sub }
@@ -72,11 +73,11 @@ without_name = refl
 -- ---- the document without entries
 
 empty_document : json_document None [] ≡ codes "{\"version\":1,\"entries\":[],\"pdos\":[],\"services\":[]}\n"
-unfolding json_document document_tokens entries_member pdos_member services_member number_member array_begin digits print_from escape_byte
+unfolding json_document document_tokens chapter_member number_member array_begin digits print_from escape_byte
 empty_document = refl
 
 empty_for_node : json_document (Some 5) [] ≡ codes "{\"version\":1,\"node\":5,\"entries\":[],\"pdos\":[],\"services\":[]}\n"
-unfolding json_document document_tokens entries_member pdos_member services_member number_member array_begin digits print_from escape_byte
+unfolding json_document document_tokens chapter_member number_member array_begin digits print_from escape_byte
 empty_for_node = refl
 
 -- ---- entries
@@ -137,7 +138,7 @@ not_there = refl
 producer : service_of_section None (section (Object 0x1017) (property (codes "DefaultValue") (codes "7") ∷ []))
     ≡ begin_object ∷ key (codes "index") ∷ number (codes "4119") ∷ key (codes "subIndex") ∷ number (codes "0") ∷ key (codes "service") ∷ string (codes "Heartbeat producer")
     ∷ key (codes "number") ∷ number (codes "7") ∷ key (codes "words") ∷ string (codes "every 7 ms") ∷ end_object ∷ []
-unfolding service_tokens key_members said_members text_member number_member service_name said word_text producer_text digits
+unfolding service_tokens key_members said_members text_member number_member service_name said word_text time_text millis_text digits
 producer = refl
 
 no_service : service_of_section None (section (Object 0x1018) []) ≡ []

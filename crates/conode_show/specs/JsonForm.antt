@@ -13,6 +13,8 @@ use Rattle.co_sheet_text.specs.declared.section_kind.SectionKind.{SectionKind}
 use Rattle.co_sheet_text.specs.declared.section_kind.SectionKind.TheVariants.{Object, SubIndex}
 use Rattle.co_sheet_text.specs.Sections.{Property, TextSection, property_at, section_at}
 use Rattle.conode_lint_text.specs.JsonForm.{utf8_of}
+use Rattle.conode_show_text.specs.declared.chapters.Chapter.{Chapter}
+use Rattle.conode_show_text.specs.declared.chapters.Chapter.TheVariants.{Entries, Pdos, Services}
 use Rattle.conode_show_text.specs.declared.meaning.Meaning.{Meaning}
 use Rattle.conode_show_text.specs.declared.meaning.Meaning.TheVariants.{PdoCobId, Transmission, PdoInhibit, EventTimer, Mapped}
 use Rattle.conode_show_text.specs.declared.service.Service.{Service}
@@ -208,24 +210,28 @@ service_of_section node section = option_map_or (service_with node section) (key
 
 -- ---- the document
 
-unfoldable pub entries_member : Option ℕ → List TextSection → List Token
-entries_member node sections =
-    array_begin (codes "entries") ++ flat_map (section_tokens node) sections ++ end_array ∷ []
+abbrev pub chapter_name : Chapter → List ℕ
+chapter_name Entries = codes "entries"
+chapter_name Pdos = codes "pdos"
+chapter_name Services = codes "services"
 
-unfoldable pub pdos_member : Option ℕ → List TextSection → List Token
-pdos_member node sections =
-    array_begin (codes "pdos") ++ flat_map (pdo_of node sections) sections ++ end_array ∷ []
+-- what a chapter says of a section
+abbrev pub chapter_tokens : Chapter → Option ℕ → List TextSection → TextSection → List Token
+chapter_tokens Entries given sections section = section_tokens given section
+chapter_tokens Pdos given sections section = pdo_of given sections section
+chapter_tokens Services given sections section = service_of_section given section
 
-unfoldable pub services_member : Option ℕ → List TextSection → List Token
-services_member node sections =
-    array_begin (codes "services") ++ flat_map (service_of_section node) sections ++ end_array ∷ []
+unfoldable pub chapter_member : Chapter → Option ℕ → List TextSection → List Token
+chapter_member chapter node sections =
+    array_begin (chapter_name chapter) ++ flat_map (chapter_tokens chapter node sections) sections
+    ++ end_array ∷ []
 
 unfoldable pub document_tokens : Option ℕ → List TextSection → List Token
 document_tokens node sections =
     begin_object
     ∷ (number_member (codes "version") (pos 1) ++ number_if (codes "node") (option_map pos node)
-    ++ entries_member node sections ++ pdos_member node sections ++ services_member node sections
-    ++ end_object ∷ [])
+    ++ chapter_member Entries node sections ++ chapter_member Pdos node sections
+    ++ chapter_member Services node sections ++ end_object ∷ [])
 
 -- the document as a text, and that of a text that can't be shown
 unfoldable pub json_document : Option ℕ → List TextSection → List ℕ

@@ -1,20 +1,20 @@
 -- What is written of a text.
-use Rattle.std.specs.Prelude.{ℕ, nat_lt, List, [], ◌∷◌, ◌++◌, length, if◌then◌else◌, Option, Some}
-use Rattle.std.specs.Option.{option_map_or}
+use Rattle.std.specs.Prelude.{ℕ, nat_lt, Bool, List, [], ◌∷◌, ◌++◌, length, if◌then◌else◌, Option}
 use Rattle.co_sheet_rows.specs.declared.fault.FaultKind.TheVariants.{TooLarge}
 use Rattle.co_sheet_rows.specs.declared.fault.SheetFault.{SheetFault}
 use Rattle.co_sheet_rows.specs.FaultTexts.{fault_text}
-use Rattle.co_sheet.specs.Accepted.{first_bad_line, sections_in}
 use Rattle.co_sheet.specs.Faults.{fault_at}
+use Rattle.co_sheet_text.specs.LinesAtFault.{sections_read}
 use Rattle.co_sheet_text.specs.Sections.{TextSection}
+use Rattle.co_sheet_text.specs.Text.{lines_of}
 use Rattle.conode_show.specs.declared.form.Form.{Form}
 use Rattle.conode_show.specs.declared.form.Form.TheVariants.{Lines, Json}
 use Rattle.conode_show_text.specs.Document.{document, node_for, ordered}
 use Rattle.conode_show.specs.JsonForm.{json_document, json_fault}
 
--- why a text can't be shown: its size, or the first line that is at fault by itself
-abbrev pub unreadable : List ℕ → Option SheetFault
-unreadable text = if nat_lt 1048576 (length text) then Some (fault_at 0 TooLarge) else first_bad_line text
+-- a text that isn't read
+abbrev pub is_too_large : List ℕ → Bool
+is_too_large text = nat_lt 1048576 (length text)
 
 -- the line of a fault
 unfoldable pub fault_line : SheetFault → List ℕ
@@ -29,8 +29,12 @@ abbrev pub fault_in : Form → SheetFault → List ℕ
 fault_in (Lines format) fault = fault_line fault
 fault_in Json fault = json_fault fault
 
--- the document of a text's sections, or why it can't be shown
+-- the document of sections, which are put in order, for the node-ID that is given or else theirs
+abbrev pub document_of : Form → Option ℕ → List TextSection → List ℕ
+document_of form node sections = document_in form (node_for node sections) (ordered sections)
+
+-- the document of a text's sections, read in spite of its lines at fault; or why it isn't read
 unfoldable pub shown : Form → Option ℕ → List ℕ → List ℕ
 shown form node text =
-    option_map_or (fault_in form) (unreadable text)
-    (document_in form (node_for node (sections_in text)) (ordered (sections_in text)))
+    if is_too_large text then fault_in form (fault_at 0 TooLarge)
+    else document_of form node (sections_read (lines_of text))

@@ -3,7 +3,7 @@
 use conode_show_text::Format;
 
 /// What is written.
-#[derive(Clone, Copy, Debug, PartialEq, Eq)]
+#[derive(Clone, Copy)]
 pub enum Form {
     /// Lines.
     Lines(Format),

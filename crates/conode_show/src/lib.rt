@@ -2,7 +2,11 @@
 #![tactic(auto)]
 
 mod form;
+mod json_entries;
 mod json_form;
+mod json_pdos;
+mod json_services;
+mod json_words;
 mod json_writer;
 mod own_text;
 mod shown_file;

@@ -1,69 +1,24 @@
 //! The file of a data sheet, shown.
 
-ghost use Rattle.std.specs.Prelude.{◌≡◌, ◌⊎◌, ◌≤◌, length, map, is_none, IfOk, IfErr, OnOk, Err, Some, None};
+ghost use Rattle.std.specs.Prelude.{◌≡◌, ◌⊎◌, map, not, IfOk, IfErr, OnOk, Err};
 ghost use Rattle.std.specs.Io.KnownBytes.{Appends, Keeps};
 ghost use Rattle.std.specs.Process.{exit_status};
-ghost use Rattle.co_sheet_rows.specs.OutOfMemory.{out_of_memory};
 ghost use Rattle.co_sheet_text.specs.Views.{section_view};
-ghost use Rattle.co_sheet.specs.Accepted.{first_bad_line, sections_in};
-ghost use Rattle.co_sheet.specs.Faults.{line_fault_kind, sheet_fault};
 ghost use Rattle.conode_io.specs.Written.{AppendsFront};
-ghost use Rattle.conode_show_text.specs.Document.{node_for, ordered};
-ghost use Rattle.conode_show.specs.Shown.{document_in, fault_in, fault_line, shown, unreadable};
+ghost use Rattle.conode_show_text.specs.Document.{ordered};
+ghost use Rattle.conode_show.specs.Shown.{document_in, document_of, fault_in, fault_line, is_too_large, shown};
 
 use crate::form::Form;
 use crate::json_form::{json_document, json_fault};
 use co_sheet::GREATEST_SIZE;
 use co_sheet_rows::{FaultKind, SheetFault};
-use co_sheet_text::{ParsedText, TextFault, TextFaultKind, TextSection};
+use co_sheet_text::{ParsedText, TextSection, all_sections_in};
 use conode_io::{CmdFault, file_text, flushed, hand_over, no_text, out_of_memory, stopped};
 use conode_show_text::{document, node_for, order};
 use std::alloc::{AllocError, Global};
 use std::io::Write;
 use std::process::ExitCode;
 use std::rt::Files;
-
-fn line_fault_kind(kind: TextFaultKind) -> FaultKind
-    ensures { result ≡ line_fault_kind kind }
-{
-    match kind {
-        TextFaultKind::TooLarge => FaultKind::TooLarge,
-        TextFaultKind::BadLine => FaultKind::BadLine,
-        TextFaultKind::KeyOutsideSection => FaultKind::KeyOutsideSection,
-        TextFaultKind::DuplicateSection => FaultKind::DuplicateSection,
-        TextFaultKind::DuplicateKey => FaultKind::DuplicateKey,
-        TextFaultKind::Memory => FaultKind::Memory,
-    }
-}
-
-// a fault of a line as one of the sheet
-fn sheet_fault(fault: TextFault) -> SheetFault
-    ensures { result ≡ sheet_fault fault }
-{
-    SheetFault {
-        kind: line_fault_kind(fault.kind),
-        line: fault.line,
-    }
-}
-
-// the sections of a text, or why it can't be shown
-fn read_sections(alloc: Global, text: &[u8]) -> Result<ParsedText<'_>, SheetFault>
-    ensures ok { IfOk result (λ sections. (unreadable text.now ≡ None)
-        × (sections ≡ sections_in text.now)) }
-    ensures err { IfErr result (λ fault. (fault ≡ out_of_memory)
-        ⊎ (unreadable text.now ≡ Some fault)) }
-{
-    if text.len() > GREATEST_SIZE {
-        return Err(SheetFault {
-            kind: FaultKind::TooLarge,
-            line: 0,
-        });
-    }
-    match co_sheet_text::sections_in(alloc, text) {
-        Ok(sections) => Ok(sections),
-        Err(fault) => Err(sheet_fault(fault)),
-    }
-}
 
 // the document of sections in order
 fn document_in(
@@ -102,8 +57,7 @@ fn document_of(
     node: Option<u8>,
     parsed: &ParsedText<'_>,
 ) -> Result<Vec<u8>, AllocError>
-    ensures { IfOk result (λ text. text.items
-        ≡ document_in form (node_for node parsed.now) (ordered parsed.now)) }
+    ensures { IfOk result (λ text. text.items ≡ document_of form node parsed.now) }
 {
     let mut sections = parsed.sections(alloc)?;
     let node = node_for(node, sections.as_slice());
@@ -130,12 +84,30 @@ fn fault_in(alloc: Global, form: Form, fault: SheetFault) -> Result<Vec<u8>, All
     }
 }
 
+// the fault of a text that isn't read
+const TOO_LARGE: SheetFault = SheetFault {
+    kind: FaultKind::TooLarge,
+    line: 0,
+};
+
+// what is written of a text
+#[tactic(auto, unfolding(crate::specs::Shown::shown))]
+fn shown(alloc: Global, form: Form, node: Option<u8>, text: &[u8]) -> Result<Vec<u8>, AllocError>
+    ensures { IfOk result (λ document. document.items ≡ shown form node text.now) }
+{
+    if text.len() > GREATEST_SIZE {
+        return fault_in(alloc, form, TOO_LARGE);
+    }
+    let (parsed, _faults) = all_sections_in(alloc, text)?;
+    document_of(alloc, form, node, &parsed)
+}
+
 /// Shows the object dictionary of a data sheet (CiA 306): an entry in each line, by index and sub-index, then its PDOs and
-/// the other services of the communication profile in words. Where the text is too large, or a line is at fault by
-/// itself, it is that fault, in JSON as a document. Whether the dictionary is shown.
+/// the other services of the communication profile in words. A line at fault gives nothing, and the others are shown. A
+/// text of more than 1,048,576 bytes isn't read: then it is that fault, in JSON as a document. Whether the dictionary is
+/// shown.
 ///
 /// All is written at once: after `Memory` nothing has been written, after `Write` a part of it.
-#[tactic(auto, unfolding(crate::specs::Shown::shown))]
 pub fn show<W: Write>(
     alloc: Global,
     text: &[u8],
@@ -143,7 +115,7 @@ pub fn show<W: Write>(
     node: Option<u8>,
     writer: &mut W,
 ) -> Result<bool, CmdFault>
-    ensures readable { IfOk result (λ is_shown. is_shown ≡ is_none (unreadable text.now)) }
+    ensures readable { IfOk result (λ is_shown. is_shown ≡ not (is_too_large text.now)) }
     ensures text { OnOk result (Appends (W.contents writer.old) (W.contents writer.new)
         (shown form node text.now)) }
     ensures write { result ≡ Err CmdFault.Write →
@@ -153,19 +125,9 @@ pub fn show<W: Write>(
         Keeps (W.contents writer.old) (W.contents writer.new) }
     ensures err { IfErr result (λ fault. (fault ≡ CmdFault.Write) ⊎ (fault ≡ CmdFault.Memory)) }
 {
-    match read_sections(alloc, text) {
-        Ok(parsed) => {
-            let text = document_of(alloc, form, node, &parsed)?;
-            hand_over(text.as_slice(), writer)?;
-            Ok(true)
-        }
-        Err(fault) if fault.kind == FaultKind::Memory => Err(CmdFault::Memory),
-        Err(fault) => {
-            let text = fault_in(alloc, form, fault)?;
-            hand_over(text.as_slice(), writer)?;
-            Ok(false)
-        }
-    }
+    let document = shown(alloc, form, node, text)?;
+    hand_over(document.as_slice(), writer)?;
+    Ok(text.len() <= GREATEST_SIZE)
 }
 
 /// Shows the data sheet of a path, as `show` does. Where not all of it could be written, `out` has why, or where `out`

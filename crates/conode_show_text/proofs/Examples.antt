@@ -1,5 +1,5 @@
 -- What is shown, evaluated: each text once, and both sides of each edge.
-use Rattle.std.proofs.Common.{◌≡◌, ℕ, [], ◌∷◌, List, Some, None, refl, pos, negsuc}
+use Rattle.std.proofs.Common.{◌≡◌, ℕ, [], ◌∷◌, List, Some, None, true, false, refl, pos, negsuc}
 use Rattle.std.specs.Prelude.{codes}
 use Rattle.std.specs.Fmt.{digits}
 use Rattle.std.specs.Str.{is_utf8, chars}
@@ -11,8 +11,10 @@ use Rattle.conode_show_text.specs.declared.meaning.Meaning.TheVariants.{PdoCobId
 use Rattle.conode_show_text.specs.Numbers.{hex_text, in_parentheses, number_text}
 use Rattle.conode_show_text.specs.Texts.{plain_text}
 use Rattle.conode_show_text.specs.Layout.{Part, placed, line_of}
-use Rattle.conode_show_text.specs.Values.{sum_text, known_text, quoted, value_text, unnumbered_text}
-use Rattle.conode_show_text.specs.Meanings.{meaning_text, identifier_text, cob_id_text, pdo_cob_id_text, sync_text, transmission_text, counted_syncs, tenths_text, pdo_inhibit_text, event_timer_text, emcy_inhibit_text, consumer_text, producer_text, mapped_text}
+use Rattle.conode_show_text.specs.declared.values.Word.{Word}
+use Rattle.conode_show_text.specs.Values.{sum_text, known_text, quoted, value_text, unnumbered_text, word_of}
+use Rattle.conode_show_text.specs.CobIds.{identifier_text, cob_id_text, pdo_cob_id_text, sync_text}
+use Rattle.conode_show_text.specs.Meanings.{meaning_text, word_text, transmission_text, counted_syncs, millis_text, time_text, consumer_text, mapped_text}
 use Rattle.conode_show_text.specs.Entries.{type_name}
 
 -- ---- numbers
@@ -116,119 +118,243 @@ table_row = refl
 
 -- ---- words of the communication profile
 
-pdo_enabled : meaning_text PdoCobId 0x185 ≡ codes "185h, enabled"
+abbrev word : ℕ → Word
+word number = record { relative = false; number = number }
+
+abbrev relative : ℕ → Word
+relative number = record { relative = true; number = number }
+
+-- ---- COB-IDs of PDOs
+
+pdo_enabled : meaning_text PdoCobId (word 0x185) ≡ codes "185h, enabled"
 unfolding pdo_cob_id_text cob_id_text identifier_text hex_text digits
 pdo_enabled = refl
 
-pdo_disabled : meaning_text PdoCobId 0xC0000185 ≡ codes "185h, disabled, no RTR"
+pdo_disabled : meaning_text PdoCobId (word 0xC0000185) ≡ codes "185h, disabled, no RTR"
 unfolding pdo_cob_id_text cob_id_text identifier_text hex_text digits
 pdo_disabled = refl
 
-pdo_extended : meaning_text PdoCobId 0x20012345 ≡ codes "12345h, 29-bit, enabled"
+pdo_extended : meaning_text PdoCobId (word 0x20012345) ≡ codes "12345h, 29-bit, enabled"
 unfolding pdo_cob_id_text cob_id_text identifier_text hex_text digits
 pdo_extended = refl
 
-emcy_bit_30 : meaning_text CobId 0x40000085 ≡ codes "85h, enabled"
+-- the greatest identifier of 11 bits, one bit more with and without bit 29, and bit 28
+greatest_base : meaning_text PdoCobId (word 0x7FF) ≡ codes "7FFh, enabled"
+unfolding pdo_cob_id_text cob_id_text identifier_text hex_text digits
+greatest_base = refl
+
+past_base : meaning_text PdoCobId (word 0x800) ≡ codes "800h, over 11 bits, enabled"
+unfolding pdo_cob_id_text cob_id_text identifier_text hex_text digits
+past_base = refl
+
+extended_past_base : meaning_text PdoCobId (word 0x20000800) ≡ codes "800h, 29-bit, enabled"
+unfolding pdo_cob_id_text cob_id_text identifier_text hex_text digits
+extended_past_base = refl
+
+reserved_bits : meaning_text PdoCobId (word 0x1085) ≡ codes "1085h, over 11 bits, enabled"
+unfolding pdo_cob_id_text cob_id_text identifier_text hex_text digits
+reserved_bits = refl
+
+all_reserved_bits : meaning_text PdoCobId (word 0x9FFFF800) ≡ codes "1FFFF800h, over 11 bits, disabled"
+unfolding pdo_cob_id_text cob_id_text identifier_text hex_text digits
+all_reserved_bits = refl
+
+-- identifier 0 of 11 bits is that of NMT: with bits 31 and 30, of 29 bits, one more, and where a node-ID is added
+pdo_zero : meaning_text PdoCobId (word 0) ≡ codes "0h, not used"
+unfolding pdo_cob_id_text cob_id_text identifier_text hex_text digits
+pdo_zero = refl
+
+pdo_zero_disabled : meaning_text PdoCobId (word 0x80000000) ≡ codes "0h, disabled"
+unfolding pdo_cob_id_text cob_id_text identifier_text hex_text digits
+pdo_zero_disabled = refl
+
+pdo_zero_bit_30 : meaning_text PdoCobId (word 0x40000000) ≡ codes "0h, not used, no RTR"
+unfolding pdo_cob_id_text cob_id_text identifier_text hex_text digits
+pdo_zero_bit_30 = refl
+
+pdo_zero_extended : meaning_text PdoCobId (word 0x20000000) ≡ codes "0h, 29-bit, enabled"
+unfolding pdo_cob_id_text cob_id_text identifier_text hex_text digits
+pdo_zero_extended = refl
+
+pdo_one : meaning_text PdoCobId (word 1) ≡ codes "1h, enabled"
+unfolding pdo_cob_id_text cob_id_text identifier_text hex_text digits
+pdo_one = refl
+
+pdo_node_alone : word_text PdoCobId (relative 0) ≡ codes "$NODEID+0h, enabled"
+unfolding word_text pdo_cob_id_text cob_id_text identifier_text hex_text digits
+pdo_node_alone = refl
+
+-- ---- COB-IDs of EMCY and SDO channels
+
+emcy_bit_30 : meaning_text CobId (word 0x40000085) ≡ codes "85h, enabled"
 unfolding cob_id_text identifier_text hex_text digits
 emcy_bit_30 = refl
 
-sync_consumed : meaning_text SyncCobId 0x80 ≡ codes "80h, not produced"
+channel_zero : meaning_text CobId (word 0) ≡ codes "0h, not used"
+unfolding cob_id_text identifier_text hex_text digits
+channel_zero = refl
+
+channel_disabled : meaning_text CobId (word 0x80000000) ≡ codes "0h, disabled"
+unfolding cob_id_text identifier_text hex_text digits
+channel_disabled = refl
+
+-- ---- that of SYNC, whose bit 31 says nothing
+
+sync_consumed : meaning_text SyncCobId (word 0x80) ≡ codes "80h, not produced"
 unfolding sync_text identifier_text hex_text digits
 sync_consumed = refl
 
-sync_produced : meaning_text SyncCobId 0x40000080 ≡ codes "80h, produced"
+sync_produced : meaning_text SyncCobId (word 0x40000080) ≡ codes "80h, produced"
 unfolding sync_text identifier_text hex_text digits
 sync_produced = refl
 
-type_0 : meaning_text Transmission 0 ≡ codes "0: synchronous, acyclic"
+sync_bit_31 : meaning_text SyncCobId (word 0x80000080) ≡ codes "80h, not produced"
+unfolding sync_text identifier_text hex_text digits
+sync_bit_31 = refl
+
+sync_zero : meaning_text SyncCobId (word 0) ≡ codes "0h, not used"
+unfolding sync_text identifier_text hex_text digits
+sync_zero = refl
+
+sync_zero_bits : meaning_text SyncCobId (word 0xC0000000) ≡ codes "0h, not used"
+unfolding sync_text identifier_text hex_text digits
+sync_zero_bits = refl
+
+sync_reserved_bits : meaning_text SyncCobId (word 0x40000880) ≡ codes "880h, over 11 bits, produced"
+unfolding sync_text identifier_text hex_text digits
+sync_reserved_bits = refl
+
+-- ---- words of at most 32 bits
+
+greatest_word : word_of None (codes "0xFFFFFFFF") ≡ Some (word 0xFFFFFFFF)
+greatest_word = refl
+
+past_word : word_of None (codes "0x100000185") ≡ None
+past_word = refl
+
+greatest_addend : word_of None (codes "$NODEID+0xFFFFFFFF") ≡ Some (relative 0xFFFFFFFF)
+greatest_addend = refl
+
+past_addend : word_of None (codes "$NODEID+0x100000000") ≡ None
+past_addend = refl
+
+greatest_sum : word_of (Some 1) (codes "$NODEID+0xFFFFFFFE") ≡ Some (word 0xFFFFFFFF)
+greatest_sum = refl
+
+past_sum : word_of (Some 2) (codes "$NODEID+0xFFFFFFFE") ≡ None
+past_sum = refl
+
+-- ---- transmission types
+
+type_0 : meaning_text Transmission (word 0) ≡ codes "0: synchronous, acyclic"
 unfolding transmission_text
 type_0 = refl
 
-type_1 : meaning_text Transmission 1 ≡ codes "1: every SYNC"
+type_1 : meaning_text Transmission (word 1) ≡ codes "1: every SYNC"
 unfolding transmission_text
 type_1 = refl
 
-type_2 : meaning_text Transmission 2 ≡ codes "2: every 2 SYNCs"
+type_2 : meaning_text Transmission (word 2) ≡ codes "2: every 2 SYNCs"
 unfolding transmission_text counted_syncs digits
 type_2 = refl
 
-type_240 : meaning_text Transmission 240 ≡ codes "240: every 240 SYNCs"
+type_240 : meaning_text Transmission (word 240) ≡ codes "240: every 240 SYNCs"
 unfolding transmission_text counted_syncs digits
 type_240 = refl
 
-type_241 : meaning_text Transmission 241 ≡ codes "241: reserved"
+type_241 : meaning_text Transmission (word 241) ≡ codes "241: reserved"
 unfolding transmission_text counted_syncs digits
 type_241 = refl
 
-type_251 : meaning_text Transmission 251 ≡ codes "251: reserved"
+type_251 : meaning_text Transmission (word 251) ≡ codes "251: reserved"
 unfolding transmission_text counted_syncs digits
 type_251 = refl
 
-type_252 : meaning_text Transmission 252 ≡ codes "252: remote, synchronous"
+type_252 : meaning_text Transmission (word 252) ≡ codes "252: remote, synchronous"
 unfolding transmission_text
 type_252 = refl
 
-type_253 : meaning_text Transmission 253 ≡ codes "253: remote, event-driven"
+type_253 : meaning_text Transmission (word 253) ≡ codes "253: remote, event-driven"
 unfolding transmission_text
 type_253 = refl
 
-type_254 : meaning_text Transmission 254 ≡ codes "254: event-driven, manufacturer"
+type_254 : meaning_text Transmission (word 254) ≡ codes "254: event-driven, manufacturer"
 unfolding transmission_text
 type_254 = refl
 
-type_255 : meaning_text Transmission 255 ≡ codes "255: event-driven, device profile"
+type_255 : meaning_text Transmission (word 255) ≡ codes "255: event-driven, device profile"
 unfolding transmission_text
 type_255 = refl
 
-type_256 : meaning_text Transmission 256 ≡ codes "256: reserved"
+type_256 : meaning_text Transmission (word 256) ≡ codes "256: reserved"
 unfolding transmission_text counted_syncs digits
 type_256 = refl
 
-inhibit_off : meaning_text PdoInhibit 0 ≡ []
-unfolding pdo_inhibit_text
+-- ---- times
+
+inhibit_off : meaning_text PdoInhibit (word 0) ≡ []
+unfolding time_text
 inhibit_off = refl
 
-inhibit : meaning_text PdoInhibit 105 ≡ codes "inhibit 10.5 ms"
-unfolding pdo_inhibit_text tenths_text digits
+inhibit : meaning_text PdoInhibit (word 105) ≡ codes "inhibit 10.5 ms"
+unfolding time_text millis_text digits
 inhibit = refl
 
-timer_off : meaning_text EventTimer 0 ≡ []
-unfolding event_timer_text
+timer_off : meaning_text EventTimer (word 0) ≡ []
+unfolding time_text
 timer_off = refl
 
-timer : meaning_text EventTimer 100 ≡ codes "event 100 ms"
-unfolding event_timer_text digits
+timer : meaning_text EventTimer (word 100) ≡ codes "event 100 ms"
+unfolding time_text millis_text digits
 timer = refl
 
-emcy_inhibit_off : meaning_text EmcyInhibit 0 ≡ codes "none"
-unfolding emcy_inhibit_text
+emcy_inhibit_off : meaning_text EmcyInhibit (word 0) ≡ codes "none"
+unfolding time_text
 emcy_inhibit_off = refl
 
-emcy_inhibit : meaning_text EmcyInhibit 1 ≡ codes "0.1 ms"
-unfolding emcy_inhibit_text tenths_text digits
+emcy_inhibit : meaning_text EmcyInhibit (word 1) ≡ codes "0.1 ms"
+unfolding time_text millis_text digits
 emcy_inhibit = refl
 
-consumer : meaning_text Consumer 0x000501F4 ≡ codes "node 5, within 500 ms"
-unfolding consumer_text digits
-consumer = refl
+producer_off : meaning_text Producer (word 0) ≡ codes "off"
+unfolding time_text
+producer_off = refl
 
-consumer_without_time : meaning_text Consumer 0x00050000 ≡ codes "off"
+producer : meaning_text Producer (word 500) ≡ codes "every 500 ms"
+unfolding time_text millis_text digits
+producer = refl
+
+-- ---- heartbeat consumers: node-IDs 0, 1, 127 and 128, no time, reserved bits
+
+consumer_node_0 : meaning_text Consumer (word 0x000001F4) ≡ codes "not used"
+unfolding consumer_text
+consumer_node_0 = refl
+
+consumer_node_1 : meaning_text Consumer (word 0x00010001) ≡ codes "node 1, within 1 ms"
+unfolding consumer_text digits
+consumer_node_1 = refl
+
+consumer_node_127 : meaning_text Consumer (word 0x007FFFFF) ≡ codes "node 127, within 65535 ms"
+unfolding consumer_text digits
+consumer_node_127 = refl
+
+consumer_node_128 : meaning_text Consumer (word 0x00800064) ≡ codes "not used"
+unfolding consumer_text
+consumer_node_128 = refl
+
+consumer_node_255 : meaning_text Consumer (word 0x00FF0064) ≡ codes "not used"
+unfolding consumer_text
+consumer_node_255 = refl
+
+consumer_without_time : meaning_text Consumer (word 0x00050000) ≡ codes "not used"
 unfolding consumer_text
 consumer_without_time = refl
 
-consumer_without_node : meaning_text Consumer 0x000001F4 ≡ codes "off"
-unfolding consumer_text
-consumer_without_node = refl
+consumer_bit_24 : meaning_text Consumer (word 0x01050064) ≡ codes "node 5, within 100 ms, bits 31 to 24 set"
+unfolding consumer_text digits
+consumer_bit_24 = refl
 
-producer_off : meaning_text Producer 0 ≡ codes "off"
-unfolding producer_text
-producer_off = refl
-
-producer : meaning_text Producer 500 ≡ codes "every 500 ms"
-unfolding producer_text digits
-producer = refl
-
-mapped : meaning_text Mapped 0x64010210 ≡ codes "6401:02, 16 bits"
+mapped : meaning_text Mapped (word 0x64010210) ≡ codes "6401:02, 16 bits"
 unfolding mapped_text digits digits_text
 mapped = refl
 

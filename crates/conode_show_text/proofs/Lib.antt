@@ -2,4 +2,3 @@ pub mod Examples
 pub mod LineExamples
 mod OrderLemmas
 pub mod Plain
-mod TypeLemmas

@@ -10,15 +10,16 @@ use Rattle.co_sheet_text.specs.declared.section_kind.SectionKind.{SectionKind}
 use Rattle.co_sheet_text.specs.declared.section_kind.SectionKind.TheVariants.{Object, SubIndex}
 use Rattle.co_sheet_text.specs.Sections.{TextSection, Property}
 use Rattle.conode_show_text.specs.declared.format.Format.TheVariants.{Text}
-use Rattle.conode_show_text.specs.declared.service.Service.TheVariants.{Sync, Emcy, EmcyInhibitTime, HeartbeatConsumer, HeartbeatProducer, SdoRequests, SdoResponses}
+use Rattle.conode_show_text.specs.declared.service.Service.TheVariants.{Sync, Emcy, EmcyInhibitTime, HeartbeatConsumer, HeartbeatProducer, SdoRequests, SdoResponses, ClientRequests, ClientResponses}
 use Rattle.conode_show_text.specs.Numbers.{hex_text, in_parentheses, number_text}
 use Rattle.conode_show_text.specs.Texts.{plain_text, property_text}
 use Rattle.conode_show_text.specs.Layout.{placed}
 use Rattle.conode_show_text.specs.Values.{default_text, known_text, limit_text, limits_text, property_value, sum_text, value_text}
-use Rattle.conode_show_text.specs.Meanings.{cob_id_text, identifier_text, pdo_cob_id_text, said, word_text}
+use Rattle.conode_show_text.specs.CobIds.{cob_id_text, identifier_text, pdo_cob_id_text}
+use Rattle.conode_show_text.specs.Meanings.{said, word_text}
 use Rattle.conode_show_text.specs.declared.meaning.Meaning.TheVariants.{PdoCobId}
 use Rattle.conode_show_text.specs.Entries.{entry_line, entry_type, mappable_text, object_line, section_text, object_head, type_name, type_text}
-use Rattle.conode_show_text.specs.Services.{service_of}
+use Rattle.conode_show_text.specs.Services.{channel_name, service_name, service_of}
 use Rattle.conode_show_text.specs.Pdos.{is_counted, is_pdo_cob_id, mapping_count, pdo_name}
 use Rattle.conode_show_text.specs.Document.{rank}
 
@@ -111,11 +112,28 @@ first_channel = refl
 last_channel : service_of (key 0x127F 2) ≡ Some (SdoResponses 128)
 last_channel = refl
 
-channel_client : service_of (key 0x127F 3) ≡ None
-channel_client = refl
+server_node : service_of (key 0x127F 3) ≡ None
+server_node = refl
 
-after_channels : service_of (key 0x1280 1) ≡ None
+first_client : service_of (key 0x1280 1) ≡ Some (ClientRequests 1)
+first_client = refl
+
+last_client : service_of (key 0x12FF 2) ≡ Some (ClientResponses 128)
+last_client = refl
+
+client_node : service_of (key 0x1280 3) ≡ None
+client_node = refl
+
+after_channels : service_of (key 0x1300 1) ≡ None
 after_channels = refl
+
+server_name : service_name (SdoRequests 1) ≡ codes "SDO 1, client to server"
+unfolding service_name channel_name digits
+server_name = refl
+
+client_name : service_name (ClientResponses 128) ≡ codes "SDO client 128, server to client"
+unfolding service_name channel_name digits
+client_name = refl
 
 -- ---- PDOs
 
@@ -169,6 +187,10 @@ relative_cob_id = refl
 cob_id_of_node : said PdoCobId (Some 5) (section (SubIndex (key 0x1800 1)) (property (codes "DefaultValue") (codes "$NODEID+0x80000180") ∷ [])) ≡ codes "185h, disabled"
 unfolding said word_text pdo_cob_id_text cob_id_text identifier_text hex_text digits
 cob_id_of_node = refl
+
+past_32_bits : said PdoCobId None (section (SubIndex (key 0x1800 1)) (property (codes "DefaultValue") (codes "0x100000185") ∷ [])) ≡ codes "0x100000185"
+unfolding said plain_text is_utf8 chars encode
+past_32_bits = refl
 
 no_cob_id : said PdoCobId None (section (SubIndex (key 0x1800 1)) (property (codes "DefaultValue") (codes "x") ∷ [])) ≡ codes "x"
 unfolding said plain_text is_utf8 chars encode

@@ -2,6 +2,7 @@ pub mod Numbers
 pub mod Texts
 pub mod Layout
 pub mod Values
+pub mod CobIds
 pub mod Meanings
 pub mod Entries
 pub mod Services

@@ -10,7 +10,7 @@ use Rattle.conode_show_text.specs.declared.format.Format.{Format}
 use Rattle.conode_show_text.specs.declared.meaning.Meaning.{Meaning}
 use Rattle.conode_show_text.specs.declared.meaning.Meaning.TheVariants.{CobId, SyncCobId, EmcyInhibit, Consumer, Producer}
 use Rattle.conode_show_text.specs.declared.service.Service.{Service}
-use Rattle.conode_show_text.specs.declared.service.Service.TheVariants.{Sync, Emcy, EmcyInhibitTime, HeartbeatConsumer, HeartbeatProducer, SdoRequests, SdoResponses}
+use Rattle.conode_show_text.specs.declared.service.Service.TheVariants.{Sync, Emcy, EmcyInhibitTime, HeartbeatConsumer, HeartbeatProducer, SdoRequests, SdoResponses, ClientRequests, ClientResponses}
 use Rattle.conode_show_text.specs.Layout.{Part, line_of}
 use Rattle.conode_show_text.specs.Meanings.{said}
 
@@ -24,11 +24,13 @@ service_of key =
     else if key.index == 0x1017 && key.sub == 0 then Some HeartbeatProducer
     else if nat_le 0x1200 key.index && nat_le key.index 0x127F && key.sub == 1 then Some (SdoRequests (key.index - 0x1200 + 1))
     else if nat_le 0x1200 key.index && nat_le key.index 0x127F && key.sub == 2 then Some (SdoResponses (key.index - 0x1200 + 1))
+    else if nat_le 0x1280 key.index && nat_le key.index 0x12FF && key.sub == 1 then Some (ClientRequests (key.index - 0x1280 + 1))
+    else if nat_le 0x1280 key.index && nat_le key.index 0x12FF && key.sub == 2 then Some (ClientResponses (key.index - 0x1280 + 1))
     else None
 
--- one way of an SDO channel
-unfoldable pub channel_name : ℕ → List ℕ → List ℕ
-channel_name channel way = codes "SDO " ++ decimal channel ++ way
+-- one way of an SDO channel, of which the device is the server or the client
+unfoldable pub channel_name : List ℕ → ℕ → List ℕ → List ℕ
+channel_name end channel way = end ++ decimal channel ++ way
 
 -- what it is called
 unfoldable pub service_name : Service → List ℕ
@@ -37,8 +39,10 @@ service_name Emcy = codes "EMCY"
 service_name EmcyInhibitTime = codes "EMCY inhibit time"
 service_name HeartbeatConsumer = codes "Heartbeat consumer"
 service_name HeartbeatProducer = codes "Heartbeat producer"
-service_name (SdoRequests channel) = channel_name channel (codes ", client to server")
-service_name (SdoResponses channel) = channel_name channel (codes ", server to client")
+service_name (SdoRequests channel) = channel_name (codes "SDO ") channel (codes ", client to server")
+service_name (SdoResponses channel) = channel_name (codes "SDO ") channel (codes ", server to client")
+service_name (ClientRequests channel) = channel_name (codes "SDO client ") channel (codes ", client to server")
+service_name (ClientResponses channel) = channel_name (codes "SDO client ") channel (codes ", server to client")
 
 -- what its number means
 abbrev pub service_meaning : Service → Meaning
@@ -49,6 +53,8 @@ service_meaning HeartbeatConsumer = Consumer
 service_meaning HeartbeatProducer = Producer
 service_meaning (SdoRequests channel) = CobId
 service_meaning (SdoResponses channel) = CobId
+service_meaning (ClientRequests channel) = CobId
+service_meaning (ClientResponses channel) = CobId
 
 -- the key of the entry that a section describes
 abbrev pub key_of : SectionKind → Option Key

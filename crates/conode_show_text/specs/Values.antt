@@ -1,5 +1,5 @@
 -- The values that a sheet states (CiA 306, object description, device configuration file).
-use Rattle.std.specs.Prelude.{ℕ, ◌+◌, ◌==◌, true, false, if◌then◌else◌, List, [], ◌∷◌, ◌++◌, ℤ, pos, negsuc, codes, Option, Some, None, is_some, option_map, option_and_then, unwrap_or, ◌&&◌, ◌||◌}
+use Rattle.std.specs.Prelude.{ℕ, ◌+◌, ◌^◌, ◌==◌, nat_lt, Bool, true, false, if◌then◌else◌, List, [], ◌∷◌, ◌++◌, ℤ, pos, negsuc, codes, Option, Some, None, is_some, option_map, option_and_then, unwrap_or, ◌&&◌, ◌||◌}
 use Rattle.std.specs.Option.{option_map_or, option_or}
 use Rattle.std.specs.Result.{result_ok}
 use Rattle.std.specs.Fmt.{signed_decimal}
@@ -93,18 +93,21 @@ limits_text section =
 
 -- ---- words of the communication profile
 
--- a value as a number of the communication profile; with a node-ID, the sum
+-- a value as a number of the communication profile, of at most 32 bits; with a node-ID, the sum
+abbrev pub if_word : ℕ → Option ℕ
+if_word n = if nat_lt n (2 ^ 32) then Some n else None
+
 abbrev pub small_number : ℤ → Option ℕ
-small_number (pos n) = if_small n
+small_number (pos n) = if_word n
 small_number (negsuc n) = None
 
-abbrev pub absolute : Option ℕ → Option Word
-absolute addend = option_map (λ n. record { relative = false; number = n }) addend
+abbrev pub word_from : Bool → Option ℕ → Option Word
+word_from relative word = option_map (λ n. record { relative = relative; number = n }) word
 
 abbrev pub word_with : Option ℕ → Default → Option Word
-word_with given (number z) = absolute (small_number z)
-word_with None (node_id addend) = Some (record { relative = true; number = addend })
-word_with (Some id) (node_id addend) = absolute (if_small (addend + id))
+word_with given (number z) = word_from false (small_number z)
+word_with None (node_id addend) = word_from true (if_word addend)
+word_with (Some id) (node_id addend) = word_from false (if_word (addend + id))
 word_with given other = None
 
 abbrev pub word_of : Option ℕ → List ℕ → Option Word

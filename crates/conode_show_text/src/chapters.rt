@@ -1,18 +1,15 @@
-//! The object dictionary of a sheet, as it is shown.
+//! The object dictionary of a sheet, as it is shown: its entries, its PDOs and its services.
 
 ghost use Rattle.std.specs.Prelude.{◌≡◌, ◌++◌, map, OnOk, IfOk};
-ghost use Rattle.std.specs.List.{flat_map};
 ghost use Rattle.co_sheet_text.specs.Views.{section_view};
 ghost use Rattle.conode_show_text.specs.Document.{
-  chapter,
+  chapter_lines,
+  chapter_of,
+  chapter_text,
   document,
-  head,
-  pdos_head,
-  services_head,
+  head_of,
+  with_head,
 };
-ghost use Rattle.conode_show_text.specs.Entries.{section_text};
-ghost use Rattle.conode_show_text.specs.Pdos.{pdo_text};
-ghost use Rattle.conode_show_text.specs.Services.{service_text};
 
 use crate::entries::{entries_head, push_section};
 use crate::format::Format;
@@ -21,97 +18,99 @@ use crate::service::push_service;
 use co_sheet_text::TextSection;
 use std::alloc::{AllocError, Global};
 
-fn head(format: Format) -> &'static str
-    ensures { result.now ≡ head format }
-{
-    match format {
-        Format::Text => entries_head(Format::Text),
-        Format::Markdown => "## Objects\n",
-    }
+/// A chapter of what is shown.
+#[derive(Clone, Copy)]
+pub enum Chapter {
+    /// Entries and objects.
+    Entries,
+    Pdos,
+    /// SYNC, EMCY, heartbeats and SDO channels.
+    Services,
 }
 
-fn pdos_head(format: Format) -> &'static str
-    ensures { result.now ≡ pdos_head format }
+fn head_of(chapter: Chapter, format: Format) -> &'static str
+    ensures { result.now ≡ head_of chapter format }
 {
-    match format {
-        Format::Text =>
+    match (chapter, format) {
+        (Chapter::Entries, Format::Text) => entries_head(Format::Text),
+        (Chapter::Entries, Format::Markdown) => "## Objects\n",
+        (Chapter::Pdos, Format::Text) =>
             "\nPDO     COB-ID, mapped                Transmission type, name           Timers\n",
-        Format::Markdown =>
+        (Chapter::Pdos, Format::Markdown) =>
             "\n## PDOs\n\n| PDO | COB-ID, mapped | Transmission type, name | Inhibit time | Event timer |\n| --- | --- | --- | --- | --- |\n",
+        (Chapter::Services, Format::Text) => "\nEntry   Service                       Says\n",
+        (Chapter::Services, Format::Markdown) =>
+            "\n## Services\n\n| Entry | Service | Says |\n| --- | --- | --- |\n",
     }
 }
 
-fn services_head(format: Format) -> &'static str
-    ensures { result.now ≡ services_head format }
-{
-    match format {
-        Format::Text => "\nEntry   Service                       Says\n",
-        Format::Markdown => "\n## Services\n\n| Entry | Service | Says |\n| --- | --- | --- |\n",
-    }
-}
-
-// the lines of entries and objects
-fn push_sections(
+// what a chapter says of a section
+fn push_text(
     text: &mut Vec<u8>,
     line: &mut Vec<u8>,
     part: &mut String,
+    chapter: Chapter,
+    format: Format,
+    node: Option<u8>,
+    sections: &[TextSection],
+    section: &TextSection<'_, '_>,
+) -> Result<(), AllocError>
+    ensures { OnOk result (text.new.items ≡ text.old.items
+        ++ chapter_text chapter format node (map section_view sections.now)
+        (section_view section.now)) }
+{
+    match chapter {
+        Chapter::Entries => push_section(text, line, part, format, node, section),
+        Chapter::Pdos => push_pdo(text, line, part, format, node, sections, section),
+        Chapter::Services => push_service(text, line, part, format, node, section),
+    }
+}
+
+fn push_lines(
+    text: &mut Vec<u8>,
+    line: &mut Vec<u8>,
+    part: &mut String,
+    chapter: Chapter,
     format: Format,
     node: Option<u8>,
     sections: &[TextSection],
 ) -> Result<(), AllocError>
     ensures { OnOk result (text.new.items ≡ text.old.items
-        ++ flat_map (section_text format node) (map section_view sections.now)) }
+        ++ chapter_lines chapter format node (map section_view sections.now)) }
 {
     for section in sections {
-        push_section(text, line, part, format, node, section)?;
+        push_text(text, line, part, chapter, format, node, sections, section)?;
     }
     Ok(())
 }
 
-fn push_pdos(
-    text: &mut Vec<u8>,
-    line: &mut Vec<u8>,
-    part: &mut String,
-    format: Format,
-    node: Option<u8>,
-    sections: &[TextSection],
-) -> Result<(), AllocError>
-    ensures { OnOk result (text.new.items ≡ text.old.items
-        ++ flat_map (pdo_text format node (map section_view sections.now))
-        (map section_view sections.now)) }
-{
-    for section in sections {
-        push_pdo(text, line, part, format, node, sections, section)?;
-    }
-    Ok(())
-}
-
-fn push_services(
-    text: &mut Vec<u8>,
-    line: &mut Vec<u8>,
-    part: &mut String,
-    format: Format,
-    node: Option<u8>,
-    sections: &[TextSection],
-) -> Result<(), AllocError>
-    ensures { OnOk result (text.new.items ≡ text.old.items
-        ++ flat_map (service_text format node) (map section_view sections.now)) }
-{
-    for section in sections {
-        push_service(text, line, part, format, node, section)?;
-    }
-    Ok(())
-}
-
-// a chapter with its head, nothing where it is empty
-fn push_chapter(text: &mut Vec<u8>, front: &str, body: &[u8]) -> Result<(), AllocError>
-    ensures { OnOk result (text.new.items ≡ text.old.items ++ chapter front.now body.now) }
+// a text with its head, nothing where it is empty
+fn push_with_head(text: &mut Vec<u8>, front: &str, body: &[u8]) -> Result<(), AllocError>
+    ensures { OnOk result (text.new.items ≡ text.old.items ++ with_head front.now body.now) }
 {
     if body.is_empty() {
         return Ok(());
     }
     text.extend_from_slice(front.as_bytes())?;
     text.extend_from_slice(body)
+}
+
+fn push_chapter(
+    alloc: Global,
+    text: &mut Vec<u8>,
+    line: &mut Vec<u8>,
+    part: &mut String,
+    chapter: Chapter,
+    format: Format,
+    node: Option<u8>,
+    sections: &[TextSection],
+) -> Result<(), AllocError>
+    ensures { OnOk result (text.new.items ≡ text.old.items
+        ++ chapter_of chapter format node (map section_view sections.now)) }
+{
+    let mut body = Vec::new(alloc);
+    push_lines(&mut body, line, part, chapter, format, node, sections)?;
+    push_with_head(text, head_of(chapter, format), body.as_slice())
 }
 
 /// The object dictionary that sections in order describe: its entries, its PDOs, and its services. It fails out of
@@ -127,15 +126,37 @@ pub fn document(
         (λ text. text.items ≡ document format node (map section_view sections.now)) }
 {
     let mut text = Vec::new(alloc);
-    let mut body = Vec::new(alloc);
     let mut line = Vec::new(alloc);
     let mut part = String::new(alloc);
-    text.extend_from_slice(head(format).as_bytes())?;
-    push_sections(&mut text, &mut line, &mut part, format, node, sections)?;
-    push_pdos(&mut body, &mut line, &mut part, format, node, sections)?;
-    push_chapter(&mut text, pdos_head(format), body.as_slice())?;
-    body.clear();
-    push_services(&mut body, &mut line, &mut part, format, node, sections)?;
-    push_chapter(&mut text, services_head(format), body.as_slice())?;
+    text.extend_from_slice(head_of(Chapter::Entries, format).as_bytes())?;
+    push_lines(
+        &mut text,
+        &mut line,
+        &mut part,
+        Chapter::Entries,
+        format,
+        node,
+        sections,
+    )?;
+    push_chapter(
+        alloc,
+        &mut text,
+        &mut line,
+        &mut part,
+        Chapter::Pdos,
+        format,
+        node,
+        sections,
+    )?;
+    push_chapter(
+        alloc,
+        &mut text,
+        &mut line,
+        &mut part,
+        Chapter::Services,
+        format,
+        node,
+        sections,
+    )?;
     Ok(text)
 }

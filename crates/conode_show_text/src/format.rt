@@ -1,7 +1,7 @@
 //! The forms in which a dictionary is shown in lines.
 
 /// How the lines are laid out.
-#[derive(Clone, Copy, Debug, PartialEq, Eq)]
+#[derive(Clone, Copy)]
 pub enum Format {
     /// In columns.
     Text,

@@ -2,6 +2,7 @@
 #![tactic(auto)]
 
 mod chapters;
+mod cob_ids;
 mod entries;
 mod format;
 mod layout;
@@ -15,7 +16,7 @@ mod texts;
 mod type_names;
 mod values;
 
-pub use chapters::document;
+pub use chapters::{Chapter, document};
 pub use entries::{has_sub_indices, is_mappable, push_type};
 pub use format::Format;
 pub use meaning::{Meaning, mapped_key, push_said};
@@ -24,6 +25,6 @@ pub use ordering::order;
 pub use pdos::{
     entry_section, is_counted, is_pdo_cob_id, mapping_count, push_pdo_name, section_word,
 };
-pub use sections::{node_for, section_at};
+pub use sections::node_for;
 pub use service::{Service, key_of, push_service_name};
 pub use values::{Word, limit_number, type_of, value_number};

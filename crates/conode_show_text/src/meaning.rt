@@ -5,27 +5,23 @@ ghost use Rattle.std.specs.Prelude.{◌≡◌, ◌++◌, OnOk, string_bytes};
 ghost use Rattle.std.specs.Option.{option_copied};
 ghost use Rattle.co_sheet_text.specs.Views.{section_view};
 ghost use Rattle.conode_show_text.specs.Meanings.{
-  cob_id_text,
+  consumer_reserved,
   consumer_text,
   counted_syncs,
-  emcy_inhibit_text,
-  event_timer_text,
-  identifier_text,
+  is_consumer_used,
   mapped_key,
   mapped_text,
   meaning_text,
-  pdo_cob_id_text,
-  pdo_inhibit_text,
-  producer_text,
+  millis_text,
   said,
-  sync_text,
-  tenths_text,
+  time_text,
   transmission_name,
   transmission_text,
   word_text,
 };
 
-use crate::numbers::{push_hex, push_words};
+use crate::cob_ids::{push_cob_id, push_pdo_cob_id, push_sync};
+use crate::numbers::push_words;
 use crate::texts::push_plain;
 use crate::values::{Word, value_of, word_of};
 use co_sheet_text::TextSection;
@@ -34,7 +30,7 @@ use co_value::Key;
 use std::alloc::AllocError;
 
 /// What a number means.
-#[derive(Clone, Copy, Debug, PartialEq, Eq)]
+#[derive(Clone, Copy)]
 pub enum Meaning {
     /// The COB-ID of a PDO.
     PdoCobId,
@@ -56,54 +52,6 @@ pub enum Meaning {
     Producer,
     /// What a PDO maps: a key and a number of bits.
     Mapped,
-}
-
-#[tactic(auto, unfolding(crate::specs::Meanings::identifier_text))]
-fn push_identifier(text: &mut String, number: u64) -> Result<(), AllocError>
-    ensures { OnOk result (string_bytes text.new ≡ string_bytes text.old ++ identifier_text number) }
-{
-    if number / 0x2000_0000 % 2 == 1 {
-        push_hex(text, number % 0x2000_0000)?;
-        push_words(text, ", 29-bit")
-    } else {
-        push_hex(text, number % 0x800)
-    }
-}
-
-#[tactic(auto, unfolding(crate::specs::Meanings::cob_id_text))]
-fn push_cob_id(text: &mut String, number: u64) -> Result<(), AllocError>
-    ensures { OnOk result (string_bytes text.new ≡ string_bytes text.old ++ cob_id_text number) }
-{
-    push_identifier(text, number)?;
-    if number / 0x8000_0000 % 2 == 1 {
-        push_words(text, ", disabled")
-    } else {
-        push_words(text, ", enabled")
-    }
-}
-
-#[tactic(auto, unfolding(crate::specs::Meanings::pdo_cob_id_text))]
-fn push_pdo_cob_id(text: &mut String, number: u64) -> Result<(), AllocError>
-    ensures { OnOk result (string_bytes text.new ≡ string_bytes text.old ++ pdo_cob_id_text number) }
-{
-    push_cob_id(text, number)?;
-    if number / 0x4000_0000 % 2 == 1 {
-        push_words(text, ", no RTR")
-    } else {
-        Ok(())
-    }
-}
-
-#[tactic(auto, unfolding(crate::specs::Meanings::sync_text))]
-fn push_sync(text: &mut String, number: u64) -> Result<(), AllocError>
-    ensures { OnOk result (string_bytes text.new ≡ string_bytes text.old ++ sync_text number) }
-{
-    push_identifier(text, number)?;
-    if number / 0x4000_0000 % 2 == 1 {
-        push_words(text, ", produced")
-    } else {
-        push_words(text, ", not produced")
-    }
 }
 
 // a transmission type that has words of its own
@@ -146,51 +94,56 @@ fn push_transmission(text: &mut String, number: u64) -> Result<(), AllocError>
     }
 }
 
-// a time in 100 µs, in ms
-#[tactic(auto, unfolding(crate::specs::Meanings::tenths_text))]
-fn push_tenths(text: &mut String, number: u64) -> Result<(), AllocError>
-    ensures { OnOk result (string_bytes text.new ≡ string_bytes text.old ++ tenths_text number) }
+// a time in ms, where it is in 100 µs with its tenths
+#[tactic(auto, unfolding(crate::specs::Meanings::millis_text))]
+fn push_millis(text: &mut String, in_tenths: bool, number: u64) -> Result<(), AllocError>
+    ensures { OnOk result
+        (string_bytes text.new ≡ string_bytes text.old ++ millis_text in_tenths number) }
 {
+    if !in_tenths {
+        return push_decimal(text, number);
+    }
     push_decimal(text, number / 10)?;
     push_words(text, ".")?;
-    push_decimal(text, number % 10)?;
+    push_decimal(text, number % 10)
+}
+
+// a time after its words; one that is 0 has others
+#[tactic(auto, unfolding(crate::specs::Meanings::time_text))]
+fn push_time(
+    text: &mut String,
+    off: &str,
+    before: &str,
+    in_tenths: bool,
+    number: u64,
+) -> Result<(), AllocError>
+    ensures { OnOk result (string_bytes text.new
+        ≡ string_bytes text.old ++ time_text off.now before.now in_tenths number) }
+{
+    if number == 0 {
+        return push_words(text, off);
+    }
+    push_words(text, before)?;
+    push_millis(text, in_tenths, number)?;
     push_words(text, " ms")
 }
 
-#[tactic(auto, unfolding(crate::specs::Meanings::pdo_inhibit_text))]
-fn push_pdo_inhibit(text: &mut String, number: u64) -> Result<(), AllocError>
-    ensures { OnOk result
-        (string_bytes text.new ≡ string_bytes text.old ++ pdo_inhibit_text number) }
+// whether an entry of the heartbeat consumer is used: its time isn't 0, its node-ID 1 to 127
+fn is_consumer_used(number: u64) -> bool
+    ensures { result ≡ is_consumer_used number }
 {
-    if number == 0 {
-        return Ok(());
-    }
-    push_words(text, "inhibit ")?;
-    push_tenths(text, number)
+    let node = number / 0x1_0000 % 0x100;
+    1 <= node && node <= 127 && number % 0x1_0000 != 0
 }
 
-#[tactic(auto, unfolding(crate::specs::Meanings::event_timer_text))]
-fn push_event_timer(text: &mut String, number: u64) -> Result<(), AllocError>
-    ensures { OnOk result
-        (string_bytes text.new ≡ string_bytes text.old ++ event_timer_text number) }
+// the reserved bits of a consumer heartbeat time
+fn consumer_reserved(number: u64) -> &'static str
+    ensures { result.now ≡ consumer_reserved number }
 {
-    if number == 0 {
-        return Ok(());
-    }
-    push_words(text, "event ")?;
-    push_decimal(text, number)?;
-    push_words(text, " ms")
-}
-
-#[tactic(auto, unfolding(crate::specs::Meanings::emcy_inhibit_text))]
-fn push_emcy_inhibit(text: &mut String, number: u64) -> Result<(), AllocError>
-    ensures { OnOk result
-        (string_bytes text.new ≡ string_bytes text.old ++ emcy_inhibit_text number) }
-{
-    if number == 0 {
-        push_words(text, "none")
+    if number / 0x100_0000 == 0 {
+        ""
     } else {
-        push_tenths(text, number)
+        ", bits 31 to 24 set"
     }
 }
 
@@ -198,28 +151,15 @@ fn push_emcy_inhibit(text: &mut String, number: u64) -> Result<(), AllocError>
 fn push_consumer(text: &mut String, number: u64) -> Result<(), AllocError>
     ensures { OnOk result (string_bytes text.new ≡ string_bytes text.old ++ consumer_text number) }
 {
-    let node = number / 0x1_0000 % 0x100;
-    let time = number % 0x1_0000;
-    if node == 0 || time == 0 {
-        return push_words(text, "off");
+    if !is_consumer_used(number) {
+        return push_words(text, "not used");
     }
     push_words(text, "node ")?;
-    push_decimal(text, node)?;
+    push_decimal(text, number / 0x1_0000 % 0x100)?;
     push_words(text, ", within ")?;
-    push_decimal(text, time)?;
-    push_words(text, " ms")
-}
-
-#[tactic(auto, unfolding(crate::specs::Meanings::producer_text))]
-fn push_producer(text: &mut String, number: u64) -> Result<(), AllocError>
-    ensures { OnOk result (string_bytes text.new ≡ string_bytes text.old ++ producer_text number) }
-{
-    if number == 0 {
-        return push_words(text, "off");
-    }
-    push_words(text, "every ")?;
-    push_decimal(text, number)?;
-    push_words(text, " ms")
+    push_decimal(text, number % 0x1_0000)?;
+    push_words(text, " ms")?;
+    push_words(text, consumer_reserved(number))
 }
 
 /// The key that a word of a mapping names (CiA 301, 7.5.2.36).
@@ -242,21 +182,21 @@ fn push_mapped(text: &mut String, number: u64) -> Result<(), AllocError>
     push_words(text, " bits")
 }
 
-fn push_meaning(text: &mut String, meaning: Meaning, number: u64) -> Result<(), AllocError>
+fn push_meaning(text: &mut String, meaning: Meaning, word: Word) -> Result<(), AllocError>
     ensures { OnOk result
-        (string_bytes text.new ≡ string_bytes text.old ++ meaning_text meaning number) }
+        (string_bytes text.new ≡ string_bytes text.old ++ meaning_text meaning word) }
 {
     match meaning {
-        Meaning::PdoCobId => push_pdo_cob_id(text, number),
-        Meaning::CobId => push_cob_id(text, number),
-        Meaning::SyncCobId => push_sync(text, number),
-        Meaning::Transmission => push_transmission(text, number),
-        Meaning::PdoInhibit => push_pdo_inhibit(text, number),
-        Meaning::EventTimer => push_event_timer(text, number),
-        Meaning::EmcyInhibit => push_emcy_inhibit(text, number),
-        Meaning::Consumer => push_consumer(text, number),
-        Meaning::Producer => push_producer(text, number),
-        Meaning::Mapped => push_mapped(text, number),
+        Meaning::PdoCobId => push_pdo_cob_id(text, word),
+        Meaning::CobId => push_cob_id(text, word),
+        Meaning::SyncCobId => push_sync(text, word),
+        Meaning::Transmission => push_transmission(text, word.number),
+        Meaning::PdoInhibit => push_time(text, "", "inhibit ", true, word.number),
+        Meaning::EventTimer => push_time(text, "", "event ", false, word.number),
+        Meaning::EmcyInhibit => push_time(text, "none", "", true, word.number),
+        Meaning::Consumer => push_consumer(text, word.number),
+        Meaning::Producer => push_time(text, "off", "every ", false, word.number),
+        Meaning::Mapped => push_mapped(text, word.number),
     }
 }
 
@@ -268,7 +208,7 @@ fn push_word(text: &mut String, meaning: Meaning, word: Word) -> Result<(), Allo
     if word.relative {
         push_words(text, "$NODEID+")?;
     }
-    push_meaning(text, meaning, word.number)
+    push_meaning(text, meaning, word)
 }
 
 /// Appends what an entry says in words; a text that is no number as it is.

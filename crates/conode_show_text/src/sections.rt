@@ -1,50 +1,13 @@
-//! The sections of a sheet, looked up.
+//! The node-ID of a sheet's sections, and the object type of one.
 
-ghost use Rattle.std.specs.Prelude.{◌≡◌, map, option_map};
-ghost use Rattle.std.specs.Option.{option_copied};
-ghost use Rattle.co_sheet_text.specs.Names.{same_kind};
-ghost use Rattle.co_sheet_text.specs.Sections.{section_at};
+ghost use Rattle.std.specs.Prelude.{◌≡◌, map};
 ghost use Rattle.co_sheet_text.specs.Views.{property_view, section_view};
 ghost use Rattle.co_sheet.specs.Commissioning.{node_id_in, node_id_of};
 ghost use Rattle.co_sheet.specs.Entries.{object_code};
 ghost use Rattle.conode_show_text.specs.Document.{node_for};
 
+use co_sheet::section_at;
 use co_sheet_text::{Property, SectionKind, TextSection};
-
-// whether two sections are about the same
-fn same_kind(kind: SectionKind, other: SectionKind) -> bool
-    ensures { result ≡ same_kind kind other }
-{
-    match kind {
-        SectionKind::MandatoryObjects => matches!(other, SectionKind::MandatoryObjects),
-        SectionKind::OptionalObjects => matches!(other, SectionKind::OptionalObjects),
-        SectionKind::ManufacturerObjects => matches!(other, SectionKind::ManufacturerObjects),
-        SectionKind::DummyUsage => matches!(other, SectionKind::DummyUsage),
-        SectionKind::DeviceInfo => matches!(other, SectionKind::DeviceInfo),
-        SectionKind::DeviceCommissioning => matches!(other, SectionKind::DeviceCommissioning),
-        SectionKind::Object(index) => matches!(other, SectionKind::Object(of) if index == of),
-        SectionKind::SubIndex(key) => {
-            matches!(other, SectionKind::SubIndex(of) if key.index == of.index && key.sub == of.sub)
-        }
-        SectionKind::PassedOver => matches!(other, SectionKind::PassedOver),
-    }
-}
-
-/// The section of a kind, if there is one.
-pub fn section_at<'s, 'a>(
-    sections: &'s [TextSection<'s, 'a>],
-    kind: SectionKind,
-) -> Option<&'s TextSection<'s, 'a>>
-    ensures { option_map section_view (option_copied result)
-        ≡ section_at kind (map section_view sections.now) }
-{
-    for section in sections {
-        if same_kind(section.kind, kind) {
-            return Some(section);
-        }
-    }
-    None
-}
 
 // the node-ID that a NodeID is: its number, where that is 1 to 127 (CiA 306, device commissioning)
 fn node_id_of(given: &Property) -> Option<u8>

@@ -14,17 +14,21 @@ use co_value::Key;
 use std::alloc::AllocError;
 
 /// A service that an entry of the communication profile is of.
-#[derive(Clone, Copy, Debug, PartialEq, Eq)]
+#[derive(Clone, Copy)]
 pub enum Service {
     Sync,
     Emcy,
     EmcyInhibitTime,
     HeartbeatConsumer,
     HeartbeatProducer,
-    /// What an SDO channel's client sends, by the channel's number from 1.
+    /// What the client of an SDO channel sends of which the device is the server, by the channel's number from 1.
     SdoRequests(u16),
-    /// What an SDO channel's server sends.
+    /// What the server of such a channel sends.
     SdoResponses(u16),
+    /// What the client of an SDO channel sends of which the device is the client.
+    ClientRequests(u16),
+    /// What the server of such a channel sends.
+    ClientResponses(u16),
 }
 
 impl Service {
@@ -40,6 +44,8 @@ impl Service {
             (0x1017, 0) => Some(Service::HeartbeatProducer),
             (index @ 0x1200..=0x127F, 1) => Some(Service::SdoRequests(index - 0x1200 + 1)),
             (index @ 0x1200..=0x127F, 2) => Some(Service::SdoResponses(index - 0x1200 + 1)),
+            (index @ 0x1280..=0x12FF, 1) => Some(Service::ClientRequests(index - 0x1280 + 1)),
+            (index @ 0x1280..=0x12FF, 2) => Some(Service::ClientResponses(index - 0x1280 + 1)),
             _ => None,
         }
     }
@@ -50,7 +56,11 @@ impl Service {
     {
         match self {
             Service::Sync => Meaning::SyncCobId,
-            Service::Emcy | Service::SdoRequests(_) | Service::SdoResponses(_) => Meaning::CobId,
+            Service::Emcy
+            | Service::SdoRequests(_)
+            | Service::SdoResponses(_)
+            | Service::ClientRequests(_)
+            | Service::ClientResponses(_) => Meaning::CobId,
             Service::EmcyInhibitTime => Meaning::EmcyInhibit,
             Service::HeartbeatConsumer => Meaning::Consumer,
             Service::HeartbeatProducer => Meaning::Producer,
@@ -58,12 +68,17 @@ impl Service {
     }
 }
 
+/// Which way a request goes, and a response.
+const TO_SERVER: &str = ", client to server";
+
+const TO_CLIENT: &str = ", server to client";
+
 #[tactic(auto, unfolding(crate::specs::Services::channel_name))]
-fn push_channel(text: &mut String, channel: u16, way: &str) -> Result<(), AllocError>
+fn push_channel(text: &mut String, end: &str, channel: u16, way: &str) -> Result<(), AllocError>
     ensures { OnOk result
-        (string_bytes text.new ≡ string_bytes text.old ++ channel_name channel way.now) }
+        (string_bytes text.new ≡ string_bytes text.old ++ channel_name end.now channel way.now) }
 {
-    push_words(text, "SDO ")?;
+    push_words(text, end)?;
     push_decimal(text, u64::from(channel))?;
     push_words(text, way)
 }
@@ -79,8 +94,10 @@ pub fn push_service_name(text: &mut String, service: Service) -> Result<(), Allo
         Service::EmcyInhibitTime => push_words(text, "EMCY inhibit time"),
         Service::HeartbeatConsumer => push_words(text, "Heartbeat consumer"),
         Service::HeartbeatProducer => push_words(text, "Heartbeat producer"),
-        Service::SdoRequests(channel) => push_channel(text, channel, ", client to server"),
-        Service::SdoResponses(channel) => push_channel(text, channel, ", server to client"),
+        Service::SdoRequests(channel) => push_channel(text, "SDO ", channel, TO_SERVER),
+        Service::SdoResponses(channel) => push_channel(text, "SDO ", channel, TO_CLIENT),
+        Service::ClientRequests(channel) => push_channel(text, "SDO client ", channel, TO_SERVER),
+        Service::ClientResponses(channel) => push_channel(text, "SDO client ", channel, TO_CLIENT),
     }
 }
 

@@ -2,15 +2,12 @@
 //! a text does so up to an `Err`, where memory ran out; a part of it may be there then.
 
 ghost use Rattle.std.specs.Prelude.{◌≡◌, ◌++◌, ◌+◌, ◌≤◌, OnOk, option_map, option_and_then, string_bytes};
-ghost use Rattle.co_sheet_text.specs.Numerals.{result_map};
 ghost use Rattle.co_sheet_text.specs.Views.{property_view, section_view};
-ghost use Rattle.co_sheet.specs.Limits.{is_node_id, node_id_sum, numeric_default};
-ghost use Rattle.co_sheet.specs.Entries.{data_type_with};
 ghost use Rattle.co_sheet.specs.Views.{default_view};
 ghost use Rattle.conode_show_text.specs.Numbers.{if_small};
 ghost use Rattle.conode_show_text.specs.Values.{
   default_text,
-  absolute,
+  if_word,
   known_text,
   limit_number,
   limit_text,
@@ -26,56 +23,24 @@ ghost use Rattle.conode_show_text.specs.Values.{
   value_number,
   value_of,
   value_text,
+  word_from,
   word_of,
 };
 
 use crate::numbers::{push_decimal_of, push_hex, push_number, push_words};
 use crate::texts::push_plain;
+use co_sheet::{data_type_with, numeric_default};
 use co_sheet_rows::Preset;
-use co_sheet_text::{
-    NumeralFault, Property, TextSection, same_name, signed_numeral, trim, unsigned_number,
-};
-use co_text::split_at_first;
+use co_sheet_text::{Property, TextSection, signed_numeral};
 use co_value::DataType;
 use std::alloc::AllocError;
 
-/// A number of the communication profile.
-#[derive(Clone, Copy, Debug, PartialEq, Eq)]
+/// A number of the communication profile, of at most 32 bits.
+#[derive(Clone, Copy)]
 pub struct Word {
     /// Whether the node-ID is to be added.
     pub relative: bool,
     pub number: u64,
-}
-
-fn is_node_id(text: &[u8]) -> bool
-    ensures { result ≡ is_node_id text.now }
-{
-    same_name(text, b"$NODEID")
-}
-
-fn node_id_sum(left: &[u8], right: &[u8]) -> Result<Preset<'static>, NumeralFault>
-    ensures { result_map default_view result ≡ node_id_sum left.now right.now }
-{
-    if is_node_id(left) {
-        Ok(Preset::NodeId(unsigned_number(right)?))
-    } else if is_node_id(right) {
-        Ok(Preset::NodeId(unsigned_number(left)?))
-    } else {
-        Err(NumeralFault::Malformed)
-    }
-}
-
-// a number, `$NODEID`, or a sum of both (CiA 306, object description)
-fn numeric_default(data_type: DataType, text: &[u8]) -> Result<Preset<'static>, NumeralFault>
-    ensures { result_map default_view result ≡ numeric_default data_type text.now }
-{
-    if is_node_id(text) {
-        return Ok(Preset::NodeId(0));
-    }
-    match split_at_first(text, b'+') {
-        Some((left, right)) => node_id_sum(trim(left), trim(right)),
-        None => Ok(Preset::Number(signed_numeral(text)?.value_at(data_type))),
-    }
 }
 
 // a numeric text as a value, `Absent` where it is none
@@ -194,15 +159,6 @@ pub fn value_number(node: Option<u8>, data_type: Option<DataType>, value: &[u8])
     number_for(node, numeric_value(data_type, value))
 }
 
-fn data_type_with(code: u64) -> Option<DataType>
-    ensures { result ≡ data_type_with code }
-{
-    if code > 0xFFFF {
-        return None;
-    }
-    DataType::from_code(code as u16)
-}
-
 /// The type that a section states, where its code is one of those that are supported.
 pub fn type_of(section: &TextSection<'_, '_>) -> Option<DataType>
     ensures { result ≡ type_of (section_view section.now) }
@@ -295,37 +251,53 @@ pub(crate) fn push_limits(
     push_limit(text, data_type, high)
 }
 
+/// The greatest number of the communication profile, of 32 bits.
+const GREATEST_WORD: u64 = 0xFFFF_FFFF;
+
+fn if_word(number: u64) -> Option<u64>
+    ensures { result ≡ if_word number }
+{
+    if number <= GREATEST_WORD {
+        Some(number)
+    } else {
+        None
+    }
+}
+
 fn small_number(number: i128) -> Option<u64>
     ensures { result ≡ small_number number }
 {
-    if number < 0 || i128::from(u64::MAX) < number {
+    if number < 0 || i128::from(GREATEST_WORD) < number {
         return None;
     }
     Some(number as u64)
 }
 
-// a number as a word to which nothing is added
-fn absolute(number: Option<u64>) -> Option<Word>
-    ensures { result ≡ absolute number }
+// the sum with a node-ID, of at most 32 bits
+fn small_sum(node_id: u8, addend: u64) -> Option<u64>
+    ensures { result ≡ if_word (addend + node_id) }
+{
+    if_word(if_word(addend)? + u64::from(node_id))
+}
+
+fn word_from(relative: bool, number: Option<u64>) -> Option<Word>
+    ensures { result ≡ word_from relative number }
 {
     Some(Word {
-        relative: false,
+        relative,
         number: number?,
     })
 }
 
-/// The number of the communication profile that a text is; with a node-ID, the sum.
+/// The number of the communication profile that a text is, of at most 32 bits; with a node-ID, the sum.
 pub(crate) fn word_of(node: Option<u8>, value: &[u8]) -> Option<Word>
     ensures { result ≡ word_of node value.now }
 {
-    match numeric_value(DataType::Unsigned32, value) {
-        Preset::Number(number) => absolute(small_number(number)),
-        Preset::NodeId(addend) if node.is_none() => Some(Word {
-            relative: true,
-            number: addend,
-        }),
-        Preset::NodeId(addend) => absolute(sum_of(node, addend)),
-        Preset::Absent | Preset::Text(_) | Preset::Pairs(_) => None,
+    match (numeric_value(DataType::Unsigned32, value), node) {
+        (Preset::Number(number), _) => word_from(false, small_number(number)),
+        (Preset::NodeId(addend), None) => word_from(true, if_word(addend)),
+        (Preset::NodeId(addend), Some(node_id)) => word_from(false, small_sum(node_id, addend)),
+        (Preset::Absent | Preset::Text(_) | Preset::Pairs(_), _) => None,
     }
 }
 

@@ -1,7 +1,6 @@
-use Rattle.std.proofs.Common.{◌∙◌, ◌++◌, List, ap}
-use Rattle.std.specs.List.{flat_map}
+use Rattle.std.proofs.Common.{◌∙◌, ◌++◌, List, map, ap}
 use Rattle.co_sheet_warnings.specs.declared.warning.Warning.{Warning}
-use Rattle.conode_lint.specs.Marks.{warning_marks}
+use Rattle.conode_lint.specs.Marks.{warning_mark}
 use Rattle.conode_lint.proofs.MarkLemmas.{marked_from}
 use Rattle.conode_lint.proofs.marks.marked.Goals as goal
 
@@ -10,4 +9,4 @@ returns c =
     marked_from c.args.text.now c.args.checks.now c.args.faults.now c.args.sheet.now c.node_for-node.result c.in_ok-warnings.warnings.items
     c.in_ok-marks.marks.items c.add_built.new.marks.items c.add_warnings.new.marks.items
     c.requires.sheet c.node_for-node.ensures c.in_ok-warnings.ensures c.in_ok-marks.ensures c.in_ok-add_built.ensures
-    (c.in_ok-add_warnings.ensures ∙ ap (λ (l : List Warning). c.add_built.new.marks.items ++ flat_map (warning_marks c.args.checks.now.all) l) c.as_slice.ensures.value)
+    (c.in_ok-add_warnings.ensures ∙ ap (λ (l : List Warning). c.add_built.new.marks.items ++ map warning_mark l) c.as_slice.ensures.value)

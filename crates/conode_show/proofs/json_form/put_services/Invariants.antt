@@ -1,8 +1,0 @@
-use Rattle.std.proofs.Common.{◌≡◌, ◌++◌, map, take}
-use Rattle.std.specs.List.{flat_map}
-use Rattle.co_sheet_text.specs.Views.{section_view}
-use Rattle.conode_show.specs.JsonForm.{service_of_section}
-use Rattle.conode_show.proofs.json_form.put_services.Given as goal
-
-abbrev pub invariant-loop-section : goal.invariant-loop-section
-invariant-loop-section l = l.writer ≡ l.fn.writer ++ flat_map (service_of_section l.node) (map section_view (take l.section-index l.sections))

@@ -1,0 +1,54 @@
+//! SYNC, EMCY, heartbeats and SDO channels as objects of JSON. Each function appends tokens; on an `Err` memory ran out, and
+//! some of them may be there.
+
+ghost use Rattle.std.specs.Prelude.{◌≡◌, ◌++◌, OnOk};
+ghost use Rattle.co_sheet_text.specs.Views.{section_view};
+ghost use Rattle.conode_show.specs.JsonForm.{service_of_section, service_tokens};
+
+use crate::json_entries::put_key;
+use crate::json_words::put_said_members;
+use crate::json_writer::JsonWriter;
+use co_sheet_text::TextSection;
+use co_value::Key;
+use conode_show_text::{Service, key_of, push_service_name};
+use std::alloc::{AllocError, Global};
+
+#[tactic(auto, unfolding(crate::specs::JsonForm::service_tokens))]
+fn put_service_tokens(
+    alloc: Global,
+    writer: &mut JsonWriter,
+    node: Option<u8>,
+    section: &TextSection<'_, '_>,
+    key: Key,
+    service: Service,
+) -> Result<(), AllocError>
+    ensures { OnOk result (writer.new ≡ writer.old
+        ++ service_tokens node (section_view section.now) key service) }
+{
+    writer.begin_object()?;
+    put_key(alloc, writer, key)?;
+    let mut name = String::new(alloc);
+    push_service_name(&mut name, service)?;
+    writer.put_text("service", name.as_str())?;
+    put_said_members(alloc, writer, service.meaning(), node, section)?;
+    writer.end_object()
+}
+
+/// An entry that is of a service; nothing for every other section.
+pub(crate) fn put_service(
+    alloc: Global,
+    writer: &mut JsonWriter,
+    node: Option<u8>,
+    section: &TextSection<'_, '_>,
+) -> Result<(), AllocError>
+    ensures { OnOk result
+        (writer.new ≡ writer.old ++ service_of_section node (section_view section.now)) }
+{
+    let Some(key) = key_of(section.kind) else {
+        return Ok(());
+    };
+    let Some(service) = Service::of(key) else {
+        return Ok(());
+    };
+    put_service_tokens(alloc, writer, node, section, key, service)
+}

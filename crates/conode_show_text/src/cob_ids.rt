@@ -1,0 +1,113 @@
+//! COB-IDs in words (CiA 301, 7.2.2.7 and 7.5.2). Each function that is given a text appends to it; on an `Err` memory ran
+//! out, and a part may be there.
+
+ghost use Rattle.std.specs.Prelude.{◌≡◌, ◌++◌, OnOk, string_bytes};
+ghost use Rattle.conode_show_text.specs.CobIds.{
+  cob_id_text,
+  frame_name,
+  identifier_text,
+  is_not_used,
+  pdo_cob_id_text,
+  sync_name,
+  sync_text,
+  use_name,
+};
+
+use crate::numbers::{push_hex, push_words};
+use crate::values::Word;
+use std::alloc::AllocError;
+
+/// Bit 31: the object isn't enabled.
+const DISABLED: u64 = 0x8000_0000;
+
+/// Bit 30: no RTR for a PDO; the device produces SYNC.
+const BIT_30: u64 = 0x4000_0000;
+
+/// Bit 29: the identifier has 29 bits.
+const EXTENDED: u64 = 0x2000_0000;
+
+/// The greatest identifier of 11 bits.
+const GREATEST_BASE: u64 = 0x7FF;
+
+// how many bits the identifier has, where these aren't 11
+fn frame_name(number: u64) -> &'static str
+    ensures { result.now ≡ frame_name number }
+{
+    if number / EXTENDED % 2 == 1 {
+        ", 29-bit"
+    } else if GREATEST_BASE < number % EXTENDED {
+        ", over 11 bits"
+    } else {
+        ""
+    }
+}
+
+#[tactic(auto, unfolding(crate::specs::CobIds::identifier_text))]
+fn push_identifier(text: &mut String, number: u64) -> Result<(), AllocError>
+    ensures { OnOk result (string_bytes text.new ≡ string_bytes text.old ++ identifier_text number) }
+{
+    push_hex(text, number % EXTENDED)?;
+    push_words(text, frame_name(number))
+}
+
+// whether it is identifier 0 of 11 bits, which is that of NMT
+fn is_not_used(word: Word) -> bool
+    ensures { result ≡ is_not_used word }
+{
+    !word.relative && word.number % BIT_30 == 0
+}
+
+fn use_name(word: Word) -> &'static str
+    ensures { result.now ≡ use_name word }
+{
+    if word.number / DISABLED % 2 == 1 {
+        ", disabled"
+    } else if is_not_used(word) {
+        ", not used"
+    } else {
+        ", enabled"
+    }
+}
+
+/// Appends what the COB-ID of EMCY or of an SDO channel is.
+#[tactic(auto, unfolding(crate::specs::CobIds::cob_id_text))]
+pub(crate) fn push_cob_id(text: &mut String, word: Word) -> Result<(), AllocError>
+    ensures { OnOk result (string_bytes text.new ≡ string_bytes text.old ++ cob_id_text word) }
+{
+    push_identifier(text, word.number)?;
+    push_words(text, use_name(word))
+}
+
+/// The same of a PDO.
+#[tactic(auto, unfolding(crate::specs::CobIds::pdo_cob_id_text))]
+pub(crate) fn push_pdo_cob_id(text: &mut String, word: Word) -> Result<(), AllocError>
+    ensures { OnOk result (string_bytes text.new ≡ string_bytes text.old ++ pdo_cob_id_text word) }
+{
+    push_cob_id(text, word)?;
+    if word.number / BIT_30 % 2 == 1 {
+        push_words(text, ", no RTR")
+    } else {
+        Ok(())
+    }
+}
+
+fn sync_name(word: Word) -> &'static str
+    ensures { result.now ≡ sync_name word }
+{
+    if is_not_used(word) {
+        ", not used"
+    } else if word.number / BIT_30 % 2 == 1 {
+        ", produced"
+    } else {
+        ", not produced"
+    }
+}
+
+/// The same of SYNC.
+#[tactic(auto, unfolding(crate::specs::CobIds::sync_text))]
+pub(crate) fn push_sync(text: &mut String, word: Word) -> Result<(), AllocError>
+    ensures { OnOk result (string_bytes text.new ≡ string_bytes text.old ++ sync_text word) }
+{
+    push_identifier(text, word.number)?;
+    push_words(text, sync_name(word))
+}
