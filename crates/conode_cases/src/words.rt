@@ -32,6 +32,8 @@ explain - -td => explain
 explain t --stamps zero => status 2
 adapt s => adapt
 adapt s t => status 2
+adapt s --leading-zeros octal --force => adapt
+adapt s --leading-zeros=hex => status 2
 replay s t => replay
 loop s 2001:00 05 => loop
 replay s --node 5 => status 2

@@ -5,6 +5,7 @@ mod form;
 mod json_form;
 mod json_writer;
 mod own_text;
+mod retyped;
 mod shown_file;
 
 pub use conode_show_text::Format;

@@ -9,11 +9,13 @@ ghost use Rattle.co_sheet.specs.Accepted.{first_bad_line, sections_in};
 ghost use Rattle.co_sheet.specs.Faults.{line_fault_kind, sheet_fault};
 ghost use Rattle.conode_io.specs.Written.{AppendsFront};
 ghost use Rattle.conode_show_text.specs.Document.{node_for, ordered};
-ghost use Rattle.conode_show.specs.Shown.{document_in, fault_in, fault_line, shown, unreadable};
+ghost use Rattle.conode_show.specs.Shown.{document_in, fault_in, fault_line, sections_of, shown, unreadable};
 
 use crate::form::Form;
 use crate::json_form::{json_document, json_fault};
+use crate::retyped::{all_retyped, sections_in as retyped_sections};
 use co_sheet::GREATEST_SIZE;
+use co_sheet_originals::Originals;
 use co_sheet_rows::{FaultKind, SheetFault};
 use co_sheet_text::{ParsedText, TextFault, TextFaultKind, TextSection};
 use conode_io::{CmdFault, file_text, flushed, hand_over, no_text, out_of_memory, stopped};
@@ -49,7 +51,7 @@ fn sheet_fault(fault: TextFault) -> SheetFault
 // the sections of a text, or why it can't be shown
 fn read_sections(alloc: Global, text: &[u8]) -> Result<ParsedText<'_>, SheetFault>
     ensures ok { IfOk result (λ sections. (unreadable text.now ≡ None)
-        × (sections ≡ sections_in text.now)) }
+        × (sections ≡ sections_in text.now) × (length text.now ≤ 1048576)) }
     ensures err { IfErr result (λ fault. (fault ≡ out_of_memory)
         ⊎ (unreadable text.now ≡ Some fault)) }
 {
@@ -95,17 +97,23 @@ fn ordered_document(
     document_in(alloc, form, node, sections)
 }
 
-// the document of a text's sections
+// the document of a text's sections, with the original types of one that was adapted
 fn document_of(
     alloc: Global,
     form: Form,
     node: Option<u8>,
+    text: &[u8],
     parsed: &ParsedText<'_>,
 ) -> Result<Vec<u8>, AllocError>
-    ensures { IfOk result (λ text. text.items
-        ≡ document_in form (node_for node parsed.now) (ordered parsed.now)) }
+    requires size { length text.now ≤ 1048576 }
+    requires parsed { parsed.now ≡ sections_in text.now }
+    ensures { IfOk result (λ made. made.items
+        ≡ document_in form (node_for node (sections_of text.now)) (ordered (sections_of text.now))) }
 {
-    let mut sections = parsed.sections(alloc)?;
+    let originals = Originals::in_text(alloc, text)?;
+    let given = parsed.sections(alloc)?;
+    let retyped = all_retyped(alloc, &originals, given.as_slice())?;
+    let mut sections = retyped_sections(alloc, retyped.as_slice())?;
     let node = node_for(node, sections.as_slice());
     ordered_document(alloc, form, node, sections.as_mut_slice())
 }
@@ -155,7 +163,7 @@ pub fn show<W: Write>(
 {
     match read_sections(alloc, text) {
         Ok(parsed) => {
-            let text = document_of(alloc, form, node, &parsed)?;
+            let text = document_of(alloc, form, node, text, &parsed)?;
             hand_over(text.as_slice(), writer)?;
             Ok(true)
         }
