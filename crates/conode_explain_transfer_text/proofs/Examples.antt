@@ -1,0 +1,82 @@
+-- Lines of transfers that ended, computed from the definitions.
+use Rattle.std.proofs.Common.{◌≡◌, ℕ, true, false, [], refl, codes}
+use Rattle.co_text.specs.Printed.{digits_text}
+use Rattle.conode_explain_transfers.specs.declared.ended.Ended.{Ended}
+use Rattle.conode_explain_transfers.specs.declared.ended.Ending.{Ending}
+use Rattle.conode_explain_transfers.specs.declared.ended.Ending.TheVariants.{Done, Aborted, Unanswered, Repeated, Interrupted, Unfinished, Irregular, SizeDiffers, CrcDiffers}
+use Rattle.conode_explain_transfers.specs.declared.kinds.Direction.{Direction}
+use Rattle.conode_explain_transfers.specs.declared.kinds.Direction.TheVariants.{Download, Upload}
+use Rattle.conode_explain_transfers.specs.declared.kinds.Protocol.TheVariants.{Segmented}
+use Rattle.conode_explain_transfers.specs.declared.kinds.Side.TheVariants.{Client, Server}
+use Rattle.conode_explain_transfer_text.specs.Ends.{end_text}
+use Rattle.conode_explain_transfer_text.specs.Numbers.{millions, thousands, grouped, counted_text, seconds_text}
+
+-- of 2100:00, from 1 s to 1.182 s, the newest frame at 1.18 s
+abbrev transfer : Direction → ℕ → ℕ → Ending → Ended
+transfer direction bytes frames ending = record {
+  key = record { index = 0x2100; sub = 0 };
+  direction = direction;
+  protocol = Segmented;
+  bytes = bytes;
+  first = record { items = [] };
+  frames = frames;
+  begun = 1000000;
+  newest = 1180000;
+  end = 1182999;
+  ending = ending;
+}
+
+done_download : end_text (transfer Download 1024 150 (Done false)) (codes "Firmware") []
+    ≡ codes "SDO download 2100:00 \"Firmware\" 1,024 bytes in 150 frames, 0.182 s: done"
+unfolding end_text counted_text grouped thousands millions seconds_text digits_text
+done_download = refl
+
+done_upload : end_text (transfer Upload 1 1000 (Done true)) [] []
+    ≡ codes "SDO upload 2100:00 1 byte in 1,000 frames, 0.182 s: done, CRC right"
+unfolding end_text counted_text grouped thousands millions seconds_text digits_text
+done_upload = refl
+
+aborted : end_text (transfer Upload 0 1 (Aborted Server (record { 0 = 0x06020000 }))) [] (codes "object missing")
+    ≡ codes "SDO upload 2100:00 0 bytes in 1 frame, 0.182 s: aborted by the server with 06020000 (object missing)"
+unfolding end_text counted_text grouped thousands millions seconds_text digits_text
+aborted = refl
+
+aborted_otherwise : end_text (transfer Upload 999 2 (Aborted Client (record { 0 = 0x12345678 }))) [] []
+    ≡ codes "SDO upload 2100:00 999 bytes in 2 frames, 0.182 s: aborted by the client with 12345678"
+unfolding end_text counted_text grouped thousands millions seconds_text digits_text
+aborted_otherwise = refl
+
+unanswered : end_text (transfer Upload 999999 2 Unanswered) [] []
+    ≡ codes "SDO upload 2100:00 999,999 bytes in 2 frames, 0.182 s: no answer in 0.002 s"
+unfolding end_text counted_text grouped thousands millions seconds_text digits_text
+unanswered = refl
+
+repeated : end_text (transfer Upload 1000000 2 Repeated) [] []
+    ≡ codes "SDO upload 2100:00 1,000,000 bytes in 2 frames, 0.182 s: requested again after 0.002 s"
+unfolding end_text counted_text grouped thousands millions seconds_text digits_text
+repeated = refl
+
+interrupted : end_text (transfer Download 4294967295 2 Interrupted) [] []
+    ≡ codes "SDO download 2100:00 4,294,967,295 bytes in 2 frames, 0.182 s: interrupted"
+unfolding end_text counted_text grouped thousands millions seconds_text digits_text
+interrupted = refl
+
+unfinished : end_text (transfer Download 999999999 2 Unfinished) [] []
+    ≡ codes "SDO download 2100:00 999,999,999 bytes in 2 frames, 0.182 s: unfinished, 0.002 s after its last frame"
+unfolding end_text counted_text grouped thousands millions seconds_text digits_text
+unfinished = refl
+
+irregular : end_text (transfer Download 7 2 Irregular) [] []
+    ≡ codes "SDO download 2100:00 7 bytes in 2 frames, 0.182 s: confirmed, but frames are missing or repeated in the recording"
+unfolding end_text counted_text grouped thousands millions seconds_text digits_text
+irregular = refl
+
+other_size : end_text (transfer Download 9 2 (SizeDiffers 10)) [] []
+    ≡ codes "SDO download 2100:00 9 bytes in 2 frames, 0.182 s: confirmed, but size 10 indicated, 9 came"
+unfolding end_text counted_text grouped thousands millions seconds_text digits_text
+other_size = refl
+
+other_crc : end_text (transfer Download 9 2 (CrcDiffers 0x3F21 0x9A02)) [] []
+    ≡ codes "SDO download 2100:00 9 bytes in 2 frames, 0.182 s: confirmed, but CRC 3F21, computed 9A02"
+unfolding end_text counted_text grouped thousands millions seconds_text digits_text
+other_crc = refl
