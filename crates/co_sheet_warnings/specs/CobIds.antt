@@ -1,5 +1,20 @@
 -- COB-IDs that depend on the node-ID (CiA 301, predefined connection set; CiA 306-1, `$NODEID`).
-use Rattle.std.specs.Prelude.{ℕ, Bool, false, ◌&&◌, ◌||◌, ◌==◌, ◌^◌, nat_lt, if◌then◌else◌, List, [], ◌∷◌, codes, is_some}
+use Rattle.std.specs.Prelude.{
+  ℕ,
+  Bool,
+  false,
+  ◌&&◌,
+  ◌||◌,
+  ◌==◌,
+  ◌^◌,
+  nat_lt,
+  if◌then◌else◌,
+  List,
+  [],
+  ◌∷◌,
+  codes,
+  is_some,
+}
 use Rattle.std.specs.List.{list_any, before_first, after_first}
 use Rattle.std.specs.Option.{option_map_or}
 use Rattle.std.specs.Result.{result_ok}

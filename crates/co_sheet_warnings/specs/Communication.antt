@@ -1,5 +1,24 @@
 -- Values of the communication profile that don't work together (CiA 301, TPDO, heartbeat consumer).
-use Rattle.std.specs.Prelude.{ℕ, ◌/◌, ◌%◌, Bool, false, not, ◌&&◌, ◌==◌, nat_le, nat_lt, if◌then◌else◌, List, [], ◌∷◌, find, Option, Some, option_and_then}
+use Rattle.std.specs.Prelude.{
+  ℕ,
+  ◌/◌,
+  ◌%◌,
+  Bool,
+  false,
+  not,
+  ◌&&◌,
+  ◌==◌,
+  nat_le,
+  nat_lt,
+  if◌then◌else◌,
+  List,
+  [],
+  ◌∷◌,
+  find,
+  Option,
+  Some,
+  option_and_then,
+}
 use Rattle.std.specs.List.{list_any}
 use Rattle.std.specs.Option.{option_map_or}
 use Rattle.co_sheet_text.specs.declared.section_kind.SectionKind.{SectionKind}

@@ -1,5 +1,28 @@
 -- What FileInfo and DeviceInfo say (CiA 306-1, file information, device information).
-use Rattle.std.specs.Prelude.{ℕ, ◌==◌, Bool, true, false, ◌&&◌, ◌||◌, if◌then◌else◌, List, [], ◌∷◌, ◌++◌, length, take, drop, count_by, codes, find, is_none, is_some, Option, option_and_then}
+use Rattle.std.specs.Prelude.{
+  ℕ,
+  ◌==◌,
+  Bool,
+  true,
+  false,
+  ◌&&◌,
+  ◌||◌,
+  if◌then◌else◌,
+  List,
+  [],
+  ◌∷◌,
+  ◌++◌,
+  length,
+  take,
+  drop,
+  count_by,
+  codes,
+  find,
+  is_none,
+  is_some,
+  Option,
+  option_and_then,
+}
 use Rattle.std.specs.List.{list_any, before_first, after_first}
 use Rattle.std.specs.Option.{option_map_or}
 use Rattle.std.specs.Result.{result_ok}

@@ -8,7 +8,14 @@ use Rattle.co_sheet_text.specs.Names.{kind_of}
 use Rattle.co_sheet_text.specs.Text.{Line, same_name, is_empty}
 use Rattle.co_sheet_text.specs.Sections.{LineForm, skipped, section_line, unclosed, name_value, line_form, is_too_long}
 use Rattle.co_sheet_warnings.specs.declared.keys.Topic.{Topic}
-use Rattle.co_sheet_warnings.specs.declared.keys.Topic.TheVariants.{FileInfo, DeviceInfo, DeviceCommissioning, ObjectLists, Objects, Other}
+use Rattle.co_sheet_warnings.specs.declared.keys.Topic.TheVariants.{
+  FileInfo,
+  DeviceInfo,
+  DeviceCommissioning,
+  ObjectLists,
+  Objects,
+  Other,
+}
 
 -- what the keys of a section are about
 abbrev pub topic_of_kind : SectionKind → Topic

@@ -1,7 +1,30 @@
 -- Which objects the lists name (CiA 306-1, object lists).
-use Rattle.std.specs.Prelude.{ℕ, Bool, not, ◌&&◌, ◌||◌, ◌==◌, nat_le, nat_lt, if◌then◌else◌, List, [], ◌∷◌, map, flat_map, filter_map, Option, Some, None}
+use Rattle.std.specs.Prelude.{
+  ℕ,
+  Bool,
+  not,
+  ◌&&◌,
+  ◌||◌,
+  ◌==◌,
+  nat_le,
+  nat_lt,
+  if◌then◌else◌,
+  List,
+  [],
+  ◌∷◌,
+  map,
+  flat_map,
+  filter_map,
+  Option,
+  Some,
+  None,
+}
 use Rattle.co_sheet_text.specs.declared.section_kind.SectionKind.{SectionKind}
-use Rattle.co_sheet_text.specs.declared.section_kind.SectionKind.TheVariants.{MandatoryObjects, ManufacturerObjects, Object}
+use Rattle.co_sheet_text.specs.declared.section_kind.SectionKind.TheVariants.{
+  MandatoryObjects,
+  ManufacturerObjects,
+  Object,
+}
 use Rattle.co_sheet_text.specs.Sections.{TextSection}
 use Rattle.co_sheet.specs.ObjectLists.{Listing, is_listed}
 use Rattle.co_sheet.specs.Listings.{named_by}

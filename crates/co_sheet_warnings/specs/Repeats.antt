@@ -1,5 +1,30 @@
 -- What comes twice where it should come once: an identifier (CiA 301, COB-IDs), and a name.
-use Rattle.std.specs.Prelude.{ℕ, ◌+◌, ◌%◌, ◌^◌, ◌==◌, nat_lt, nat_eq, Bool, false, ◌&&◌, ◌||◌, if◌then◌else◌, List, [], ◌∷◌, ◌++◌, filter_map, codes, Option, Some, None, option_and_then, option_map, pos}
+use Rattle.std.specs.Prelude.{
+  ℕ,
+  ◌+◌,
+  ◌%◌,
+  ◌^◌,
+  ◌==◌,
+  nat_lt,
+  nat_eq,
+  Bool,
+  false,
+  ◌&&◌,
+  ◌||◌,
+  if◌then◌else◌,
+  List,
+  [],
+  ◌∷◌,
+  ◌++◌,
+  filter_map,
+  codes,
+  Option,
+  Some,
+  None,
+  option_and_then,
+  option_map,
+  pos,
+}
 use Rattle.std.specs.List.{list_any}
 use Rattle.std.specs.Option.{option_or}
 use Rattle.std.specs.Result.{result_ok}

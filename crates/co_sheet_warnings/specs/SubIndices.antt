@@ -1,6 +1,29 @@
 -- What an object says of its sub-indices, against those that the text describes
 -- (CiA 306-1, object description; CiA 301, sub-index 0 of arrays and records).
-use Rattle.std.specs.Prelude.{ℕ, Bool, true, false, not, ◌&&◌, ◌||◌, ◌==◌, nat_le, nat_lt, max, fold, if◌then◌else◌, List, [], ◌∷◌, length, map, codes, is_none, Option, option_and_then}
+use Rattle.std.specs.Prelude.{
+  ℕ,
+  Bool,
+  true,
+  false,
+  not,
+  ◌&&◌,
+  ◌||◌,
+  ◌==◌,
+  nat_le,
+  nat_lt,
+  max,
+  fold,
+  if◌then◌else◌,
+  List,
+  [],
+  ◌∷◌,
+  length,
+  map,
+  codes,
+  is_none,
+  Option,
+  option_and_then,
+}
 use Rattle.std.specs.Option.{option_map_or}
 use Rattle.co_sheet_text.specs.declared.section_kind.SectionKind.{SectionKind}
 use Rattle.co_sheet_text.specs.declared.section_kind.SectionKind.TheVariants.{Object, SubIndex}

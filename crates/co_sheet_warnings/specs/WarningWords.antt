@@ -2,7 +2,33 @@
 -- says so (by the name of its subject, since the numbers differ by edition).
 use Rattle.std.specs.Prelude.{ℕ, Bool, true, false, List, ◌++◌, codes}
 use Rattle.co_sheet_warnings.specs.declared.warning.WarningKind.{WarningKind}
-use Rattle.co_sheet_warnings.specs.declared.warning.WarningKind.TheVariants.{SubNumber, SubIndex0, FileInfoKeys, DeviceInfoKeys, PdoCount, WrongList, Unlisted, IdentityNumber, FixedCobId, NodeIdPlace, MisspeltKey, SharedCobId, InhibitTime, OwnHeartbeat, HeartbeatTwice, NoErrorControl, LongLine, Utf8, NotAscii, ListOrder, EqualNames, MissingName, UnknownKey, DateFormat, LineEnds}
+use Rattle.co_sheet_warnings.specs.declared.warning.WarningKind.TheVariants.{
+  SubNumber,
+  SubIndex0,
+  FileInfoKeys,
+  DeviceInfoKeys,
+  PdoCount,
+  WrongList,
+  Unlisted,
+  IdentityNumber,
+  FixedCobId,
+  NodeIdPlace,
+  MisspeltKey,
+  SharedCobId,
+  InhibitTime,
+  OwnHeartbeat,
+  HeartbeatTwice,
+  NoErrorControl,
+  LongLine,
+  Utf8,
+  NotAscii,
+  ListOrder,
+  EqualNames,
+  MissingName,
+  UnknownKey,
+  DateFormat,
+  LineEnds,
+}
 use Rattle.co_sheet_warnings.specs.KnownKeys.{key_text}
 
 -- its name

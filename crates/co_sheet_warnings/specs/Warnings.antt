@@ -1,8 +1,52 @@
 -- All that is legal in a data sheet and suspicious: the places of each kind of warning (CiA 306-1, CiA 301).
-use Rattle.std.specs.Prelude.{◌≡◌, ℕ, ◌==◌, nat_lt, if◌then◌else◌, List, [], ◌∷◌, ◌++◌, length, map, flat_map, filter, filter_map, Option, None, option_map}
+use Rattle.std.specs.Prelude.{
+  ◌≡◌,
+  ℕ,
+  ◌==◌,
+  nat_lt,
+  if◌then◌else◌,
+  List,
+  [],
+  ◌∷◌,
+  ◌++◌,
+  length,
+  map,
+  flat_map,
+  filter,
+  filter_map,
+  Option,
+  None,
+  option_map,
+}
 use Rattle.std.specs.List.Sorted.{IsNonDecreasingBy}
 use Rattle.co_sheet_warnings.specs.declared.warning.WarningKind.{WarningKind}
-use Rattle.co_sheet_warnings.specs.declared.warning.WarningKind.TheVariants.{SubNumber, SubIndex0, FileInfoKeys, DeviceInfoKeys, PdoCount, WrongList, Unlisted, IdentityNumber, FixedCobId, NodeIdPlace, MisspeltKey, SharedCobId, InhibitTime, OwnHeartbeat, HeartbeatTwice, NoErrorControl, LongLine, Utf8, NotAscii, ListOrder, EqualNames, MissingName, UnknownKey, DateFormat, LineEnds}
+use Rattle.co_sheet_warnings.specs.declared.warning.WarningKind.TheVariants.{
+  SubNumber,
+  SubIndex0,
+  FileInfoKeys,
+  DeviceInfoKeys,
+  PdoCount,
+  WrongList,
+  Unlisted,
+  IdentityNumber,
+  FixedCobId,
+  NodeIdPlace,
+  MisspeltKey,
+  SharedCobId,
+  InhibitTime,
+  OwnHeartbeat,
+  HeartbeatTwice,
+  NoErrorControl,
+  LongLine,
+  Utf8,
+  NotAscii,
+  ListOrder,
+  EqualNames,
+  MissingName,
+  UnknownKey,
+  DateFormat,
+  LineEnds,
+}
 use Rattle.co_sheet_warnings.specs.declared.warning.Warning.{Warning}
 use Rattle.co_sheet_text.specs.Sections.{TextSection}
 use Rattle.co_sheet_warnings.specs.ReadTexts.{ReadText, read_text}
@@ -14,7 +58,14 @@ use Rattle.co_sheet_warnings.specs.Lines.{long_lines, utf8, not_ascii, mixed_lin
 use Rattle.co_sheet_warnings.specs.declared.keys.Topic.TheVariants.{FileInfo, DeviceInfo}
 use Rattle.co_sheet_warnings.specs.Keys.{WrittenKey}
 use Rattle.co_sheet_warnings.specs.KnownKeys.{is_known, meant, unknown_key}
-use Rattle.co_sheet_warnings.specs.Infos.{missing_keys, file_keys, device_keys, pdo_counts, identity_numbers, date_formats}
+use Rattle.co_sheet_warnings.specs.Infos.{
+  missing_keys,
+  file_keys,
+  device_keys,
+  pdo_counts,
+  identity_numbers,
+  date_formats,
+}
 use Rattle.co_sheet_warnings.specs.Repeats.{shared_cob_ids, equal_names}
 
 -- a warning of a kind, at a line

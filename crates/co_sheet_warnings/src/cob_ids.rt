@@ -1,17 +1,16 @@
 //! COB-IDs that depend on the node-ID.
 
 ghost use Rattle.std.specs.Prelude.{◌≡◌, option_to_list};
-ghost use Rattle.co_sheet_text.specs.Views.{property_view, section_view};
+ghost use Rattle.co_sheet_text.specs.Views.{section_view};
 ghost use Rattle.co_sheet_warnings.specs.CobIds.{
   has_default_cob_id,
-  is_enabled,
-  fixed_number,
   fixed_cob_id,
   is_node_id_last,
   node_id_place,
 };
 
-use co_sheet_text::{Property, SectionKind, TextSection, same_name, trim, unsigned_number};
+use crate::sub_indices::is_within;
+use co_sheet_text::{SectionKind, TextSection, same_name, trim, unsigned_number};
 use co_text::split_at_first;
 
 fn has_default_cob_id(kind: SectionKind) -> bool
@@ -20,7 +19,8 @@ fn has_default_cob_id(kind: SectionKind) -> bool
     match kind {
         SectionKind::Object(index) => index == 0x1014,
         SectionKind::SubIndex(key) => {
-            key.sub == 1 && matches!(key.index, 0x1400..=0x1403 | 0x1800..=0x1803)
+            key.sub == 1
+                && (is_within(0x1400, 0x1403, key.index) || is_within(0x1800, 0x1803, key.index))
         }
         _ => false,
     }
@@ -29,16 +29,6 @@ fn has_default_cob_id(kind: SectionKind) -> bool
 /// A word of a COB-ID is disabled by this bit.
 const DISABLED: u64 = 1 << 31;
 
-fn fixed_number(given: &Property) -> Option<usize>
-    ensures { option_to_list result ≡ fixed_number (property_view given.now) }
-{
-    if given.number()? < DISABLED {
-        Some(given.line)
-    } else {
-        None
-    }
-}
-
 /// A fixed number where the COB-ID depends on the node-ID by default.
 pub(crate) fn fixed_cob_id(section: &TextSection) -> Option<usize>
     ensures { option_to_list result ≡ fixed_cob_id (section_view section.now) }
@@ -46,7 +36,12 @@ pub(crate) fn fixed_cob_id(section: &TextSection) -> Option<usize>
     if !has_default_cob_id(section.kind) {
         return None;
     }
-    fixed_number(&section.property(b"DefaultValue")?)
+    let given = section.property(b"DefaultValue")?;
+    if given.number()? < DISABLED {
+        Some(given.line)
+    } else {
+        None
+    }
 }
 
 fn is_node_id_last(value: &[u8]) -> bool

@@ -1,21 +1,24 @@
 //! Values of the communication profile that don't work together.
 
 ghost use Rattle.std.specs.Prelude.{◌≡◌, map, option_to_list};
-ghost use Rattle.co_sheet_warnings.specs.Communication.{
-  number_at_sub,
-  inhibit_time_of,
-  node_of_word,
-  is_used_word,
-  consumes,
-  own_heartbeat_of,
-  consumes_before,
-  is_consumed_twice,
-  heartbeat_twice_of,
-};
 ghost use Rattle.co_sheet.specs.SectionViews.{entry_view};
+ghost use Rattle.co_sheet_text.specs.Views.{section_view};
+ghost use Rattle.co_sheet_warnings.specs.Communication.{
+  consumes,
+  consumes_before,
+  heartbeat_twice,
+  inhibit_time,
+  is_consumed_twice,
+  is_some_time,
+  is_synchronous,
+  number_at_sub,
+  own_heartbeat,
+};
 
-use crate::sub_indices::{value_number, value_property};
+use crate::read_text::ReadText;
+use crate::sub_indices::{is_within, value_in, value_number};
 use co_sheet::EntrySection;
+use co_sheet_text::{SectionKind, TextSection};
 
 /// The number at a sub-index of an object.
 pub(crate) fn number_at_sub(parts: &[EntrySection], sub: u8) -> Option<u64>
@@ -29,55 +32,67 @@ pub(crate) fn number_at_sub(parts: &[EntrySection], sub: u8) -> Option<u64>
     None
 }
 
-/// The inhibit time of a synchronous TPDO, among the sub-indices of its object.
-pub(crate) fn inhibit_time(parts: &[EntrySection], entry: &EntrySection) -> Option<usize>
+fn is_synchronous(transmission: u64) -> bool
+    ensures { result ≡ is_synchronous transmission }
+{
+    transmission <= 240
+}
+
+fn is_some_time(time: u64) -> bool
+    ensures { result ≡ is_some_time time }
+{
+    0 < time
+}
+
+/// The inhibit time of a synchronous TPDO.
+pub(crate) fn inhibit_time(text: &ReadText, section: &TextSection) -> Option<usize>
     ensures { option_to_list result
-        ≡ inhibit_time_of (map entry_view parts.now) (entry_view entry.now) }
+        ≡ inhibit_time text.now.sections (section_view section.now) section.now.kind }
 {
-    if entry.key.sub != 3 || !matches!(entry.key.index, 0x1800..=0x19FF) {
-        return None;
-    }
-    if number_at_sub(parts, 2)? > 240 {
-        return None;
-    }
-    let given = value_property(entry)?;
-    if given.number()? > 0 {
-        Some(given.line)
-    } else {
-        None
+    match section.kind {
+        SectionKind::SubIndex(key) => {
+            if key.sub != 3 || !is_within(0x1800, 0x19FF, key.index) {
+                return None;
+            }
+            if !is_synchronous(number_at_sub(text.parts(key.index), 2)?) {
+                return None;
+            }
+            let given = value_in(section)?;
+            if is_some_time(given.number()?) {
+                Some(given.line)
+            } else {
+                None
+            }
+        }
+        _ => None,
     }
 }
 
-fn node_of_word(word: u64) -> u64
-    ensures { result ≡ node_of_word word }
-{
-    word / 65536 % 128
-}
-
-fn is_used_word(word: u64) -> bool
-    ensures { result ≡ is_used_word word }
-{
-    word % 65536 != 0
-}
-
+// whether a word of 1016h is for a node: bits 22 to 16 have its node-ID, and bits 15 to 0 a time
 fn consumes(node: u64, word: u64) -> bool
     ensures { result ≡ consumes node word }
 {
-    is_used_word(word) && node_of_word(word) == node
+    word % 65536 != 0 && word / 65536 % 128 == node
 }
 
 /// A word of the heartbeat consumer for the device's own node.
-pub(crate) fn own_heartbeat(node: u8, entry: &EntrySection) -> Option<usize>
-    ensures { option_to_list result ≡ own_heartbeat_of node (entry_view entry.now) }
+pub(crate) fn own_heartbeat(text: &ReadText, section: &TextSection) -> Option<usize>
+    ensures { option_to_list result
+        ≡ own_heartbeat text.now.node (section_view section.now) section.now.kind }
 {
-    if entry.key.index != 0x1016 || entry.key.sub == 0 {
-        return None;
-    }
-    let given = value_property(entry)?;
-    if consumes(u64::from(node), given.number()?) {
-        Some(given.line)
-    } else {
-        None
+    match (text.node, section.kind) {
+        (Some(node), SectionKind::SubIndex(key)) => {
+            if key.index != 0x1016 || key.sub == 0 {
+                return None;
+            }
+            let given = value_in(section)?;
+            if consumes(u64::from(node), given.number()?) {
+                Some(given.line)
+            } else {
+                None
+            }
+        }
+        _ => None,
     }
 }
 
@@ -88,7 +103,7 @@ fn consumes_before(entry: &EntrySection, sub: u8, word: u64) -> bool
         return false;
     }
     match value_number(entry) {
-        Some(other) => consumes(node_of_word(word), other),
+        Some(other) => consumes(word / 65536 % 128, other),
         None => false,
     }
 }
@@ -96,7 +111,7 @@ fn consumes_before(entry: &EntrySection, sub: u8, word: u64) -> bool
 fn is_consumed_twice(parts: &[EntrySection], sub: u8, word: u64) -> bool
     ensures { result ≡ is_consumed_twice (map entry_view parts.now) sub word }
 {
-    if !is_used_word(word) || node_of_word(word) == 0 {
+    if word % 65536 == 0 || word / 65536 % 128 == 0 {
         return false;
     }
     for part in parts {
@@ -108,17 +123,22 @@ fn is_consumed_twice(parts: &[EntrySection], sub: u8, word: u64) -> bool
 }
 
 /// A word of the heartbeat consumer for a node that an entry with a smaller sub-index has.
-pub(crate) fn heartbeat_twice(parts: &[EntrySection], entry: &EntrySection) -> Option<usize>
+pub(crate) fn heartbeat_twice(text: &ReadText, section: &TextSection) -> Option<usize>
     ensures { option_to_list result
-        ≡ heartbeat_twice_of (map entry_view parts.now) (entry_view entry.now) }
+        ≡ heartbeat_twice text.now.sections (section_view section.now) section.now.kind }
 {
-    if entry.key.index != 0x1016 {
-        return None;
-    }
-    let given = value_property(entry)?;
-    if is_consumed_twice(parts, entry.key.sub, given.number()?) {
-        Some(given.line)
-    } else {
-        None
+    match section.kind {
+        SectionKind::SubIndex(key) => {
+            if key.index != 0x1016 {
+                return None;
+            }
+            let given = value_in(section)?;
+            if is_consumed_twice(text.parts(key.index), key.sub, given.number()?) {
+                Some(given.line)
+            } else {
+                None
+            }
+        }
+        _ => None,
     }
 }

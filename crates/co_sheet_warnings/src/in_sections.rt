@@ -1,92 +1,16 @@
 //! The kinds of warnings that are about a section.
 
-ghost use Rattle.std.specs.Prelude.{◌≡◌, flat_map, map, option_to_list, IfOk};
+ghost use Rattle.std.specs.Prelude.{◌≡◌, flat_map, option_to_list, IfOk};
 ghost use Rattle.co_sheet_text.specs.Views.{section_view};
-ghost use Rattle.co_sheet_warnings.specs.SubIndices.{sub_number, sub_index_0};
-ghost use Rattle.co_sheet_warnings.specs.Lists.{unlisted};
-ghost use Rattle.co_sheet_warnings.specs.Communication.{inhibit_time, own_heartbeat, heartbeat_twice};
 ghost use Rattle.co_sheet_warnings.specs.Warnings.{places_in};
 
 use crate::cob_ids::{fixed_cob_id, node_id_place};
-use crate::communication;
+use crate::communication::{heartbeat_twice, inhibit_time, own_heartbeat};
 use crate::read_text::ReadText;
-use crate::sub_indices::{self, missing_name};
+use crate::sub_indices::{missing_name, sub_index_0, sub_number, unlisted};
 use crate::warning::WarningKind;
-use co_sheet::EntrySection;
-use co_sheet_text::{SectionKind, TextSection};
+use co_sheet_text::TextSection;
 use std::alloc::{AllocError, Global};
-
-// of an object's section
-fn sub_number(text: &ReadText, section: &TextSection) -> Option<usize>
-    ensures { option_to_list result
-        ≡ sub_number text.now.sections (section_view section.now) section.now.kind }
-{
-    match section.kind {
-        SectionKind::Object(index) => sub_indices::sub_number(section, text.parts(index).len()),
-        _ => None,
-    }
-}
-
-fn unlisted(text: &ReadText, section: &TextSection) -> Option<usize>
-    ensures { option_to_list result
-        ≡ unlisted text.now.sections (section_view section.now) section.now.kind }
-{
-    match section.kind {
-        SectionKind::Object(index) if 0x1000 <= index && !text.is_listed(index) => {
-            Some(section.line)
-        }
-        _ => None,
-    }
-}
-
-// of a sub-index section
-fn sub_index_0(text: &ReadText, section: &TextSection) -> Option<usize>
-    ensures { option_to_list result
-        ≡ sub_index_0 text.now.sections (section_view section.now) section.now.kind }
-{
-    match section.kind {
-        SectionKind::SubIndex(key) => {
-            sub_indices::sub_index_0(text.parts(key.index), &EntrySection { key, section })
-        }
-        _ => None,
-    }
-}
-
-fn inhibit_time(text: &ReadText, section: &TextSection) -> Option<usize>
-    ensures { option_to_list result
-        ≡ inhibit_time text.now.sections (section_view section.now) section.now.kind }
-{
-    match section.kind {
-        SectionKind::SubIndex(key) => {
-            communication::inhibit_time(text.parts(key.index), &EntrySection { key, section })
-        }
-        _ => None,
-    }
-}
-
-fn own_heartbeat(text: &ReadText, section: &TextSection) -> Option<usize>
-    ensures { option_to_list result
-        ≡ own_heartbeat text.now.node (section_view section.now) section.now.kind }
-{
-    match (text.node(), section.kind) {
-        (Some(node), SectionKind::SubIndex(key)) => {
-            communication::own_heartbeat(node, &EntrySection { key, section })
-        }
-        _ => None,
-    }
-}
-
-fn heartbeat_twice(text: &ReadText, section: &TextSection) -> Option<usize>
-    ensures { option_to_list result
-        ≡ heartbeat_twice text.now.sections (section_view section.now) section.now.kind }
-{
-    match section.kind {
-        SectionKind::SubIndex(key) => {
-            communication::heartbeat_twice(text.parts(key.index), &EntrySection { key, section })
-        }
-        _ => None,
-    }
-}
 
 // the line of a section where a kind applies
 fn place_in(text: &ReadText, kind: WarningKind, section: &TextSection) -> Option<usize>

@@ -8,31 +8,27 @@ ghost use Rattle.co_sheet_warnings.specs.Infos.{
   has_compact_pdos,
   identity_number,
   identity_numbers,
-  info_line,
   is_date,
   is_day_and_year,
   is_info,
-  is_key,
-  is_minute,
   is_number_of,
   is_object_within,
   is_time,
   key_at,
-  key_number,
   lacks_any,
   missing_keys,
   object_count,
   other_format,
   other_number_at,
-  other_than,
   pdo_counts,
 };
-ghost use Rattle.co_sheet_warnings.specs.private.Views.{key_view};
+ghost use Rattle.co_sheet_warnings.specs.private.Views.{is_written, key_view};
 
 use crate::communication::number_at_sub;
 use crate::keys::{Topic, WrittenKey, topic_of};
-use crate::known_key::{KnownKey, has_text};
+use crate::known_key::KnownKey;
 use crate::read_text::ReadText;
+use crate::sub_indices::is_within;
 use co_sheet_text::{SectionKind, TextSection, same_name, unsigned_number};
 use co_text::{decimal_in, split_at_first};
 
@@ -45,12 +41,6 @@ fn is_info(info: Topic, topic: Topic) -> bool
     )
 }
 
-fn is_key(info: Topic, known: KnownKey, key: &WrittenKey) -> bool
-    ensures { result ≡ is_key info known (key_view key.now) }
-{
-    is_info(info, key.topic) && has_text(key.name, known)
-}
-
 // the first key of this name in a section of FileInfo, or of DeviceInfo
 fn key_at<'k, 'a>(
     info: Topic,
@@ -61,7 +51,7 @@ fn key_at<'k, 'a>(
         ≡ key_at info (map key_view keys.now) known }
 {
     for key in keys {
-        if is_key(info, known, key) {
+        if is_info(info, key.topic) && same_name(key.name, known.text()) {
             return Some(key);
         }
     }
@@ -119,57 +109,38 @@ fn lacks_any(info: Topic, keys: &[WrittenKey], required: &[KnownKey]) -> bool
     false
 }
 
-// the line of the section, 0 where there is none
-fn info_line(info: Topic, sections: &[TextSection]) -> usize
-    ensures { result ≡ info_line info (map section_view sections.now) }
-{
-    for section in sections {
-        if is_info(info, topic_of(section.name)) {
-            return section.line;
-        }
-    }
-    0
-}
-
-/// The section of FileInfo or of DeviceInfo that lacks a key which has to be there.
+/// The section of FileInfo or of DeviceInfo that lacks a key which has to be there; 0 where there is no such section.
 pub(crate) fn missing_keys(info: Topic, text: &ReadText, required: &[KnownKey]) -> Option<usize>
     ensures { option_to_list result ≡ missing_keys info text.now required.now }
 {
-    if lacks_any(info, text.keys(), required) {
-        Some(info_line(info, text.sections()))
-    } else {
-        None
+    if !lacks_any(info, text.keys, required) {
+        return None;
     }
+    for section in text.sections() {
+        if is_info(info, topic_of(section.name)) {
+            return Some(section.line);
+        }
+    }
+    Some(0)
 }
 
-fn key_number(key: &WrittenKey) -> Option<u64>
-    ensures { result ≡ key_number (key_view key.now) }
+// a key of DeviceInfo whose number isn't this one
+fn other_number_at(text: &ReadText, known: KnownKey, number: u64) -> Option<usize>
+    ensures { option_to_list result ≡ other_number_at text.now known number }
 {
-    unsigned_number(key.value).ok()
-}
-
-// a key whose number isn't this one
-fn other_than(number: u64, key: &WrittenKey) -> Option<usize>
-    ensures { option_to_list result ≡ other_than number (key_view key.now) }
-{
-    if key_number(key)? == number {
+    let key = key_at(Topic::DeviceInfo, text.keys, known)?;
+    if unsigned_number(key.value).ok()? == number {
         None
     } else {
         Some(key.line)
     }
 }
 
-fn other_number_at(text: &ReadText, known: KnownKey, number: u64) -> Option<usize>
-    ensures { option_to_list result ≡ other_number_at text.now known number }
-{
-    other_than(number, key_at(Topic::DeviceInfo, text.keys(), known)?)
-}
-
 fn is_object_within(low: u16, high: u16, kind: SectionKind) -> bool
     ensures { result ≡ is_object_within low high kind }
 {
     match kind {
-        SectionKind::Object(index) => low <= index && index <= high,
+        SectionKind::Object(index) => is_within(low, high, index),
         _ => false,
     }
 }
@@ -187,11 +158,12 @@ fn object_count(low: u16, high: u16, sections: &[TextSection]) -> usize
     count
 }
 
+// PDOs in compact form have no sections
 fn has_compact_pdos(keys: &[WrittenKey]) -> bool
     ensures { result ≡ has_compact_pdos (map key_view keys.now) }
 {
     match key_at(Topic::DeviceInfo, keys, KnownKey::CompactPdo) {
-        Some(key) => !matches!(key_number(key), None | Some(0)),
+        Some(key) => !matches!(unsigned_number(key.value), Err(_) | Ok(0)),
         None => false,
     }
 }
@@ -200,7 +172,7 @@ fn has_compact_pdos(keys: &[WrittenKey]) -> bool
 pub(crate) fn pdo_counts(text: &ReadText) -> [Option<usize>; 2]
     ensures { flat_map option_to_list result ≡ pdo_counts text.now }
 {
-    if has_compact_pdos(text.keys()) {
+    if has_compact_pdos(text.keys) {
         return [None, None];
     }
     let receive = object_count(0x1400, 0x15FF, text.sections());
@@ -257,42 +229,42 @@ fn is_date(text: &[u8]) -> bool
     }
 }
 
-// `mmAM` or `mmPM`
-fn is_minute(text: &[u8]) -> bool
-    ensures { result ≡ is_minute text.now }
-{
-    let (minute, half) = text.split_at(text.len().min(2));
-    is_number_of(2, 0, 59, minute) && (same_name(half, b"AM") || same_name(half, b"PM"))
-}
-
-// `hh:mmAM`
+// `hh:mmAM` or `hh:mmPM`
 fn is_time(text: &[u8]) -> bool
     ensures { result ≡ is_time text.now }
 {
-    match split_at_first(text, b':') {
-        Some((hour, rest)) => is_number_of(2, 1, 12, hour) && is_minute(rest),
-        None => false,
+    let Some((hour, rest)) = split_at_first(text, b':') else {
+        return false;
+    };
+    let (minute, half) = rest.split_at(rest.len().min(2));
+    is_number_of(2, 1, 12, hour)
+        && is_number_of(2, 0, 59, minute)
+        && (same_name(half, b"AM") || same_name(half, b"PM"))
+}
+
+/// How a value of FileInfo is written.
+#[derive(Clone, Copy)]
+enum Format {
+    Date,
+    Time,
+}
+
+fn is_written(format: Format, text: &[u8]) -> bool
+    ensures { result ≡ is_written format text.now }
+{
+    match format {
+        Format::Date => is_date(text),
+        Format::Time => is_time(text),
     }
 }
 
-// a date of FileInfo in another format
-fn other_date(keys: &[WrittenKey], known: KnownKey) -> Option<usize>
-    ensures { option_to_list result ≡ other_format is_date (map key_view keys.now) known }
+// a key of FileInfo in another format
+fn other_format(keys: &[WrittenKey], format: Format, known: KnownKey) -> Option<usize>
+    ensures { option_to_list result
+        ≡ other_format (is_written format) (map key_view keys.now) known }
 {
     let key = key_at(Topic::FileInfo, keys, known)?;
-    if is_date(key.value) {
-        None
-    } else {
-        Some(key.line)
-    }
-}
-
-// a time of FileInfo in another format
-fn other_time(keys: &[WrittenKey], known: KnownKey) -> Option<usize>
-    ensures { option_to_list result ≡ other_format is_time (map key_view keys.now) known }
-{
-    let key = key_at(Topic::FileInfo, keys, known)?;
-    if is_time(key.value) {
+    if is_written(format, key.value) {
         None
     } else {
         Some(key.line)
@@ -303,11 +275,10 @@ fn other_time(keys: &[WrittenKey], known: KnownKey) -> Option<usize>
 pub(crate) fn date_formats(text: &ReadText) -> [Option<usize>; 4]
     ensures { flat_map option_to_list result ≡ date_formats text.now }
 {
-    let keys = text.keys();
     [
-        other_time(keys, KnownKey::CreationTime),
-        other_date(keys, KnownKey::CreationDate),
-        other_time(keys, KnownKey::ModificationTime),
-        other_date(keys, KnownKey::ModificationDate),
+        other_format(text.keys, Format::Time, KnownKey::CreationTime),
+        other_format(text.keys, Format::Date, KnownKey::CreationDate),
+        other_format(text.keys, Format::Time, KnownKey::ModificationTime),
+        other_format(text.keys, Format::Date, KnownKey::ModificationDate),
     ]
 }

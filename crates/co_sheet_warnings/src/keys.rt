@@ -3,7 +3,7 @@
 ghost use Rattle.std.specs.Prelude.{◌≡◌, map, option_map, option_to_list, IfOk};
 ghost use Rattle.co_sheet_text.specs.Text.{trim};
 ghost use Rattle.co_sheet_text.specs.Sections.{form_of};
-ghost use Rattle.co_sheet_warnings.specs.Keys.{begun_name, form_read, key_on, keys_of, topic_of, topic_of_kind};
+ghost use Rattle.co_sheet_warnings.specs.Keys.{begun_name, form_read, key_on, keys_of, topic_of};
 ghost use Rattle.co_sheet_warnings.specs.private.Views.{key_view, line_view};
 
 use crate::lines::Line;
@@ -34,10 +34,14 @@ pub(crate) struct WrittenKey<'a> {
     pub(crate) line: usize,
 }
 
-fn topic_of_kind(kind: SectionKind) -> Topic
-    ensures { result ≡ topic_of_kind kind }
+/// What the keys of a section of this name are about.
+pub(crate) fn topic_of(name: &[u8]) -> Topic
+    ensures { result ≡ topic_of name.now }
 {
-    match kind {
+    if same_name(name, b"FileInfo") {
+        return Topic::FileInfo;
+    }
+    match SectionKind::of_name(name) {
         SectionKind::MandatoryObjects
         | SectionKind::OptionalObjects
         | SectionKind::ManufacturerObjects => Topic::ObjectLists,
@@ -45,17 +49,6 @@ fn topic_of_kind(kind: SectionKind) -> Topic
         SectionKind::DeviceCommissioning => Topic::DeviceCommissioning,
         SectionKind::Object(_) | SectionKind::SubIndex(_) => Topic::Objects,
         SectionKind::DummyUsage | SectionKind::PassedOver => Topic::Other,
-    }
-}
-
-/// What the keys of a section of this name are about.
-pub(crate) fn topic_of(name: &[u8]) -> Topic
-    ensures { result ≡ topic_of name.now }
-{
-    if same_name(name, b"FileInfo") {
-        Topic::FileInfo
-    } else {
-        topic_of_kind(SectionKind::of_name(name))
     }
 }
 

@@ -1,11 +1,19 @@
 //! The lines of a text.
 
-ghost use Rattle.std.specs.Prelude.{◌≡◌, ◌≤◌, length, map, option_to_list, IfOk};
+ghost use Rattle.std.specs.Prelude.{◌≡◌, ◌≤◌, true, false, length, map, option_to_list, IfOk};
 ghost use Rattle.std.specs.List.{list_any};
 ghost use Rattle.std.specs.Str.{is_utf8};
 ghost use Rattle.std.specs.Prelude.{nat_lt};
 ghost use Rattle.co_sheet_text.specs.Text.{lines_of};
-ghost use Rattle.co_sheet_warnings.specs.Lines.{first_other, has_other_byte, is_other_end, long_line, long_lines, mixed_line_ends, not_ascii, utf8};
+ghost use Rattle.co_sheet_warnings.specs.Lines.{
+  first_other,
+  has_other_byte,
+  is_other_end,
+  long_lines,
+  mixed_line_ends,
+  not_ascii,
+  utf8,
+};
 ghost use Rattle.co_sheet_warnings.specs.private.Views.{line_view};
 
 use crate::read_text::ReadText;
@@ -42,25 +50,14 @@ const LONGEST: usize = 255;
 
 const LONGEST_READ: usize = 512;
 
-fn long_line(line: &Line) -> Option<usize>
-    ensures { result ≡ long_line (line_view line.now) }
-{
-    let len = line.bytes.len();
-    if LONGEST < len && len <= LONGEST_READ {
-        Some(line.number)
-    } else {
-        None
-    }
-}
-
 /// The lines of more than 255 bytes that are read.
 pub(crate) fn long_lines(alloc: Global, lines: &[Line]) -> Result<Vec<usize>, AllocError>
     ensures { IfOk result (λ places. places.items ≡ long_lines (map line_view lines.now)) }
 {
     let mut places = Vec::new(alloc);
     for line in lines {
-        if let Some(place) = long_line(line) {
-            places.push(place)?;
+        if LONGEST < line.bytes.len() && line.bytes.len() <= LONGEST_READ {
+            places.push(line.number)?;
         }
     }
     Ok(places)
@@ -97,27 +94,16 @@ fn is_utf8(text: &[u8]) -> bool
     }
 }
 
-/// The first line with a byte above 7Fh, of a text in UTF-8.
-pub(crate) fn utf8(text: &ReadText) -> Option<usize>
-    ensures { option_to_list result ≡ utf8 text.now }
+/// The first line with a byte above 7Fh, of a text that is in UTF-8, or isn't.
+pub(crate) fn other_bytes(text: &ReadText, in_utf8: bool) -> Option<usize>
+    ensures utf8 { in_utf8 ≡ true → option_to_list result ≡ utf8 text.now }
+    ensures other { in_utf8 ≡ false → option_to_list result ≡ not_ascii text.now }
 {
-    let line = first_other(text.lines())?;
-    if is_utf8(text.bytes()) {
+    let line = first_other(text.lines)?;
+    if is_utf8(text.bytes) == in_utf8 {
         Some(line)
     } else {
         None
-    }
-}
-
-/// The first line with a byte above 7Fh, of a text that isn't in UTF-8.
-pub(crate) fn not_ascii(text: &ReadText) -> Option<usize>
-    ensures { option_to_list result ≡ not_ascii text.now }
-{
-    let line = first_other(text.lines())?;
-    if is_utf8(text.bytes()) {
-        None
-    } else {
-        Some(line)
     }
 }
 

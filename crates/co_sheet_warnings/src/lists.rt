@@ -3,20 +3,10 @@
 ghost use Rattle.std.specs.Prelude.{◌≡◌, ◌++◌, ◌||◌, ℕ, nat_eq, map, flat_map, option_to_list, filter_map, IfOk, OnOk};
 ghost use Rattle.indexmap.specs.IndexSet.{contains};
 ghost use Rattle.co_sheet_text.specs.Views.{section_view};
-ghost use Rattle.co_sheet.specs.ObjectLists.{listings, is_listed};
+ghost use Rattle.co_sheet.specs.ObjectLists.{is_listed};
 ghost use Rattle.co_sheet.specs.Listings.{listing_view, named_by};
-ghost use Rattle.co_sheet_warnings.specs.Lists.{
-  is_mandatory,
-  is_of_manufacturer,
-  is_right_list,
-  wrong_listing,
-  wrong_listings,
-  wrong_lists,
-  first_fall,
-  list_order,
-  list_orders,
-};
-ghost use Rattle.co_sheet_warnings.specs.private.Views.{names};
+ghost use Rattle.co_sheet_warnings.specs.Lists.{first_fall, is_right_list, wrong_listing};
+ghost use Rattle.co_sheet_warnings.specs.private.Views.{list_places, names};
 
 use co_sheet::{Listing, read_list};
 use co_sheet_text::{SectionKind, TextSection};
@@ -34,35 +24,16 @@ fn add_named(listings: &mut Vec<Listing>, section: &TextSection) -> Result<(), A
     Ok(())
 }
 
-fn is_mandatory(index: u64) -> bool
-    ensures { result ≡ is_mandatory index }
-{
-    matches!(index, 0x1000 | 0x1001 | 0x1018)
-}
-
-fn is_of_manufacturer(index: u64) -> bool
-    ensures { result ≡ is_of_manufacturer index }
-{
-    matches!(index, 0x2000..=0x5FFF)
-}
-
+// 1000h, 1001h and 1018h are mandatory, 2000h to 5FFFh the manufacturer's, and all others optional
 fn is_right_list(list: SectionKind, index: u64) -> bool
     ensures { result ≡ is_right_list list index }
 {
+    let is_mandatory = index == 0x1000 || index == 0x1001 || index == 0x1018;
+    let is_of_manufacturer = 0x2000 <= index && index <= 0x5FFF;
     match list {
-        SectionKind::MandatoryObjects => is_mandatory(index),
-        SectionKind::ManufacturerObjects => is_of_manufacturer(index),
-        _ => !is_mandatory(index) && !is_of_manufacturer(index),
-    }
-}
-
-fn wrong_listing(list: SectionKind, listing: &Listing) -> Option<usize>
-    ensures { result ≡ wrong_listing list (listing_view listing.now) }
-{
-    if listing.index <= 0xFFFF && !is_right_list(list, listing.index) {
-        Some(listing.line)
-    } else {
-        None
+        SectionKind::MandatoryObjects => is_mandatory,
+        SectionKind::ManufacturerObjects => is_of_manufacturer,
+        _ => !is_mandatory && !is_of_manufacturer,
     }
 }
 
@@ -76,35 +47,11 @@ fn add_wrong_listings(
         ++ filter_map (wrong_listing list) (map listing_view listings.now)) }
 {
     for listing in listings {
-        if let Some(place) = wrong_listing(list, listing) {
-            places.push(place)?;
+        if listing.index <= 0xFFFF && !is_right_list(list, listing.index) {
+            places.push(listing.line)?;
         }
     }
     Ok(())
-}
-
-fn add_wrong_list(
-    alloc: Global,
-    places: &mut Vec<usize>,
-    section: &TextSection,
-) -> Result<(), AllocError>
-    ensures { OnOk result
-        (places.new.items ≡ places.old.items ++ wrong_listings (section_view section.now)) }
-{
-    let mut listings = Vec::new(alloc);
-    add_named(&mut listings, section)?;
-    add_wrong_listings(places, section.kind, listings.as_slice())
-}
-
-/// The lines that name objects that belong in another list.
-pub(crate) fn wrong_lists(alloc: Global, sections: &[TextSection]) -> Result<Vec<usize>, AllocError>
-    ensures { IfOk result (λ places. places.items ≡ wrong_lists (map section_view sections.now)) }
-{
-    let mut places = Vec::new(alloc);
-    for section in sections {
-        add_wrong_list(alloc, &mut places, section)?;
-    }
-    Ok(places)
 }
 
 // the first that names a smaller index than the one before it
@@ -121,29 +68,50 @@ fn first_fall(listings: &[Listing]) -> Option<usize>
     None
 }
 
-fn add_list_order(
+/// What is asked of each list.
+#[derive(Clone, Copy)]
+pub(crate) enum ListCheck {
+    /// The lines that name objects that belong in another list.
+    Objects,
+    /// The first line that names a smaller index than the one before it.
+    Order,
+}
+
+// the lines of a section that fail a check, after those that are there
+fn add_list_places(
     alloc: Global,
     places: &mut Vec<usize>,
+    check: ListCheck,
     section: &TextSection,
 ) -> Result<(), AllocError>
     ensures { OnOk result
-        (places.new.items ≡ places.old.items ++ list_order (section_view section.now)) }
+        (places.new.items ≡ places.old.items ++ list_places check (section_view section.now)) }
 {
     let mut listings = Vec::new(alloc);
     add_named(&mut listings, section)?;
-    if let Some(place) = first_fall(listings.as_slice()) {
-        places.push(place)?;
+    match check {
+        ListCheck::Objects => add_wrong_listings(places, section.kind, listings.as_slice()),
+        ListCheck::Order => {
+            if let Some(place) = first_fall(listings.as_slice()) {
+                places.push(place)?;
+            }
+            Ok(())
+        }
     }
-    Ok(())
 }
 
-/// Of each list, the first line that names a smaller index than the one before it.
-pub(crate) fn list_orders(alloc: Global, sections: &[TextSection]) -> Result<Vec<usize>, AllocError>
-    ensures { IfOk result (λ places. places.items ≡ list_orders (map section_view sections.now)) }
+/// The lines of all lists that fail a check.
+pub(crate) fn list_places(
+    alloc: Global,
+    check: ListCheck,
+    sections: &[TextSection],
+) -> Result<Vec<usize>, AllocError>
+    ensures { IfOk result
+        (λ places. places.items ≡ flat_map (list_places check) (map section_view sections.now)) }
 {
     let mut places = Vec::new(alloc);
     for section in sections {
-        add_list_order(alloc, &mut places, section)?;
+        add_list_places(alloc, &mut places, check, section)?;
     }
     Ok(places)
 }

@@ -5,7 +5,7 @@ ghost use Rattle.co_sheet.specs.Entries.{sub_indices};
 ghost use Rattle.co_sheet.specs.ObjectLists.{is_listed};
 ghost use Rattle.co_sheet.specs.SectionViews.{entry_view};
 ghost use Rattle.co_sheet_text.specs.Views.{section_view};
-ghost use Rattle.co_sheet_warnings.specs.private.Views.{key_view, line_view, text_view};
+ghost use Rattle.co_sheet_warnings.specs.private.Views.{text_view};
 
 use crate::keys::WrittenKey;
 use crate::lines::Line;
@@ -20,11 +20,12 @@ use std::marker::Model;
 /// the indices that the lists name.
 #[derive(Drop)]
 pub(crate) struct ReadText<'s, 'a> {
-    bytes: &'a [u8],
-    lines: &'s [Line<'a>],
+    pub(crate) bytes: &'a [u8],
+    pub(crate) lines: &'s [Line<'a>],
     tables: Tables<'s, 'a>,
-    keys: &'s [WrittenKey<'a>],
-    node: Option<u8>,
+    /// The keys as they are written.
+    pub(crate) keys: &'s [WrittenKey<'a>],
+    pub(crate) node: Option<u8>,
     indices: IndexSet<u64>,
 }
 
@@ -63,36 +64,10 @@ impl<'s, 'a> ReadText<'s, 'a> {
         })
     }
 
-    pub(crate) fn bytes(&self) -> &'a [u8]
-        ensures { result.now ≡ self.now.text }
-    {
-        self.bytes
-    }
-
-    pub(crate) fn lines(&self) -> &'s [Line<'a>]
-        ensures { map line_view result.now ≡ self.now.lines }
-    {
-        self.lines
-    }
-
     pub(crate) fn sections(&self) -> &'s [TextSection<'s, 'a>]
         ensures { map section_view result.now ≡ self.now.sections }
     {
         self.tables.sections()
-    }
-
-    /// The keys as they are written.
-    pub(crate) fn keys(&self) -> &'s [WrittenKey<'a>]
-        ensures { map key_view result.now ≡ self.now.keys }
-    {
-        self.keys
-    }
-
-    /// The node-ID that is given for the device.
-    pub(crate) fn node(&self) -> Option<u8>
-        ensures { result ≡ self.now.node }
-    {
-        self.node
     }
 
     /// The sub-index sections of an object, in the order of the text.

@@ -1,29 +1,25 @@
 //! What comes twice where it should come once: an identifier, and a name.
 
-ghost use Rattle.std.specs.Prelude.{◌≡◌, [], ◌∷◌, ◌++◌, if◌then◌else◌, nat_eq, map, filter_map, option_map, IfOk};
+ghost use Rattle.std.specs.Prelude.{◌≡◌, [], ◌∷◌, ◌++◌, if◌then◌else◌, map, option_map, Some, IfOk};
 ghost use Rattle.std.specs.List.{list_any};
 ghost use Rattle.co_sheet.specs.Views.{default_view};
-ghost use Rattle.co_sheet_text.specs.Views.{property_view, section_view};
+ghost use Rattle.co_sheet_text.specs.Views.{section_view};
 ghost use Rattle.co_sheet_warnings.specs.Repeats.{
   equal_names,
   has_cob_id,
   identifier_in,
-  identifier_of,
-  identifiers_in,
   cob_id_for,
   enabled_cob_id,
-  if_enabled,
   name_in,
-  repeats,
   same_scoped,
   scope_of,
   shared_cob_ids,
 };
 ghost use Rattle.co_sheet_warnings.specs.private.Views.{identifier_view, name_view, scoped_view};
 
-use crate::sub_indices::value_in;
+use crate::sub_indices::{is_within, value_in};
 use co_sheet::{Preset, numeric_default};
-use co_sheet_text::{Property, SectionKind, TextSection};
+use co_sheet_text::{SectionKind, TextSection};
 use co_value::DataType;
 use indexmap::IndexSet;
 use std::alloc::{AllocError, Global};
@@ -33,10 +29,11 @@ fn has_cob_id(kind: SectionKind) -> bool
 {
     match kind {
         SectionKind::Object(index) => index == 0x1014,
-        SectionKind::SubIndex(key) => matches!(
-            (key.index, key.sub),
-            (0x1400..=0x15FF | 0x1800..=0x19FF, 1) | (0x1200..=0x12FF, 1 | 2)
-        ),
+        SectionKind::SubIndex(key) => {
+            (key.sub == 1
+                && (is_within(0x1400, 0x15FF, key.index) || is_within(0x1800, 0x19FF, key.index)))
+                || ((key.sub == 1 || key.sub == 2) && is_within(0x1200, 0x12FF, key.index))
+        }
         _ => false,
     }
 }
@@ -44,13 +41,7 @@ fn has_cob_id(kind: SectionKind) -> bool
 /// A COB-ID is disabled from this bit on.
 const DISABLED: u64 = 1 << 31;
 
-fn if_enabled(word: u64) -> Option<u64>
-    ensures { result ≡ if_enabled word }
-{
-    if word < DISABLED { Some(word) } else { None }
-}
-
-// the COB-ID that a value is for a node
+// the COB-ID that a value is for a node; where it is disabled it is none
 fn cob_id_for(node: u8, value: Preset<'static>) -> Option<u64>
     ensures { result ≡ cob_id_for node (default_view value.entry) }
 {
@@ -58,7 +49,10 @@ fn cob_id_for(node: u8, value: Preset<'static>) -> Option<u64>
         Preset::Number(number) if 0 <= number && number < i128::from(DISABLED) => {
             Some(number as u64)
         }
-        Preset::NodeId(addend) => if_enabled(addend.checked_add(u64::from(node))?),
+        Preset::NodeId(addend) => {
+            let word = addend.checked_add(u64::from(node))?;
+            if word < DISABLED { Some(word) } else { None }
+        }
         _ => None,
     }
 }
@@ -74,16 +68,20 @@ fn enabled_cob_id(node: u8, value: &[u8]) -> Option<u64>
 }
 
 /// An identifier that an entry has, and the line of its value.
-#[derive(Clone, Copy)]
+#[derive(Drop)]
 pub(crate) struct UsedIdentifier {
     pub(crate) identifier: u64,
     pub(crate) line: usize,
 }
 
 // the identifier of an entry with a COB-ID, for a node
-fn identifier_of(node: u8, given: &Property) -> Option<UsedIdentifier>
-    ensures { option_map identifier_view result ≡ identifier_of node (property_view given.now) }
+fn identifier_in(node: u8, section: &TextSection) -> Option<UsedIdentifier>
+    ensures { option_map identifier_view result ≡ identifier_in node (section_view section.now) }
 {
+    if !has_cob_id(section.kind) {
+        return None;
+    }
+    let given = value_in(section)?;
     let identifier = enabled_cob_id(node, given.value)? % (1 << 30);
     if identifier == 0 {
         return None;
@@ -94,62 +92,25 @@ fn identifier_of(node: u8, given: &Property) -> Option<UsedIdentifier>
     })
 }
 
-fn identifier_in(node: u8, section: &TextSection) -> Option<UsedIdentifier>
-    ensures { option_map identifier_view result ≡ identifier_in node (section_view section.now) }
-{
-    if !has_cob_id(section.kind) {
-        return None;
-    }
-    identifier_of(node, &value_in(section)?)
-}
-
-fn identifiers_in(
+/// The COB-IDs of EMCY, PDOs and SDO channels with an identifier that one before them has, for a node-ID.
+pub(crate) fn shared_cob_ids(
     alloc: Global,
     node: u8,
     sections: &[TextSection],
-) -> Result<Vec<UsedIdentifier>, AllocError>
-    ensures { IfOk result (λ used. map identifier_view used.items
-        ≡ identifiers_in node (map section_view sections.now)) }
-{
-    let mut all = Vec::new(alloc);
-    for section in sections {
-        if let Some(used) = identifier_in(node, section) {
-            all.push(used)?;
-        }
-    }
-    Ok(all)
-}
-
-// the lines of identifiers that one before them equals
-fn repeated_identifiers(alloc: Global, all: &[UsedIdentifier]) -> Result<Vec<usize>, AllocError>
+) -> Result<Vec<usize>, AllocError>
     ensures { IfOk result (λ places.
-        places.items ≡ repeats nat_eq [] (map identifier_view all.now)) }
+        places.items ≡ shared_cob_ids (Some node) (map section_view sections.now)) }
 {
     let mut places = Vec::new(alloc);
     let mut before: IndexSet<u64> = IndexSet::new(alloc);
-    for used in all {
-        if !before.insert(used.identifier)? {
-            places.push(used.line)?;
+    for section in sections {
+        if let Some(used) = identifier_in(node, section) {
+            if !before.insert(used.identifier)? {
+                places.push(used.line)?;
+            }
         }
     }
     Ok(places)
-}
-
-/// The COB-IDs of EMCY, PDOs and SDO channels with an identifier that one before them has, for the node-ID that is
-/// given.
-pub(crate) fn shared_cob_ids(
-    alloc: Global,
-    node: Option<u8>,
-    sections: &[TextSection],
-) -> Result<Vec<usize>, AllocError>
-    ensures { IfOk result (λ places.
-        places.items ≡ shared_cob_ids node (map section_view sections.now)) }
-{
-    let Some(node) = node else {
-        return Ok(Vec::new(alloc));
-    };
-    let all = identifiers_in(alloc, node, sections)?;
-    repeated_identifiers(alloc, all.as_slice())
 }
 
 /// The scope of the names of objects.
@@ -164,7 +125,7 @@ pub(crate) struct ScopedName<'a> {
 }
 
 /// A name, and its line.
-#[derive(Clone, Copy)]
+#[derive(Drop)]
 pub(crate) struct PlacedName<'a> {
     pub(crate) name: ScopedName<'a>,
     pub(crate) line: usize,
@@ -194,22 +155,6 @@ fn name_in<'a>(section: &TextSection<'_, 'a>) -> Option<PlacedName<'a>>
     })
 }
 
-fn names_in<'a>(
-    alloc: Global,
-    sections: &[TextSection<'_, 'a>],
-) -> Result<Vec<PlacedName<'a>>, AllocError>
-    ensures { IfOk result (λ names. map name_view names.items
-        ≡ filter_map name_in (map section_view sections.now)) }
-{
-    let mut names = Vec::new(alloc);
-    for section in sections {
-        if let Some(name) = name_in(section) {
-            names.push(name)?;
-        }
-    }
-    Ok(names)
-}
-
 // whether a name equals one before it; then it is one of those before
 #[tactic(auto, using(crate::proofs::NameLemmas::more_names))]
 fn is_repeated<'a>(
@@ -226,25 +171,18 @@ fn is_repeated<'a>(
     Ok(!is_new)
 }
 
-// the lines of names that one before them equals
-fn repeated_names(alloc: Global, names: &[PlacedName]) -> Result<Vec<usize>, AllocError>
-    ensures { IfOk result (λ places.
-        places.items ≡ repeats same_scoped [] (map name_view names.now)) }
-{
-    let mut places = Vec::new(alloc);
-    let mut before = IndexSet::new(alloc);
-    for name in names {
-        if is_repeated(&mut before, name.name)? {
-            places.push(name.line)?;
-        }
-    }
-    Ok(places)
-}
-
 /// The names of objects, and of the sub-indices of an object, that one before them equals.
 pub(crate) fn equal_names(alloc: Global, sections: &[TextSection]) -> Result<Vec<usize>, AllocError>
     ensures { IfOk result (λ places. places.items ≡ equal_names (map section_view sections.now)) }
 {
-    let names = names_in(alloc, sections)?;
-    repeated_names(alloc, names.as_slice())
+    let mut places = Vec::new(alloc);
+    let mut before = IndexSet::new(alloc);
+    for section in sections {
+        if let Some(name) = name_in(section) {
+            if is_repeated(&mut before, name.name)? {
+                places.push(name.line)?;
+            }
+        }
+    }
+    Ok(places)
 }

@@ -1,35 +1,71 @@
 //! What an object says of its sub-indices, against those that the text describes.
 
-ghost use Rattle.std.specs.Prelude.{◌≡◌, ℕ, length, map, option_map, option_to_list};
+ghost use Rattle.std.specs.Prelude.{◌≡◌, [], ◌∷◌, map, option_map, option_to_list};
+ghost use Rattle.co_sheet.specs.ObjectLists.{is_one_of};
 ghost use Rattle.co_sheet_text.specs.Views.{property_view, section_view};
-ghost use Rattle.co_sheet.specs.Limits.{value_property};
-ghost use Rattle.co_sheet.specs.Notes.{sub_number_note};
+ghost use Rattle.co_sheet.specs.SectionViews.{entry_view};
+ghost use Rattle.co_sheet_warnings.specs.Lists.{unlisted};
+ghost use Rattle.co_sheet_warnings.specs.Repeats.{value_in};
 ghost use Rattle.co_sheet_warnings.specs.SubIndices.{
-  is_constant_word,
-  is_constant,
-  missing_name,
   counted,
   highest_of,
   is_highest_by_rule,
+  is_within,
+  missing_name,
+  sub_index_0,
+  sub_number,
   value_number,
-  other_number,
-  sub_index_0_of,
 };
-ghost use Rattle.co_sheet.specs.SectionViews.{entry_view};
-ghost use Rattle.co_sheet_warnings.specs.Repeats.{value_in};
+ghost use Rattle.co_sheet_warnings.specs.private.Views.{is_constant_section};
 
+use crate::read_text::ReadText;
 use co_sheet::EntrySection;
 use co_sheet_text::{Property, SectionKind, TextSection, same_name};
 
-/// The SubNumber of an object that isn't the number of its sub-index sections.
-pub(crate) fn sub_number(section: &TextSection, count: usize) -> Option<usize>
-    ensures { option_to_list result
-        ≡ map (λ n. n.line) (sub_number_note (section_view section.now) count) }
+/// Whether an index is in a range with both its ends. Conditions call it, so that the order of numbers is proved once.
+pub(crate) fn is_within(low: u16, high: u16, index: u16) -> bool
+    ensures { result ≡ is_within low high index }
 {
-    let given = section.property(b"SubNumber")?;
-    match given.number() {
-        Some(number) if number == count as u64 => None,
-        _ => Some(given.line),
+    low <= index && index <= high
+}
+
+fn is_count(number: Option<u64>, count: usize) -> bool
+    ensures { result ≡ is_one_of (count ∷ []) number }
+{
+    match number {
+        Some(number) => number == count as u64,
+        None => false,
+    }
+}
+
+/// The SubNumber of an object that isn't the number of its sub-index sections.
+pub(crate) fn sub_number(text: &ReadText, section: &TextSection) -> Option<usize>
+    ensures { option_to_list result
+        ≡ sub_number text.now.sections (section_view section.now) section.now.kind }
+{
+    match section.kind {
+        SectionKind::Object(index) => {
+            let given = section.property(b"SubNumber")?;
+            if is_count(given.number(), text.parts(index).len()) {
+                None
+            } else {
+                Some(given.line)
+            }
+        }
+        _ => None,
+    }
+}
+
+/// An object section that no list names.
+pub(crate) fn unlisted(text: &ReadText, section: &TextSection) -> Option<usize>
+    ensures { option_to_list result
+        ≡ unlisted text.now.sections (section_view section.now) section.now.kind }
+{
+    match section.kind {
+        SectionKind::Object(index) if 0x1000 <= index && !text.is_listed(index) => {
+            Some(section.line)
+        }
+        _ => None,
     }
 }
 
@@ -58,31 +94,19 @@ pub(crate) fn value_in<'a>(section: &TextSection<'_, 'a>) -> Option<Property<'a>
     }
 }
 
-/// What an entry begins with.
-pub(crate) fn value_property<'a>(entry: &EntrySection<'_, 'a>) -> Option<Property<'a>>
-    ensures { option_map property_view result ≡ value_property (entry_view entry.now) }
-{
-    value_in(entry.section)
-}
-
 /// The number that an entry begins with.
 pub(crate) fn value_number(entry: &EntrySection) -> Option<u64>
     ensures { result ≡ value_number (entry_view entry.now) }
 {
-    value_property(entry)?.number()
+    value_in(entry.section)?.number()
 }
 
-fn is_constant_word(word: &[u8]) -> bool
-    ensures { result ≡ is_constant_word word.now }
+// an entry that nobody writes
+fn is_constant(section: &TextSection) -> bool
+    ensures { result ≡ is_constant_section (section_view section.now) }
 {
-    same_name(word, b"ro") || same_name(word, b"const")
-}
-
-fn is_constant(entry: &EntrySection) -> bool
-    ensures { result ≡ is_constant (entry_view entry.now) }
-{
-    match entry.section.property(b"AccessType") {
-        Some(given) => is_constant_word(given.value),
+    match section.property(b"AccessType") {
+        Some(given) => same_name(given.value, b"ro") || same_name(given.value, b"const"),
         None => false,
     }
 }
@@ -106,28 +130,27 @@ fn highest_of(parts: &[EntrySection]) -> u8
 fn is_highest_by_rule(index: u16) -> bool
     ensures { result ≡ is_highest_by_rule index }
 {
-    !matches!(index, 0x1003 | 0x1600..=0x17FF | 0x1A00..=0x1BFF)
-}
-
-fn other_number(highest: u8, given: &Property) -> Option<usize>
-    ensures { option_to_list result ≡ other_number highest (property_view given.now) }
-{
-    let number = given.number()?;
-    if number > 0xFF || number == u64::from(highest) {
-        None
-    } else {
-        Some(given.line)
-    }
+    !(index == 0x1003 || is_within(0x1600, 0x17FF, index) || is_within(0x1A00, 0x1BFF, index))
 }
 
 /// A constant sub-index 0 that isn't the highest sub-index of its object.
-pub(crate) fn sub_index_0(parts: &[EntrySection], entry: &EntrySection) -> Option<usize>
+pub(crate) fn sub_index_0(text: &ReadText, section: &TextSection) -> Option<usize>
     ensures { option_to_list result
-        ≡ sub_index_0_of (map entry_view parts.now) (entry_view entry.now) }
+        ≡ sub_index_0 text.now.sections (section_view section.now) section.now.kind }
 {
-    if entry.key.sub != 0 || !is_highest_by_rule(entry.key.index) || !is_constant(entry) {
-        return None;
+    match section.kind {
+        SectionKind::SubIndex(key) => {
+            if key.sub != 0 || !is_highest_by_rule(key.index) || !is_constant(section) {
+                return None;
+            }
+            let given = value_in(section)?;
+            let number = given.number()?;
+            if number > 0xFF || number == u64::from(highest_of(text.parts(key.index))) {
+                None
+            } else {
+                Some(given.line)
+            }
+        }
+        _ => None,
     }
-    let given = value_property(entry)?;
-    other_number(highest_of(parts), &given)
 }

@@ -83,9 +83,12 @@ pub fn fix_of(kind: WarningKind) -> &'static str
         WarningKind::SubNumber => "count the sections, or leave the key out",
         WarningKind::SubIndex0 => "give it the highest sub-index that the object has",
         WarningKind::FileInfoKeys =>
-            "give it FileName, FileVersion, FileRevision, Description, CreationTime, CreationDate, CreatedBy, ModificationTime, ModificationDate and ModifiedBy",
+            "give it FileName, FileVersion, FileRevision, Description, CreationTime, CreationDate, CreatedBy, \
+            ModificationTime, ModificationDate and ModifiedBy",
         WarningKind::DeviceInfoKeys =>
-            "give it VendorName, VendorNumber, ProductName, ProductNumber, RevisionNumber, OrderCode, the eight BaudRate_.., SimpleBootUpMaster, SimpleBootUpSlave, Granularity, DynamicChannelsSupported, GroupMessaging, NrOfRXPDO, NrOfTXPDO and LSS_Supported",
+            "give it VendorName, VendorNumber, ProductName, ProductNumber, RevisionNumber, OrderCode, the eight \
+            BaudRate_.., SimpleBootUpMaster, SimpleBootUpSlave, Granularity, DynamicChannelsSupported, \
+            GroupMessaging, NrOfRXPDO, NrOfTXPDO and LSS_Supported",
         WarningKind::PdoCount =>
             "count the objects 1400h to 15FFh for NrOfRXPDO, 1800h to 19FFh for NrOfTXPDO",
         WarningKind::WrongList =>

@@ -1,22 +1,45 @@
 -- What the tables of a text say, without where its bytes lie in memory.
-use Rattle.std.specs.Prelude.{◌≡◌, ◌==◌, ℕ, Bool, nat_eq, List, map, Option}
+use Rattle.std.specs.Prelude.{◌≡◌, ◌==◌, ℕ, Bool, false, nat_eq, List, map, codes, Option}
 use Rattle.std.specs.List.{list_any}
+use Rattle.std.specs.Option.{option_map_or}
 use Rattle.std.specs.HashSet.{HashSet, contains}
+use Rattle.co_sheet_warnings.specs.declared.infos.Format.{Format}
+use Rattle.co_sheet_warnings.specs.declared.infos.Format.TheVariants.{Date, Time}
 use Rattle.co_sheet_warnings.specs.declared.keys.WrittenKey.{WrittenKey as CodeKey}
 use Rattle.co_sheet_warnings.specs.declared.lines.Line.{Line as CodeLine}
+use Rattle.co_sheet_warnings.specs.declared.lists.ListCheck.{ListCheck}
+use Rattle.co_sheet_warnings.specs.declared.lists.ListCheck.TheVariants.{Objects, Order}
 use Rattle.co_sheet_warnings.specs.declared.repeats.UsedIdentifier.{UsedIdentifier}
 use Rattle.co_sheet_warnings.specs.declared.repeats.PlacedName.{PlacedName}
 use Rattle.co_sheet_warnings.specs.declared.repeats.ScopedName.{ScopedName as CodeName}
 use Rattle.co_sheet_text.specs.Text.{Line}
-use Rattle.co_sheet_text.specs.Sections.{TextSection}
+use Rattle.co_sheet_text.specs.Sections.{TextSection, property_at}
 use Rattle.co_sheet.specs.ObjectLists.{Listing, is_listed}
+use Rattle.co_sheet_warnings.specs.Infos.{is_date, is_time}
 use Rattle.co_sheet_warnings.specs.Keys.{WrittenKey}
+use Rattle.co_sheet_warnings.specs.Lists.{wrong_listings, list_order}
 use Rattle.co_sheet_warnings.specs.ReadTexts.{ReadText}
 use Rattle.co_sheet_warnings.specs.Repeats.{Placed, ScopedName}
+use Rattle.co_sheet_warnings.specs.SubIndices.{is_constant_word}
 
 -- a line
 abbrev pub line_view : CodeLine → Line
 line_view l = record { number = l.number; bytes = l.bytes.now }
+
+-- the lines of a section that fail a check of lists
+abbrev pub list_places : ListCheck → TextSection → List ℕ
+list_places Objects = wrong_listings
+list_places Order = list_order
+
+-- an entry that nobody writes, by its section
+abbrev pub is_constant_section : TextSection → Bool
+is_constant_section s =
+    option_map_or (λ k. is_constant_word k.value) (property_at (codes "AccessType") s) false
+
+-- whether a text is a date, or a time
+abbrev pub is_written : Format → List ℕ → Bool
+is_written Date = is_date
+is_written Time = is_time
 
 -- whether listings name an index
 abbrev pub names : ℕ → List Listing → Bool

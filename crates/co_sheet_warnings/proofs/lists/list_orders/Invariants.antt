@@ -1,9 +1,0 @@
-use Rattle.std.proofs.Common.{◌≡◌, ◌++◌, drop, map}
-use Rattle.std.specs.List.{flat_map}
-use Rattle.co_sheet_text.specs.Views.{section_view}
-use Rattle.co_sheet_warnings.specs.Lists.{list_order}
-use Rattle.co_sheet_warnings.proofs.lists.list_orders.Given as goal
-
--- those so far, and after them those of the rest
-abbrev pub invariant-loop-section : goal.invariant-loop-section
-invariant-loop-section l = l.places.items ++ flat_map list_order (map section_view (drop l.section-index l.sections)) ≡ flat_map list_order (map section_view l.sections)
