@@ -1,5 +1,5 @@
-//! A CANopen device node on the command line: checks, lints, shows and adapts data sheets, decodes and explains CAN traces
-//! as `candump -L` writes them, plays one to the device of a data sheet, and lets an SDO client download to it.
+//! A CANopen device node on the command line: checks, lints, shows and adapts data sheets, decodes and explains CAN
+//! traces as `candump -L` writes them, plays one to the device of a data sheet, and lets an SDO client download to it.
 #![tactic(auto)]
 
 use co_dict_build::Limits;
