@@ -1,0 +1,9 @@
+pub mod Asc
+pub mod BadWords
+pub mod Logs
+pub mod Needs
+pub mod Numbers
+pub mod Parts
+pub mod Screen
+pub mod Trc
+pub mod Words
