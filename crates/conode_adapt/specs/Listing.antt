@@ -3,10 +3,10 @@ use Rattle.std.specs.Prelude.{ℕ, ◌+◌, ◌-◌, Bool, false, length, take, 
 use Rattle.std.specs.List.{flat_map, starts_with}
 use Rattle.co_text.specs.Printed.{digits_text}
 use Rattle.co_sheet_text.specs.Text.{trim, is_empty}
-use Rattle.co_sheet_adapt.specs.declared.change.ChangeKind.{ChangeKind}
-use Rattle.co_sheet_adapt.specs.declared.change.ChangeKind.TheVariants.{CompactSubObj}
-use Rattle.co_sheet_adapt.specs.Pieces.{Change, Piece, changed}
-use Rattle.co_sheet_adapt.specs.Words.{change_name}
+use Rattle.co_sheet_changes.specs.declared.change.ChangeKind.{ChangeKind}
+use Rattle.co_sheet_changes.specs.declared.change.ChangeKind.TheVariants.{CompactSubObj, CompactPdo}
+use Rattle.co_sheet_changes.specs.Pieces.{Change, Piece, changed}
+use Rattle.co_sheet_changes.specs.Words.{change_name}
 
 -- a control character is shown as `?`
 abbrev pub shown_byte : ℕ → ℕ
@@ -32,8 +32,16 @@ abbrev pub sections_text : ℕ → ℕ → List ℕ
 sections_text index count =
     codes ", [" ++ digits_text 16 4 index ++ codes "sub0] and " ++ decimal count ++ codes " more"
 
+-- the objects that PDOs in compact form get, and what the sheet doesn't say of them
+unfoldable pub invented : List ℕ
+invented = codes " objects; invented: not valid, type 255, timers 0, mappings of 0 entries"
+
+abbrev pub objects_text : ℕ → List ℕ
+objects_text count = codes ", " ++ decimal count ++ invented
+
 unfoldable pub sub_indices_text : ChangeKind → List ℕ
 sub_indices_text (CompactSubObj index count) = sections_text index count
+sub_indices_text (CompactPdo count) = objects_text count
 sub_indices_text kind = []
 
 -- `NAME:LINE: `
