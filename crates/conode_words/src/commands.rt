@@ -230,7 +230,7 @@ fn adapt_command<'a>(alloc: Global) -> Result<Command<'a>, AllocError>
     let force = flag(
         alloc,
         "force",
-        "Also mend bad limits, mappings and 1005h by dropping them",
+        "Also drop bad limits, mappings, bit 30 of 1005h",
     );
     with_arg(command, force)
 }
