@@ -105,16 +105,22 @@ class Sheet:
 
     def pdos(self):
         """CompactPDO of some PDOs each way."""
-        bits, receive, transmit = dice.randint(1, 63) | 3, dice.randint(0, 4), dice.randint(0, 4)
+        receive, transmit = dice.randint(0, 4), dice.randint(0, 4)
+        # COB-ID and transmission type, and some of the others: from sub-index 1, or from sub-index 0 where that can be told
+        subs = {1, 2} | set(dice.sample([3, 4, 5, 6], dice.randint(0, 4)))
+        first = 0 if dice.random() < 0.5 and (6 in subs or (3 in subs and 4 not in subs)) else 1
+        if first == 1 and 4 in subs:
+            subs.add(5)
+        bits = sum(1 << sub - first for sub in subs) + (1 if first == 0 else 0)
         self.info = ["[DeviceInfo]", "NrOfRXPDO=%d" % receive, "NrOfTXPDO=%d" % transmit,
                      "CompactPDO=" + dice.choice(["%d", "0x%02X"]) % bits]
         self.expect("[DeviceInfo]", {"CompactPDO": "0"})
         for first, count in ((0x1400, receive), (0x1800, transmit)):
             for index in range(first, first + count):
                 for sub in range(1, 7):
-                    given = bits >> sub - 1 & 1
+                    given = sub in subs
                     self.expect("[%04Xsub%d]" % (index, sub), {"AccessType": "rw" if given else None})
-                self.expect("[%04Xsub0]" % index, {"DefaultValue": str(bits.bit_length())})
+                self.expect("[%04Xsub0]" % index, {"DefaultValue": str(max(subs))})
                 self.expect("[%04Xsub0]" % (index + 0x200), {"DefaultValue": "0"})
 
     def add(self, head, lines, plain=None):

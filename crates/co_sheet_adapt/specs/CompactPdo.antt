@@ -16,9 +16,10 @@ use Rattle.co_sheet_adapt.specs.declared.compact_pdo.Part.{Part}
 use Rattle.co_sheet_adapt.specs.declared.compact_pdo.Part.TheVariants.{Communication, Mapping, CobId, TransmissionType, InhibitTime, Reserved, EventTimer, SyncStart, MappingCount, MappingWord}
 use Rattle.co_sheet_adapt.specs.Compact.{first_section, sub_head, sub_sections}
 
--- what sections say of PDOs: the bits of CompactPDO, the number of optional objects, and the objects that get sections
+-- what sections say of PDOs: the sub-indices of their communication objects, bit 0 for sub-index 1, the number of optional
+-- objects, and the objects that get sections
 pub record PdoForm : Type 0 where
-  pub bits : ℕ
+  pub subs : ℕ
   pub listed : ℕ
   pub absent : List ℕ
 
@@ -46,18 +47,36 @@ absent_objects groups receive transmit =
     absent_of groups 0x1400 receive ++ absent_of groups 0x1600 receive
     ++ absent_of groups 0x1800 transmit ++ absent_of groups 0x1A00 transmit
 
--- bit 0 is sub-index 1, bit 5 sub-index 6; there are 512 PDOs each way at most
+-- ---- the sub-indices of a communication object (CiA 301, 7.5.2.35 and 7.5.2.37)
+
+-- of bit 0 for sub-index 1 on: COB-ID and transmission type are there, and at most sub-index 6
+abbrev pub has_needed : ℕ → Bool
+has_needed subs = (subs % 4 == 3) && nat_lt subs 64
+
+-- the reserved sub-index 4, and no sub-index 5
+abbrev pub ends_reserved : ℕ → Bool
+ends_reserved subs = (subs / 8 % 2 == 1) && (subs / 16 % 2 == 0)
+
+-- some sheets count the bits from sub-index 1, others from sub-index 0. Where CiA 301 allows both, it is from sub-index 1; a
+-- reserved sub-index 4 in the place of the event timer tells that it is from sub-index 0. None: it is neither
+abbrev pub subs_of : ℕ → Option ℕ
+subs_of bits =
+    if has_needed bits && not (ends_reserved bits) then Some bits
+    else if has_needed (bits / 2) then Some (bits / 2)
+    else None
+
+-- there are 512 PDOs each way at most
 abbrev pub form_in : List Group → Group → Group → Option PdoForm
 form_in groups info list =
-    option_and_then (λ bits.
+    option_and_then (λ subs.
     option_and_then (λ receive.
     option_and_then (λ transmit.
     option_map (λ listed.
-    record { bits = bits; listed = listed; absent = absent_objects groups receive transmit })
+    record { subs = subs; listed = listed; absent = absent_objects groups receive transmit })
     (number_within 0 60000 (codes "SupportedObjects") list))
     (number_within 0 512 (codes "NrOfTXPDO") info))
     (number_within 0 512 (codes "NrOfRXPDO") info))
-    (number_within 1 63 (codes "CompactPDO") info)
+    (option_and_then subs_of (number_within 1 127 (codes "CompactPDO") info))
 
 -- None: there is no compact form, or what it needs isn't there
 abbrev pub pdo_form : List Group → Option PdoForm
@@ -70,7 +89,7 @@ pdo_form groups =
 abbrev pub form_change : PdoForm → List ℕ → Option Mended
 form_change form name =
     if same_name name (codes "CompactPDO")
-    then Some (mended (CompactPdo (length form.absent)) (assigned name (codes "0"))) else None
+    then Some (mended (CompactPdo (length form.absent) form.subs) (assigned name (codes "0"))) else None
 
 abbrev pub count_change : PdoForm → List ℕ → Option Mended
 count_change form name =
@@ -102,13 +121,12 @@ keys_of MappingWord = codes "ParameterName=Mapped object\nDataType=0x0007\nAcces
 
 -- the highest sub-index
 abbrev pub highest_of : ℕ → ℕ
-highest_of bits =
-    if nat_le 32 bits then 6
-    else if nat_le 16 bits then 5
-    else if nat_le 8 bits then 4
-    else if nat_le 4 bits then 3
-    else if nat_le 2 bits then 2
-    else 1
+highest_of subs =
+    if nat_le 32 subs then 6
+    else if nat_le 16 subs then 5
+    else if nat_le 8 subs then 4
+    else if nat_le 4 subs then 3
+    else 2
 
 abbrev pub sub_if : Bool → Key → List ℕ → List ℕ
 sub_if is key keys = if is then sub_head key ++ keys else []
@@ -117,14 +135,14 @@ abbrev pub key_at : ℕ → ℕ → Key
 key_at index sub = record { index = index; sub = sub }
 
 unfoldable pub communication_text : ℕ → ℕ → List ℕ
-communication_text bits index =
-    object_head index ++ keys_of Communication ++ first_section index (highest_of bits)
-    ++ sub_if (bits % 2 == 1) (key_at index 1) (keys_of CobId)
-    ++ sub_if (bits / 2 % 2 == 1) (key_at index 2) (keys_of TransmissionType)
-    ++ sub_if (bits / 4 % 2 == 1) (key_at index 3) (keys_of InhibitTime)
-    ++ sub_if (bits / 8 % 2 == 1) (key_at index 4) (keys_of Reserved)
-    ++ sub_if (bits / 16 % 2 == 1) (key_at index 5) (keys_of EventTimer)
-    ++ sub_if (bits / 32 % 2 == 1) (key_at index 6) (keys_of SyncStart)
+communication_text subs index =
+    object_head index ++ keys_of Communication ++ first_section index (highest_of subs)
+    ++ sub_head (key_at index 1) ++ keys_of CobId
+    ++ sub_head (key_at index 2) ++ keys_of TransmissionType
+    ++ sub_if (subs / 4 % 2 == 1) (key_at index 3) (keys_of InhibitTime)
+    ++ sub_if (subs / 8 % 2 == 1) (key_at index 4) (keys_of Reserved)
+    ++ sub_if (subs / 16 % 2 == 1) (key_at index 5) (keys_of EventTimer)
+    ++ sub_if (subs / 32 % 2 == 1) (key_at index 6) (keys_of SyncStart)
 
 -- room for eight entries
 abbrev pub word_section : Key → List ℕ
@@ -139,8 +157,8 @@ abbrev pub is_communication : ℕ → Bool
 is_communication index = nat_lt index 0x1600 || (nat_le 0x1800 index && nat_lt index 0x1A00)
 
 abbrev pub object_text : ℕ → ℕ → List ℕ
-object_text bits index =
-    if is_communication index then communication_text bits index else mapping_text index
+object_text subs index =
+    if is_communication index then communication_text subs index else mapping_text index
 
 -- ---- the places in the list
 
@@ -153,7 +171,7 @@ places_from place (index ∷ indices) = place_line place index ++ places_from (p
 
 -- what is added to a section
 abbrev pub pdo_text : Option PdoForm → SectionKind → List ℕ
-pdo_text (Some form) DeviceInfo = flat_map (object_text form.bits) form.absent
+pdo_text (Some form) DeviceInfo = flat_map (object_text form.subs) form.absent
 pdo_text (Some form) OptionalObjects = places_from (form.listed + 1) form.absent
 pdo_text form kind = []
 

@@ -1,6 +1,6 @@
 //! PDOs in compact form (CiA 306, compact storage): the objects that no section describes.
 
-ghost use Rattle.std.specs.Prelude.{◌≡◌, ◌≤◌, ◌+◌, ◌++◌, ◌∷◌, [], codes, decimal, map, option_map, IfOk, IfSome, OnOk};
+ghost use Rattle.std.specs.Prelude.{◌≡◌, ◌≤◌, ◌+◌, ◌++◌, ◌∷◌, [], codes, decimal, map, option_and_then, option_map, IfOk, IfSome, OnOk};
 ghost use Rattle.std.specs.List.{flat_map, list_any};
 ghost use Rattle.std.specs.Option.{option_copied};
 ghost use Rattle.co_sheet_text.specs.declared.section_kind.SectionKind.TheVariants.{DeviceInfo, OptionalObjects};
@@ -13,9 +13,11 @@ ghost use Rattle.co_sheet_adapt.specs.CompactPdo.{
   absent_of,
   communication_text,
   count_change,
+  ends_reserved,
   form_change,
   form_in,
   group_at,
+  has_needed,
   highest_of,
   keys_of,
   is_communication,
@@ -32,6 +34,7 @@ ghost use Rattle.co_sheet_adapt.specs.CompactPdo.{
   place_line,
   places_from,
   sub_if,
+  subs_of,
   word_section,
 };
 ghost use Rattle.co_sheet_adapt.specs.private.Pdos.{form_view};
@@ -46,8 +49,8 @@ use std::alloc::{AllocError, Global};
 /// What sections say of PDOs in compact form.
 #[derive(Drop)]
 pub(crate) struct PdoForm {
-    /// CompactPDO: bit 0 for sub-index 1, to bit 5 for sub-index 6.
-    pub(crate) bits: u64,
+    /// The sub-indices of communication objects: bit 0 for sub-index 1, to bit 5 for sub-index 6.
+    pub(crate) subs: u64,
     /// How many objects the list of optional objects has.
     pub(crate) listed: u16,
     /// The indices of the objects that get sections.
@@ -133,6 +136,40 @@ fn number_within(low: u64, high: u64, name: &[u8], group: &Group) -> Option<u64>
     }
 }
 
+// whether COB-ID and transmission type are there, and at most sub-index 6
+fn has_needed(subs: u64) -> bool
+    ensures { result ≡ has_needed subs }
+{
+    subs % 4 == 3 && subs < 64
+}
+
+// whether the reserved sub-index 4 is there, and no sub-index 5
+fn ends_reserved(subs: u64) -> bool
+    ensures { result ≡ ends_reserved subs }
+{
+    subs / 8 % 2 == 1 && subs / 16 % 2 == 0
+}
+
+// the sub-indices by the bits of CompactPDO, which are counted from sub-index 1 or from sub-index 0
+fn subs_of(bits: u64) -> Option<u64>
+    ensures { result ≡ subs_of bits }
+{
+    if has_needed(bits) && !ends_reserved(bits) {
+        Some(bits)
+    } else if has_needed(bits / 2) {
+        Some(bits / 2)
+    } else {
+        None
+    }
+}
+
+fn subs_in(info: &Group) -> Option<u64>
+    ensures { result ≡ option_and_then subs_of
+        (number_within 1 127 (codes "CompactPDO") (group_view info.now)) }
+{
+    subs_of(number_within(1, 127, b"CompactPDO", info)?)
+}
+
 // the objects of so many PDOs that have no section
 fn absent_objects(
     alloc: Global,
@@ -164,8 +201,8 @@ impl PdoForm {
         ensures { IfOk result (λ form. option_map form_view form
             ≡ form_in (map group_view groups.now) (group_view info.now) (group_view list.now)) }
     {
-        let (Some(bits), Some(receive), Some(transmit), Some(listed)) = (
-            number_within(1, 63, b"CompactPDO", info),
+        let (Some(subs), Some(receive), Some(transmit), Some(listed)) = (
+            subs_in(info),
             number_within(0, 512, b"NrOfRXPDO", info),
             number_within(0, 512, b"NrOfTXPDO", info),
             number_within(0, 60_000, b"SupportedObjects", list),
@@ -174,7 +211,7 @@ impl PdoForm {
         };
         let absent = absent_objects(alloc, groups, receive as u16, transmit as u16)?;
         Ok(Some(PdoForm {
-            bits,
+            subs,
             listed: listed as u16,
             absent,
         }))
@@ -200,7 +237,8 @@ impl PdoForm {
         }
         let new = assigned(alloc, name, b"0")?;
         let count = self.absent.len() as u64;
-        let kind = ChangeKind::CompactPdo { count };
+        let subs = self.subs;
+        let kind = ChangeKind::CompactPdo { count, subs };
         Ok(Some(Mended { kind, new }))
     }
 
@@ -269,16 +307,15 @@ fn push_sub_if(
 }
 
 // the highest sub-index of a communication object
-fn highest_of(bits: u64) -> u8
-    ensures { result ≡ highest_of bits }
+fn highest_of(subs: u64) -> u8
+    ensures { result ≡ highest_of subs }
 {
-    match bits {
+    match subs {
         32.. => 6,
         16..=31 => 5,
         8..=15 => 4,
         4..=7 => 3,
-        2..=3 => 2,
-        _ => 1,
+        _ => 2,
     }
 }
 
@@ -338,53 +375,41 @@ impl Part {
 fn push_communication(
     alloc: Global,
     text: &mut Vec<u8>,
-    bits: u64,
+    subs: u64,
     index: u16,
 ) -> Result<(), AllocError>
-    ensures { OnOk result (text.new.items ≡ text.old.items ++ communication_text bits index) }
+    ensures { OnOk result (text.new.items ≡ text.old.items ++ communication_text subs index) }
 {
     push_object_head(alloc, text, index)?;
     text.extend_from_slice(Part::Communication.keys())?;
-    push_first_section(alloc, text, index, highest_of(bits))?;
+    push_first_section(alloc, text, index, highest_of(subs))?;
+    push_part(alloc, text, Key { index, sub: 1 }, Part::CobId)?;
+    push_part(alloc, text, Key { index, sub: 2 }, Part::TransmissionType)?;
     push_sub_if(
         alloc,
         text,
-        bits % 2 == 1,
-        Key { index, sub: 1 },
-        Part::CobId,
-    )?;
-    push_sub_if(
-        alloc,
-        text,
-        bits / 2 % 2 == 1,
-        Key { index, sub: 2 },
-        Part::TransmissionType,
-    )?;
-    push_sub_if(
-        alloc,
-        text,
-        bits / 4 % 2 == 1,
+        subs / 4 % 2 == 1,
         Key { index, sub: 3 },
         Part::InhibitTime,
     )?;
     push_sub_if(
         alloc,
         text,
-        bits / 8 % 2 == 1,
+        subs / 8 % 2 == 1,
         Key { index, sub: 4 },
         Part::Reserved,
     )?;
     push_sub_if(
         alloc,
         text,
-        bits / 16 % 2 == 1,
+        subs / 16 % 2 == 1,
         Key { index, sub: 5 },
         Part::EventTimer,
     )?;
     push_sub_if(
         alloc,
         text,
-        bits / 32 % 2 == 1,
+        subs / 32 % 2 == 1,
         Key { index, sub: 6 },
         Part::SyncStart,
     )
@@ -426,11 +451,11 @@ fn push_mapping(alloc: Global, text: &mut Vec<u8>, index: u16) -> Result<(), All
     push_words(alloc, text, index)
 }
 
-fn push_object(alloc: Global, text: &mut Vec<u8>, bits: u64, index: u16) -> Result<(), AllocError>
-    ensures { OnOk result (text.new.items ≡ text.old.items ++ object_text bits index) }
+fn push_object(alloc: Global, text: &mut Vec<u8>, subs: u64, index: u16) -> Result<(), AllocError>
+    ensures { OnOk result (text.new.items ≡ text.old.items ++ object_text subs index) }
 {
     if matches!(index, 0..=0x15FF | 0x1800..=0x19FF) {
-        push_communication(alloc, text, bits, index)
+        push_communication(alloc, text, subs, index)
     } else {
         push_mapping(alloc, text, index)
     }
@@ -451,10 +476,10 @@ impl PdoForm {
     // the sections of all objects
     fn push_objects(&self, alloc: Global, text: &mut Vec<u8>) -> Result<(), AllocError>
         ensures { OnOk result (text.new.items ≡ text.old.items
-            ++ flat_map (object_text (form_view self.now).bits) (form_view self.now).absent) }
+            ++ flat_map (object_text (form_view self.now).subs) (form_view self.now).absent) }
     {
         for index in &self.absent {
-            push_object(alloc, text, self.bits, *index)?;
+            push_object(alloc, text, self.subs, *index)?;
         }
         Ok(())
     }

@@ -11,8 +11,9 @@ pub enum ChangeKind {
     SubIndex0,
     /// CompactSubObj: the sub-indices of an object of this index, from 0 to this number, get sections.
     CompactSubObj { index: u16, count: u8 },
-    /// CompactPDO: so many communication and mapping objects of PDOs get sections.
-    CompactPdo { count: u64 },
+    /// CompactPDO: so many communication and mapping objects of PDOs get sections. Bit 0 of `subs` is sub-index 1 of the
+    /// communication objects.
+    CompactPdo { count: u64, subs: u64 },
     /// SupportedObjects of the list that gets these objects.
     ListCount,
     /// A data type that is left out, by one of as many bytes.

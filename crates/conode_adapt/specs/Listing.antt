@@ -32,16 +32,25 @@ abbrev pub sections_text : ℕ → ℕ → List ℕ
 sections_text index count =
     codes ", [" ++ digits_text 16 4 index ++ codes "sub0] and " ++ decimal count ++ codes " more"
 
--- the objects that PDOs in compact form get, and what the sheet doesn't say of them
-unfoldable pub invented : List ℕ
-invented = codes " objects; invented: not valid, type 255, timers 0, mappings of 0 entries"
+-- the objects that PDOs in compact form get, with the sub-indices of those of communication, and what the sheet doesn't say
+abbrev pub word_if : Bool → List ℕ → List ℕ
+word_if is word = if is then word else []
 
-abbrev pub objects_text : ℕ → List ℕ
-objects_text count = codes ", " ++ decimal count ++ invented
+abbrev pub subs_text : ℕ → List ℕ
+subs_text subs =
+    word_if (subs / 4 % 2 == 1) (codes " 3") ++ word_if (subs / 8 % 2 == 1) (codes " 4")
+    ++ word_if (subs / 16 % 2 == 1) (codes " 5") ++ word_if (subs / 32 % 2 == 1) (codes " 6")
+
+unfoldable pub invented : List ℕ
+invented = codes "; invented: not valid, type 255, timers 0, mappings of 0 entries"
+
+abbrev pub objects_text : ℕ → ℕ → List ℕ
+objects_text count subs =
+    codes ", " ++ decimal count ++ codes " objects, sub-indices 0 1 2" ++ subs_text subs ++ invented
 
 unfoldable pub sub_indices_text : ChangeKind → List ℕ
 sub_indices_text (CompactSubObj index count) = sections_text index count
-sub_indices_text (CompactPdo count) = objects_text count
+sub_indices_text (CompactPdo count subs) = objects_text count subs
 sub_indices_text kind = []
 
 -- `NAME:LINE: `

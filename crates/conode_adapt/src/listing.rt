@@ -14,6 +14,8 @@ ghost use Rattle.conode_adapt.specs.Listing.{
   objects_text,
   sections_text,
   sub_indices_text,
+  subs_text,
+  word_if,
   place_text,
   old_and_new,
   change_line,
@@ -98,15 +100,34 @@ fn push_sections(words: &mut String, index: u16, count: u8) -> Result<(), AllocE
 fn invented() -> &'static str
     ensures { result.now ≡ invented }
 {
-    " objects; invented: not valid, type 255, timers 0, mappings of 0 entries"
+    "; invented: not valid, type 255, timers 0, mappings of 0 entries"
+}
+
+fn push_if(words: &mut String, is: bool, word: &str) -> Result<(), AllocError>
+    ensures { OnOk result (string_bytes words.new ≡ string_bytes words.old ++ word_if is word.now) }
+{
+    if is { words.push_str(word) } else { Ok(()) }
+}
+
+// the sub-indices from 3 on of a communication object
+fn push_subs(words: &mut String, subs: u64) -> Result<(), AllocError>
+    ensures { OnOk result (string_bytes words.new ≡ string_bytes words.old ++ subs_text subs) }
+{
+    push_if(words, subs / 4 % 2 == 1, " 3")?;
+    push_if(words, subs / 8 % 2 == 1, " 4")?;
+    push_if(words, subs / 16 % 2 == 1, " 5")?;
+    push_if(words, subs / 32 % 2 == 1, " 6")
 }
 
 // the objects that PDOs in compact form get
-fn push_objects(words: &mut String, count: u64) -> Result<(), AllocError>
-    ensures { OnOk result (string_bytes words.new ≡ string_bytes words.old ++ objects_text count) }
+fn push_objects(words: &mut String, count: u64, subs: u64) -> Result<(), AllocError>
+    ensures { OnOk result
+        (string_bytes words.new ≡ string_bytes words.old ++ objects_text count subs) }
 {
     words.push_str(", ")?;
     push_decimal(words, count)?;
+    words.push_str(" objects, sub-indices 0 1 2")?;
+    push_subs(words, subs)?;
     words.push_str(invented())
 }
 
@@ -118,7 +139,7 @@ fn push_sub_indices(text: &mut Vec<u8>, alloc: Global, kind: ChangeKind) -> Resu
     let mut words = String::new(alloc);
     match kind {
         ChangeKind::CompactSubObj { index, count } => push_sections(&mut words, index, count)?,
-        ChangeKind::CompactPdo { count } => push_objects(&mut words, count)?,
+        ChangeKind::CompactPdo { count, subs } => push_objects(&mut words, count, subs)?,
         _ => {}
     }
     text.extend_from_slice(words.as_bytes())
