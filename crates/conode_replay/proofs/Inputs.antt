@@ -220,10 +220,6 @@ on_ok_also (Err e) f h = tt
 own_alone : (t : TimedLine) (input : Input) → own_input t.said ≡ Some input → own_inputs t ≡ record { line = t.number; ms = t.ms; input = input } ∷ []
 own_alone t input is = ap (λ (own : Option Input). option_map_or (λ i. record { line = t.number; ms = t.ms; input = i } ∷ []) own []) is
 
-pub own_none : (k : Constants) (before : Inputs) (held : Option (List ℕ)) (node : Node) (t : TimedLine) → own_input t.said ≡ None → Stands k node before → HasPrinted k before held held node 0 (own_inputs t)
-own_none k before held node t none stands =
-    subst (HasPrinted k before held held node 0) (sym (ap (λ (own : Option Input). option_map_or (λ i. record { line = t.number; ms = t.ms; input = i } ∷ []) own []) none)) (printed_none k before held node stands)
-
 module _ (k : Constants) (before : Inputs) (old new : Option (List ℕ)) (first last : Node) (t : TimedLine) (sent : List FrameContent) (answer : AppAnswer) (takes : TakesOwn first last t.said sent)
     (stands : Stands k first before) (answered : AfterAny last (λ k before. answer ≡ app_after k before)) where
   pub printed_own : (count : ℕ) → WritesLines old new (refused_lines t.number answer ++ map (frame_line t.ms) sent) → count ≡ length sent → HasPrinted k before old new last count (own_inputs t)
