@@ -1,5 +1,24 @@
 -- How the check of a text ends.
-use Rattle.std.specs.Prelude.{◌≡◌, ◌⊎◌, ◌<◌, ℕ, Bool, true, false, List, [], ◌∷◌, ◌++◌, length, take, Option, Result, Ok, Err, codes}
+use Rattle.std.specs.Prelude.{
+  ◌≡◌,
+  ◌⊎◌,
+  ◌<◌,
+  ℕ,
+  Bool,
+  true,
+  false,
+  List,
+  [],
+  ◌∷◌,
+  ◌++◌,
+  length,
+  take,
+  Option,
+  Result,
+  Ok,
+  Err,
+  codes,
+}
 use Rattle.conode_io.specs.declared.ending.Ending.{Ending}
 use Rattle.conode_io.specs.declared.ending.Ending.TheVariants.{Said, Unsaid}
 use Rattle.conode_io.specs.declared.fault.CmdFault.TheVariants.{Write, Memory}

@@ -1,5 +1,22 @@
 -- What is written of a data sheet that is checked.
-use Rattle.std.specs.Prelude.{◌&&◌, ℕ, Bool, List, [], ◌∷◌, ◌++◌, map, length, Option, None, option_and_then, is_none, if◌then◌else◌, codes, decimal}
+use Rattle.std.specs.Prelude.{
+  ◌&&◌,
+  ℕ,
+  Bool,
+  List,
+  [],
+  ◌∷◌,
+  ◌++◌,
+  map,
+  length,
+  Option,
+  None,
+  option_and_then,
+  is_none,
+  if◌then◌else◌,
+  codes,
+  decimal,
+}
 use Rattle.std.specs.Option.{option_map_or, option_or}
 use Rattle.co_sheet_rows.specs.declared.fault.SheetFault.{SheetFault}
 use Rattle.co_sheet_rows.specs.declared.note.Note.{Note}

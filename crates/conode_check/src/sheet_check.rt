@@ -42,7 +42,7 @@ fn write_notes<W: Write>(line: &mut String, notes: &[Note], writer: &mut W) -> R
     Ok(())
 }
 
-#[tactic(auto, using(conode_io::proofs::WriteLemmas::line_alone, conode_io::proofs::WriteLemmas::front_alone, conode_io::proofs::WriteLemmas::no_lines))]
+#[tactic(auto, using(crate::proofs::WriteSets::one_line))]
 fn write_build_fault<W: Write>(
     line: &mut String,
     fault: Option<BuildFault>,
@@ -63,7 +63,7 @@ fn write_build_fault<W: Write>(
     hand_over(line.as_bytes(), writer)
 }
 
-#[tactic(auto, using(conode_io::proofs::WriteLemmas::line_alone, conode_io::proofs::WriteLemmas::front_alone, conode_io::proofs::WriteLemmas::no_lines))]
+#[tactic(auto, using(crate::proofs::WriteSets::one_line))]
 fn write_node<W: Write>(line: &mut String, node: Option<u8>, writer: &mut W) -> Result<(), CmdFault>
     ensures ok { OnOk result
         (WritesLines (W.contents writer.old) (W.contents writer.new) (node_lines node)) }
@@ -81,7 +81,7 @@ fn write_node<W: Write>(line: &mut String, node: Option<u8>, writer: &mut W) -> 
 }
 
 // the node-ID that a sheet itself has, and its build fault
-#[tactic(auto, using(conode_io::proofs::WriteLemmas::lines_after, conode_io::proofs::WriteLemmas::front_of_more, conode_io::proofs::WriteLemmas::some_of_more))]
+#[tactic(auto, using(crate::proofs::WriteSets::more_lines))]
 fn write_outcome<W: Write>(
     line: &mut String,
     own: Option<u8>,
@@ -103,7 +103,7 @@ fn write_outcome<W: Write>(
 }
 
 // the notes of a sheet, the node-ID that it has itself, and its build fault
-#[tactic(auto, using(conode_io::proofs::WriteLemmas::lines_after, conode_io::proofs::WriteLemmas::front_of_more, conode_io::proofs::WriteLemmas::some_of_more))]
+#[tactic(auto, using(crate::proofs::WriteSets::more_lines))]
 fn write_remarks<W: Write>(
     line: &mut String,
     notes: &[Note],

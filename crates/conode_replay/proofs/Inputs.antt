@@ -1,5 +1,5 @@
 -- Inputs in parts: what a device takes, and the lines of it.
-use Rattle.std.proofs.Common.{◌≡◌, ℕ, zero, suc, ◌+◌, ◌-◌, ◌<◌, List, [], ◌∷◌, ◌++◌, length, map, take, Option, None, Some, Result, Ok, Err, refl, ap, sym, subst, ◌∙◌, arith, append_assoc, append-nil, length-append}
+use Rattle.std.proofs.Common.{◌≡◌, ℕ, zero, suc, ◌+◌, ◌-◌, ◌<◌, List, [], ◌∷◌, ◌++◌, length, map, take, Option, Some, Result, Ok, Err, refl, ap, sym, subst, ◌∙◌, arith, append_assoc, append-nil, length-append}
 use Rattle.std.specs.Prelude.{sum_by, OnOk}
 use Rattle.std.specs.List.{flat_map}
 use Rattle.std.specs.Io.KnownBytes.{Appends}
@@ -17,7 +17,7 @@ use Rattle.conode_trace.specs.Traces.{Input, TimedInput, inputs_of, own_input, t
 use Rattle.conode_trace.specs.Printed.{frame_line}
 use Rattle.conode_io.specs.Written.{WritesFront, WritesLines, WritesSome}
 use Rattle.conode_io.proofs.WriteLemmas.{lines_after}
-use Rattle.co_node_model.specs.Inputs.{InputView, Inputs, Ticked}
+use Rattle.co_node_model.specs.Inputs.{Inputs, Ticked}
 use Rattle.co_node_model.specs.declared.app_answer.AppAnswer.{AppAnswer}
 use Rattle.co_node_model.specs.Moments.{Constants}
 use Rattle.co_node_model.specs.Device.{all_frames, app_after, prescribed}
@@ -29,10 +29,6 @@ use Rattle.conode_replay.specs.Lines.{after_inputs, handed_by, input_lines, own_
 use Rattle.conode_replay.specs.Runs.{AfterAny, HasPrinted, StopsIn, TakesOwn, WritesPart, WritesWhole}
 
 -- ---- inputs in two parts
-
-views_append : (xs ys : List TimedInput) → views_of (xs ++ ys) ≡ views_of xs ++ views_of ys
-views_append [] ys = refl
-views_append (x ∷ xs) ys = ap (λ (vs : List InputView). view_of x.input ∷ vs) (views_append xs ys)
 
 pub after_append : (before : Inputs) (xs ys : List TimedInput) → after_inputs before (xs ++ ys) ≡ after_inputs (after_inputs before xs) ys
 after_append before [] ys = refl
@@ -219,10 +215,6 @@ on_ok_also (Err e) f h = tt
 -- the own input of a line, and the only one of its list
 own_alone : (t : TimedLine) (input : Input) → own_input t.said ≡ Some input → own_inputs t ≡ record { line = t.number; ms = t.ms; input = input } ∷ []
 own_alone t input is = ap (λ (own : Option Input). option_map_or (λ i. record { line = t.number; ms = t.ms; input = i } ∷ []) own []) is
-
-pub own_none : (k : Constants) (before : Inputs) (held : Option (List ℕ)) (node : Node) (t : TimedLine) → own_input t.said ≡ None → Stands k node before → HasPrinted k before held held node 0 (own_inputs t)
-own_none k before held node t none stands =
-    subst (HasPrinted k before held held node 0) (sym (ap (λ (own : Option Input). option_map_or (λ i. record { line = t.number; ms = t.ms; input = i } ∷ []) own []) none)) (printed_none k before held node stands)
 
 module _ (k : Constants) (before : Inputs) (old new : Option (List ℕ)) (first last : Node) (t : TimedLine) (sent : List FrameContent) (answer : AppAnswer) (takes : TakesOwn first last t.said sent)
     (stands : Stands k first before) (answered : AfterAny last (λ k before. answer ≡ app_after k before)) where

@@ -7,7 +7,19 @@ use Rattle.conode_trace.specs.declared.event_line.AppLine.TheVariants as line
 use Rattle.conode_trace.specs.Printed.{frame_line}
 use Rattle.conode_trace.specs.declared.timed_line.TimedLine.{TimedLine}
 use Rattle.conode_trace.specs.Traces.{Input, frame, tick, app, TimedInput, own_input}
-use Rattle.co_node_model.specs.Inputs.{AppView, InputView, Inputs, Framed, Ticked, Applied, Written, EventOn, ChangedAt, Raised, Cleared}
+use Rattle.co_node_model.specs.Inputs.{
+  AppView,
+  InputView,
+  Inputs,
+  Framed,
+  Ticked,
+  Applied,
+  Written,
+  EventOn,
+  ChangedAt,
+  Raised,
+  Cleared,
+}
 use Rattle.co_node_model.specs.declared.app_answer.AppAnswer.{AppAnswer}
 use Rattle.co_node_model.specs.declared.app_answer.AppAnswer.TheVariants as answer
 use Rattle.co_node_model.specs.Moments.{Constants}
@@ -56,7 +68,7 @@ refused_lines number answer.None = []
 refused_lines number answer.Done = []
 refused_lines number (answer.Refused code) = refused_line number code.0 ∷ []
 
--- the lines of an input after those before it: a refusal, and the frames that it prescribes, with the clock of the input
+-- the lines of an input after those before it: a refusal, and the frames that it prescribes, with the input's clock
 abbrev pub input_lines : Constants → Inputs → TimedInput → List (List ℕ)
 input_lines k before t =
     refused_lines t.line (app_after k (view_of t.input ∷ before))

@@ -1,5 +1,23 @@
 -- How far a device took the inputs of a trace, and what was written of them.
-use Rattle.std.specs.Prelude.{◌≡◌, ℕ, ◌<◌, ◌⊎◌, List, [], ◌∷◌, ◌++◌, length, take, Option, Some, None, Result, Ok, Err, IfSome}
+use Rattle.std.specs.Prelude.{
+  ◌≡◌,
+  ℕ,
+  ◌<◌,
+  ◌⊎◌,
+  List,
+  [],
+  ◌∷◌,
+  ◌++◌,
+  length,
+  take,
+  Option,
+  Some,
+  None,
+  Result,
+  Ok,
+  Err,
+  IfSome,
+}
 use Rattle.std.specs.List.{flat_map}
 use Rattle.std.specs.Io.KnownBytes.{Appends}
 use Rattle.conode_trace.specs.Traces.{Input, TimedInput, own_input, trace_of}
@@ -15,11 +33,22 @@ use Rattle.co_node_model.specs.Device.{all_frames, prescribed}
 use Rattle.co_node.specs.declared.node.Node.{Node}
 use Rattle.co_node.specs.Nodes.{Stands}
 use Rattle.conode_replay.specs.declared.totals.Totals.{Totals}
-use Rattle.conode_replay.specs.Lines.{after_inputs, boot_line, input_lines, replayed_lines, started_lines, totals_line, totals_of, view_of, views_of}
+use Rattle.conode_replay.specs.Lines.{
+  after_inputs,
+  boot_line,
+  input_lines,
+  replayed_lines,
+  started_lines,
+  totals_line,
+  totals_of,
+  view_of,
+  views_of,
+}
 
 -- ---- what was written where it broke off
 
--- a writer's bytes have grown by some whole lines, and by a front of the next ones: some of these, and perhaps a part of one
+-- a writer's bytes have grown by some whole lines, and by a front of the next ones: some of these, and perhaps a part
+-- of one
 abbrev pub WritesPart : Option (List ℕ) → Option (List ℕ) → List (List ℕ) → List (List ℕ) → Type 0
 WritesPart old new whole next =
     (front : List ℕ) × IsFront front (flat_map (λ line. line) next)
@@ -44,23 +73,27 @@ pub record TakesOwn (first last : Node) (said : TraceLine) (sent : List FrameCon
   pub frames : AfterAny first (λ k before. sent ≡ prescribed k before (view_of input))
 
 -- it took all inputs, and their lines were written, so many frames among these
-pub record HasPrinted (k : Constants) (before : Inputs) (old new : Option (List ℕ)) (node : Node) (printed : ℕ) (inputs : List TimedInput) : Type 0 where
+pub record HasPrinted (k : Constants) (before : Inputs) (old new : Option (List ℕ)) (node : Node)
+    (printed : ℕ) (inputs : List TimedInput) : Type 0 where
   pub stands : Stands k node (after_inputs before inputs)
   pub written : WritesLines old new (replayed_lines k before inputs)
   pub frames : printed ≡ length (all_frames k before (views_of inputs))
 
 -- it took all inputs, and the boot-up and their lines were written
-pub record HasRun (k : Constants) (before : Inputs) (old new : Option (List ℕ)) (node : Node) (inputs : List TimedInput) : Type 0 where
+pub record HasRun (k : Constants) (before : Inputs) (old new : Option (List ℕ)) (node : Node)
+    (inputs : List TimedInput) : Type 0 where
   pub stands : Stands k node (after_inputs before inputs)
   pub written : WritesLines old new (started_lines k before inputs)
 
 -- the same, and their totals were counted
-pub record HasCounted (k : Constants) (before : Inputs) (old new : Option (List ℕ)) (node : Node) (totals : Totals) (inputs : List TimedInput) : Type 0 where
+pub record HasCounted (k : Constants) (before : Inputs) (old new : Option (List ℕ)) (node : Node)
+    (totals : Totals) (inputs : List TimedInput) : Type 0 where
   pub run : HasRun k before old new node inputs
   pub counted : totals ≡ totals_of k before inputs
 
 -- it took all inputs, and their totals were counted; these were written last
-pub record HasEnded (k : Constants) (before : Inputs) (old new : Option (List ℕ)) (node : Node) (totals : Totals) (inputs : List TimedInput) : Type 0 where
+pub record HasEnded (k : Constants) (before : Inputs) (old new : Option (List ℕ)) (node : Node)
+    (totals : Totals) (inputs : List TimedInput) : Type 0 where
   pub stands : Stands k node (after_inputs before inputs)
   pub counted : totals ≡ totals_of k before inputs
   pub written : WritesLines old new (started_lines k before inputs ++ totals_line totals ∷ [])
@@ -68,7 +101,8 @@ pub record HasEnded (k : Constants) (before : Inputs) (old new : Option (List �
 -- a text is a good trace, and the boot-up, the lines of its inputs and their totals were written
 pub record ReplaysAll (k : Constants) (before : Inputs) (old new : Option (List ℕ)) (text : List ℕ) : Type 0 where
   pub good : (trace_in text).bad ≡ None
-  pub written : WritesLines old new (started_lines k before (trace_in text).inputs ++ totals_line (totals_of k before (trace_in text).inputs) ∷ [])
+  pub written : WritesLines old new (started_lines k before (trace_in text).inputs
+      ++ totals_line (totals_of k before (trace_in text).inputs) ∷ [])
 
 -- it took some of the inputs, from the first on, and stopped at the lines of the last of these
 pub record StopsAt (k : Constants) (before : Inputs) (node : Node) (inputs : List TimedInput) : Type 0 where
@@ -94,7 +128,8 @@ BreaksOff k before node Writes inputs =
     × Writes (started_lines k before inputs) (totals_line (totals_of k before inputs) ∷ [])))
 
 -- it took some of the inputs, from the first on, or all of them, and the boot-up and the lines of these were written
-pub record HasRunSome (k : Constants) (before : Inputs) (old new : Option (List ℕ)) (node : Node) (inputs : List TimedInput) : Type 0 where
+pub record HasRunSome (k : Constants) (before : Inputs) (old new : Option (List ℕ)) (node : Node)
+    (inputs : List TimedInput) : Type 0 where
   pub taken : List TimedInput
   pub later : List TimedInput
   pub joined : inputs ≡ taken ++ later
@@ -107,19 +142,25 @@ abbrev pub FailsToWrite : Constants → Inputs → Option (List ℕ) → Option 
 FailsToWrite k before old new node inputs =
     BreaksOff k before node (WritesPart old new) inputs ⊎ HasRunSome k before old new node inputs
 
--- `known` and `rest` are what the reader has before and after, `old` and `new` what the writer has, where that is known;
--- `Ends` is what holds after the last line
-abbrev pub Replayed : (Constants → Inputs → Totals → List TimedInput → Type 0) → Node → Node → Option (List ℕ) → Option (List ℕ) → Option (List ℕ) → Option (List ℕ)
+-- `known` and `rest` are what the reader has before and after, `old` and `new` what the writer has, where that is
+-- known; `Ends` is what holds after the last line
+abbrev pub Replayed : (Constants → Inputs → Totals → List TimedInput → Type 0) → Node → Node
+    → Option (List ℕ) → Option (List ℕ) → Option (List ℕ) → Option (List ℕ)
     → Result Totals CmdFault → Type 0
 Replayed Ends first last known rest old new (Ok totals) =
-    IfSome known (λ text. ((trace_in text).bad ≡ None) × AfterAny first (λ k before. Ends k before totals (trace_in text).inputs))
+    IfSome known (λ text. ((trace_in text).bad ≡ None)
+    × AfterAny first (λ k before. Ends k before totals (trace_in text).inputs))
 Replayed Ends first last known rest old new (Err (BadLine number)) =
-    IfSome known (λ text. ((trace_in text).bad ≡ Some number) × AfterAny first (λ k before. HasRun k before old new last (trace_in text).inputs))
+    IfSome known (λ text. ((trace_in text).bad ≡ Some number)
+    × AfterAny first (λ k before. HasRun k before old new last (trace_in text).inputs))
 Replayed Ends first last known rest old new (Err Write) =
     IfSome known (λ text. AfterAny first (λ k before. FailsToWrite k before old new last (trace_in text).inputs))
 Replayed Ends first last known rest old new (Err Memory) =
-    IfSome known (λ text. AfterAny first (λ k before. BreaksOff k before last (WritesWhole old new) (trace_in text).inputs))
+    IfSome known (λ text.
+    AfterAny first (λ k before. BreaksOff k before last (WritesWhole old new) (trace_in text).inputs))
 Replayed Ends first last known rest old new (Err Read) =
-    FailsWithinLine known rest (λ taken. AfterAny first (λ k before. HasRun k before old new last (trace_of taken).inputs))
+    FailsWithinLine known rest (λ taken.
+    AfterAny first (λ k before. HasRun k before old new last (trace_of taken).inputs))
 Replayed Ends first last known rest old new (Err NeverEnds) =
-    FailsWithinLine known rest (λ taken. AfterAny first (λ k before. HasRun k before old new last (trace_of taken).inputs))
+    FailsWithinLine known rest (λ taken.
+    AfterAny first (λ k before. HasRun k before old new last (trace_of taken).inputs))

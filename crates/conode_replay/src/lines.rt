@@ -42,7 +42,7 @@ fn set_totals_line(text: &mut String, totals: Totals) -> Result<(), AllocError>
 }
 
 /// Prints the line of the totals.
-#[tactic(auto, using(conode_io::proofs::WriteLemmas::line_alone, conode_io::proofs::WriteLemmas::front_alone, conode_io::proofs::WriteLemmas::no_lines))]
+#[tactic(auto, using(crate::proofs::WriteSets::one_line))]
 pub(crate) fn print_totals<W: Write>(
     text: &mut String,
     totals: Totals,
@@ -84,7 +84,7 @@ pub(crate) fn print_frames<W: Write>(
 
 // prints that an event is refused, if it is
 #[inline(always)]
-#[tactic(auto, using(conode_io::proofs::WriteLemmas::line_alone, conode_io::proofs::WriteLemmas::front_alone, conode_io::proofs::WriteLemmas::no_lines))]
+#[tactic(auto, using(crate::proofs::WriteSets::one_line))]
 fn print_refusal<W: Write>(
     text: &mut String,
     number: usize,
@@ -109,7 +109,6 @@ fn print_refusal<W: Write>(
 }
 
 /// Prints what came of the input of a line at a time in ms: that it was refused, and then the frames that are sent.
-#[tactic(auto, using(conode_io::proofs::WriteLemmas::lines_after, conode_io::proofs::WriteLemmas::front_of_more, conode_io::proofs::WriteLemmas::some_of_more, conode_io::proofs::WriteLemmas::front_after_lines, conode_io::proofs::WriteLemmas::some_after_lines))]
 #[inline(always)]
 pub(crate) fn print_input<W: Write>(
     text: &mut String,

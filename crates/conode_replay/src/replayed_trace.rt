@@ -1,6 +1,22 @@
 //! A trace replayed: a device takes its inputs, and what it sends is printed.
 
-ghost use Rattle.std.specs.Prelude.{◌≡◌, ◌⊎◌, ℕ, Bool, true, false, [], ◌∷◌, OnOk, IfOk, IfErr, IfSome, Err, Some, None};
+ghost use Rattle.std.specs.Prelude.{
+  ◌≡◌,
+  ◌⊎◌,
+  ℕ,
+  Bool,
+  true,
+  false,
+  [],
+  ◌∷◌,
+  OnOk,
+  IfOk,
+  IfErr,
+  IfSome,
+  Err,
+  Some,
+  None,
+};
 ghost use Rattle.co_stream.specs.Nexts.{new_reader};
 ghost use Rattle.co_stream.specs.Readings.{Gave};
 ghost use Rattle.conode_trace.specs.Traces.{trace_of};
