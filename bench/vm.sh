@@ -142,7 +142,10 @@ for _ in $(seq 600); do echo '8 raise 3120' >&3; done
 sleep 2
 is 'no more than 501 wait' "$(tail -n 1 out)" 'error: 501 frames wait for vcan0'
 ip link set vcan0 up
-sleep 2
+for _ in $(seq 60); do
+    sleep 0.5
+    ! grep -q '088#00' waited || break
+done
 kill $listener
 is 'all of them are sent' "$(cut -d ' ' -f 3 waited | cut -c 1-8 | uniq -c | tr -s ' \n' ' ')" ' 500 088#2031 1 088#4081 1 088#0000 '
 is 'trouble, said once' "$(errors)" \
