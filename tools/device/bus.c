@@ -1,6 +1,6 @@
 /*
- * SocketCAN: a socket for each device, so that devices hear each other; frames that wait; and trouble, which is said once,
- * given to the device and mended. restart-ms is the interface's.
+ * SocketCAN: a socket for each device, so that devices hear each other; frames that wait; and trouble, which is said
+ * once, given to the device and mended. restart-ms is the interface's.
  */
 #include "device.h"
 
@@ -15,13 +15,15 @@
 #define RETRY_MS 100  /* an interface that is down is looked at again */
 #define GENERIC 0x01  /* bits of the error register */
 #define COMMUNICATION 0x10
+#define PASSIVE_BITS (CAN_ERR_CRTL_RX_PASSIVE | CAN_ERR_CRTL_TX_PASSIVE)
+#define BETTER_BITS (CAN_ERR_CRTL_RX_WARNING | CAN_ERR_CRTL_TX_WARNING | CAN_ERR_CRTL_ACTIVE)
 
 const char *const health_names[] = { "error active", "error passive", "bus-off", "down" };
 
 /*
- * The bus is now like this to a device; the first device of an interface says it. The node gets it as an error of the application:
- * 8120h is error passive, 8140h recovered from bus-off. Once it is active again, bit 4 of the error register is cleared, and bit
- * 0 with it where no other error is left.
+ * The bus is now like this to a device; the first device of an interface says it. The node gets it as an error of the
+ * application: 8120h is error passive, 8140h recovered from bus-off. Once it is active again, bit 4 of the error
+ * register is cleared, and bit 0 with it where no other error is left.
  */
 static void become(struct device *device, enum health health)
 {
@@ -36,11 +38,11 @@ static void become(struct device *device, enum health health)
     while (strcmp(first->interface, device->interface) != 0) first++;
     if (first == device) fprintf(stderr, "%s: %s\n", device->interface, health_names[health]);
     if (code != 0)
-        send_frames(device, bafokun_raise(&device->node, code, COMMUNICATION, none, frames, BAFOKUN_MOST_FRAMES));
+        send_frames(device, bafokun_raise(&device->node, code, COMMUNICATION, none, FRAMES));
     if (health != ACTIVE) return;
     bafokun_value(&device->node, 0x1001, 0, &errors, 1, &length);
     if ((errors & ~(COMMUNICATION | GENERIC)) == 0) cleared |= GENERIC;
-    send_frames(device, bafokun_clear(&device->node, cleared, frames, BAFOKUN_MOST_FRAMES));
+    send_frames(device, bafokun_clear(&device->node, cleared, FRAMES));
 }
 
 /* ---- frames that are sent */
@@ -77,8 +79,8 @@ static bool is_tpdo(struct device *device, const bafokun_frame *frame)
 static bool is_boot_up(const bafokun_frame *frame) { return frame->id > 0x700 && frame->bytes[0] == 0; }
 
 /*
- * A TPDO or heartbeat that waits is replaced by its newer one; where no room is left the oldest TPDO is thrown away, or the frame
- * itself, where no TPDO waits.
+ * A TPDO or heartbeat that waits is replaced by its newer one; where no room is left the oldest TPDO is thrown away, or
+ * the frame itself, where no TPDO waits.
  */
 static void let_wait(struct device *device, const bafokun_frame *frame)
 {
@@ -114,8 +116,8 @@ static void take_error(struct device *device, const struct can_frame *error)
     if (error->can_id & CAN_ERR_BUSOFF) become(device, BUS_OFF);
     if (error->can_id & CAN_ERR_RESTARTED) become(device, ACTIVE);
     if (!(error->can_id & CAN_ERR_CRTL) || device->health == BUS_OFF) return;
-    if (error->data[1] & (CAN_ERR_CRTL_RX_PASSIVE | CAN_ERR_CRTL_TX_PASSIVE)) become(device, PASSIVE);
-    else if (error->data[1] & (CAN_ERR_CRTL_RX_WARNING | CAN_ERR_CRTL_TX_WARNING | CAN_ERR_CRTL_ACTIVE)) become(device, ACTIVE);
+    if (error->data[1] & PASSIVE_BITS) become(device, PASSIVE);
+    else if (error->data[1] & BETTER_BITS) become(device, ACTIVE);
 }
 
 static void take_frames(struct source *source)
@@ -130,7 +132,7 @@ static void take_frames(struct source *source)
         if (in.can_id & (CAN_EFF_FLAG | CAN_RTR_FLAG | CAN_ERR_FLAG) || in.can_dlc > 8) continue;
         bafokun_frame frame = { (uint16_t)in.can_id, in.can_dlc, { 0 } };
         memcpy(frame.bytes, in.data, in.can_dlc);
-        send_frames(device, bafokun_take(&device->node, &frame, frames, BAFOKUN_MOST_FRAMES));
+        send_frames(device, bafokun_take(&device->node, &frame, FRAMES));
     }
 }
 
@@ -171,10 +173,7 @@ void tend_bus(struct device *device)
 {
     size_t sent = 0;
     if (in_stdio) return;
-    if (device->health == DOWN && elapsed >= device->retry) {
-        device->retry = elapsed + RETRY_MS;
-        if (connect_bus(device)) become(device, ACTIVE);
-    }
+    if (device->health == DOWN && elapsed % RETRY_MS == 0 && connect_bus(device)) become(device, ACTIVE);
     while (sent < device->waiting && send_now(device, &device->queue[sent])) sent++;
     memmove(device->queue, device->queue + sent, (device->waiting - sent) * sizeof *device->queue);
     device->waiting -= sent;

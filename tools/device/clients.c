@@ -1,6 +1,7 @@
-/* Who gives lines, and what they are told: standard input and output, and the connections of a Unix socket. */
+/* Who gives lines, and what they are told: standard input and output, --play, and the connections of a Unix socket. */
 #include "device.h"
 
+#include <fcntl.h>
 #include <stdarg.h>
 #include <sys/stat.h>
 #include <sys/un.h>
@@ -8,117 +9,123 @@
 #define PIECE 4096    /* a pipe that has room takes as many bytes at once */
 #define SAID_MS 10000 /* a trouble is said again where it was well for so long */
 
-static struct output standard_output = { .fd = 1 };
-struct client standard = { .output = &standard_output };
-static struct client *clients = &standard;
-static const char *socket_path;
-static struct stat bound; /* what was made at socket_path */
+static const char *socket_path, *play_path;
+static struct stat bound; /* what was made at the path of the socket */
 
 /* ---- what they are told */
 
 /* Writes what can be written without a wait, or all of a trace, unless a signal ends the run and nobody reads. */
-static void flush(struct output *output)
+static void flush(struct client *client)
 {
+    int fd = client == &standard ? 1 : client->source.fd;
+    bool is_trace = client == &standard && in_stdio;
     size_t done = 0;
-    while (done < output->used && !output->is_broken) {
-        struct pollfd room = { output->fd, POLLOUT, 0 };
-        size_t length = output->used - done < PIECE ? output->used - done : PIECE;
-        if (output->is_trace) output->is_broken = !wait_for_room(output->fd);
-        else if (poll(&room, 1, 0) < 1) break;
-        ssize_t count = output->is_broken ? 0 : write(output->fd, output->text + done, length);
+    while (done < client->unread && !client->is_broken && has_room(fd, is_trace)) {
+        size_t length = client->unread - done;
+        ssize_t count = write(fd, client->answers + done, length < PIECE ? length : PIECE);
         if (count > 0) done += (size_t)count;
-        if (count < 0 && errno != EAGAIN && errno != EINTR) output->is_broken = true;
+        client->is_broken = count < 0 && errno != EAGAIN && errno != EINTR;
     }
-    memmove(output->text, output->text + done, output->used -= done);
+    client->is_broken |= is_trace && done < client->unread;
+    memmove(client->answers, client->answers + done, client->unread -= done);
 }
 
-/* Says a line: in a trace an answer is a comment, and of a line that wasn't done it has the number. False. */
+/* Says a line: in a trace an answer is a comment; to a line that wasn't done it has the number. False, for callers. */
 bool say(struct client *client, enum kind kind, const char *format, ...)
 {
-    struct output *output = client->output;
+    struct client *reader = client == &player ? &standard : client;
+    bool is_trace = reader == &standard && in_stdio;
     va_list values;
-    if (output->used > MOST_UNREAD && output->is_trace) flush(output);
-    if (output->used > MOST_UNREAD) return false;
-    char *end = output->text + output->used;
-    if (output->is_trace && kind != FRAME) end = stpcpy(end, "; ");
+    if (reader->unread > MOST_UNREAD && is_trace) flush(reader);
+    if (reader->unread > MOST_UNREAD) return false;
+    char *end = reader->answers + reader->unread;
+    if (is_trace && kind != FRAME) end = stpcpy(end, "; ");
     if (client->numbered && kind == TROUBLE) end += sprintf(end, "%s %lu ", client->numbered, client->number);
     va_start(values, format);
     end += vsprintf(end, format, values);
     va_end(values);
     *end++ = '\n';
-    output->used = (size_t)(end - output->text);
+    reader->unread = (size_t)(end - reader->answers);
     return false;
 }
 
 /* ---- what they give */
 
-/* Takes a line, without its end. */
-void take_line(struct client *client, char *line, size_t length)
+static void take_line(struct client *client, char *line, size_t length)
 {
     client->number++;
     if (length > 0 && line[length - 1] == '\r') length--;
     line[length] = 0;
-    if (client->is_long || length > MOST_LINE) say(client, TROUBLE, "error: the line has more than %d bytes", MOST_LINE);
-    else if (strlen(line) != length) say(client, TROUBLE, "error: the line has a byte 0");
+    bool is_long = client->is_long || length > MOST_LINE, has_zero = strlen(line) != length;
+    if (is_long) say(client, TROUBLE, "error: the line has more than %d bytes", MOST_LINE);
+    else if (has_zero) say(client, TROUBLE, "error: the line has a byte 0");
     else client->take(client, line);
     client->is_long = false;
 }
 
-/* Reads what there is, and does the lines in it. Of a line that is too long nothing is kept. */
+/* Reads what there is, and does the lines in it that are due. Of a line that is too long nothing is kept. */
 static void take_text(struct source *source)
 {
     struct client *client = (struct client *)source;
-    char *line = client->text, *end = line + client->used, *next;
-    if (client->has_ended) return;
-    ssize_t size = read(source->fd, end, sizeof client->text - 1 - client->used);
-    if (size < 0 && (errno == EAGAIN || errno == EINTR)) return;
-    if (size > 0) end += size;
-    for (; (next = memchr(line, '\n', (size_t)(end - line))); line = next + 1) take_line(client, line, (size_t)(next - line));
+    char *line = client->text, *end = line + client->used, *next = memchr(line, '\n', client->used);
+    if (!client->has_ended && !next) {
+        ssize_t size = read(source->fd, end, sizeof client->text - 2 - client->used);
+        if (size < 0 && (errno == EAGAIN || errno == EINTR)) return;
+        if (size < 0 && client->numbered) {
+            warn("%s", client == &player ? play_path : "standard input");
+            end_loop(false);
+        }
+        client->has_ended = size <= 0;
+        if (size > 0) end += size;
+        else if (client->used > 0 || client->is_long) *end++ = '\n'; /* a last line needs no end */
+    }
+    *end = 0;
+    for (; (next = memchr(line, '\n', (size_t)(end - line))) && is_due(client, line); line = next + 1)
+        take_line(client, line, (size_t)(next - line));
     client->used = (size_t)(end - line);
     memmove(client->text, line, client->used);
-    client->is_long |= client->used > MOST_LINE;
-    if (client->is_long) client->used = 0;
-    client->has_ended = size <= 0;
-    if (client->has_ended && (client->used > 0 || client->is_long)) take_line(client, client->text, client->used);
+    if (next || client->used <= MOST_LINE + 1) return; /* with a CR that isn't counted */
+    client->is_long = true;
+    client->used = 0;
 }
 
-/* Standard input and output. */
-void open_standard(void)
+struct client standard = { .source = { 0, take_text, 0 } };
+struct client player = { .source = { -1, take_text, 0 }, .take = take_stamped, .has_ended = true, .numbered = "play" };
+static struct client *clients = &standard;
+
+/* Does the lines of --play that are due. */
+void play_due(void)
 {
-    standard_output.is_trace = in_stdio;
-    standard.source.ready = take_text;
-    standard.take = in_stdio ? take_trace_line : do_line;
-    standard.numbered = in_stdio ? "line" : NULL;
-    if (!want(&standard.source, EPOLLIN)) err(1, "standard input");
+    do take_text(&player.source);
+    while (!player.has_ended && !memchr(player.text, '\n', player.used));
 }
 
 /* ---- connections */
 
-/* Lets clients in: at each turn of the loop, since one for whom there is no descriptor stays there and isn't indicated again. */
+/* Lets clients in: at each turn of the loop, since one for whom there is no descriptor isn't indicated again. */
 static void let_in(struct source *listener)
 {
     static uint64_t said_next;
-    int fd = accept4(listener->fd, NULL, NULL, SOCK_NONBLOCK | SOCK_CLOEXEC);
-    struct connection { struct client client; struct output output; } *new = fd < 0 ? NULL : calloc(1, sizeof *new);
-    if (new) {
-        new->output.fd = fd;
-        new->client = (struct client){ .source = { fd, take_text, 0 }, .take = do_line, .output = &new->output, .next = clients };
-        if (want(&new->client.source, EPOLLIN)) {
-            clients = &new->client;
-            return;
-        }
-    } 
+    int fd;
+    while ((fd = accept4(listener->fd, NULL, NULL, SOCK_NONBLOCK | SOCK_CLOEXEC)) >= 0) {
+        struct client *client = calloc(1, sizeof *client);
+        if (!client) break;
+        client->source = (struct source){ fd, take_text, 0 };
+        client->take = do_line;
+        client->next = clients;
+        client->has_ended = !want(&client->source, EPOLLIN);
+        clients = client;
+    }
     if (fd < 0 && (errno == EAGAIN || errno == EINTR || errno == ECONNABORTED)) return;
     if (elapsed >= said_next) fprintf(stderr, "%s: no client can be let in: %s\n", socket_path, strerror(errno));
     said_next = elapsed + SAID_MS;
-    free(new);
     if (fd >= 0) close(fd);
 }
 
 static struct source listener = { .ready = let_in };
 
 /* Listens at a path where nobody else does. Only the own user may connect. */
-void open_socket(const char *path)
+static void open_socket(const char *path)
 {
     struct sockaddr_un at = { .sun_family = AF_UNIX };
     if (strlen(path) >= sizeof at.sun_path) errx(1, "%s: the path is too long", path);
@@ -133,39 +140,54 @@ void open_socket(const char *path)
     socket_path = path;
 }
 
-/* At each turn of the loop: says what changed and writes the answers. In --stdio standard input and --play end the run. */
+/* ---- all of them */
+
+/* Standard input and output; a file that is played, and a path for connections, unless they are NULL. */
+void open_clients(const char *play, const char *socket)
+{
+    standard.take = in_stdio ? take_stamped : do_line;
+    standard.numbered = in_stdio ? "line" : NULL;
+    if (!want(&standard.source, EPOLLIN)) err(1, "standard input");
+    player.has_ended = !play;
+    play_path = play;
+    if (play && (player.source.fd = open(play, O_RDONLY | O_CLOEXEC)) < 0) err(1, "%s", play);
+    if (socket) open_socket(socket);
+}
+
+/* At each turn of the loop: what changed is said, answers are written. In --stdio the run ends with its lines. */
 void tend_clients(void)
 {
     for (struct client **at = &clients, *client; (client = *at); ) {
-        struct output *output = client->output;
         bool is_standard = client == &standard;
         say_changes(client);
-        flush(output);
-        bool is_full = output->used > MOST_UNREAD, is_lost = is_full || output->is_broken;
+        flush(client);
+        bool is_full = client->unread > MOST_UNREAD, is_lost = is_full || client->is_broken;
         if (is_full) fprintf(stderr, "%s isn't read, and is dropped\n", is_standard ? "standard output" : "a client");
-        if (is_standard) {
-            if (is_lost) output->used = 0;
-            if (in_stdio && is_lost) end_loop(false);
-        } else if (is_lost || (client->has_ended && output->used == 0)) {
+        if (is_standard && is_lost) {
+            client->unread = 0;
+            if (in_stdio) end_loop(false);
+        }
+        if (!is_standard && (is_lost || (client->has_ended && client->unread == 0))) {
             *at = client->next;
             while (client->watch_count > 0) free(client->watches[--client->watch_count].bytes);
             close(client->source.fd);
             free(client);
-            continue;
+        } else {
+            uint32_t to_write = client->unread > 0 && !is_standard ? EPOLLOUT : 0;
+            want(&client->source, client->has_ended ? to_write : EPOLLIN | to_write);
+            at = &client->next;
         }
-        want(&client->source, (client->has_ended ? 0 : EPOLLIN) | (output->used > 0 && !is_standard ? EPOLLOUT : 0));
-        at = &client->next;
     }
     if (in_stdio && standard.has_ended && (by_stamps || !is_playing())) end_loop(true);
     if (socket_path) let_in(&listener);
 }
 
-/* The end: the last answers are written, and the path is free, unless somebody else has it by now. False: nobody read them. */
+/* The end: answers are written, and the path is free, unless it is another's by now. False: nobody read them. */
 bool close_clients(void)
 {
     struct stat there;
-    flush(&standard_output);
+    flush(&standard);
     if (socket_path && lstat(socket_path, &there) == 0 && there.st_dev == bound.st_dev && there.st_ino == bound.st_ino)
         unlink(socket_path);
-    return !in_stdio || !standard_output.is_broken;
+    return !in_stdio || !standard.is_broken;
 }

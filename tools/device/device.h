@@ -8,7 +8,6 @@
 #include <ctype.h>
 #include <err.h>
 #include <errno.h>
-#include <poll.h>
 #include <stdio.h>
 #include <stdlib.h>
 #include <string.h>
@@ -16,16 +15,15 @@
 #include <sys/socket.h>
 #include <unistd.h>
 
-#define MOST_LINE 8191     /* bytes of a line */
-#define MOST_BYTES 65535   /* bytes of an entry */
-#define MOST_UNREAD 262144 /* bytes of answers that nobody reads, before they are thrown away */
-#define MOST_TEXT (4 * MOST_BYTES + 2) /* of a value: \xHH is a byte of it */
-#define MOST_SAID (MOST_TEXT + 100)    /* bytes of an answer */
-#define MOST_WATCHES 32    /* of a client */
-#define MOST_WAITING 1024  /* frames of a device that wait for the bus */
-#define DAY_MS 86400000    /* most ms of a !tick */
-#define DOMAIN_TYPE 0x0F   /* the data type of bytes as they are */
-#define FRAMES frames, BAFOKUN_MOST_FRAMES /* where each call of the library puts what is sent */
+#define MOST_LINE 8191                 /* bytes of a line */
+#define MOST_BYTES 65535               /* bytes of an entry */
+#define MOST_TEXT (4 * MOST_BYTES + 1) /* and of what people read: each byte may be \xHH */
+#define MOST_UNREAD 262144             /* bytes of answers that nobody reads, before their reader is dropped */
+#define MOST_WATCHES 32                /* of a client */
+#define MOST_WAITING 1024              /* frames of a device that wait for the bus */
+#define DAY_MS 86400000                /* most ms of a !tick */
+#define DOMAIN_TYPE 0x0F               /* the data type of bytes as they are */
+#define FRAMES frames, BAFOKUN_MOST_FRAMES
 
 /* What epoll watches, for these of its events. */
 struct source {
@@ -34,11 +32,13 @@ struct source {
     uint32_t wanted;
 };
 
-/* An entry of a data sheet; full is its name, after that of its object and a point where it is a part of one. */
+/* An entry of a data sheet. full is OBJECT.NAME, NULL where the entry is the whole of its object. */
 struct entry {
-    int index, sub_index;
-    uint8_t type, object_type;
-    const char *name, *object;
+    uint16_t index;
+    uint8_t sub_index, type, object_type;
+    bool is_part;
+    const char *name;
+    char *full;
 };
 
 /* What the bus is like to a device. */
@@ -50,39 +50,28 @@ struct device {
     char interface[16], name[48]; /* the name is can0:5 */
     bool hears_all;               /* frames of each interface in --stdio */
     struct entry *entries;
-    size_t entry_count;
+    size_t entry_count, waiting;
     enum health health;
     bafokun_frame queue[MOST_WAITING];
-    size_t waiting;
     unsigned long thrown;
-    uint64_t retry; /* when an interface that is down is looked at again */
 };
 
-/* Text that is to be written. Of a trace nothing is thrown away: it is waited until somebody reads. */
-struct output {
-    int fd;
-    bool is_trace, is_broken;
-    size_t used;
-    char text[MOST_UNREAD + MOST_SAID];
-};
-
-/* Who gives lines: standard input, the file of --play, a connection of the socket. */
+/* Who gives lines, and is answered: standard input and output, the file of --play, a connection of the socket. */
 struct client {
     struct source source; /* first */
     void (*take)(struct client *client, char *line);
-    struct output *output;
-    bool is_long, has_ended; /* the line is too long; no line comes any more */
-    const char *numbered;    /* "line": where errors have the number of the line, else NULL */
+    bool is_long, has_ended, is_broken; /* the line is too long; no line comes any more; no answer can be written */
+    const char *numbered;               /* "line": where errors have the number of the line, else NULL */
     unsigned long number;
-    char text[MOST_LINE + 2];
-    size_t used, watch_count;
-    struct watch {           /* an entry whose changes it is told; its bytes when it was told last */
+    size_t used, unread, watch_count;
+    struct watch { /* an entry whose changes it is told; its bytes when it was told last */
         struct device *device;
         struct entry entry;
         uint8_t *bytes;
         size_t length;
     } watches[MOST_WATCHES];
     struct client *next;
+    char text[MOST_LINE + 4], answers[MOST_UNREAD + MOST_TEXT + 100]; /* so many bytes of both are used and unread */
 };
 
 /* main.c: the words, and the devices that they name */
@@ -98,7 +87,7 @@ bool run_loop(void);
 void end_loop(bool is_well);
 bool want(struct source *source, uint32_t events);
 void elapse(uint64_t ms);
-bool wait_for_room(int fd);
+bool has_room(int fd, bool waits);
 
 /* bus.c: SocketCAN */
 extern const char *const health_names[];
@@ -107,31 +96,29 @@ void tend_bus(struct device *device);
 void put_on_bus(struct device *device, const bafokun_frame *frame);
 bool is_crowded(const struct device *device);
 
-/* trace.c: --stdio and --play, lines with stamps */
-void take_trace_line(struct client *client, char *line);
+/* trace.c: lines with stamps, of --stdio and --play */
+void take_stamped(struct client *client, char *line);
+bool is_due(const struct client *client, const char *line);
+bool is_playing(void);
+bool let_pass(const struct client *client, uint64_t ms);
 void print_frame(struct device *device, const bafokun_frame *frame);
 void deliver(void);
 void end_trace(void);
-void open_play(const char *path);
+
+/* clients.c: who gives lines, and what they are told */
+enum kind { FRAME, ANSWER, TROUBLE };
+extern struct client standard, player;
+void open_clients(const char *play, const char *socket);
 void play_due(void);
-bool is_playing(void);
-bool let_pass(const struct client *client, uint64_t ms);
+bool say(struct client *client, enum kind kind, const char *format, ...) __attribute__((format(printf, 3, 4)));
+void tend_clients(void);
+bool close_clients(void);
 
 /* commands.c: a line of the application */
 extern bafokun_frame frames[BAFOKUN_MOST_FRAMES];
 void send_frames(struct device *device, size_t count);
 void do_line(struct client *client, char *line);
 void say_changes(struct client *client);
-
-/* clients.c: who gives lines, and what they are told */
-enum kind { FRAME, ANSWER, TROUBLE };
-extern struct client standard;
-bool say(struct client *client, enum kind kind, const char *format, ...) __attribute__((format(printf, 3, 4)));
-void take_line(struct client *client, char *line, size_t length);
-void open_standard(void);
-void open_socket(const char *path);
-void tend_clients(void);
-bool close_clients(void);
 
 /* entries.c: names, types and values of entries */
 char *trimmed(char *text);

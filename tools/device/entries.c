@@ -1,6 +1,6 @@
 /*
- * The names, data types and values of a sheet's entries: the library gives bytes. bafokun_build has accepted the sheet, so nothing
- * is checked again; docs/SHEETS.md says what a sheet is.
+ * The names, data types and values of a sheet's entries: the library gives bytes. bafokun_build has accepted the sheet,
+ * so nothing is checked again; docs/SHEETS.md says what a sheet is.
  */
 #include "device.h"
 
@@ -21,15 +21,21 @@ char *trimmed(char *text)
 
 /* ---- names */
 
+/* An entry, or an object, of which nothing else is known. */
+static struct entry entry_of(const char *index, const char *sub_index)
+{
+    return (struct entry){ (uint16_t)strtoul(index, NULL, 16), (uint8_t)strtoul(sub_index, NULL, 16), DOMAIN_TYPE, VAR,
+                           *sub_index != 0, "", NULL };
+}
+
 /* Reads the heading of a section: an index, and perhaps "sub" and a sub-index. False: of another section. */
 static bool read_heading(const char *line, struct entry *section)
 {
-    char index[5], sub_index[3] = "";
+    char index[5] = "", sub_index[3] = "";
     int end = 0;
-    if (sscanf(line, "[ %4" HEX " ]%n", index, &end) < 1) return false;
-    if (end == 0) sscanf(line, "[ %4" HEX "%*1[sS]%*1[uU]%*1[bB]%2" HEX " ]%n", index, sub_index, &end);
-    *section = (struct entry){ (int)strtol(index, NULL, 16), -1, DOMAIN_TYPE, VAR, "", NULL };
-    if (*sub_index) section->sub_index = (int)strtol(sub_index, NULL, 16);
+    sscanf(line, "[ %4" HEX " ]%n", index, &end);
+    if (end == 0) sscanf(line, "[ %*4" HEX "%*1[sS]%*1[uU]%*1[bB]%2" HEX " ]%n", sub_index, &end);
+    *section = entry_of(index, sub_index);
     return end > 0;
 }
 
@@ -42,10 +48,12 @@ static void read_key(char *line, struct entry *section)
     if (strcasecmp(key, "ObjectType") == 0) section->object_type = (uint8_t)strtoul(value, NULL, 0);
 }
 
+/* By index, an object before its parts. */
 static int compare(const void *left, const void *right)
 {
     const struct entry *a = left, *b = right;
-    return a->index != b->index ? a->index - b->index : a->sub_index - b->sub_index;
+    if (a->index != b->index) return a->index - b->index;
+    return a->is_part != b->is_part ? a->is_part - b->is_part : a->sub_index - b->sub_index;
 }
 
 /* Keeps what describes an entry: the section of a VAR or a DOMAIN, the sub-indices of an ARRAY or a RECORD. */
@@ -56,13 +64,12 @@ static void keep_entries(struct device *device, size_t count)
         struct entry entry = device->entries[i];
         uint8_t byte;
         size_t length;
-        if (entry.sub_index < 0) object = entry;
+        if (!entry.is_part) object = entry;
         bool has_parts = object.object_type == ARRAY || object.object_type == RECORD;
-        if (entry.index != object.index || has_parts != (entry.sub_index >= 0)) continue;
-        if (has_parts) entry.object = object.name;
-        else entry.sub_index = 0;
-        if (bafokun_value(&device->node, (uint16_t)entry.index, (uint8_t)entry.sub_index, &byte, 0, &length))
-            device->entries[device->entry_count++] = entry;
+        if (entry.index != object.index || entry.is_part != has_parts
+            || !bafokun_value(&device->node, entry.index, entry.sub_index, &byte, 0, &length)) continue;
+        if (has_parts && asprintf(&entry.full, "%s.%s", object.name, entry.name) < 0) err(1, "%s", device->name);
+        device->entries[device->entry_count++] = entry;
     }
 }
 
@@ -85,34 +92,33 @@ void name_entries(struct device *device, char *text)
     keep_entries(device, count);
 }
 
-/* How many bytes of the text are a name, perhaps the object's and a point before it; 0: it begins otherwise. */
-static size_t match(const char *text, const char *object, const char *name)
+/* How many bytes of a text are this name; 0: it begins otherwise. */
+static size_t match(const char *text, const char *name)
 {
-    size_t before = object ? strlen(object) + 1 : 0, length = before + strlen(name);
-    if (object && (strncasecmp(text, object, before - 1) != 0 || text[before - 1] != '.')) return 0;
-    return *name && strncasecmp(text + before, name, length - before) == 0 && strchr(" \t", text[length]) ? length : 0;
+    size_t length = strlen(name);
+    return length > 0 && strncasecmp(text, name, length) == 0 && strchr(" \t", text[length]) ? length : 0;
 }
 
 /*
- * The entry that a text begins with, by its key, as 2001:01, or the longest name that fits: how many bytes that has, 0 where there
- * is none. Where several entries have the name, found is the first, without its name.
+ * The entry that a text begins with, by its key, as 2001:01, or the longest name that fits: how many bytes that has, 0
+ * where there is none. Where several entries have the name, found is the first, without its name.
  */
 size_t find_entry(const struct device *device, const char *text, struct entry *found)
 {
-    char index[5] = "", sub_index[3] = "";
-    size_t best = 0, lengths[2];
-    bool is_key = sscanf(text, "%4" HEX ":%2" HEX, index, sub_index) == 2 && strlen(index) + strlen(sub_index) == 6
-        && strchr(" \t", text[7]);
-    *found = (struct entry){ (int)strtol(index, NULL, 16), (int)strtol(sub_index, NULL, 16), DOMAIN_TYPE, VAR, "", NULL };
+    char index[5], sub_index[3];
+    int key = 0;
+    size_t best = 0;
+    sscanf(text, "%4" HEX ":%2" HEX "%n", index, sub_index, &key);
+    bool is_key = key == 7 && strchr(" \t", text[7]);
+    if (is_key) *found = entry_of(index, sub_index);
     for (const struct entry *at = device->entries; at < device->entries + device->entry_count; at++) {
-        if (is_key && compare(at, found) == 0) *found = *at;
-        lengths[0] = is_key ? 0 : match(text, NULL, at->name);
-        lengths[1] = is_key || !at->object ? 0 : match(text, at->object, at->name);
-        for (int i = 0; i < 2; i++) {
-            if (lengths[i] > best) *found = *at;
-            else if (lengths[i] > 0 && lengths[i] == best) found->name = NULL;
-            if (lengths[i] > best) best = lengths[i];
-        }
+        if (is_key && at->index == found->index && at->sub_index == found->sub_index) *found = *at;
+        size_t length = match(text, at->name);
+        if (length == 0 && at->full) length = match(text, at->full);
+        if (is_key || length == 0 || length < best) continue;
+        if (length > best) *found = *at;
+        else found->name = NULL;
+        best = length;
     }
     return is_key ? 7 : best;
 }
@@ -122,7 +128,8 @@ size_t find_entry(const struct device *device, const char *text, struct entry *f
 /* The bytes of a type of numbers, negative where these have a sign; 0 for other types. */
 static int width_of(uint8_t type)
 {
-    static const int8_t widths[] = { 0, 1, -1, -2, -4, 1, 2, 4, [0x10] = -3, [0x12] = -5, -6, -7, -8, 3, [0x18] = 5, 6, 7, 8 };
+    static const int8_t widths[] = { [0x01] = 1, -1, -2, -4, 1, 2, 4, [0x10] = -3, [0x12] = -5, -6, -7, -8,
+                                     [0x16] = 3, [0x18] = 5, 6, 7, 8 };
     return type < sizeof widths ? widths[type] : 0;
 }
 
@@ -130,7 +137,8 @@ static int width_of(uint8_t type)
 static bool number_of(uint8_t type, const char *text, uint8_t *bytes)
 {
     int width = abs(width_of(type));
-    bool is_signed = width_of(type) < 0, is_negative = is_signed && *text == '-', is_hex = strncasecmp(text, "0x", 2) == 0;
+    bool is_signed = width_of(type) < 0, is_negative = is_signed && *text == '-';
+    bool is_hex = strncasecmp(text, "0x", 2) == 0;
     uint64_t most = type == BOOLEAN ? 1 : UINT64_MAX >> (64 - 8 * width);
     char *end;
     errno = 0;
@@ -146,8 +154,8 @@ static bool number_of(uint8_t type, const char *text, uint8_t *bytes)
 /* The byte of two hexadecimal digits, -1 where they are none. */
 static int byte_of(const char *text)
 {
-    char digits[] = { text[0], (char)(text[0] ? text[1] : 0), 0 };
-    return isxdigit((unsigned char)digits[0]) && isxdigit((unsigned char)digits[1]) ? (int)strtol(digits, NULL, 16) : -1;
+    char digits[3] = "";
+    return sscanf(text, "%2" HEX, digits) == 1 && digits[1] ? (int)strtol(digits, NULL, 16) : -1;
 }
 
 /* The bytes of a value as put_value writes it. False: it is no such value. */
@@ -167,7 +175,7 @@ bool bytes_of(uint8_t type, const char *text, uint8_t *bytes, size_t *length)
     return *length > 0;
 }
 
-/* Writes a number in decimal, a VISIBLE_STRING as text where \xHH is any byte, other bytes as pairs of digits; "-" for none. */
+/* Writes a number in decimal, a VISIBLE_STRING as text where \xHH is any byte, other bytes as digits; "-" for none. */
 void write_value(uint8_t type, const uint8_t *bytes, size_t length, char *text)
 {
     int width = width_of(type), shift = 64 - 8 * abs(width);

@@ -1,6 +1,7 @@
 /* What happens, and when: one epoll loop, the clock by a timerfd. SIGTERM, SIGINT and SIGHUP end it. */
 #include "device.h"
 
+#include <poll.h>
 #include <signal.h>
 #include <sys/signalfd.h>
 #include <sys/timerfd.h>
@@ -31,7 +32,7 @@ void elapse(uint64_t ms)
     for (; ms > 0; ms--) {
         elapsed++;
         for (struct device *at = devices; at < devices + device_count; at++)
-            send_frames(at, bafokun_tick(&at->node, frames, BAFOKUN_MOST_FRAMES));
+            send_frames(at, bafokun_tick(&at->node, FRAMES));
         deliver();
         play_due();
     }
@@ -50,16 +51,16 @@ void end_loop(bool is_well)
 }
 
 /* It isn't read, so that who waits for room finds it too. */
-static void take_signal(struct source *source) { end_loop(source != NULL); }
+static void take_signal(struct source *source) { end_loop(source->fd >= 0); }
 
 static struct source clock_source = { .ready = ring }, signals = { .ready = take_signal };
 
-/* Waits until there is room to write. False: there is none, and a signal ends the run. */
-bool wait_for_room(int fd)
+/* Whether there is room to write. Where it is waited for, there is none if a signal ends the run and nobody reads. */
+bool has_room(int fd, bool waits)
 {
     struct pollfd both[] = { { fd, POLLOUT, 0 }, { signals.fd, POLLIN, 0 } };
-    while (poll(both, 2, -1) < 0 && errno == EINTR) { }
-    return both[0].revents != 0 || poll(both, 1, LAST_MS) > 0;
+    while (poll(both, 2, waits ? -1 : 0) < 0 && errno == EINTR) { }
+    return both[0].revents != 0 || (waits && poll(both, 1, LAST_MS) > 0);
 }
 
 void start_loop(void)

@@ -32,19 +32,6 @@ bool read_number(const char *word, unsigned long least, unsigned long most, unsi
     return *word && word[strspn(word, "0123456789")] == 0 && *number >= least && *number <= most;
 }
 
-/* Says why there is no device, and ends. */
-static void refuse(const char *word, const char *sheet, const bafokun_fault *fault)
-{
-    char text[128], fix[128], place[64];
-    bafokun_fault_text(fault, text, sizeof text);
-    bafokun_fault_fix(fault, fix, sizeof fix);
-    if (fault->stage == BAFOKUN_FAULT_DEVICE)
-        snprintf(place, sizeof place, "build fault %u %04X:%02X", fault->number, fault->index, fault->sub_index);
-    else
-        snprintf(place, sizeof place, "fault %u line %llu", fault->number, (unsigned long long)fault->line);
-    errx(1, "%s: %s: %s: %s; or try the output of `conode adapt %s`", word, place, text, fix, sheet);
-}
-
 /* Builds the device of a word [INTERFACE:]N=SHEET. */
 static void build(const char *word)
 {
@@ -72,7 +59,14 @@ static void build(const char *word)
     if (!text || !file || ferror(file)) err(1, "%s", sheet);
     fclose(file);
     text[length] = 0;
-    if (!bafokun_build(&device->node, text, length, (uint8_t)node_id, &config, &fault)) refuse(word, sheet, &fault);
+    if (!bafokun_build(&device->node, text, length, (uint8_t)node_id, &config, &fault)) {
+        char what[128];
+        bafokun_fault_text(&fault, what, sizeof what);
+        if (fault.stage == BAFOKUN_FAULT_DEVICE)
+            errx(1, "%s: build fault %u %04X:%02X: %s", word, fault.number, fault.index, fault.sub_index, what);
+        errx(1, "%s: fault %u line %llu: %s; `conode adapt %s` writes a sheet that is accepted", word, fault.number,
+             (unsigned long long)fault.line, what, sheet);
+    }
     name_entries(device, text);
     device_count++;
 }
@@ -111,12 +105,10 @@ int main(int count, char **words)
     if (!devices) err(1, "canopen-device");
     for (int i = optind; i < count; i++) build(words[i]);
     start_loop();
-    open_standard();
-    if (given[PLAY]) open_play(given[PLAY]);
     for (struct device *at = devices; !in_stdio && at < devices + device_count; at++) open_bus(at);
-    if (given[SOCKET]) open_socket(given[SOCKET]);
+    open_clients(given[PLAY], given[SOCKET]);
     for (struct device *at = devices; at < devices + device_count; at++)
-        send_frames(at, bafokun_boot(&at->node, frames, BAFOKUN_MOST_FRAMES));
+        send_frames(at, bafokun_boot(&at->node, FRAMES));
     deliver();
     play_due();
     bool is_well = run_loop();

@@ -1,6 +1,6 @@
 /*
- * Lines with stamps. --stdio: frames come in as lines of a trace, as docs/TRACES.md has them, and those that are sent go out so.
- * --play: lines of the application, whose first stamp is the start; a line without one follows on the line before.
+ * Lines with stamps. --stdio: frames come in as lines of a trace, as docs/TRACES.md has them, and those that are sent
+ * go out so. --play: lines of the application, each at its stamp.
  */
 #include "device.h"
 
@@ -8,10 +8,58 @@
 
 #define MOST_HEARD 8192
 
-/* ---- frame lines */
+/* ---- frames that go out, and are heard */
+
+static unsigned long frames_in, frames_out;
+static uint64_t start; /* the stamp, in ms, from which the clock goes on with --stamps */
+
+/* What was sent, which other devices will hear. */
+static struct heard {
+    struct device *from;
+    bafokun_frame frame;
+} heard[MOST_HEARD];
+static size_t heard_count;
+
+void print_frame(struct device *device, const bafokun_frame *frame)
+{
+    uint64_t ms = start + elapsed;
+    struct timespec now = { (time_t)(ms / 1000), (long)(ms % 1000) * 1000000 };
+    char data[17] = "";
+    if (!by_stamps) clock_gettime(CLOCK_REALTIME, &now);
+    for (unsigned i = 0; i < frame->length; i++) sprintf(data + 2 * i, "%02X", frame->bytes[i]);
+    say(&standard, FRAME, "(%010lld.%06ld) %s %03X#%s", (long long)now.tv_sec, now.tv_nsec / 1000, device->interface,
+        frame->id, data);
+    frames_out++;
+    if (device_count > 1 && heard_count < MOST_HEARD) heard[heard_count++] = (struct heard){ device, *frame };
+}
+
+/* A frame on an interface is heard by its devices; from outside by all, where they have no interface of their own. */
+static void give_frame(struct device *from, const char *interface, const bafokun_frame *frame)
+{
+    for (struct device *at = devices; at < devices + device_count; at++)
+        if (at != from && ((!from && at->hears_all) || strcmp(at->interface, interface) == 0))
+            send_frames(at, bafokun_take(&at->node, frame, FRAMES));
+}
+
+/* What was sent is heard. Where devices answer each other for ever, the rest is lost. */
+void deliver(void)
+{
+    for (size_t i = 0; i < heard_count; i++) {
+        struct heard at = heard[i];
+        give_frame(at.from, at.from->interface, &at.frame);
+    }
+    heard_count = 0;
+}
+
+void end_trace(void)
+{
+    say(&standard, ANSWER, "in %lu, out %lu, ticks %llu", frames_in, frames_out, (unsigned long long)elapsed);
+}
+
+/* ---- lines that come in */
 
 /* The stamp at the front of a line, in ms; gives what follows it and its blanks. NULL: it is no stamp. */
-static char *read_stamp(char *line, uint64_t *ms)
+static const char *read_stamp(const char *line, uint64_t *ms)
 {
     char seconds[13], micros[7];
     int end = 0;
@@ -22,8 +70,8 @@ static char *read_stamp(char *line, uint64_t *ms)
 }
 
 /*
- * What follows a stamp: the interface, the frame, perhaps R or T. is_data: the frame has 11 bits, and is neither a remote frame nor
- * one of CAN FD.
+ * What follows a stamp: the interface, the frame, perhaps R or T. is_data: the frame has 11 bits, and is neither a
+ * remote frame nor one of CAN FD.
  */
 static bool read_frame(const char *text, char interface[16], bafokun_frame *frame, bool *is_data)
 {
@@ -41,139 +89,27 @@ static bool read_frame(const char *text, char interface[16], bafokun_frame *fram
     return strlen(data) <= 16 && *data != '-' && bytes_of(DOMAIN_TYPE, data, frame->bytes, &length);
 }
 
-/* ---- --stdio */
+static uint64_t due; /* when the next line of --play is, in ms since the start */
 
-static unsigned long frames_in, frames_out;
-static uint64_t start_ms; /* with --stamps, what elapsed is counted from */
-
-/* What was sent, which other devices will hear. */
-static struct heard {
-    struct device *from;
-    bafokun_frame frame;
-} heard[MOST_HEARD];
-static size_t heard_count;
-
-void print_frame(struct device *device, const bafokun_frame *frame)
-{
-    uint64_t ms = start_ms + elapsed;
-    struct timespec now = { (time_t)(ms / 1000), (long)(ms % 1000) * 1000000 };
-    char data[17] = "";
-    if (!by_stamps) clock_gettime(CLOCK_REALTIME, &now);
-    for (unsigned i = 0; i < frame->length; i++) sprintf(data + 2 * i, "%02X", frame->bytes[i]);
-    say(&standard, FRAME, "(%010lld.%06ld) %s %03X#%s", (long long)now.tv_sec, now.tv_nsec / 1000, device->interface, frame->id,
-        data);
-    frames_out++;
-    if (device_count > 1 && heard_count < MOST_HEARD) heard[heard_count++] = (struct heard){ device, *frame };
-}
-
-/* A frame on an interface is heard by its devices; from outside by all, where they have no interface of their own. */
-static void give_frame(struct device *from, const char *interface, const bafokun_frame *frame)
-{
-    for (struct device *at = devices; at < devices + device_count; at++)
-        if (at != from && ((!from && at->hears_all) || strcmp(at->interface, interface) == 0))
-            send_frames(at, bafokun_take(&at->node, frame, frames, BAFOKUN_MOST_FRAMES));
-}
-
-/* What was sent is heard. Where devices answer each other for ever, the rest is for the next turn of the loop. */
-void deliver(void)
-{
-    size_t done = 0;
-    for (; done < heard_count && done < MOST_HEARD / 2; done++) {
-        struct heard at = heard[done];
-        give_frame(at.from, at.from->interface, &at.frame);
-    }
-    memmove(heard, heard + done, (heard_count -= done) * sizeof *heard);
-}
-
-/* A line of standard input: a frame, or a line of the application. */
-void take_trace_line(struct client *client, char *line)
-{
-    static bool has_stamp;
-    char interface[16];
-    bafokun_frame frame;
-    bool is_data;
-    uint64_t ms;
-    if (*line != '(') {
-        do_line(client, line);
-        return;
-    }
-    char *text = read_stamp(line, &ms);
-    if (!text || !read_frame(text, interface, &frame, &is_data)) {
-        say(client, TROUBLE, "error: this is no frame of a trace");
-        return;
-    }
-    if (!has_stamp) start_ms = ms - elapsed;
-    has_stamp = true;
-    uint64_t now = start_ms + elapsed;
-    if (by_stamps && ms > now && !let_pass(client, ms - now)) {
-        say(client, TROUBLE, "error: this is more than a day past the line before");
-    } else if (is_data) {
-        frames_in++;
-        give_frame(NULL, interface, &frame);
-        deliver();
-    }
-}
-
-void end_trace(void)
-{
-    say(&standard, ANSWER, "in %lu, out %lu, ticks %llu", frames_in, frames_out, (unsigned long long)elapsed);
-}
-
-/* ---- --play */
-
-static struct client player;
-static FILE *file;
-static const char *play_path;
-static uint64_t due; /* when the command is done, in ms since the start */
-static char *command;
-
-bool is_playing(void) { return command || due > elapsed; }
-
-/* A line of the file. Frames are passed over, so a session that `conode replay` plays can be played here. */
-static void plan(struct client *client, char *line)
+/* Whether a line is due. In --play the first stamp is the start, and a line without one follows on the line before. */
+bool is_due(const struct client *client, const char *line)
 {
     static bool has_first;
     static uint64_t first;
-    char interface[16];
-    bafokun_frame frame;
-    bool is_data;
     uint64_t ms;
-    command = line;
-    if (*line != '(') return;
-    if (!(command = read_stamp(line, &ms))) {
-        say(client, TROUBLE, "error: this is no stamp, as (0.250000)");
-        return;
+    if (client != &player) return true;
+    if (read_stamp(line, &ms)) {
+        if (!has_first) first = ms - due;
+        has_first = true;
+        if (ms > first + due) due = ms - first;
     }
-    if (!has_first) first = ms - due;
-    has_first = true;
-    if (ms > first + due) due = ms - first;
-    if (read_frame(command, interface, &frame, &is_data)) command = NULL;
+    return due <= elapsed;
 }
 
-/* Reads on to the next line of the application. */
-static void read_on(void)
-{
-    static char *line;
-    static size_t room;
-    ssize_t length;
-    command = NULL;
-    while (!command && (length = getline(&line, &room, file)) > 0)
-        take_line(&player, line, (size_t)length - (line[length - 1] == '\n'));
-    if (!ferror(file)) return;
-    warn("%s", play_path);
-    end_loop(false);
-}
+/* Whether lines of --play wait, or more of them than have been read. */
+bool is_playing(void) { return !player.has_ended || player.used > 0 || due > elapsed; }
 
-/* Does the lines that are due. */
-void play_due(void)
-{
-    while (command && due <= elapsed) {
-        do_line(&player, command);
-        read_on();
-    }
-}
-
-/* So many ms pass by lines: the file waits, or time passes by stamps. False: it doesn't, or not so much. */
+/* So many ms pass by lines: those of --play wait, or time goes by stamps. False: it doesn't, or not so far. */
 bool let_pass(const struct client *client, uint64_t ms)
 {
     if (client == &player) due += ms;
@@ -182,11 +118,32 @@ bool let_pass(const struct client *client, uint64_t ms)
     return true;
 }
 
-void open_play(const char *path)
+/* A frame from outside, at a time. */
+static void take_frame(struct client *client, uint64_t ms, const char *interface, const bafokun_frame *frame)
 {
-    file = fopen(path, "re");
-    if (!file) err(1, "%s", path);
-    player = (struct client){ .take = plan, .output = standard.output, .numbered = "play" };
-    play_path = path;
-    read_on();
+    static bool has_stamp;
+    if (!has_stamp) start = ms - elapsed;
+    has_stamp = true;
+    if (by_stamps && ms > start + elapsed && !let_pass(client, ms - start - elapsed)) {
+        say(client, TROUBLE, "error: this is more than a day past the line before");
+    } else if (frame) {
+        frames_in++;
+        give_frame(NULL, interface, frame);
+        deliver();
+    }
+}
+
+/* A line of the application, or a frame. --play passes over frames, so a session of `conode replay` can be played. */
+void take_stamped(struct client *client, char *line)
+{
+    char interface[16];
+    bafokun_frame frame;
+    bool is_data;
+    uint64_t ms;
+    const char *text = *line == '(' ? read_stamp(line, &ms) : line;
+    bool is_frame = text && text != line && read_frame(text, interface, &frame, &is_data);
+    if (text == line || (text && !is_frame && client == &player)) do_line(client, line + (text - line));
+    else if (client == &player && !text) say(client, TROUBLE, "error: this is no stamp, as (0.250000)");
+    else if (!is_frame) say(client, TROUBLE, "error: this is no frame of a trace");
+    else if (client != &player) take_frame(client, ms, interface, is_data ? &frame : NULL);
 }
