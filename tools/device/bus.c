@@ -173,7 +173,10 @@ void tend_bus(struct device *device)
 {
     size_t sent = 0;
     if (in_stdio) return;
-    if (device->health == DOWN && elapsed % RETRY_MS == 0 && connect_bus(device)) become(device, ACTIVE);
+    if (device->health == DOWN && elapsed >= device->retry) {
+        device->retry = elapsed + RETRY_MS;
+        if (connect_bus(device)) become(device, ACTIVE);
+    }
     while (sent < device->waiting && send_now(device, &device->queue[sent])) sent++;
     memmove(device->queue, device->queue + sent, (device->waiting - sent) * sizeof *device->queue);
     device->waiting -= sent;

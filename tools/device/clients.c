@@ -157,6 +157,7 @@ void open_clients(const char *play, const char *socket)
 /* At each turn of the loop: what changed is said, answers are written. In --stdio the run ends with its lines. */
 void tend_clients(void)
 {
+    say_changes(&player);
     for (struct client **at = &clients, *client; (client = *at); ) {
         bool is_standard = client == &standard;
         say_changes(client);

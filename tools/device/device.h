@@ -54,6 +54,7 @@ struct device {
     enum health health;
     bafokun_frame queue[MOST_WAITING];
     unsigned long thrown;
+    uint64_t retry; /* when an interface that is down is looked at again */
 };
 
 /* Who gives lines, and is answered: standard input and output, the file of --play, a connection of the socket. */

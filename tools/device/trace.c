@@ -69,24 +69,25 @@ static const char *read_stamp(const char *line, uint64_t *ms)
     return line + end;
 }
 
-/*
- * What follows a stamp: the interface, the frame, perhaps R or T. is_data: the frame has 11 bits, and is neither a
- * remote frame nor one of CAN FD.
- */
-static bool read_frame(const char *text, char interface[16], bafokun_frame *frame, bool *is_data)
+/* What follows a stamp. A frame of another kind is none with 11 bits, or a remote frame, or one of CAN FD. */
+enum text { NO_FRAME, OTHER_FRAME, DATA_FRAME };
+
+/* Reads the interface, the frame, and perhaps R or T. */
+static enum text read_frame(const char *text, char interface[16], bafokun_frame *frame)
 {
     char token[MOST_LINE + 1], mark[3] = "R", more;
     int fields = sscanf(text, "%15[^ \t]%*[ \t]%8191s %2s %c", interface, token, mark, &more);
-    size_t digits = fields < 2 ? 0 : strspn(token, "0123456789ABCDEFabcdef"), length;
+    size_t digits = fields < 2 ? 0 : strspn(token, "0123456789ABCDEFabcdef"), size;
     unsigned long id = strtoul(token, NULL, 16);
-    if ((digits != 3 && digits != 8) || token[digits] != '#' || (digits == 3 && id > 0x7FF)) return false;
-    if (fields == 4 || (strcmp(mark, "R") != 0 && strcmp(mark, "T") != 0)) return false;
+    if ((digits != 3 && digits != 8) || token[digits] != '#' || (digits == 3 && id > 0x7FF)) return NO_FRAME;
+    if (fields == 4 || (strcmp(mark, "R") != 0 && strcmp(mark, "T") != 0)) return NO_FRAME;
     const char *data = token + digits + 1;
-    *is_data = digits == 3 && *data != '#' && *data != 'R';
     *frame = (bafokun_frame){ (uint16_t)id, (uint16_t)(strlen(data) / 2), { 0 } };
-    if (*data == '#' || *data == 0) return true;
-    if (*data == 'R') return data[1] == 0 || (isdigit((unsigned char)data[1]) && data[2] == 0);
-    return strlen(data) <= 16 && *data != '-' && bytes_of(DOMAIN_TYPE, data, frame->bytes, &length);
+    bool is_remote = *data == 'R' && (data[1] == 0 || (isdigit((unsigned char)data[1]) && data[2] == 0));
+    if (*data == '#' || is_remote) return OTHER_FRAME;
+    bool is_right = strlen(data) <= 16 && *data != '-';
+    if (!is_right || (*data && !bytes_of(DOMAIN_TYPE, data, frame->bytes, &size))) return NO_FRAME;
+    return digits == 3 ? DATA_FRAME : OTHER_FRAME;
 }
 
 static uint64_t due; /* when the next line of --play is, in ms since the start */
@@ -138,12 +139,11 @@ void take_stamped(struct client *client, char *line)
 {
     char interface[16];
     bafokun_frame frame;
-    bool is_data;
     uint64_t ms;
     const char *text = *line == '(' ? read_stamp(line, &ms) : line;
-    bool is_frame = text && text != line && read_frame(text, interface, &frame, &is_data);
-    if (text == line || (text && !is_frame && client == &player)) do_line(client, line + (text - line));
+    enum text kind = text && text != line ? read_frame(text, interface, &frame) : NO_FRAME;
+    if (text == line || (client == &player && text && kind == NO_FRAME)) do_line(client, line + (text - line));
     else if (client == &player && !text) say(client, TROUBLE, "error: this is no stamp, as (0.250000)");
-    else if (!is_frame) say(client, TROUBLE, "error: this is no frame of a trace");
-    else if (client != &player) take_frame(client, ms, interface, is_data ? &frame : NULL);
+    else if (kind == NO_FRAME) say(client, TROUBLE, "error: this is no frame of a trace");
+    else if (client != &player) take_frame(client, ms, interface, kind == DATA_FRAME ? &frame : NULL);
 }
