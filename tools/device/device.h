@@ -47,8 +47,8 @@ enum health { ACTIVE, PASSIVE, BUS_OFF, DOWN };
 struct device {
     struct source bus; /* first: the source of a socket is its device */
     bafokun_node node;
-    char interface[16], name[48]; /* the name is can0:5 */
-    bool hears_all;               /* frames of each interface in --stdio */
+    char interface[16], name[48], *text; /* the name is can0:5; the text is that of its sheet, cut into names */
+    bool hears_all;                      /* frames of each interface in --stdio */
     struct entry *entries;
     size_t entry_count, waiting;
     enum health health;

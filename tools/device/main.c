@@ -53,7 +53,7 @@ static void build(const char *word)
         if (strcmp(at->name, device->name) == 0)
             errx(1, "%s: there is a node %lu on %s already", word, node_id, device->interface);
     const char *sheet = word + end;
-    char *text = malloc(MOST_SHEET + 1);
+    char *text = device->text = malloc(MOST_SHEET + 1);
     FILE *file = fopen(sheet, "re");
     size_t length = text && file ? fread(text, 1, MOST_SHEET, file) : 0;
     if (!text || !file || ferror(file)) err(1, "%s", sheet);
@@ -64,7 +64,7 @@ static void build(const char *word)
         bafokun_fault_text(&fault, what, sizeof what);
         if (fault.stage == BAFOKUN_FAULT_DEVICE)
             errx(1, "%s: build fault %u %04X:%02X: %s", word, fault.number, fault.index, fault.sub_index, what);
-        errx(1, "%s: fault %u line %llu: %s; `conode adapt %s` writes a sheet that is accepted", word, fault.number,
+        errx(1, "%s: fault %u line %llu: %s; `conode adapt %s` may mend it", word, fault.number,
              (unsigned long long)fault.line, what, sheet);
     }
     name_entries(device, text);
