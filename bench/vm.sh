@@ -1,8 +1,9 @@
 #!/bin/sh
 # Boots Debian's kernel under qemu, since many a machine has no CAN, and puts canopen-device on a virtual bus there: what it answers,
-# how exact its heartbeats are, what it takes while the bus is quiet, bus trouble, and random frames at full speed for a minute,
-# or as many seconds as are given: bench/vm.sh [SECONDS]. The machine's files are there read-only, so its candump, cansend,
-# cangen and ip are used. ACCELERATOR=kvm makes it faster where the machine can. Status 1 where something is wrong.
+# how exact its heartbeats are, what it takes while the bus is quiet, bus trouble, random frames at full speed for a minute,
+# or as many seconds as are given, and a recording, which conode replay answers in the same way: bench/vm.sh [SECONDS]. The
+# machine's files are there read-only, so its candump, canplayer, cansend, cangen and ip are used. ACCELERATOR=kvm makes it
+# faster where the machine can. Status 1 where something is wrong.
 #
 # Debian's packages: qemu-system-x86 linux-image-amd64 busybox-static cpio kmod can-utils iproute2 gcc make libc6-dev
 set -eu
@@ -38,7 +39,29 @@ mkdir -p "$folder/disk/bin" "$folder/disk/modules" "$folder/disk/run" "$folder/d
 cp /bin/busybox "$folder/disk/bin"
 ln -s busybox "$folder/disk/bin/sh"
 cp "$folder/made/canopen-device" "$root/examples/temperature-sensor.eds" "$root/examples/io-module.eds" "$folder/disk/run"
+cp "$("$root/bin/conode" --which | head -n 1)" "$folder/disk/run"
 echo "$seconds" > "$folder/disk/run/seconds"
+
+# frames for node 8, up to 8 ms apart: SDO requests for entries that no time depends on, NMT, SYNC and RPDOs, at last a reset
+awk '
+    function below(bound) { return int(rand() * bound) }
+    function pick(text,    all, many) { many = split(text, all, " "); return all[1 + below(many)] }
+    function bytes(many,    text) { while (many-- > 0) text = text sprintf("%02X", below(256)); return text }
+    function sdo(    at) {
+        at = pick("1001:00 1003:00 1005:00 1014:00 1018:01 1029:01 1400:01 1600:01 1800:01 1801:02 1A00:01 2000:00 2001:00 2002:00 \
+            6000:01 6200:01 6401:01 6411:01 6411:02 7000:00")
+        return "608#" pick("40 40 2F 2B 23 21 60 70 00 10 01 11 C0 C2 A0 A3 A1 80 81 02 7F") \
+            substr(at, 3, 2) substr(at, 1, 2) substr(at, 6) bytes(4)
+    }
+    BEGIN {
+        srand(1)
+        for (i = 1; i <= 3000; i++) {
+            now += below(8)
+            printf "(%d.%06d) can0 ", now / 1000, now % 1000 * 1000
+            if (i == 3000) print "000#8108"
+            else print rand() < 0.8 ? sdo() : pick("000#0108 000#0108 000#8008 000#8208 000#8108 080# 080# 208# 308# 208#01") bytes(below(3))
+        }
+    }' > "$folder/disk/run/session"
 for module in virtio_pci 9pnet_virtio 9p vcan can-raw; do
     /sbin/modprobe -S "$release" --show-depends "$module" | awk '$1 == "insmod" { print $2 }'
 done | awk '!seen[$0]++' > "$folder/paths"
@@ -136,13 +159,16 @@ sleep 1
 for value in 1 2 3; do echo "8 set 6000:01 $value" >&3; done
 sleep 1
 is 'what waits' "$(echo '8 state' >&3; sleep 0.5; tail -n 1 out | cut -d , -f 2-4)" ' vcan0 down, 1 frames wait, 0 thrown away'
-candump -D -L vcan0,088:7FF > waited 2> /dev/null &
+candump -r 10000000 -D -L vcan0,088:7FF > waited 2> /dev/null &
 listener=$!
 for _ in $(seq 600); do echo '8 raise 3120' >&3; done
 sleep 2
 is 'no more than 501 wait' "$(tail -n 1 out)" 'error: 501 frames wait for vcan0'
 ip link set vcan0 up
-sleep 2
+for _ in $(seq 60); do
+    sleep 0.5
+    ! grep -q '088#00' waited || break
+done
 kill $listener
 is 'all of them are sent' "$(cut -d ' ' -f 3 waited | cut -c 1-8 | uniq -c | tr -s ' \n' ' ')" ' 500 088#2031 1 088#4081 1 088#0000 '
 is 'trouble, said once' "$(errors)" \
@@ -164,6 +190,26 @@ kill -TERM "$device"
 wait "$device"
 is 'the status' $? 0
 is 'nothing else said' "$(wc -l < err)" 6
+
+candump -r 10000000 -L vcan0 > recording &
+listener=$!
+sleep 1
+./canopen-device 8=io-module.eds --can vcan0 < /dev/null 2> err &
+device=$!
+sleep 1
+canplayer -I session vcan0=can0
+sleep 2
+kill -TERM "$device"
+wait "$device"
+is 'the status' $? 0
+kill $listener
+# by identifier, as the device may be late by some frames
+grep -v ' \(000\|080\|608\|208\|308\)#' recording | cut -d ' ' -f 3 | sort -s -t '#' -k 1,1 > sent
+grep ' \(000\|080\|608\|208\|308\)#' recording > received
+./conode replay io-module.eds received --node 8 | grep -v '^;' | cut -d ' ' -f 3 | sort -s -t '#' -k 1,1 > replayed
+is 'frames received' "$(wc -l < received)" 3000
+diff sent replayed > differences
+is "a recording with $(wc -l < sent) frames of the device, against conode replay" "$(head -n 5 differences)" ''
 echo "$failed failed"
 MACHINE
 

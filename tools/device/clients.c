@@ -1,119 +1,52 @@
-/* Who gives lines, and what they are told: standard input and output, and the connections of a Unix socket. */
-#define _GNU_SOURCE
+/* Who gives lines, and what they are told: standard input and output, --play, and the connections of a Unix socket. */
 #include "device.h"
 
-#include <errno.h>
-#include <poll.h>
+#include <fcntl.h>
 #include <stdarg.h>
-#include <stdlib.h>
-#include <string.h>
-#include <sys/socket.h>
 #include <sys/stat.h>
 #include <sys/un.h>
-#include <unistd.h>
 
-#define MOST_CLIENTS 64
-#define MOST_UNREAD 262144 /* bytes that a client hasn't read, before it is dropped */
-#define PIECE 4096         /* a pipe that has room takes as many bytes at once */
-#define RETRY_MS 100       /* clients are let in again, where there were no descriptors */
-#define SAID_MS 10000      /* that is said again where it was well for so long */
+#define PIECE 4096    /* a pipe that has room takes as many bytes at once */
+#define SAID_MS 10000 /* a trouble is said again where it was well for so long */
 
-struct client standard;
-static struct output standard_output = { .fd = 1 };
-static struct client *clients[MOST_CLIENTS];
-static const char *socket_path;
-static struct stat bound;         /* what was made at socket_path */
-static struct source listener;
-static bool is_paused;            /* nobody is let in for a moment, as there were no descriptors */
-static uint64_t retry, said_next; /* when it is tried again, and when that is said again */
+static const char *socket_path, *play_path;
+static struct stat bound; /* what was made at the path of the socket */
 
 /* ---- what they are told */
 
-/* Writes what can be written without a wait, or all of it, unless a signal ends the run and nobody reads. */
-static void flush(struct output *output, bool must_wait)
+/* Writes what can be written without a wait, or all of a trace, unless a signal ends the run and nobody reads. */
+static void flush(struct client *client)
 {
+    int fd = client == &standard ? 1 : client->source.fd;
+    bool is_trace = client == &standard && in_stdio;
     size_t done = 0;
-    while (done < output->used && !output->is_broken) {
-        struct pollfd room = { output->fd, POLLOUT, 0 };
-        size_t length = output->used - done < PIECE ? output->used - done : PIECE;
-        output->is_broken = must_wait && !wait_for_room(output->fd);
-        if (output->is_broken || (!must_wait && poll(&room, 1, 0) < 1)) break;
-        ssize_t count = output->is_socket ? send(output->fd, output->text + done, length, MSG_DONTWAIT)
-                                          : write(output->fd, output->text + done, length);
-        if (count < 0 && errno != EAGAIN && errno != EINTR) output->is_broken = true;
-        if (count < 0 && !must_wait) break;
+    while (done < client->unread && !client->is_broken && has_room(fd, is_trace)) {
+        size_t length = client->unread - done;
+        ssize_t count = write(fd, client->answers + done, length < PIECE ? length : PIECE);
         if (count > 0) done += (size_t)count;
+        client->is_broken = count < 0 && errno != EAGAIN && errno != EINTR;
     }
-    if (done > 0) memmove(output->text, output->text + done, output->used -= done);
+    client->is_broken |= is_trace && done < client->unread;
+    memmove(client->answers, client->answers + done, client->unread -= done);
 }
 
-void put(struct output *output, const char *text, size_t length)
+/* Says a line: in a trace an answer is a comment; to a line that wasn't done it has the number. False, for callers. */
+bool say(struct client *client, enum kind kind, const char *format, ...)
 {
-    if (length == 0) return;
-    if (output->used + length > output->room) {
-        char *more = realloc(output->text, 2 * (output->used + length));
-        if (!more) output->is_broken = true;
-        if (!more) return;
-        output->text = more;
-        output->room = 2 * (output->used + length);
-    }
-    memcpy(output->text + output->used, text, length);
-    output->used += length;
-}
-
-static void put_values(struct output *output, const char *format, va_list values)
-{
-    char text[512];
-    int length = vsnprintf(text, sizeof text, format, values);
-    put(output, text, length < (int)sizeof text ? (size_t)length : sizeof text - 1);
-}
-
-void put_text(struct output *output, const char *format, ...)
-{
+    struct client *reader = client == &player ? &standard : client;
+    bool is_trace = reader == &standard && in_stdio;
     va_list values;
+    if (reader->unread > MOST_UNREAD && is_trace) flush(reader);
+    if (reader->unread > MOST_UNREAD) return false;
+    char *end = reader->answers + reader->unread;
+    if (is_trace && kind != FRAME) end = stpcpy(end, "; ");
+    if (client->numbered && kind == TROUBLE) end += sprintf(end, "%s %lu ", client->numbered, client->number);
     va_start(values, format);
-    put_values(output, format, values);
+    end += vsprintf(end, format, values);
     va_end(values);
-}
-
-/* An answer, or its first part; in a trace it is a comment. */
-void say(struct client *client, const char *format, ...)
-{
-    va_list values;
-    va_start(values, format);
-    if (client->is_trace) put(client->output, "; ", 2);
-    put_values(client->output, format, values);
-    va_end(values);
-}
-
-/* Begins the answer to a line that wasn't done. */
-static void say_number(struct client *client)
-{
-    say(client, "%s", client->numbered ? client->numbered : "");
-    if (client->numbered) put_text(client->output, " %lu ", client->number);
-}
-
-bool say_error(struct client *client, const char *format, ...)
-{
-    va_list values;
-    va_start(values, format);
-    say_number(client);
-    put(client->output, "error: ", 7);
-    put_values(client->output, format, values);
-    put(client->output, "\n", 1);
-    va_end(values);
+    *end++ = '\n';
+    reader->unread = (size_t)(end - reader->answers);
     return false;
-}
-
-void say_refused(struct client *client, uint32_t code, const char *text)
-{
-    say_number(client);
-    put_text(client->output, client->is_trace ? "refused %08lX\n" : "refused %08lX %s\n", (unsigned long)code, text);
-}
-
-void say_done(struct client *client)
-{
-    if (!client->numbered) say(client, "ok\n");
 }
 
 /* ---- what they give */
@@ -123,180 +56,139 @@ static void take_line(struct client *client, char *line, size_t length)
     client->number++;
     if (length > 0 && line[length - 1] == '\r') length--;
     line[length] = 0;
-    if (client->is_long || length > MOST_LINE) say_error(client, "the line has more than %d bytes", MOST_LINE);
-    else if (strlen(line) != length) say_error(client, "the line has a byte 0");
-    else (client->is_trace ? take_trace_line : do_line)(client, line);
+    bool is_long = client->is_long || length > MOST_LINE, has_zero = strlen(line) != length;
+    if (is_long) say(client, TROUBLE, "error: the line has more than %d bytes", MOST_LINE);
+    else if (has_zero) say(client, TROUBLE, "error: the line has a byte 0");
+    else client->take(client, line);
     client->is_long = false;
 }
 
-/* Reads what there is, and does the lines in it. Of a line that is too long nothing is kept. */
+/* Reads what there is, and does the lines in it that are due. Of a line that is too long nothing is kept. */
 static void take_text(struct source *source)
 {
     struct client *client = (struct client *)source;
-    char *begin = client->line, *end, *line_end;
-    if (client->has_ended) return;
-    ssize_t size = read(source->fd, begin + client->used, sizeof client->line - 1 - client->used);
-    if (size < 0 && (errno == EAGAIN || errno == EINTR)) return;
-    end = begin + client->used + (size > 0 ? size : 0);
-    for (; (line_end = memchr(begin, '\n', (size_t)(end - begin))); begin = line_end + 1)
-        take_line(client, begin, (size_t)(line_end - begin));
-    client->used = (size_t)(end - begin);
-    memmove(client->line, begin, client->used);
-    client->is_long |= client->used > MOST_LINE;
-    if (client->is_long) client->used = 0;
-    if (size > 0) return;
-    if (client->used > 0 || client->is_long) take_line(client, client->line, client->used);
-    client->has_ended = true;
-    if (client == &standard) remove_source(source);
-    else set_wanted(source, false, client->has_left);
-}
-
-/* Standard input and output. */
-bool open_standard(void)
-{
-    standard.source = (struct source){ 0, take_text };
-    standard.output = &standard_output;
-    standard.is_trace = in_stdio;
-    standard.numbered = in_stdio ? "line" : NULL;
-    return add_source(&standard.source);
-}
-
-static void free_client(struct client *client)
-{
-    while (client->watch_count > 0) free(client->watches[--client->watch_count].bytes);
-    free(client->output->text);
-    if (client == &standard) return;
-    close(client->source.fd);
-    free(client->output);
-    free(client);
-}
-
-/* Lets a client in at this connection. False: errno says why. */
-static bool add_client(struct client **at, int fd)
-{
-    struct client *client = calloc(1, sizeof *client);
-    struct output *output = calloc(1, sizeof *output);
-    if (client && output) {
-        *output = (struct output){ .fd = fd, .is_socket = true };
-        client->source = (struct source){ fd, take_text };
-        client->output = output;
-        *at = client;
-        if (add_source(&client->source)) return true;
-        *at = NULL;
+    char *line = client->text, *end = line + client->used, *next = memchr(line, '\n', client->used);
+    if (!client->has_ended && !next) {
+        ssize_t size = read(source->fd, end, sizeof client->text - 2 - client->used);
+        if (size < 0 && (errno == EAGAIN || errno == EINTR)) return;
+        if (size < 0 && client->numbered) {
+            warn("%s", client == &player ? play_path : "standard input");
+            end_loop(false);
+        }
+        client->has_ended = size <= 0;
+        if (size > 0) end += size;
+        else if (client->used > 0 || client->is_long) *end++ = '\n'; /* a last line needs no end */
     }
-    free(client);
-    free(output);
-    return false;
+    *end = 0;
+    for (; (next = memchr(line, '\n', (size_t)(end - line))) && is_due(client, line); line = next + 1)
+        take_line(client, line, (size_t)(next - line));
+    client->used = (size_t)(end - line);
+    memmove(client->text, line, client->used);
+    if (next || client->used <= MOST_LINE + 1) return; /* with a CR that isn't counted */
+    client->is_long = true;
+    client->used = 0;
 }
 
-/* A connection that can't be taken stays, and would be found at each turn: nobody is let in for a moment. */
-static void pause_listener(void)
+struct client standard = { .source = { 0, take_text, 0 } };
+struct client player = { .source = { -1, take_text, 0 }, .take = take_stamped, .has_ended = true, .numbered = "play" };
+static struct client *clients = &standard;
+
+/* Does the lines of --play that are due. */
+void play_due(void)
 {
+    do take_text(&player.source);
+    while (!player.has_ended && !memchr(player.text, '\n', player.used));
+}
+
+/* ---- connections */
+
+/* Lets clients in: at each turn of the loop, since one for whom there is no descriptor isn't indicated again. */
+static void let_in(struct source *listener)
+{
+    static uint64_t said_next;
+    int fd;
+    while ((fd = accept4(listener->fd, NULL, NULL, SOCK_NONBLOCK | SOCK_CLOEXEC)) >= 0) {
+        struct client *client = calloc(1, sizeof *client);
+        if (!client) break;
+        client->source = (struct source){ fd, take_text, 0 };
+        client->take = do_line;
+        client->next = clients;
+        client->has_ended = !want(&client->source, EPOLLIN);
+        clients = client;
+    }
+    if (fd < 0 && (errno == EAGAIN || errno == EINTR || errno == ECONNABORTED)) return;
     if (elapsed >= said_next) fprintf(stderr, "%s: no client can be let in: %s\n", socket_path, strerror(errno));
     said_next = elapsed + SAID_MS;
-    is_paused = true;
-    retry = elapsed + RETRY_MS;
-    set_wanted(&listener, false, false);
+    if (fd >= 0) close(fd);
 }
 
-static void resume_listener(void)
-{
-    is_paused = false;
-    set_wanted(&listener, true, false);
-}
+static struct source listener = { .ready = let_in };
 
-static void take_connection(struct source *source)
-{
-    size_t i = 0;
-    int fd = accept4(source->fd, NULL, NULL, SOCK_NONBLOCK | SOCK_CLOEXEC);
-    if (fd < 0) {
-        if (errno != EAGAIN && errno != EINTR && errno != ECONNABORTED) pause_listener();
-        return;
-    }
-    while (i < MOST_CLIENTS && clients[i]) i++;
-    if (i < MOST_CLIENTS && add_client(&clients[i], fd)) return;
-    if (i == MOST_CLIENTS) fprintf(stderr, "%s: a client is turned away: there are %zu\n", socket_path, i);
-    else fprintf(stderr, "%s: a client is turned away: %s\n", socket_path, strerror(errno));
-    close(fd);
-}
-
-/* Removes a socket that was left at the address, where nobody listens any more. */
-static void remove_left(const struct sockaddr_un *at)
-{
-    struct stat left;
-    int other = socket(AF_UNIX, SOCK_STREAM | SOCK_NONBLOCK | SOCK_CLOEXEC, 0);
-    bool is_left = connect(other, (const struct sockaddr *)at, sizeof *at) != 0 && errno == ECONNREFUSED;
-    if (is_left && lstat(at->sun_path, &left) == 0 && S_ISSOCK(left.st_mode)) unlink(at->sun_path);
-    close(other);
-}
-
-/* The path is free again, unless somebody else has it by now. */
-static void free_path(void)
-{
-    struct stat there;
-    bool is_ours = socket_path && lstat(socket_path, &there) == 0 && there.st_dev == bound.st_dev && there.st_ino == bound.st_ino;
-    if (is_ours) unlink(socket_path);
-}
-
-/* Listens at a path where nobody else does. Only the own user may connect. False: errno says why. */
-bool open_socket(const char *path)
+/* Listens at a path where nobody else does. Only the own user may connect. */
+static void open_socket(const char *path)
 {
     struct sockaddr_un at = { .sun_family = AF_UNIX };
-    errno = ENAMETOOLONG;
-    if (strlen(path) >= sizeof at.sun_path) return false;
+    if (strlen(path) >= sizeof at.sun_path) errx(1, "%s: the path is too long", path);
     strcpy(at.sun_path, path);
-    remove_left(&at);
-    listener = (struct source){ socket(AF_UNIX, SOCK_STREAM | SOCK_NONBLOCK | SOCK_CLOEXEC, 0), take_connection };
-    if (listener.fd < 0) return false;
-    mode_t mask = umask(0177);
-    bool is_bound = bind(listener.fd, (struct sockaddr *)&at, sizeof at) == 0;
-    umask(mask);
-    if (!is_bound) return false;
-    if (lstat(path, &bound) == 0) socket_path = path;
-    if (socket_path && listen(listener.fd, 16) == 0 && add_source(&listener)) return true;
-    free_path();
-    return false;
+    listener.fd = socket(AF_UNIX, SOCK_STREAM | SOCK_NONBLOCK | SOCK_CLOEXEC, 0);
+    /* a socket that was left there, where nobody listens any more */
+    bool is_left = connect(listener.fd, (struct sockaddr *)&at, sizeof at) != 0 && errno == ECONNREFUSED;
+    if (is_left && lstat(path, &bound) == 0 && S_ISSOCK(bound.st_mode)) unlink(path);
+    umask(0177);
+    if (bind(listener.fd, (struct sockaddr *)&at, sizeof at) != 0 || lstat(path, &bound) != 0
+        || listen(listener.fd, SOMAXCONN) != 0 || !want(&listener, EPOLLIN | EPOLLET)) err(1, "%s", path);
+    socket_path = path;
 }
 
-/* Says what changed and writes the answers. True: the client has gone and has all its answers, or it doesn't read. */
-static bool tend(struct client *client)
+/* ---- all of them */
+
+/* Standard input and output; a file that is played, and a path for connections, unless they are NULL. */
+void open_clients(const char *play, const char *socket)
 {
-    bool is_gone = client->has_ended && client != &standard;
-    if (!is_gone) say_changes(client);
-    flush(client->output, client == &standard && in_stdio);
-    bool is_full = client->output->used > MOST_UNREAD, has_left = client->output->used > 0;
-    if (client != &standard && has_left != client->has_left) set_wanted(&client->source, !is_gone, has_left);
-    client->has_left = has_left;
-    if (is_full) fprintf(stderr, "%s isn't read, and is dropped\n", client == &standard ? "standard output" : "a client");
-    return is_full || client->output->is_broken || (is_gone && !has_left);
+    standard.take = in_stdio ? take_stamped : do_line;
+    standard.numbered = in_stdio ? "line" : NULL;
+    if (!want(&standard.source, EPOLLIN)) err(1, "standard input");
+    player.has_ended = !play;
+    play_path = play;
+    if (play && (player.source.fd = open(play, O_RDONLY | O_CLOEXEC)) < 0) err(1, "%s", play);
+    if (socket) open_socket(socket);
 }
 
-/* At each turn of the loop. In --stdio standard input and --play end the run. */
+/* At each turn of the loop: what changed is said, answers are written. In --stdio the run ends with its lines. */
 void tend_clients(void)
 {
-    if (tend(&standard)) {
-        standard.output->used = 0;
-        if (in_stdio) end_loop(false);
+    say_changes(&player);
+    for (struct client **at = &clients, *client; (client = *at); ) {
+        bool is_standard = client == &standard;
+        say_changes(client);
+        flush(client);
+        bool is_full = client->unread > MOST_UNREAD, is_lost = is_full || client->is_broken;
+        if (is_full) fprintf(stderr, "%s isn't read, and is dropped\n", is_standard ? "standard output" : "a client");
+        if (is_standard && is_lost) {
+            client->unread = 0;
+            if (in_stdio) end_loop(false);
+        }
+        if (!is_standard && (is_lost || (client->has_ended && client->unread == 0))) {
+            *at = client->next;
+            while (client->watch_count > 0) free(client->watches[--client->watch_count].bytes);
+            close(client->source.fd);
+            free(client);
+        } else {
+            uint32_t to_write = client->unread > 0 && !is_standard ? EPOLLOUT : 0;
+            want(&client->source, client->has_ended ? to_write : EPOLLIN | to_write);
+            at = &client->next;
+        }
     }
     if (in_stdio && standard.has_ended && (by_stamps || !is_playing())) end_loop(true);
-    for (struct client **at = clients; at < clients + MOST_CLIENTS; at++) {
-        if (!*at || !tend(*at)) continue;
-        remove_source(&(*at)->source);
-        free_client(*at);
-        *at = NULL;
-        retry = elapsed;
-    }
-    if (is_paused && elapsed >= retry) resume_listener();
+    if (socket_path) let_in(&listener);
 }
 
-/* The end: the last answers are written, the path is free. */
-void close_clients(void)
+/* The end: answers are written, and the path is free, unless it is another's by now. False: nobody read them. */
+bool close_clients(void)
 {
-    if (in_stdio)
-        put_text(standard.output, "; in %lu, out %lu, ticks %llu\n", frames_in, frames_out, (unsigned long long)elapsed);
-    flush(standard.output, in_stdio);
-    free_client(&standard);
-    for (struct client **at = clients; at < clients + MOST_CLIENTS; at++)
-        if (*at) free_client(*at);
-    free_path();
+    struct stat there;
+    flush(&standard);
+    if (socket_path && lstat(socket_path, &there) == 0 && there.st_dev == bound.st_dev && there.st_ino == bound.st_ino)
+        unlink(socket_path);
+    return !in_stdio || !standard.is_broken;
 }

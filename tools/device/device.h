@@ -2,144 +2,130 @@
 #ifndef DEVICE_H
 #define DEVICE_H
 
+#define _GNU_SOURCE
 #include <bafokun.h>
+
+#include <ctype.h>
+#include <err.h>
+#include <errno.h>
 #include <stdio.h>
+#include <stdlib.h>
+#include <string.h>
+#include <sys/epoll.h>
+#include <sys/socket.h>
+#include <unistd.h>
 
-#define MOST_LINE 8191    /* bytes of a line of the application */
-#define MOST_BYTES 65535  /* bytes of an entry */
-#define MOST_WATCHES 32   /* of a client */
-#define MOST_WAITING 1024 /* frames of a device that wait for the bus */
-#define DAY_MS 86400000   /* most ms of a !tick */
+#define MOST_LINE 8191                 /* bytes of a line */
+#define MOST_BYTES 65535               /* bytes of an entry */
+#define MOST_TEXT (4 * MOST_BYTES + 1) /* and of what people read: each byte may be \xHH */
+#define MOST_UNREAD 262144             /* bytes of answers that nobody reads, before their reader is dropped */
+#define MOST_WATCHES 32                /* of a client */
+#define MOST_WAITING 1024              /* frames of a device that wait for the bus */
+#define DAY_MS 86400000                /* most ms of a !tick */
+#define DOMAIN_TYPE 0x0F               /* the data type of bytes as they are */
+#define FRAMES frames, BAFOKUN_MOST_FRAMES
 
-/* What epoll watches: ready is called when there is something to read, or room to write where that is wanted. */
+/* What epoll watches, for these of its events. */
 struct source {
     int fd;
     void (*ready)(struct source *source);
+    uint32_t wanted;
 };
 
-/* An entry of a data sheet. object is the name of its object, NULL where the entry is the whole of it. */
+/* An entry of a data sheet. full is OBJECT.NAME, NULL where the entry is the whole of its object. */
 struct entry {
     uint16_t index;
-    uint8_t sub_index, type;
-    const char *name, *object;
+    uint8_t sub_index, type, object_type;
+    bool is_part;
+    const char *name;
+    char *full;
 };
 
 /* What the bus is like to a device. */
 enum health { ACTIVE, PASSIVE, BUS_OFF, DOWN };
-extern const char *const health_names[];
-
-/* A frame that waits for the bus. */
-struct waiting {
-    bafokun_frame frame;
-    bool is_tpdo, may_be_replaced;
-};
 
 struct device {
     struct source bus; /* first: the source of a socket is its device */
     bafokun_node node;
-    char interface[16], *text; /* the text is that of its sheet, cut into names */
+    char interface[16], name[48], *text; /* the name is can0:5; the text is that of its sheet, cut into names */
+    bool hears_all;                      /* frames of each interface in --stdio */
     struct entry *entries;
-    size_t entry_count;
+    size_t entry_count, waiting;
     enum health health;
-    bool hears_all, is_deaf; /* frames of each interface in --stdio; none, since too much waits */
-    struct waiting queue[MOST_WAITING];
-    size_t waiting;
+    bafokun_frame queue[MOST_WAITING];
     unsigned long thrown;
     uint64_t retry; /* when an interface that is down is looked at again */
 };
 
-/* Text that is to be written. */
-struct output {
-    int fd;
-    bool is_socket, is_broken;
-    char *text;
-    size_t used, room;
-};
-
-/* An entry whose changes a client is told; its bytes when it was told last. */
-struct watch {
-    struct device *device;
-    struct entry entry;
-    uint8_t *bytes;
-    size_t length;
-};
-
-/* Who gives lines: standard input, the file of --play, a connection of the socket. */
+/* Who gives lines, and is answered: standard input and output, the file of --play, a connection of the socket. */
 struct client {
     struct source source; /* first */
-    struct output *output;
-    bool is_trace, is_long, has_ended; /* answers are comments of a trace; the line is too long; no line comes any more */
-    bool has_left;                     /* there are answers that it hasn't taken yet */
-    const char *numbered;              /* "line": where answers have the number of the line, else NULL */
+    void (*take)(struct client *client, char *line);
+    bool is_long, has_ended, is_broken; /* the line is too long; no line comes any more; no answer can be written */
+    const char *numbered;               /* "line": where errors have the number of the line, else NULL */
     unsigned long number;
-    char line[MOST_LINE + 2];
-    size_t used;
-    struct watch watches[MOST_WATCHES];
-    size_t watch_count;
+    size_t used, unread, watch_count;
+    struct watch { /* an entry whose changes it is told; its bytes when it was told last */
+        struct device *device;
+        struct entry entry;
+        uint8_t *bytes;
+        size_t length;
+    } watches[MOST_WATCHES];
+    struct client *next;
+    char text[MOST_LINE + 4], answers[MOST_UNREAD + MOST_TEXT + 100]; /* so many bytes of both are used and unread */
 };
 
-/* main.c */
+/* main.c: the words, and the devices that they name */
 extern struct device *devices;
 extern size_t device_count;
-extern bool in_stdio, by_stamps;
+extern int in_stdio, by_stamps;
+bool read_number(const char *word, unsigned long least, unsigned long most, unsigned long *number);
 
 /* loop.c: what happens, and when. elapsed: ms since the start, each of which was a tick of the devices */
 extern uint64_t elapsed;
-bool start_loop(void);
+void start_loop(void);
 bool run_loop(void);
 void end_loop(bool is_well);
-bool add_source(struct source *source);
-void set_wanted(struct source *source, bool to_read, bool to_write);
-void remove_source(struct source *source);
+bool want(struct source *source, uint32_t events);
 void elapse(uint64_t ms);
-bool wait_for_room(int fd);
+bool has_room(int fd, bool waits);
 
 /* bus.c: SocketCAN */
-bool open_bus(struct device *device);
+extern const char *const health_names[];
+void open_bus(struct device *device);
 void tend_bus(struct device *device);
 void put_on_bus(struct device *device, const bafokun_frame *frame);
 bool is_crowded(const struct device *device);
 
-/* trace.c: --stdio */
-extern unsigned long frames_in, frames_out;
-char *read_stamp(char *line, uint64_t *ms);
-bool is_frame(const char *text);
-void take_trace_line(struct client *client, char *line);
-bool move_clock(uint64_t ms);
+/* trace.c: lines with stamps, of --stdio and --play */
+void take_stamped(struct client *client, char *line);
+bool is_due(const struct client *client, const char *line);
+bool is_playing(void);
+bool let_pass(const struct client *client, uint64_t ms);
 void print_frame(struct device *device, const bafokun_frame *frame);
 void deliver(void);
+void end_trace(void);
+
+/* clients.c: who gives lines, and what they are told */
+enum kind { FRAME, ANSWER, TROUBLE };
+extern struct client standard, player;
+void open_clients(const char *play, const char *socket);
+void play_due(void);
+bool say(struct client *client, enum kind kind, const char *format, ...) __attribute__((format(printf, 3, 4)));
+void tend_clients(void);
+bool close_clients(void);
 
 /* commands.c: a line of the application */
 extern bafokun_frame frames[BAFOKUN_MOST_FRAMES];
 void send_frames(struct device *device, size_t count);
-bool read_decimal(const char *word, unsigned long least, unsigned long most, unsigned long *number);
 void do_line(struct client *client, char *line);
 void say_changes(struct client *client);
 
-/* clients.c: who gives lines, and what they are told */
-extern struct client standard;
-bool open_standard(void);
-bool open_socket(const char *path);
-void tend_clients(void);
-void close_clients(void);
-void put(struct output *output, const char *text, size_t length);
-void put_text(struct output *output, const char *format, ...) __attribute__((format(printf, 2, 3)));
-void say(struct client *client, const char *format, ...) __attribute__((format(printf, 2, 3)));
-bool say_error(struct client *client, const char *format, ...) __attribute__((format(printf, 2, 3)));
-void say_refused(struct client *client, uint32_t code, const char *text);
-void say_done(struct client *client);
-
-/* play.c: --play */
-bool open_play(const char *path);
-void play_due(void);
-bool is_playing(void);
-
-/* sheet.c, values.c: names, types and values of entries */
-bool read_names(struct device *device, const char *text, size_t length);
-size_t find_name(const struct device *device, const char *text, struct entry *found);
-uint8_t type_of(const struct device *device, const struct entry *at);
-bool pairs_of(const char *text, uint8_t *bytes, size_t *length);
+/* entries.c: names, types and values of entries */
+char *trimmed(char *text);
+void name_entries(struct device *device, char *text);
+size_t find_entry(const struct device *device, const char *text, struct entry *found);
 bool bytes_of(uint8_t type, const char *text, uint8_t *bytes, size_t *length);
-void put_value(struct output *output, uint8_t type, const uint8_t *bytes, size_t length);
+void write_value(uint8_t type, const uint8_t *bytes, size_t length, char *text);
 
 #endif

@@ -1,51 +1,29 @@
 /* What happens, and when: one epoll loop, the clock by a timerfd. SIGTERM, SIGINT and SIGHUP end it. */
-#define _GNU_SOURCE
 #include "device.h"
 
-#include <errno.h>
 #include <poll.h>
 #include <signal.h>
-#include <sys/epoll.h>
 #include <sys/signalfd.h>
 #include <sys/timerfd.h>
-#include <time.h>
-#include <unistd.h>
 
 #define MOST_EVENTS 64
 #define LAST_MS 1000 /* a signal that ends the run waits so long for each piece of output */
 
 uint64_t elapsed;
-static uint64_t begin; /* ms of CLOCK_MONOTONIC */
 static int epoll;
-static bool is_over, is_bad, is_signalled;
-static struct source signals;
+static bool is_over, is_bad;
 static struct source *file; /* standard input where it is a file: epoll doesn't take it, since a read never waits */
 
-static uint64_t monotonic_ms(void)
+/* Watches a source for these events, 0: no longer. False: errno says why. */
+bool want(struct source *source, uint32_t events)
 {
-    struct timespec at;
-    clock_gettime(CLOCK_MONOTONIC, &at);
-    return (uint64_t)at.tv_sec * 1000 + (uint64_t)at.tv_nsec / 1000000;
-}
-
-bool add_source(struct source *source)
-{
-    struct epoll_event event = { EPOLLIN, { .ptr = source } };
-    bool is_added = epoll_ctl(epoll, EPOLL_CTL_ADD, source->fd, &event) == 0;
-    if (!is_added && source->fd == 0) file = source;
-    return is_added || source->fd == 0;
-}
-
-void set_wanted(struct source *source, bool to_read, bool to_write)
-{
-    struct epoll_event event = { (to_read ? EPOLLIN : 0u) | (to_write ? EPOLLOUT : 0u), { .ptr = source } };
-    epoll_ctl(epoll, EPOLL_CTL_MOD, source->fd, &event);
-}
-
-void remove_source(struct source *source)
-{
-    if (source == file) file = NULL;
-    else epoll_ctl(epoll, EPOLL_CTL_DEL, source->fd, NULL);
+    struct epoll_event event = { events, { .ptr = source } };
+    int change = events == 0 ? EPOLL_CTL_DEL : source->wanted == 0 ? EPOLL_CTL_ADD : EPOLL_CTL_MOD;
+    if (events == source->wanted) return true;
+    source->wanted = events;
+    if (epoll_ctl(epoll, change, source->fd, &event) == 0) return true;
+    if (errno == EPERM) file = events ? source : NULL;
+    return errno == EPERM;
 }
 
 /* So many ms pass. */
@@ -54,44 +32,40 @@ void elapse(uint64_t ms)
     for (; ms > 0; ms--) {
         elapsed++;
         for (struct device *at = devices; at < devices + device_count; at++)
-            send_frames(at, bafokun_tick(&at->node, frames, BAFOKUN_MOST_FRAMES));
+            send_frames(at, bafokun_tick(&at->node, FRAMES));
         deliver();
         play_due();
     }
 }
 
-/* Sets the clock to ring at the next ms. What has passed by then is given to the devices in the loop. */
 static void ring(struct source *clock)
 {
-    uint64_t due = begin + elapsed + 1, rings;
-    struct itimerspec at = { { 0, 0 }, { (time_t)(due / 1000), (long)(due % 1000) * 1000000 } };
-    if (read(clock->fd, &rings, sizeof rings) > 0 || elapsed == 0) timerfd_settime(clock->fd, TFD_TIMER_ABSTIME, &at, NULL);
+    uint64_t rings;
+    if (read(clock->fd, &rings, sizeof rings) == sizeof rings) elapse(rings);
 }
 
-static void take_signal(struct source *source)
+void end_loop(bool is_well)
 {
-    struct signalfd_siginfo info;
-    if (read(source->fd, &info, sizeof info) <= 0) return;
-    is_signalled = true;
-    end_loop(true);
+    is_over = true;
+    is_bad |= !is_well;
 }
 
-/* Waits until there is room to write. False: there is none, and a signal ends the run. */
-bool wait_for_room(int fd)
+/* It isn't read, so that who waits for room finds it too. */
+static void take_signal(struct source *source) { end_loop(source->fd >= 0); }
+
+static struct source clock_source = { .ready = ring }, signals = { .ready = take_signal };
+
+/* Whether there is room to write. Where it is waited for, there is none if a signal ends the run and nobody reads. */
+bool has_room(int fd, bool waits)
 {
     struct pollfd both[] = { { fd, POLLOUT, 0 }, { signals.fd, POLLIN, 0 } };
-    while (!is_signalled) {
-        if (poll(both, 2, -1) < 0 && errno != EINTR) return false;
-        if (both[0].revents != 0) return true;
-        if (both[1].revents != 0) take_signal(&signals);
-    }
-    return poll(both, 1, LAST_MS) > 0;
+    while (poll(both, 2, waits ? -1 : 0) < 0 && errno == EINTR) { }
+    return both[0].revents != 0 || (waits && poll(both, 1, LAST_MS) > 0);
 }
 
-/* False: errno says why. */
-bool start_loop(void)
+void start_loop(void)
 {
-    static struct source clock = { -1, ring };
+    struct itimerspec each_ms = { { 0, 1000000 }, { 0, by_stamps ? 0 : 1000000 } };
     sigset_t ends;
     sigemptyset(&ends);
     sigaddset(&ends, SIGTERM);
@@ -101,17 +75,10 @@ bool start_loop(void)
     signal(SIGPIPE, SIG_IGN);
     signal(SIGTTIN, SIG_IGN); /* in the background a terminal isn't read */
     epoll = epoll_create1(EPOLL_CLOEXEC);
-    clock.fd = timerfd_create(CLOCK_MONOTONIC, TFD_NONBLOCK | TFD_CLOEXEC);
-    signals = (struct source){ signalfd(-1, &ends, SFD_NONBLOCK | SFD_CLOEXEC), take_signal };
-    begin = monotonic_ms();
-    if (!by_stamps) ring(&clock);
-    return epoll >= 0 && clock.fd >= 0 && add_source(&clock) && add_source(&signals);
-}
-
-void end_loop(bool is_well)
-{
-    is_over = true;
-    is_bad |= !is_well;
+    clock_source.fd = timerfd_create(CLOCK_MONOTONIC, TFD_NONBLOCK | TFD_CLOEXEC);
+    signals.fd = signalfd(-1, &ends, SFD_NONBLOCK | SFD_CLOEXEC);
+    if (!want(&clock_source, EPOLLIN) || !want(&signals, EPOLLIN)
+        || timerfd_settime(clock_source.fd, 0, &each_ms, NULL) != 0) err(1, "canopen-device");
 }
 
 /* Goes on until the end; true where all was well. */
@@ -120,8 +87,6 @@ bool run_loop(void)
     struct epoll_event events[MOST_EVENTS];
     while (!is_over) {
         int count = epoll_wait(epoll, events, MOST_EVENTS, file ? 0 : -1);
-        uint64_t now = monotonic_ms() - begin;
-        if (!by_stamps && now > elapsed) elapse(now - elapsed);
         for (int i = 0; i < count; i++) {
             struct source *source = events[i].data.ptr;
             source->ready(source);

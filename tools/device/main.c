@@ -1,21 +1,15 @@
 /* canopen-device: its words, and the devices that they name. */
-#define _GNU_SOURCE
 #include "device.h"
 
-#include <errno.h>
 #include <fcntl.h>
 #include <getopt.h>
-#include <stdlib.h>
-#include <string.h>
-#include <unistd.h>
 
 #define MOST_SHEET 1048577 /* a byte more than a sheet may have */
 
 struct device *devices;
 size_t device_count;
-bool in_stdio, by_stamps;
-static const char *can = "", *socket_path, *play;
-static bafokun_config config = { 16, 889, 1000 };
+int in_stdio, by_stamps;
+static bafokun_config config;
 
 static const char usage[] =
     "canopen-device [INTERFACE:]N=SHEET.. --can INTERFACE | --stdio [--stamps]\n"
@@ -28,136 +22,96 @@ static const char usage[] =
     "  --strings N, --domains N, --time N   as with conode replay; 16, 889 and 1000 if not given\n"
     "Standard input and clients say what the application does: help lists it.\n";
 
-static int fail(const char *about)
+/* The options that take a word. */
+enum { CAN = 1, SOCKET, PLAY, STRINGS, DOMAINS, TIME, OPTIONS };
+static const char *given[OPTIONS] = { [CAN] = "", [STRINGS] = "16", [DOMAINS] = "889", [TIME] = "1000" };
+
+bool read_number(const char *word, unsigned long least, unsigned long most, unsigned long *number)
 {
-    fprintf(stderr, "%s: %s\n", about, strerror(errno));
-    return 1;
+    *number = strtoul(word, NULL, 10);
+    return *word && word[strspn(word, "0123456789")] == 0 && *number >= least && *number <= most;
 }
 
-static bool read_number(const char *text, unsigned long most, uint16_t *number)
+/* Builds the device of a word [INTERFACE:]N=SHEET. */
+static void build(const char *word)
 {
-    char *end;
-    unsigned long value = strtoul(text, &end, 10);
-    *number = (uint16_t)value;
-    return *text >= '0' && *text <= '9' && *end == 0 && value <= most;
-}
-
-/* Says why there is no device. */
-static void say_fault(const char *word, const char *sheet, const bafokun_fault *fault)
-{
-    if (fault->stage == BAFOKUN_FAULT_DEVICE)
-        fprintf(stderr, "%s: build fault %u %04X:%02X", word, fault->number, fault->index, fault->sub_index);
-    else
-        fprintf(stderr, "%s: fault %u line %llu", word, fault->number, (unsigned long long)fault->line);
-    fprintf(stderr, "; `conode check %s` names it, docs/SHEETS.md says how to fix it\n", sheet);
-}
-
-/* Reads INTERFACE:N or N. */
-static bool read_address(const char *text, size_t length, struct device *device, uint16_t *node_id)
-{
-    char address[32] = "";
-    if (length < sizeof address) memcpy(address, text, length);
-    char *colon = strrchr(address, ':'), *number = colon ? colon + 1 : address;
-    if (colon) *colon = 0;
-    device->hears_all = !colon && in_stdio;
-    snprintf(device->interface, sizeof device->interface, "%.15s", colon ? address : in_stdio ? "can0" : can);
-    return read_number(number, 127, node_id) && *node_id > 0 && *device->interface && strlen(address) < 16;
-}
-
-/* Whether a device built before has this address. */
-static bool is_taken(struct device *device, uint16_t node_id)
-{
-    for (struct device *at = devices; at < device; at++)
-        if (strcmp(at->interface, device->interface) == 0 && bafokun_node_id(&at->node) == node_id) return true;
-    return false;
-}
-
-/* Builds the device of a word [INTERFACE:]N=SHEET. False: it was said why. */
-static bool build(const char *word)
-{
-    static char text[MOST_SHEET];
     struct device *device = &devices[device_count];
-    const char *sheet = strchr(word, '=');
-    uint16_t node_id;
+    char number[4] = "";
+    int end = 0;
+    unsigned long node_id;
     bafokun_fault fault;
-    if (!sheet || !read_address(word, (size_t)(sheet++ - word), device, &node_id))
-        return fprintf(stderr, "%s: [INTERFACE:]N=SHEET, with N from 1 to 127, and --can without INTERFACE\n", word), false;
-    if (is_taken(device, node_id))
-        return fprintf(stderr, "%s: there is a node %d on %s already\n", word, node_id, device->interface), false;
+    sscanf(word, "%15[^:=]:%3[0-9]=%n", device->interface, number, &end);
+    if (end == 0) {
+        device->hears_all = in_stdio;
+        strcpy(device->interface, in_stdio ? "can0" : given[CAN]);
+        sscanf(word, "%3[0-9]=%n", number, &end);
+    }
+    if (end == 0 || !read_number(number, 1, 127, &node_id) || !*device->interface)
+        errx(1, "%s: [INTERFACE:]N=SHEET, with N from 1 to 127, and --can without INTERFACE", word);
+    snprintf(device->name, sizeof device->name, "%s:%lu", device->interface, node_id);
+    for (struct device *at = devices; at < device; at++)
+        if (strcmp(at->name, device->name) == 0)
+            errx(1, "%s: there is a node %lu on %s already", word, node_id, device->interface);
+    const char *sheet = word + end;
+    char *text = device->text = malloc(MOST_SHEET + 1);
     FILE *file = fopen(sheet, "re");
-    size_t length = file ? fread(text, 1, sizeof text, file) : 0;
-    if (!file || ferror(file)) return fail(sheet), false;
+    size_t length = text && file ? fread(text, 1, MOST_SHEET, file) : 0;
+    if (!text || !file || ferror(file)) err(1, "%s", sheet);
     fclose(file);
-    bool is_built = bafokun_build(&device->node, text, length, (uint8_t)node_id, &config, &fault);
-    if (!is_built) return say_fault(word, sheet, &fault), false;
+    text[length] = 0;
+    if (!bafokun_build(&device->node, text, length, (uint8_t)node_id, &config, &fault)) {
+        char what[128];
+        bafokun_fault_text(&fault, what, sizeof what);
+        if (fault.stage == BAFOKUN_FAULT_DEVICE)
+            errx(1, "%s: build fault %u %04X:%02X: %s", word, fault.number, fault.index, fault.sub_index, what);
+        errx(1, "%s: fault %u line %llu: %s; `conode adapt %s` may mend it", word, fault.number,
+             (unsigned long long)fault.line, what, sheet);
+    }
+    name_entries(device, text);
     device_count++;
-    return read_names(device, text, length) || (fail(sheet), false);
 }
 
+/* Whether the words are right. */
 static bool read_words(int count, char **words)
 {
+    static int wants_help;
     static const struct option options[] = {
-        { "can", 1, NULL, 'c' },     { "stdio", 0, NULL, 'i' },   { "stamps", 0, NULL, 's' },
-        { "socket", 1, NULL, 'u' },  { "play", 1, NULL, 'p' },    { "strings", 1, NULL, 'S' },
-        { "domains", 1, NULL, 'D' }, { "time", 1, NULL, 'T' },    { "help", 0, NULL, 'h' }, { NULL, 0, NULL, 0 },
+        { "can", 1, NULL, CAN },         { "stdio", 0, &in_stdio, 1 },    { "stamps", 0, &by_stamps, 1 },
+        { "socket", 1, NULL, SOCKET },   { "play", 1, NULL, PLAY },       { "strings", 1, NULL, STRINGS },
+        { "domains", 1, NULL, DOMAINS }, { "time", 1, NULL, TIME },       { "help", 0, &wants_help, 1 },
+        { NULL, 0, NULL, 0 },
     };
+    unsigned long numbers[OPTIONS];
     bool is_right = true;
     for (int option; (option = getopt_long(count, words, "", options, NULL)) != -1; ) {
-        switch (option) {
-        case 'c': can = optarg; break;
-        case 'i': in_stdio = true; break;
-        case 's': by_stamps = true; break;
-        case 'u': socket_path = optarg; break;
-        case 'p': play = optarg; break;
-        case 'S': is_right &= read_number(optarg, 65535, &config.strings); break;
-        case 'D': is_right &= read_number(optarg, 65535, &config.domains); break;
-        case 'T': is_right &= read_number(optarg, 65535, &config.time); break;
-        case 'h': exit(fputs(usage, stdout) < 0 || fflush(stdout) != 0 ? fail("standard output") : 0);
-        default: is_right = false;
-        }
+        if (option == '?') is_right = false;
+        else given[option] = optarg; /* those that take no word come here as 0 */
     }
-    return is_right && optind < count && !(in_stdio && *can) && (in_stdio || !by_stamps) && strlen(can) < 16;
-}
-
-/* Boots the devices, and goes on until the end. */
-static int run(void)
-{
-    if (!start_loop() || !open_standard()) return fail("canopen-device");
-    if (play && !open_play(play)) return fail(play);
-    for (struct device *at = devices; at < devices + device_count; at++)
-        if (!in_stdio && !open_bus(at)) return fail(at->interface);
-    if (socket_path && !open_socket(socket_path)) return fail(socket_path);
-    for (struct device *at = devices; at < devices + device_count; at++)
-        send_frames(at, bafokun_boot(&at->node, frames, BAFOKUN_MOST_FRAMES));
-    deliver();
-    play_due();
-    bool is_well = run_loop();
-    close_clients();
-    return is_well ? 0 : 1;
-}
-
-/* Where a standard stream is closed, no file of ours is taken for it: reads find the end, writes fail. */
-static void hold_standard(void)
-{
-    int fd;
-    do fd = open("/dev/null", O_RDONLY);
-    while (fd >= 0 && fd <= 2);
-    if (fd > 2) close(fd);
+    if (wants_help) exit(fputs(usage, stdout) < 0 || fflush(stdout) != 0);
+    for (int i = STRINGS; i <= TIME; i++) is_right &= read_number(given[i], 0, 65535, &numbers[i]);
+    config = (bafokun_config){ (uint16_t)numbers[STRINGS], (uint16_t)numbers[DOMAINS], (uint16_t)numbers[TIME] };
+    return is_right && optind < count && strlen(given[CAN]) < sizeof devices->interface
+        && (in_stdio ? !*given[CAN] : !by_stamps);
 }
 
 int main(int count, char **words)
 {
-    hold_standard();
+    int fd;
+    /* where a standard stream is closed, no file of ours is taken for it: reads find the end, writes fail */
+    while ((fd = open("/dev/null", O_RDONLY)) >= 0 && fd <= 2) { }
+    close(fd);
     if (!read_words(count, words)) return fputs(usage, stderr), 2;
     devices = calloc((size_t)(count - optind), sizeof *devices);
-    bool is_built = devices != NULL;
-    for (int i = optind; is_built && i < count; i++) is_built = build(words[i]);
-    int status = is_built ? run() : 1;
-    for (struct device *at = devices; at < devices + device_count; at++) {
-        bafokun_free(&at->node);
-        free(at->text);
-        free(at->entries);
-    }
-    free(devices);
-    return status;
+    if (!devices) err(1, "canopen-device");
+    for (int i = optind; i < count; i++) build(words[i]);
+    start_loop();
+    for (struct device *at = devices; !in_stdio && at < devices + device_count; at++) open_bus(at);
+    open_clients(given[PLAY], given[SOCKET]);
+    for (struct device *at = devices; at < devices + device_count; at++)
+        send_frames(at, bafokun_boot(&at->node, FRAMES));
+    deliver();
+    play_due();
+    bool is_well = run_loop();
+    if (in_stdio) end_trace();
+    return close_clients() && is_well ? 0 : 1;
 }

@@ -1,18 +1,17 @@
-/* --stdio: lines of a trace come in, as docs/TRACES.md has them, and the frames that are sent go out as such lines. */
-#define _GNU_SOURCE
+/*
+ * Lines with stamps. --stdio: frames come in as lines of a trace, as docs/TRACES.md has them, and those that are sent
+ * go out so. --play: lines of the application, each at its stamp.
+ */
 #include "device.h"
 
-#include <ctype.h>
-#include <stdlib.h>
-#include <string.h>
 #include <time.h>
 
-#define HEX "0123456789abcdefABCDEF"
 #define MOST_HEARD 8192
 
-unsigned long frames_in, frames_out;
-static uint64_t clock_ms; /* with --stamps */
-static bool has_stamp;
+/* ---- frames that go out, and are heard */
+
+static unsigned long frames_in, frames_out;
+static uint64_t start; /* the stamp, in ms, from which the clock goes on with --stamps */
 
 /* What was sent, which other devices will hear. */
 static struct heard {
@@ -21,127 +20,130 @@ static struct heard {
 } heard[MOST_HEARD];
 static size_t heard_count;
 
-/* ---- frame lines */
-
-/* The stamp at the front of a line, in ms, and the blanks past it; gives what follows. NULL: it is no stamp. */
-char *read_stamp(char *line, uint64_t *ms)
-{
-    size_t digits = *line == '(' ? strspn(line + 1, "0123456789") : 0;
-    char *micros = line + digits + 2;
-    if (digits < 1 || digits > 12 || micros[-1] != '.' || strspn(micros, "0123456789") != 6 || micros[6] != ')') return NULL;
-    *ms = strtoull(line + 1, NULL, 10) * 1000 + strtoull(micros, NULL, 10) / 1000;
-    micros += 7;
-    return *micros == ' ' || *micros == '\t' ? micros + strspn(micros, " \t") : NULL;
-}
-
-/* The text of a frame. is_data: it is one with 11 bits, neither a remote frame nor one of CAN FD. */
-static bool read_frame(const char *text, bafokun_frame *frame, bool *is_data)
-{
-    size_t digits = strspn(text, HEX), length = 0;
-    unsigned long id = strtoul(text, NULL, 16);
-    uint8_t bytes[MOST_LINE];
-    if ((digits != 3 && digits != 8) || text[digits] != '#' || (digits == 3 && id > 0x7FF)) return false;
-    text += digits + 1;
-    *is_data = digits == 3 && *text != '#' && *text != 'R';
-    if (*text == '#') return true;
-    if (*text == 'R') return text[1] == 0 || (isdigit((unsigned char)text[1]) && text[2] == 0);
-    if (*text == '-' || (*text && !pairs_of(text, bytes, &length)) || length > 8) return false;
-    *frame = (bafokun_frame){ (uint16_t)id, (uint16_t)length, { 0 } };
-    memcpy(frame->bytes, bytes, length);
-    return true;
-}
-
-/* What follows the stamp: the interface, the frame, perhaps R or T. The interface is cut off. */
-static bool read_fields(char *interface, bafokun_frame *frame, bool *is_data)
-{
-    char *text = interface + strcspn(interface, " \t"), *end;
-    if (text == interface || text - interface > 15 || *text == 0) return false;
-    *text++ = 0;
-    text += strspn(text, " \t");
-    end = text + strcspn(text, " \t");
-    if (*end) {
-        *end++ = 0;
-        end += strspn(end, " \t");
-        if ((*end != 'R' && *end != 'T') || end[1] != 0) return false;
-    }
-    return read_frame(text, frame, is_data);
-}
-
-/* Whether what follows a stamp is a frame. */
-bool is_frame(const char *text)
-{
-    char copy[MOST_LINE + 1];
-    bafokun_frame frame;
-    bool is_data;
-    return read_fields(strcpy(copy, text), &frame, &is_data);
-}
-
 void print_frame(struct device *device, const bafokun_frame *frame)
 {
-    struct timespec now = { (time_t)(clock_ms / 1000), (long)(clock_ms % 1000) * 1000000 };
+    uint64_t ms = start + elapsed;
+    struct timespec now = { (time_t)(ms / 1000), (long)(ms % 1000) * 1000000 };
+    char data[17] = "";
     if (!by_stamps) clock_gettime(CLOCK_REALTIME, &now);
-    put_text(standard.output, "(%010lld.%06ld) %s %03X#", (long long)now.tv_sec, now.tv_nsec / 1000, device->interface,
-             frame->id);
-    for (unsigned i = 0; i < frame->length; i++) put_text(standard.output, "%02X", frame->bytes[i]);
-    put(standard.output, "\n", 1);
+    for (unsigned i = 0; i < frame->length; i++) sprintf(data + 2 * i, "%02X", frame->bytes[i]);
+    say(&standard, FRAME, "(%010lld.%06ld) %s %03X#%s", (long long)now.tv_sec, now.tv_nsec / 1000, device->interface,
+        frame->id, data);
     frames_out++;
     if (device_count > 1 && heard_count < MOST_HEARD) heard[heard_count++] = (struct heard){ device, *frame };
 }
-
-/* ---- what is heard, and when */
 
 /* A frame on an interface is heard by its devices; from outside by all, where they have no interface of their own. */
 static void give_frame(struct device *from, const char *interface, const bafokun_frame *frame)
 {
     for (struct device *at = devices; at < devices + device_count; at++)
         if (at != from && ((!from && at->hears_all) || strcmp(at->interface, interface) == 0))
-            send_frames(at, bafokun_take(&at->node, frame, frames, BAFOKUN_MOST_FRAMES));
+            send_frames(at, bafokun_take(&at->node, frame, FRAMES));
 }
 
-/* What was sent is heard. Where devices answer each other for ever, the rest is for the next turn of the loop. */
+/* What was sent is heard. Where devices answer each other for ever, the rest is lost. */
 void deliver(void)
 {
-    size_t done = 0;
-    for (; done < heard_count && done < MOST_HEARD / 2; done++) {
-        struct heard at = heard[done];
+    for (size_t i = 0; i < heard_count; i++) {
+        struct heard at = heard[i];
         give_frame(at.from, at.from->interface, &at.frame);
     }
-    memmove(heard, heard + done, (heard_count -= done) * sizeof *heard);
+    heard_count = 0;
 }
 
-/* So many ms pass by lines. False: by lines no time passes, or not so much. */
-bool move_clock(uint64_t ms)
+void end_trace(void)
 {
-    if (!by_stamps || ms > DAY_MS) return false;
-    for (; ms > 0; ms--) {
-        clock_ms++;
-        elapse(1);
+    say(&standard, ANSWER, "in %lu, out %lu, ticks %llu", frames_in, frames_out, (unsigned long long)elapsed);
+}
+
+/* ---- lines that come in */
+
+/* The stamp at the front of a line, in ms; gives what follows it and its blanks. NULL: it is no stamp. */
+static const char *read_stamp(const char *line, uint64_t *ms)
+{
+    char seconds[13], micros[7];
+    int end = 0;
+    sscanf(line, "(%12[0-9].%6[0-9])%*[ \t]%n", seconds, micros, &end);
+    if (end == 0 || strlen(micros) != 6) return NULL;
+    *ms = strtoull(seconds, NULL, 10) * 1000 + strtoull(micros, NULL, 10) / 1000;
+    return line + end;
+}
+
+/* What follows a stamp. A frame of another kind is none with 11 bits, or a remote frame, or one of CAN FD. */
+enum text { NO_FRAME, OTHER_FRAME, DATA_FRAME };
+
+/* Reads the interface, the frame, and perhaps R or T. */
+static enum text read_frame(const char *text, char interface[16], bafokun_frame *frame)
+{
+    char token[MOST_LINE + 1], mark[3] = "R", more;
+    int fields = sscanf(text, "%15[^ \t]%*[ \t]%8191s %2s %c", interface, token, mark, &more);
+    size_t digits = fields < 2 ? 0 : strspn(token, "0123456789ABCDEFabcdef"), size;
+    unsigned long id = strtoul(token, NULL, 16);
+    if ((digits != 3 && digits != 8) || token[digits] != '#' || (digits == 3 && id > 0x7FF)) return NO_FRAME;
+    if (fields == 4 || (strcmp(mark, "R") != 0 && strcmp(mark, "T") != 0)) return NO_FRAME;
+    const char *data = token + digits + 1;
+    *frame = (bafokun_frame){ (uint16_t)id, (uint16_t)(strlen(data) / 2), { 0 } };
+    bool is_remote = *data == 'R' && (data[1] == 0 || (isdigit((unsigned char)data[1]) && data[2] == 0));
+    if (*data == '#' || is_remote) return OTHER_FRAME;
+    bool is_right = strlen(data) <= 16 && *data != '-';
+    if (!is_right || (*data && !bytes_of(DOMAIN_TYPE, data, frame->bytes, &size))) return NO_FRAME;
+    return digits == 3 ? DATA_FRAME : OTHER_FRAME;
+}
+
+static uint64_t due; /* when the next line of --play is, in ms since the start */
+
+/* Whether a line is due. In --play the first stamp is the start, and a line without one follows on the line before. */
+bool is_due(const struct client *client, const char *line)
+{
+    static bool has_first;
+    static uint64_t first;
+    uint64_t ms;
+    if (client != &player) return true;
+    if (read_stamp(line, &ms)) {
+        if (!has_first) first = ms - due;
+        has_first = true;
+        if (ms > first + due) due = ms - first;
     }
+    return due <= elapsed;
+}
+
+/* Whether lines of --play wait, or more of them than have been read. */
+bool is_playing(void) { return !player.has_ended || player.used > 0 || due > elapsed; }
+
+/* So many ms pass by lines: those of --play wait, or time goes by stamps. False: it doesn't, or not so far. */
+bool let_pass(const struct client *client, uint64_t ms)
+{
+    if (client == &player) due += ms;
+    else if (!by_stamps || ms > DAY_MS) return false;
+    else elapse(ms);
     return true;
 }
 
-/* A line of standard input: a frame, or a line of the application. */
-void take_trace_line(struct client *client, char *line)
+/* A frame from outside, at a time. */
+static void take_frame(struct client *client, uint64_t ms, const char *interface, const bafokun_frame *frame)
 {
-    bafokun_frame frame;
-    bool is_data;
-    uint64_t ms;
-    if (*line != '(') {
-        do_line(client, line);
-        return;
-    }
-    char *interface = read_stamp(line, &ms);
-    if (!interface || !read_fields(interface, &frame, &is_data)) {
-        say_error(client, "this is no frame of a trace");
-        return;
-    }
-    if (!has_stamp) clock_ms = ms;
+    static bool has_stamp;
+    if (!has_stamp) start = ms - elapsed;
     has_stamp = true;
-    if (by_stamps && ms > clock_ms && !move_clock(ms - clock_ms)) {
-        say_error(client, "this is more than a day past the line before");
-    } else if (is_data) {
+    if (by_stamps && ms > start + elapsed && !let_pass(client, ms - start - elapsed)) {
+        say(client, TROUBLE, "error: this is more than a day past the line before");
+    } else if (frame) {
         frames_in++;
-        give_frame(NULL, interface, &frame);
+        give_frame(NULL, interface, frame);
         deliver();
     }
+}
+
+/* A line of the application, or a frame. --play passes over frames, so a session of `conode replay` can be played. */
+void take_stamped(struct client *client, char *line)
+{
+    char interface[16];
+    bafokun_frame frame;
+    uint64_t ms;
+    const char *text = *line == '(' ? read_stamp(line, &ms) : line;
+    enum text kind = text && text != line ? read_frame(text, interface, &frame) : NO_FRAME;
+    if (text == line || (client == &player && text && kind == NO_FRAME)) do_line(client, line + (text - line));
+    else if (client == &player && !text) say(client, TROUBLE, "error: this is no stamp, as (0.250000)");
+    else if (kind == NO_FRAME) say(client, TROUBLE, "error: this is no frame of a trace");
+    else if (client != &player) take_frame(client, ms, interface, kind == DATA_FRAME ? &frame : NULL);
 }
