@@ -106,6 +106,9 @@ answer() {
     sed -n "s/.* \($2#${3:-.*}\)$/\1/p" answer | head -n 1
 }
 
+# until a frame is recorded, at most half a minute: await FRAME FILE
+await() { for _ in $(seq 60); do grep -q "$1" "$2" && break || sleep 0.5; done; }
+
 # what a process took so far, in ticks of the processor, and its memory in kB
 spent() { awk '{ print $14 + $15 }' "/proc/$device/stat"; }
 memory() { awk '$1 == "VmRSS:" { print $2 }' "/proc/$device/status"; }
@@ -165,10 +168,7 @@ for _ in $(seq 600); do echo '8 raise 3120' >&3; done
 sleep 2
 is 'no more than 501 wait' "$(tail -n 1 out)" 'error: 501 frames wait for vcan0'
 ip link set vcan0 up
-for _ in $(seq 60); do
-    sleep 0.5
-    ! grep -q '088#00' waited || break
-done
+await '088#00' waited
 kill $listener
 is 'all of them are sent' "$(cut -d ' ' -f 3 waited | cut -c 1-8 | uniq -c | tr -s ' \n' ' ')" ' 500 088#2031 1 088#4081 1 088#0000 '
 is 'trouble, said once' "$(errors)" \
@@ -196,7 +196,7 @@ listener=$!
 sleep 1
 ./canopen-device 8=io-module.eds --can vcan0 < /dev/null 2> err &
 device=$!
-sleep 1
+await '708#00' recording
 canplayer -I session vcan0=can0
 sleep 2
 kill -TERM "$device"

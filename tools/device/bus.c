@@ -37,8 +37,7 @@ static void become(struct device *device, enum health health)
     device->health = health;
     while (strcmp(first->interface, device->interface) != 0) first++;
     if (first == device) fprintf(stderr, "%s: %s\n", device->interface, health_names[health]);
-    if (code != 0)
-        send_frames(device, bafokun_raise(&device->node, code, COMMUNICATION, none, FRAMES));
+    if (code != 0) send_frames(device, bafokun_raise(&device->node, code, COMMUNICATION, none, FRAMES));
     if (health != ACTIVE) return;
     bafokun_value(&device->node, 0x1001, 0, &errors, 1, &length);
     if ((errors & ~(COMMUNICATION | GENERIC)) == 0) cleared |= GENERIC;

@@ -4,7 +4,6 @@
  */
 #include "device.h"
 
-
 #define BOOLEAN 0x01
 #define VISIBLE_STRING 0x09
 #define VAR 7

@@ -107,8 +107,7 @@ int main(int count, char **words)
     start_loop();
     for (struct device *at = devices; !in_stdio && at < devices + device_count; at++) open_bus(at);
     open_clients(given[PLAY], given[SOCKET]);
-    for (struct device *at = devices; at < devices + device_count; at++)
-        send_frames(at, bafokun_boot(&at->node, FRAMES));
+    for (struct device *at = devices; at < devices + device_count; at++) send_frames(at, bafokun_boot(&at->node, FRAMES));
     deliver();
     play_due();
     bool is_well = run_loop();
