@@ -18,7 +18,7 @@ use Rattle.co_sheet_warnings.specs.declared.keys.Topic.TheVariants.{FileInfo, De
 use Rattle.co_sheet_warnings.specs.declared.known_key.KnownKey.TheVariants.{AccessType, PdoMapping, FileName, NrOfRxPdo, SupportedObjects, NodeId}
 use Rattle.co_sheet_warnings.specs.declared.warning.Warning.{Warning}
 use Rattle.co_sheet_warnings.specs.Keys.{keys_of, topic_of}
-use Rattle.co_sheet_warnings.specs.KnownKeys.{is_near}
+use Rattle.co_sheet_warnings.specs.KnownKeys.{is_near, telling_keys}
 use Rattle.co_sheet_warnings.specs.Infos.{is_date, is_time}
 use Rattle.co_sheet_warnings.specs.Repeats.{has_cob_id, enabled_cob_id, identifier_with}
 use Rattle.co_sheet_warnings.specs.Lines.{mixed_line_ends}
@@ -139,8 +139,8 @@ configured = refl
 description : map counted (0 ∷ 1 ∷ 0xFE ∷ 0xFF ∷ []) ≡ 0 ∷ 1 ∷ 0xFE ∷ 0 ∷ []
 description = refl
 
-by_rule : map is_highest_by_rule (0x1002 ∷ 0x1003 ∷ 0x1004 ∷ 0x15FF ∷ 0x1600 ∷ 0x17FF ∷ 0x1800 ∷ 0x19FF ∷ 0x1A00 ∷ 0x1BFF ∷ 0x1C00 ∷ [])
-    ≡ true ∷ false ∷ true ∷ true ∷ false ∷ false ∷ true ∷ true ∷ false ∷ false ∷ true ∷ []
+by_rule : map is_highest_by_rule (0x1002 ∷ 0x1003 ∷ 0x1004 ∷ 0x1026 ∷ 0x1027 ∷ 0x1028 ∷ 0x15FF ∷ 0x1600 ∷ 0x17FF ∷ 0x1800 ∷ 0x19FF ∷ 0x1A00 ∷ 0x1BFF ∷ 0x1C00 ∷ [])
+    ≡ true ∷ false ∷ true ∷ true ∷ false ∷ true ∷ true ∷ false ∷ false ∷ true ∷ true ∷ false ∷ false ∷ true ∷ []
 by_rule = refl
 
 -- ---- WrongList, ListOrder, Unlisted, NoErrorControl
@@ -268,10 +268,11 @@ types = refl
 
 -- ---- OwnHeartbeat, HeartbeatTwice
 
-words_of_nodes : map node_of_word (0x0000FFFF ∷ 0x00010000 ∷ 0x007F000A ∷ 0x0085000A ∷ []) ≡ 0 ∷ 1 ∷ 127 ∷ 5 ∷ []
+words_of_nodes : map node_of_word (0x0000FFFF ∷ 0x00010000 ∷ 0x007F000A ∷ 0x0085000A ∷ 0x0105000A ∷ []) ≡ 0 ∷ 1 ∷ 127 ∷ 133 ∷ 5 ∷ []
 words_of_nodes = refl
 
-used : map is_used_word (0x00050000 ∷ 0x00050001 ∷ 0x0005FFFF ∷ []) ≡ false ∷ true ∷ true ∷ []
+-- without a time, and with node-ID 0 or above 127, it isn't used
+used : map is_used_word (0x00050000 ∷ 0x00050001 ∷ 0x0005FFFF ∷ 0x00000001 ∷ 0x00010001 ∷ 0x007F0001 ∷ 0x00800001 ∷ []) ≡ false ∷ true ∷ true ∷ false ∷ true ∷ true ∷ false ∷ []
 used = refl
 
 abbrev consumer : List ℕ → List ℕ → List (List ℕ)
@@ -319,6 +320,11 @@ topics : map topic_of (codes "fileinfo" ∷ codes "DeviceInfo" ∷ codes "Device
 topics = refl
 
 -- lines of 512 and of 513 bytes
+-- what a warning can be about: a key of FileInfo, and of an object one that the standard doesn't know
+telling : map (λ k. k.line) (telling_keys (lines_of (joined (codes "[FileInfo]" ∷ codes "FileName=a" ∷ codes "[1000]" ∷ codes "DataType=7" ∷ codes "Unit=m" ∷ codes "[Comments]" ∷ codes "Lines=1" ∷ []))))
+    ≡ 2 ∷ 5 ∷ []
+telling = refl
+
 too_long : map (λ k. k.line) (keys_of (lines_of (joined ((codes "a=" ++ replicate 510 98) ∷ (codes "a=" ++ replicate 511 98) ∷ []))))
     ≡ 1 ∷ []
 too_long = refl

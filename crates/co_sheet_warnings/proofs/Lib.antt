@@ -3,3 +3,4 @@ mod PieceLemmas
 pub mod QuestionLemmas
 mod ByLineLemmas
 pub mod NameLemmas
+pub mod KnownLemmas

@@ -1,7 +1,5 @@
 -- Lists that a loop makes item by item.
-use Rattle.std.proofs.Common.{◌≡◌, ℕ, ◌+◌, ◌<◌, suc, List, ◌∷◌, ◌++◌, sym, ap, ◌∙◌, length, get_or, drop, drop-cons, add-one, append_assoc, map}
-use Rattle.std.specs.List.{enumerate_from}
-use Rattle.co_sheet_text.specs.Text.{Line}
+use Rattle.std.proofs.Common.{◌≡◌, ℕ, ◌+◌, ◌<◌, suc, List, ◌∷◌, ◌++◌, sym, ap, ◌∙◌, length, get_or, drop, drop-cons, add-one, append_assoc}
 
 -- one item more of what a list gives, where F gives a piece for each
 pub pieces-turn : {X Y : Type 0} (F : List X → List Y) (piece : X → List Y) → ((x : X) (xs : List X) → F (x ∷ xs) ≡ piece x ++ F xs)
@@ -12,7 +10,3 @@ pieces-turn F piece cut xs i d before after all inside is invariant =
     rw (add-one i)
     (ap (λ l. l ++ rest) is ∙ append_assoc before (piece (get_or xs i d)) rest ∙ ap (λ l. before ++ l) (sym (cut (get_or xs i d) (drop (suc i) xs)))
     ∙ ap (λ l. before ++ F l) (sym (drop-cons xs i d inside)) ∙ invariant)
-
--- lines, numbered from here
-abbrev pub numbered : ℕ → List (List ℕ) → List Line
-numbered n ls = map (λ l. record { number = l.0; bytes = l.1 }) (enumerate_from n ls)

@@ -56,12 +56,13 @@ inhibit_time sections s (SubIndex key) =
     inhibit_time_of (sub_indices sections key.index) (record { key = key; section = s })
 inhibit_time sections s kind = []
 
--- a word of 1016h: bits 22 to 16 have a node-ID and bits 15 to 0 a time; without a time it isn't used
+-- a word of 1016h: bits 23 to 16 have a node-ID and bits 15 to 0 a time; without a time, or with a node-ID that is none of
+-- 1 to 127, it isn't used (CiA 301, consumer heartbeat time)
 abbrev pub node_of_word : ℕ → ℕ
-node_of_word word = word / 65536 % 128
+node_of_word word = word / 65536 % 256
 
 abbrev pub is_used_word : ℕ → Bool
-is_used_word word = not (word % 65536 == 0)
+is_used_word word = not (word % 65536 == 0) && is_within 1 127 (node_of_word word)
 
 abbrev pub consumes : ℕ → ℕ → Bool
 consumes node word = is_used_word word && (node_of_word word == node)
@@ -86,8 +87,7 @@ consumes_before sub word e =
 
 abbrev pub is_consumed_twice : List Entry → ℕ → ℕ → Bool
 is_consumed_twice entries sub word =
-    is_used_word word && nat_lt 0 (node_of_word word)
-    && list_any (consumes_before sub word) entries
+    is_used_word word && list_any (consumes_before sub word) entries
 
 abbrev pub heartbeat_twice_of : List Entry → Entry → List ℕ
 heartbeat_twice_of entries e =

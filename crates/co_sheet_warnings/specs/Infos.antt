@@ -38,7 +38,7 @@ use Rattle.co_sheet_warnings.specs.declared.keys.Topic.TheVariants.{FileInfo, De
 use Rattle.co_sheet_warnings.specs.declared.known_key.KnownKey.{KnownKey}
 use Rattle.co_sheet_warnings.specs.declared.known_key.KnownKey.TheVariants as key
 use Rattle.co_sheet_warnings.specs.Communication.{number_at_sub}
-use Rattle.co_sheet_warnings.specs.Keys.{WrittenKey}
+use Rattle.co_sheet_warnings.specs.Keys.{WrittenKey, topic_of}
 use Rattle.co_sheet_warnings.specs.KnownKeys.{has_text}
 use Rattle.co_sheet_warnings.specs.ReadTexts.{ReadText}
 use Rattle.co_sheet_warnings.specs.SubIndices.{is_within}
@@ -77,14 +77,9 @@ abbrev pub lacks_any : Topic → List WrittenKey → List KnownKey → Bool
 lacks_any info keys required = list_any (λ known. is_none (key_at info keys known)) required
 
 -- the line of the section, 0 where there is none
-abbrev pub is_info_name : Topic → List ℕ → Bool
-is_info_name FileInfo name = same_name name (codes "FileInfo")
-is_info_name DeviceInfo name = same_name name (codes "DeviceInfo")
-is_info_name info name = false
-
 abbrev pub info_line : Topic → List TextSection → ℕ
 info_line info sections =
-    option_map_or (λ s. s.line) (find (λ s. is_info_name info s.name) sections) 0
+    option_map_or (λ s. s.line) (find (λ s. is_info info (topic_of s.name)) sections) 0
 
 abbrev pub missing_keys : Topic → ReadText → List KnownKey → List ℕ
 missing_keys info t required =

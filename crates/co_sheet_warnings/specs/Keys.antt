@@ -1,12 +1,12 @@
 -- The keys of a text as they are written, those too that are passed over where a text is read
 -- (CiA 306-1, structure of an EDS).
-use Rattle.std.specs.Prelude.{ℕ, if◌then◌else◌, List, [], ◌∷◌, ◌++◌, codes, Option, Some, None}
+use Rattle.std.specs.Prelude.{ℕ, nat_lt, if◌then◌else◌, List, [], ◌∷◌, ◌++◌, length, codes, Option, Some, None}
 use Rattle.std.specs.Option.{option_map_or}
 use Rattle.co_sheet_text.specs.declared.section_kind.SectionKind.{SectionKind}
 use Rattle.co_sheet_text.specs.declared.section_kind.SectionKind.TheVariants as kind
 use Rattle.co_sheet_text.specs.Names.{kind_of}
-use Rattle.co_sheet_text.specs.Text.{Line, same_name, is_empty}
-use Rattle.co_sheet_text.specs.Sections.{LineForm, skipped, section_line, unclosed, name_value, line_form, is_too_long}
+use Rattle.co_sheet_text.specs.Text.{Line, same_name, is_empty, trim}
+use Rattle.co_sheet_text.specs.Sections.{LineForm, skipped, section_line, unclosed, name_value, form_of}
 use Rattle.co_sheet_warnings.specs.declared.keys.Topic.{Topic}
 use Rattle.co_sheet_warnings.specs.declared.keys.Topic.TheVariants.{
   FileInfo,
@@ -39,9 +39,12 @@ pub record WrittenKey : Type 0 where
   pub value : List ℕ
   pub line : ℕ
 
--- what a line is; one of more than 512 bytes isn't read
+-- what a line of these bytes is; one of more than 512 bytes isn't read
+abbrev pub form_of_bytes : List ℕ → LineForm
+form_of_bytes bytes = if nat_lt 512 (length bytes) then skipped else form_of (trim bytes)
+
 abbrev pub form_read : Line → LineForm
-form_read line = if is_too_long line then skipped else line_form line
+form_read line = form_of_bytes line.bytes
 
 -- the name of the section that a line begins; without `]` it has none
 abbrev pub begun_name : LineForm → Option (List ℕ)

@@ -15,6 +15,7 @@ use Rattle.std.specs.Prelude.{
   [],
   ◌∷◌,
   length,
+  map,
   find,
   filter_map,
   Option,
@@ -22,11 +23,20 @@ use Rattle.std.specs.Prelude.{
   None,
   option_map,
 }
-use Rattle.std.specs.List.{list_any}
+use Rattle.std.specs.List.{list_any, enumerate_from}
 use Rattle.std.specs.Option.{option_map_or, option_or}
 use Rattle.std.specs.Str.{is_utf8}
-use Rattle.co_sheet_text.specs.Text.{Line}
+use Rattle.std.specs.Str.Lines.{lines}
+use Rattle.co_sheet_text.specs.Text.{Line, without_mark}
 use Rattle.co_sheet_warnings.specs.ReadTexts.{ReadText}
+
+-- the lines of a text, without their ends and without a byte order mark
+abbrev pub text_lines : List ℕ → List (List ℕ)
+text_lines text = lines (without_mark text)
+
+-- lines, numbered from here
+abbrev pub numbered : ℕ → List (List ℕ) → List Line
+numbered first lines = map (λ l. record { number = l.0; bytes = l.1 }) (enumerate_from first lines)
 
 -- more bytes than the 255 that the standard allows, and no more than the 512 that are read
 abbrev pub is_long : Line → Bool
@@ -39,11 +49,11 @@ abbrev pub long_lines : List Line → List ℕ
 long_lines lines = filter_map long_line lines
 
 -- the first line with a byte above 7Fh
-abbrev pub has_other_byte : Line → Bool
-has_other_byte line = list_any (nat_lt 0x7F) line.bytes
+abbrev pub has_other_byte : List ℕ → Bool
+has_other_byte bytes = list_any (nat_lt 0x7F) bytes
 
 abbrev pub first_other : List Line → Option ℕ
-first_other lines = option_map (λ line. line.number) (find has_other_byte lines)
+first_other lines = option_map (λ line. line.number) (find (λ line. has_other_byte line.bytes) lines)
 
 -- of a text in UTF-8, and of any other
 abbrev pub utf8 : ReadText → List ℕ

@@ -5,10 +5,11 @@ use Rattle.co_sheet_text.specs.Text.{Line, lines_of}
 use Rattle.co_sheet_text.specs.Sections.{TextSection}
 use Rattle.co_sheet_text.specs.LinesAtFault.{sections_read}
 use Rattle.co_sheet.specs.Commissioning.{node_id_in}
-use Rattle.co_sheet_warnings.specs.Keys.{WrittenKey, keys_of}
+use Rattle.co_sheet_warnings.specs.Keys.{WrittenKey}
+use Rattle.co_sheet_warnings.specs.KnownKeys.{telling_keys}
 
--- its bytes, its lines, its sections with the keys that are read, all its keys as they are written, and the node-ID of
--- the device, if it is known
+-- its bytes, its lines, its sections with the keys that are read, the keys that a warning can be about, as they are written,
+-- and the node-ID of the device, if it is known
 pub record ReadText : Type 0 where
   pub text : List ℕ
   pub lines : List Line
@@ -25,6 +26,6 @@ read_text text node = record {
   text = text;
   lines = lines_of text;
   sections = sections_read (lines_of text);
-  keys = keys_of (lines_of text);
+  keys = telling_keys (lines_of text);
   node = own_node node (sections_read (lines_of text));
 }

@@ -9,6 +9,7 @@ ghost use Rattle.co_sheet_warnings.specs.CobIds.{
   node_id_place,
 };
 
+use crate::sub_indices::is_within;
 use co_sheet_text::{SectionKind, TextSection, same_name, trim, unsigned_number};
 use co_text::split_at_first;
 
@@ -18,7 +19,8 @@ fn has_default_cob_id(kind: SectionKind) -> bool
     match kind {
         SectionKind::Object(index) => index == 0x1014,
         SectionKind::SubIndex(key) => {
-            key.sub == 1 && matches!(key.index, 0x1400..=0x1403 | 0x1800..=0x1803)
+            key.sub == 1
+                && (is_within(0x1400, 0x1403, key.index) || is_within(0x1800, 0x1803, key.index))
         }
         _ => false,
     }

@@ -9,12 +9,16 @@ ghost use Rattle.co_sheet_warnings.specs.Communication.{
   heartbeat_twice,
   inhibit_time,
   is_consumed_twice,
+  is_some_time,
+  is_synchronous,
+  is_used_word,
+  node_of_word,
   number_at_sub,
   own_heartbeat,
 };
 
 use crate::read_text::ReadText;
-use crate::sub_indices::{value_in, value_number};
+use crate::sub_indices::{is_within, value_in, value_number};
 use co_sheet::EntrySection;
 use co_sheet_text::{SectionKind, TextSection};
 
@@ -30,6 +34,18 @@ pub(crate) fn number_at_sub(parts: &[EntrySection], sub: u8) -> Option<u64>
     None
 }
 
+fn is_synchronous(transmission: u64) -> bool
+    ensures { result ≡ is_synchronous transmission }
+{
+    transmission <= 240
+}
+
+fn is_some_time(time: u64) -> bool
+    ensures { result ≡ is_some_time time }
+{
+    0 < time
+}
+
 /// The inhibit time of a synchronous TPDO.
 pub(crate) fn inhibit_time(text: &ReadText, section: &TextSection) -> Option<usize>
     ensures { option_to_list result
@@ -37,14 +53,14 @@ pub(crate) fn inhibit_time(text: &ReadText, section: &TextSection) -> Option<usi
 {
     match section.kind {
         SectionKind::SubIndex(key) => {
-            if key.sub != 3 || !matches!(key.index, 0x1800..=0x19FF) {
+            if key.sub != 3 || !is_within(0x1800, 0x19FF, key.index) {
                 return None;
             }
-            if number_at_sub(text.parts(key.index), 2)? > 240 {
+            if !is_synchronous(number_at_sub(text.parts(key.index), 2)?) {
                 return None;
             }
             let given = value_in(section)?;
-            if given.number()? > 0 {
+            if is_some_time(given.number()?) {
                 Some(given.line)
             } else {
                 None
@@ -54,11 +70,24 @@ pub(crate) fn inhibit_time(text: &ReadText, section: &TextSection) -> Option<usi
     }
 }
 
-// whether a word of 1016h is for a node: bits 22 to 16 have its node-ID, and bits 15 to 0 a time
+// bits 23 to 16 of a word of 1016h
+fn node_of_word(word: u64) -> u64
+    ensures { result ≡ node_of_word word }
+{
+    word / 65536 % 256
+}
+
+// whether a word of 1016h is used: bits 15 to 0 have a time, and its node-ID is one
+fn is_used_word(word: u64) -> bool
+    ensures { result ≡ is_used_word word }
+{
+    word % 65536 != 0 && (1..=127).contains(&node_of_word(word))
+}
+
 fn consumes(node: u64, word: u64) -> bool
     ensures { result ≡ consumes node word }
 {
-    word % 65536 != 0 && word / 65536 % 128 == node
+    is_used_word(word) && node_of_word(word) == node
 }
 
 /// A word of the heartbeat consumer for the device's own node.
@@ -89,7 +118,7 @@ fn consumes_before(entry: &EntrySection, sub: u8, word: u64) -> bool
         return false;
     }
     match value_number(entry) {
-        Some(other) => consumes(word / 65536 % 128, other),
+        Some(other) => consumes(node_of_word(word), other),
         None => false,
     }
 }
@@ -97,7 +126,7 @@ fn consumes_before(entry: &EntrySection, sub: u8, word: u64) -> bool
 fn is_consumed_twice(parts: &[EntrySection], sub: u8, word: u64) -> bool
     ensures { result ≡ is_consumed_twice (map entry_view parts.now) sub word }
 {
-    if word % 65536 == 0 || word / 65536 % 128 == 0 {
+    if !is_used_word(word) {
         return false;
     }
     for part in parts {

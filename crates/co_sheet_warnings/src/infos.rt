@@ -11,7 +11,6 @@ ghost use Rattle.co_sheet_warnings.specs.Infos.{
   is_date,
   is_day_and_year,
   is_info,
-  is_info_name,
   is_number_of,
   is_object_within,
   is_time,
@@ -26,9 +25,10 @@ ghost use Rattle.co_sheet_warnings.specs.Infos.{
 ghost use Rattle.co_sheet_warnings.specs.private.Views.{is_written, key_view};
 
 use crate::communication::number_at_sub;
-use crate::keys::{Topic, WrittenKey};
+use crate::keys::{Topic, WrittenKey, topic_of};
 use crate::known_key::KnownKey;
 use crate::read_text::ReadText;
+use crate::sub_indices::is_within;
 use co_sheet_text::{SectionKind, TextSection, same_name, unsigned_number};
 use co_text::{decimal_in, split_at_first};
 
@@ -109,17 +109,6 @@ fn lacks_any(info: Topic, keys: &[WrittenKey], required: &[KnownKey]) -> bool
     false
 }
 
-// whether a section's name is FileInfo, or DeviceInfo, in any case of its letters
-fn is_info_name(info: Topic, name: &[u8]) -> bool
-    ensures { result ≡ is_info_name info name.now }
-{
-    match info {
-        Topic::FileInfo => same_name(name, b"FileInfo"),
-        Topic::DeviceInfo => same_name(name, b"DeviceInfo"),
-        _ => false,
-    }
-}
-
 /// The section of FileInfo or of DeviceInfo that lacks a key which has to be there; 0 where there is no such section.
 pub(crate) fn missing_keys(info: Topic, text: &ReadText, required: &[KnownKey]) -> Option<usize>
     ensures { option_to_list result ≡ missing_keys info text.now required.now }
@@ -128,7 +117,7 @@ pub(crate) fn missing_keys(info: Topic, text: &ReadText, required: &[KnownKey]) 
         return None;
     }
     for section in text.sections() {
-        if is_info_name(info, section.name) {
+        if is_info(info, topic_of(section.name)) {
             return Some(section.line);
         }
     }
@@ -151,7 +140,7 @@ fn is_object_within(low: u16, high: u16, kind: SectionKind) -> bool
     ensures { result ≡ is_object_within low high kind }
 {
     match kind {
-        SectionKind::Object(index) => low <= index && index <= high,
+        SectionKind::Object(index) => is_within(low, high, index),
         _ => false,
     }
 }

@@ -1,12 +1,14 @@
 //! The keys of a text as they are written, those too that are passed over where a text is read.
 
-ghost use Rattle.std.specs.Prelude.{◌≡◌, map, option_map, option_to_list, IfOk};
+ghost use Rattle.std.specs.Prelude.{◌≡◌, filter, map, option_map, option_to_list, IfOk};
 ghost use Rattle.co_sheet_text.specs.Text.{trim};
 ghost use Rattle.co_sheet_text.specs.Sections.{form_of};
-ghost use Rattle.co_sheet_warnings.specs.Keys.{begun_name, form_read, key_on, keys_of, topic_of};
-ghost use Rattle.co_sheet_warnings.specs.private.Views.{key_view, line_view};
+ghost use Rattle.co_sheet_warnings.specs.Keys.{begun_name, form_of_bytes, key_on, topic_of};
+ghost use Rattle.co_sheet_warnings.specs.KnownKeys.{is_telling, telling_keys};
+ghost use Rattle.co_sheet_warnings.specs.Lines.{numbered};
+ghost use Rattle.co_sheet_warnings.specs.private.Views.{key_view};
 
-use crate::lines::Line;
+use crate::known_key::is_known;
 use co_sheet_text::{SectionKind, same_name, trim};
 use co_text::split_at_first;
 use std::alloc::{AllocError, Global};
@@ -90,33 +92,55 @@ fn key_on<'a>(topic: Topic, line: usize, text: &'a [u8]) -> Option<WrittenKey<'a
 const LONGEST: usize = 512;
 
 // a line without blanks at its ends; nothing of one that isn't read
-fn text_read<'a>(line: &Line<'a>) -> &'a [u8]
-    ensures { form_of result.now ≡ form_read (line_view line.now) }
+fn text_read(line: &[u8]) -> &[u8]
+    ensures { form_of result.now ≡ form_of_bytes line.now }
 {
-    if line.bytes.len() > LONGEST {
+    if line.len() > LONGEST {
         return b"";
     }
-    trim(line.bytes)
+    trim(line)
 }
 
-/// The keys of lines.
+// whether a warning can be about a key
+fn is_telling(key: &WrittenKey) -> bool
+    ensures { result ≡ is_telling (key_view key.now) }
+{
+    matches!(key.topic, Topic::FileInfo | Topic::DeviceInfo) || !is_known(key)
+}
+
+// the key that a line gives, where a warning can be about it
+fn telling_on<'a>(topic: Topic, line: usize, text: &'a [u8]) -> Option<WrittenKey<'a>>
+    ensures { option_to_list (option_map key_view result)
+        ≡ filter is_telling (key_on topic line (form_of text.now)) }
+{
+    match key_on(topic, line, text) {
+        Some(key) if is_telling(&key) => Some(key),
+        _ => None,
+    }
+}
+
+/// The keys of lines that a warning can be about: those of FileInfo and DeviceInfo, and those that the standard doesn't
+/// know. Of a large sheet they are few.
 pub(crate) fn keys_in<'a>(
     alloc: Global,
-    lines: &[Line<'a>],
+    lines: &[&'a [u8]],
 ) -> Result<Vec<WrittenKey<'a>>, AllocError>
-    ensures { IfOk result (λ keys. map key_view keys.items ≡ keys_of (map line_view lines.now)) }
+    ensures { IfOk result
+        (λ keys. map key_view keys.items ≡ telling_keys (numbered 1 (map (λ line. line.now) lines.now))) }
 {
     let mut keys = Vec::new(alloc);
     let mut topic = Topic::Other;
+    let mut number = 1;
     for line in lines {
         let text = text_read(line);
-        if let Some(key) = key_on(topic, line.number, text) {
+        if let Some(key) = telling_on(topic, number, text) {
             keys.push(key)?;
         }
         topic = match begun_name(text) {
             Some(name) => topic_of(name),
             None => topic,
         };
+        number += 1;
     }
     Ok(keys)
 }

@@ -1,10 +1,8 @@
 //! The lines of a text.
 
-ghost use Rattle.std.specs.Prelude.{◌≡◌, ◌≤◌, true, false, length, map, option_to_list, IfOk};
+ghost use Rattle.std.specs.Prelude.{◌≡◌, true, false, map, option_to_list, IfOk};
 ghost use Rattle.std.specs.List.{list_any};
 ghost use Rattle.std.specs.Str.{is_utf8};
-ghost use Rattle.std.specs.Prelude.{nat_lt};
-ghost use Rattle.co_sheet_text.specs.Text.{lines_of};
 ghost use Rattle.co_sheet_warnings.specs.Lines.{
   first_other,
   has_other_byte,
@@ -12,9 +10,10 @@ ghost use Rattle.co_sheet_warnings.specs.Lines.{
   long_lines,
   mixed_line_ends,
   not_ascii,
+  numbered,
+  text_lines,
   utf8,
 };
-ghost use Rattle.co_sheet_warnings.specs.private.Views.{line_view};
 
 use crate::read_text::ReadText;
 use co_sheet_text::without_mark;
@@ -22,25 +21,15 @@ use co_text::split_line;
 use std::alloc::{AllocError, Global};
 use std::str;
 
-/// A line of a text without its end, and its number, from 1.
-#[derive(Clone, Copy)]
-pub(crate) struct Line<'a> {
-    pub(crate) number: usize,
-    pub(crate) bytes: &'a [u8],
-}
-
-/// The lines of a text.
-pub(crate) fn lines_in(alloc: Global, text: &[u8]) -> Result<Vec<Line<'_>>, AllocError>
-    requires { length text.now ≤ 1048576 }
-    ensures { IfOk result (λ lines. map line_view lines.items ≡ lines_of text.now) }
+/// The lines of a text, without their ends and without a byte order mark. It fails out of memory.
+pub fn text_lines(alloc: Global, text: &[u8]) -> Result<Vec<&[u8]>, AllocError>
+    ensures { IfOk result (λ found. map (λ line. line.now) found.items ≡ text_lines text.now) }
 {
     let mut lines = Vec::new(alloc);
     let mut rest = without_mark(text);
-    let mut number = 1;
-    while let Some((bytes, others)) = split_line(rest) {
-        lines.push(Line { number, bytes })?;
-        rest = others;
-        number += 1;
+    while let Some((line, after)) = split_line(rest) {
+        lines.push(line)?;
+        rest = after;
     }
     Ok(lines)
 }
@@ -51,36 +40,42 @@ const LONGEST: usize = 255;
 const LONGEST_READ: usize = 512;
 
 /// The lines of more than 255 bytes that are read.
-pub(crate) fn long_lines(alloc: Global, lines: &[Line]) -> Result<Vec<usize>, AllocError>
-    ensures { IfOk result (λ places. places.items ≡ long_lines (map line_view lines.now)) }
+pub(crate) fn long_lines(alloc: Global, lines: &[&[u8]]) -> Result<Vec<usize>, AllocError>
+    ensures { IfOk result
+        (λ places. places.items ≡ long_lines (numbered 1 (map (λ line. line.now) lines.now))) }
 {
     let mut places = Vec::new(alloc);
+    let mut number = 1;
     for line in lines {
-        if LONGEST < line.bytes.len() && line.bytes.len() <= LONGEST_READ {
-            places.push(line.number)?;
+        if LONGEST < line.len() && line.len() <= LONGEST_READ {
+            places.push(number)?;
         }
+        number += 1;
     }
     Ok(places)
 }
 
-fn has_other_byte(line: &Line) -> bool
-    ensures { result ≡ has_other_byte (line_view line.now) }
+fn has_other_byte(line: &[u8]) -> bool
+    ensures { result ≡ has_other_byte line.now }
 {
-    for byte in line.bytes {
-        if 0x7F < *byte {
-            return true;
-        }
+    let mut is_found = false;
+    // without an early return many bytes are compared at once
+    for byte in line {
+        is_found = is_found | (0x7F < *byte);
     }
-    false
+    is_found
 }
 
-fn first_other(lines: &[Line]) -> Option<usize>
-    ensures { result ≡ first_other (map line_view lines.now) }
+/// The first line with a byte above 7Fh.
+pub(crate) fn first_other(lines: &[&[u8]]) -> Option<usize>
+    ensures { result ≡ first_other (numbered 1 (map (λ line. line.now) lines.now)) }
 {
+    let mut number = 1;
     for line in lines {
         if has_other_byte(line) {
-            return Some(line.number);
+            return Some(number);
         }
+        number += 1;
     }
     None
 }
@@ -99,7 +94,7 @@ pub(crate) fn other_bytes(text: &ReadText, in_utf8: bool) -> Option<usize>
     ensures utf8 { in_utf8 ≡ true → option_to_list result ≡ utf8 text.now }
     ensures other { in_utf8 ≡ false → option_to_list result ≡ not_ascii text.now }
 {
-    let line = first_other(text.lines)?;
+    let line = text.other?;
     if is_utf8(text.bytes) == in_utf8 {
         Some(line)
     } else {

@@ -1,28 +1,22 @@
 //! The node-ID that a device configuration file has for its node.
 
 ghost use Rattle.std.specs.Prelude.{◌≡◌, map};
-ghost use Rattle.co_sheet.specs.Commissioning.{node_id_in, node_id_of};
-ghost use Rattle.co_sheet_text.specs.Views.{property_view, section_view};
+ghost use Rattle.co_sheet.specs.Commissioning.{node_id_in};
+ghost use Rattle.co_sheet_text.specs.Views.{section_view};
 ghost use Rattle.co_sheet_warnings.specs.ReadTexts.{own_node};
 
 use co_sheet::section_at;
-use co_sheet_text::{Property, SectionKind, TextSection};
+use co_sheet_text::{SectionKind, TextSection};
 
-// the node-ID that a NodeID is: its number, where that is 1 to 127 (CiA 306, device commissioning)
-fn node_id_of(given: &Property) -> Option<u8>
-    ensures { result ≡ node_id_of (property_view given.now) }
-{
-    match given.number()? {
-        number @ 1..=127 => Some(number as u8),
-        _ => None,
-    }
-}
-
+// the number of NodeID, where that is 1 to 127 (CiA 306, device commissioning)
 fn node_id_in(sections: &[TextSection]) -> Option<u8>
     ensures { result ≡ node_id_in (map section_view sections.now) }
 {
     let section = section_at(sections, SectionKind::DeviceCommissioning)?;
-    node_id_of(&section.property(b"NodeID")?)
+    match section.property(b"NodeID")?.number()? {
+        number @ 1..=127 => Some(number as u8),
+        _ => None,
+    }
 }
 
 /// The node-ID that is given, or else the sections' own.

@@ -8,7 +8,7 @@ ghost use Rattle.co_sheet_text.specs.Views.{section_view};
 ghost use Rattle.co_sheet_warnings.specs.private.Views.{text_view};
 
 use crate::keys::WrittenKey;
-use crate::lines::Line;
+use crate::lines::first_other;
 use crate::lists::listed_indices;
 use co_sheet::{EntrySection, Tables};
 use co_sheet_text::TextSection;
@@ -17,40 +17,44 @@ use std::alloc::{AllocError, Global};
 use std::marker::Model;
 
 /// The lines and sections of a text, and the node-ID that is given for the device. Contracts see these; beside them are
-/// the indices that the lists name.
+/// the indices that the lists name, and the first line with a byte above 7Fh.
 #[derive(Drop)]
 pub(crate) struct ReadText<'s, 'a> {
     pub(crate) bytes: &'a [u8],
-    pub(crate) lines: &'s [Line<'a>],
+    pub(crate) lines: &'s [&'a [u8]],
     tables: Tables<'s, 'a>,
     /// The keys as they are written.
     pub(crate) keys: &'s [WrittenKey<'a>],
     pub(crate) node: Option<u8>,
     indices: IndexSet<u64>,
+    /// The first line with a byte above 7Fh.
+    pub(crate) other: Option<usize>,
 }
 
 impl<'s, 'a> Model for ReadText<'s, 'a> {
+    ghost use Rattle.std.specs.Prelude.{map};
     ghost use Rattle.co_sheet_warnings.specs.ReadTexts.{ReadText};
-    ghost use Rattle.co_sheet_warnings.specs.private.Views.{text_view, HasListed};
+    ghost use Rattle.co_sheet_warnings.specs.private.Views.{text_view, IsLookedUp};
 
     ghost Value = { ReadText };
 
-    ghost view = { λ t. text_view t.bytes.now t.lines.now t.tables t.keys.now t.node };
+    ghost view = { λ t. text_view t.bytes.now (map (λ line. line.now) t.lines.now)
+        t.tables t.keys.now t.node };
 
-    ghost invariant = { λ t. HasListed t.tables t.indices };
+    ghost invariant = { λ t. IsLookedUp t.tables (map (λ line. line.now) t.lines.now) t.indices t.other };
 }
 
 impl<'s, 'a> ReadText<'s, 'a> {
     pub(crate) fn new(
         alloc: Global,
         bytes: &'a [u8],
-        lines: &'s [Line<'a>],
+        lines: &'s [&'a [u8]],
         sections: &'s [TextSection<'s, 'a>],
         keys: &'s [WrittenKey<'a>],
         node: Option<u8>,
     ) -> Result<ReadText<'s, 'a>, AllocError>
-        ensures { IfOk result (λ text. text ≡ text_view bytes.now lines.now
-            (map section_view sections.now) keys.now node) }
+        ensures { IfOk result (λ text. text ≡ text_view bytes.now
+            (map (λ line. line.now) lines.now) (map section_view sections.now) keys.now node) }
     {
         let tables = Tables::new(alloc, sections)?;
         let indices = listed_indices(alloc, sections)?;
@@ -61,6 +65,7 @@ impl<'s, 'a> ReadText<'s, 'a> {
             keys,
             node,
             indices,
+            other: first_other(lines),
         })
     }
 

@@ -17,7 +17,7 @@ ghost use Rattle.co_sheet_warnings.specs.Repeats.{
 };
 ghost use Rattle.co_sheet_warnings.specs.private.Views.{identifier_view, name_view, scoped_view};
 
-use crate::sub_indices::value_in;
+use crate::sub_indices::{is_within, value_in};
 use co_sheet::{Preset, numeric_default};
 use co_sheet_text::{SectionKind, TextSection};
 use co_value::DataType;
@@ -29,10 +29,11 @@ fn has_cob_id(kind: SectionKind) -> bool
 {
     match kind {
         SectionKind::Object(index) => index == 0x1014,
-        SectionKind::SubIndex(key) => matches!(
-            (key.index, key.sub),
-            (0x1400..=0x15FF | 0x1800..=0x19FF, 1) | (0x1200..=0x12FF, 1 | 2)
-        ),
+        SectionKind::SubIndex(key) => {
+            (key.sub == 1
+                && (is_within(0x1400, 0x15FF, key.index) || is_within(0x1800, 0x19FF, key.index)))
+                || ((key.sub == 1 || key.sub == 2) && is_within(0x1200, 0x12FF, key.index))
+        }
         _ => false,
     }
 }

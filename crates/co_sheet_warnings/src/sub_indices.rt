@@ -1,14 +1,15 @@
 //! What an object says of its sub-indices, against those that the text describes.
 
-ghost use Rattle.std.specs.Prelude.{◌≡◌, map, option_map, option_to_list};
+ghost use Rattle.std.specs.Prelude.{◌≡◌, [], ◌∷◌, map, option_map, option_to_list};
+ghost use Rattle.co_sheet.specs.ObjectLists.{is_one_of};
 ghost use Rattle.co_sheet_text.specs.Views.{property_view, section_view};
 ghost use Rattle.co_sheet.specs.SectionViews.{entry_view};
 ghost use Rattle.co_sheet_warnings.specs.Lists.{unlisted};
 ghost use Rattle.co_sheet_warnings.specs.Repeats.{value_in};
 ghost use Rattle.co_sheet_warnings.specs.SubIndices.{
-  counted,
   highest_of,
   is_highest_by_rule,
+  is_within,
   missing_name,
   sub_index_0,
   sub_number,
@@ -20,6 +21,22 @@ use crate::read_text::ReadText;
 use co_sheet::EntrySection;
 use co_sheet_text::{Property, SectionKind, TextSection, same_name};
 
+/// Whether an index is in a range with both its ends. Conditions call it, so that the order of numbers is proved once.
+pub(crate) fn is_within(low: u16, high: u16, index: u16) -> bool
+    ensures { result ≡ is_within low high index }
+{
+    low <= index && index <= high
+}
+
+fn is_count(number: Option<u64>, count: usize) -> bool
+    ensures { result ≡ is_one_of (count ∷ []) number }
+{
+    match number {
+        Some(number) => number == count as u64,
+        None => false,
+    }
+}
+
 /// The SubNumber of an object that isn't the number of its sub-index sections.
 pub(crate) fn sub_number(text: &ReadText, section: &TextSection) -> Option<usize>
     ensures { option_to_list result
@@ -28,8 +45,7 @@ pub(crate) fn sub_number(text: &ReadText, section: &TextSection) -> Option<usize
     match section.kind {
         SectionKind::Object(index) => {
             let given = section.property(b"SubNumber")?;
-            let count = text.parts(index).len() as u64;
-            if given.number() == Some(count) {
+            if is_count(given.number(), text.parts(index).len()) {
                 None
             } else {
                 Some(given.line)
@@ -94,18 +110,14 @@ fn is_constant(section: &TextSection) -> bool
     }
 }
 
-fn counted(sub: u8) -> u8
-    ensures { result ≡ counted sub }
-{
-    if sub == 0xFF { 0 } else { sub }
-}
-
 fn highest_of(parts: &[EntrySection]) -> u8
     ensures { result ≡ highest_of (map entry_view parts.now) }
 {
     let mut highest = 0;
     for part in parts {
-        highest = highest.max(counted(part.key.sub));
+        if part.key.sub != 0xFF {
+            highest = highest.max(part.key.sub);
+        }
     }
     highest
 }
@@ -113,7 +125,10 @@ fn highest_of(parts: &[EntrySection]) -> u8
 fn is_highest_by_rule(index: u16) -> bool
     ensures { result ≡ is_highest_by_rule index }
 {
-    !matches!(index, 0x1003 | 0x1600..=0x17FF | 0x1A00..=0x1BFF)
+    !(index == 0x1003
+        || index == 0x1027
+        || is_within(0x1600, 0x17FF, index)
+        || is_within(0x1A00, 0x1BFF, index))
 }
 
 /// A constant sub-index 0 that isn't the highest sub-index of its object.

@@ -1,6 +1,6 @@
 //! The places of each kind in a text.
 
-ghost use Rattle.std.specs.Prelude.{◌≡◌, flat_map, option_to_list, IfOk};
+ghost use Rattle.std.specs.Prelude.{◌≡◌, ℕ, List, flat_map, option_to_list, IfOk};
 ghost use Rattle.co_sheet_warnings.specs.Lists.{no_error_control};
 ghost use Rattle.co_sheet_warnings.specs.Warnings.{places_of};
 
@@ -16,6 +16,18 @@ use crate::read_text::ReadText;
 use crate::repeats::{equal_names, shared_cob_ids};
 use crate::warning::WarningKind;
 use std::alloc::{AllocError, Global};
+
+// a place that may be there, as a list
+fn one(alloc: Global, found: Option<usize>) -> Result<Vec<usize>, AllocError>
+    ensures { (wanted : List ℕ) → option_to_list found ≡ wanted →
+        IfOk result (λ places. places.items ≡ wanted) }
+{
+    let mut places = Vec::new(alloc);
+    if let Some(place) = found {
+        places.push(place)?;
+    }
+    Ok(places)
+}
 
 // the places that are there, as a list
 fn listed(alloc: Global, found: &[Option<usize>]) -> Result<Vec<usize>, AllocError>
@@ -51,14 +63,9 @@ pub(crate) fn places_of(
     ensures { IfOk result (λ places. places.items ≡ places_of text.now kind) }
 {
     match kind {
-        WarningKind::FileInfoKeys => {
-            listed(alloc, &[missing_keys(Topic::FileInfo, text, &FILE_KEYS)])
-        }
+        WarningKind::FileInfoKeys => one(alloc, missing_keys(Topic::FileInfo, text, &FILE_KEYS)),
         WarningKind::DeviceInfoKeys => {
-            listed(
-                alloc,
-                &[missing_keys(Topic::DeviceInfo, text, &DEVICE_KEYS)],
-            )
+            one(alloc, missing_keys(Topic::DeviceInfo, text, &DEVICE_KEYS))
         }
         WarningKind::PdoCount => listed(alloc, &pdo_counts(text)),
         WarningKind::WrongList => list_places(alloc, ListCheck::Objects, text.sections()),
@@ -67,15 +74,15 @@ pub(crate) fn places_of(
             Some(node) => shared_cob_ids(alloc, node, text.sections()),
             None => Ok(Vec::new(alloc)),
         },
-        WarningKind::NoErrorControl => listed(alloc, &[no_error_control(text)]),
+        WarningKind::NoErrorControl => one(alloc, no_error_control(text)),
         WarningKind::LongLine => long_lines(alloc, text.lines),
-        WarningKind::Utf8 => listed(alloc, &[other_bytes(text, true)]),
-        WarningKind::NotAscii => listed(alloc, &[other_bytes(text, false)]),
+        WarningKind::Utf8 => one(alloc, other_bytes(text, true)),
+        WarningKind::NotAscii => one(alloc, other_bytes(text, false)),
         WarningKind::ListOrder => list_places(alloc, ListCheck::Order, text.sections()),
         WarningKind::EqualNames => equal_names(alloc, text.sections()),
-        WarningKind::UnknownKey => listed(alloc, &[unknown_key(text.keys)]),
+        WarningKind::UnknownKey => one(alloc, unknown_key(text.keys)),
         WarningKind::DateFormat => listed(alloc, &date_formats(text)),
-        WarningKind::LineEnds => listed(alloc, &[mixed_line_ends(text.bytes)]),
+        WarningKind::LineEnds => one(alloc, mixed_line_ends(text.bytes)),
         other => places_in(alloc, text, other),
     }
 }

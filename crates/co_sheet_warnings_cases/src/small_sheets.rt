@@ -1,6 +1,7 @@
 //! Small texts.
 
-use co_sheet_warnings::{KnownKey, WarningKind, find_warnings, is_quiet, name_of};
+use co_sheet_text::all_sections_in;
+use co_sheet_warnings::{KnownKey, WarningKind, find_warnings, is_quiet, name_of, text_lines};
 use std::test::Fail;
 
 /// A text with most warnings. It takes no memory of its own, so in a run where an allocation is refused it is one of
@@ -60,7 +61,18 @@ const FOUND: [(usize, WarningKind); 14] = [
 
 #[test]
 fn sloppy(rt: HostRuntime) -> Result<(), Fail> {
-    let warnings = find_warnings(rt.alloc(), SLOPPY.as_bytes(), Some(5), true)?;
+    let text = SLOPPY.as_bytes();
+    let lines = text_lines(rt.alloc(), text)?;
+    let (parsed, _) = all_sections_in(rt.alloc(), text)?;
+    let sections = parsed.sections(rt.alloc())?;
+    let warnings = find_warnings(
+        rt.alloc(),
+        text,
+        lines.as_slice(),
+        sections.as_slice(),
+        Some(5),
+        true,
+    )?;
     assert_eq!(rt; warnings.len(), FOUND.len() + 4);
     for (warning, expected) in warnings.iter().zip(FOUND.iter()) {
         assert_eq!(rt; warning.line, expected.0);

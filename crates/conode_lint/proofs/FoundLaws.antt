@@ -23,7 +23,7 @@ use Rattle.conode_lint.specs.declared.mark.OtherFormat.{OtherFormat}
 use Rattle.conode_lint.specs.declared.marks.Checks.{Checks}
 use Rattle.conode_lint.specs.BuildLines.{built_marks}
 use Rattle.conode_lint.specs.Formats.{other_format}
-use Rattle.conode_lint.specs.Found.{text_lines}
+use Rattle.co_sheet_warnings.specs.Lines.{text_lines}
 use Rattle.conode_lint.specs.Linted.{first_build_fault, has_error, is_good}
 use Rattle.conode_lint.specs.Marks.{IsAllFound, IsFaultList, IsFound, IsFoundIn, fault_mark, format_of, node_for, sheet_marks, sheet_of, text_marks, warning_mark}
 use Rattle.conode_lint.proofs.BuildLaws.{has_any}

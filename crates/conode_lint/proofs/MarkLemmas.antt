@@ -1,12 +1,15 @@
 -- The marks of a text, put together.
-use Rattle.std.proofs.Common.{◌≡◌, ◌∙◌, ℕ, List, ◌++◌, map, Option, ap, subst, append_assoc}
+use Rattle.std.proofs.Common.{◌≡◌, ◌∙◌, ℕ, ◌<◌, ◌≤◌, Bool, cond, List, [], ◌++◌, map, length, Option, Some, None, IfSome, refl, sym, ap, subst, append_assoc, arith, rules}
+use Rattle.std.proofs.lemmas.Bool.{lt-ltb}
+use Rattle.std.proofs.lemmas.List.{append-nil}
 use Rattle.co_sheet_rows.specs.declared.fault.SheetFault.{SheetFault}
 use Rattle.co_sheet.specs.Content.{SheetContent}
 use Rattle.co_sheet_text.specs.LinesAtFault.{sections_read}
 use Rattle.co_sheet_text.specs.Sections.{TextSection}
 use Rattle.co_sheet_text.specs.Text.{lines_of}
 use Rattle.co_sheet_warnings.specs.declared.warning.Warning.{Warning}
-use Rattle.co_sheet_warnings.specs.Warnings.{IsByLine as IsWarningsByLine, warnings_of}
+use Rattle.co_sheet_warnings.specs.ReadTexts.{read_text}
+use Rattle.co_sheet_warnings.specs.Warnings.{IsByLine as IsWarningsByLine, all_warnings, warnings_of}
 use Rattle.co_dict_build.specs.Built.{Plan}
 use Rattle.co_dict_build.specs.Capacities.{limits_view}
 use Rattle.co_dict_build.specs.declared.build_fault.BuildFault.{BuildFault}
@@ -16,7 +19,7 @@ use Rattle.conode_lint.specs.declared.linted_text.Linted.{Linted}
 use Rattle.conode_lint.specs.declared.mark.Mark.{Mark}
 use Rattle.conode_lint.specs.declared.marks.Checks.{Checks}
 use Rattle.conode_lint.specs.BuildLines.{built_marks, marks_with}
-use Rattle.conode_lint.specs.Found.{text_lines}
+use Rattle.co_sheet_warnings.specs.Lines.{text_lines}
 use Rattle.conode_lint.specs.Linted.{IsLinted, IsMadeOf, left}
 use Rattle.conode_lint.specs.Marks.{IsFound, IsMarked, fault_mark, node_for, sheet_marks, sheet_of, text_marks, warning_mark}
 
@@ -49,6 +52,35 @@ marked_from text checks faults sheet node warnings with_faults with_build all is
       by_line = by_line;
       are = is_all ∙ ap (λ (l : List Mark). l ++ last) (is_build ∙ ap (λ (l : List Mark). l ++ sheet_marks limits (sections_read (lines_of text)) sheet node) is_faults ∙ ap (λ (l : List Mark). map fault_mark faults ++ l) (text_marks_with text checks sheet node is_sheet is_node))
           ∙ append_assoc (map fault_mark faults) (text_marks text checks.node limits) last;
+    }
+
+no_sheet : (text : List ℕ) (sheet : Option SheetContent) → IfSome sheet (λ s. length text ≤ 1048576) → 1048576 < length text → sheet ≡ None
+no_sheet text None small large = refl
+no_sheet text (Some s) small large = absurd (omega (arith, small, large))
+
+no_marks : (text : List ℕ) (checks : Checks) (sheet : Option SheetContent) → sheet ≡ sheet_of text → sheet ≡ None
+    → text_marks text checks.node (limits_view checks.limits) ≡ []
+no_marks text checks sheet is_sheet none =
+    sym (text_marks_with text checks sheet (node_for checks.node sheet) is_sheet refl)
+    ∙ ap (λ (s : Option SheetContent). sheet_marks (limits_view checks.limits) (sections_read (lines_of text)) s (node_for checks.node s)) none
+
+none_by_line : IsWarningsByLine [] []
+none_by_line = record { rises = search rules; same = λ n. refl }
+
+large_by_line : (text : List ℕ) (checks : Checks) → 1048576 < length text → IsWarningsByLine (warnings_of text checks.node checks.all) []
+large_by_line text checks large =
+    subst (λ (b : Bool). IsWarningsByLine (cond b [] (all_warnings checks.all (read_text text checks.node))) []) (sym (lt-ltb 1048576 (length text) large)) none_by_line
+
+-- a text that is too large has its fault alone
+pub marked_large : (text : List ℕ) (checks : Checks) (faults : List SheetFault) (sheet : Option SheetContent) (marks : List Mark)
+    → sheet ≡ sheet_of text → IfSome sheet (λ s. length text ≤ 1048576) → 1048576 < length text → marks ≡ map fault_mark faults
+    → IsMarked text checks faults marks
+marked_large text checks faults sheet marks is_sheet small large is =
+    let none = no_marks text checks sheet is_sheet (no_sheet text sheet small large) in
+    record {
+      warnings = [];
+      by_line = large_by_line text checks large;
+      are = is ∙ sym (append-nil (map fault_mark faults)) ∙ ap (λ (l : List Mark). map fault_mark faults ++ l) (sym (ap (λ (l : List Mark). l ++ []) none));
     }
 
 -- a text linted

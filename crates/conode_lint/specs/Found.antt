@@ -1,17 +1,11 @@
 -- The lines of a text, and what is found at them.
 use Rattle.std.specs.Prelude.{ℕ, ◌==◌, ◌-◌, if◌then◌else◌, List, [], take, get_or}
-use Rattle.std.specs.Str.Lines.{lines}
-use Rattle.co_sheet_text.specs.Text.{without_mark}
 use Rattle.conode_lint_text.specs.declared.finding.About.{About}
 use Rattle.conode_lint_text.specs.declared.finding.Finding.{Finding}
 use Rattle.conode_lint_text.specs.declared.finding.Place.{Place}
 use Rattle.conode_lint_text.specs.declared.finding.Severity.{Severity}
 use Rattle.conode_lint.specs.declared.mark.Mark.{Mark}
 use Rattle.conode_lint.specs.Words as words
-
--- the lines of a text, without a byte order mark
-abbrev pub text_lines : List ℕ → List (List ℕ)
-text_lines text = lines (without_mark text)
 
 -- a line by its number, from 1, at most its first 512 bytes; empty where there is none
 unfoldable pub line_at : List (List ℕ) → ℕ → List ℕ

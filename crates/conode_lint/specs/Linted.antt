@@ -11,7 +11,8 @@ use Rattle.conode_lint.specs.declared.linted_text.Linted.{Linted}
 use Rattle.conode_lint.specs.declared.mark.Mark.{Mark}
 use Rattle.conode_lint.specs.declared.marks.Checks.{Checks}
 use Rattle.conode_lint.specs.Allowed.{error_count, is_error, kept, names_in, passes_by}
-use Rattle.conode_lint.specs.Found.{finding_of, seen, text_lines}
+use Rattle.co_sheet_warnings.specs.Lines.{text_lines}
+use Rattle.conode_lint.specs.Found.{finding_of, seen}
 use Rattle.conode_lint.specs.Marks.{IsFound, node_for, sheet_of}
 use Rattle.conode_lint.specs.Words.{severity_of}
 

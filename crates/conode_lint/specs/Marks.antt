@@ -21,7 +21,7 @@ use Rattle.conode_lint.specs.declared.mark.Subject.TheVariants.{Fault, Format, W
 use Rattle.conode_lint.specs.declared.marks.Checks.{Checks}
 use Rattle.conode_lint.specs.BuildLines.{built_marks}
 use Rattle.conode_lint.specs.Formats.{other_format}
-use Rattle.conode_lint.specs.Found.{text_lines}
+use Rattle.co_sheet_warnings.specs.Lines.{text_lines}
 
 -- the mark of a fault
 abbrev pub fault_mark : SheetFault → Mark

@@ -1,9 +1,7 @@
 //! Why no dictionary can be built of a sheet, at the lines of its text.
 
-ghost use Rattle.std.specs.Prelude.{◌≡◌, ◌≤◌, ◌++◌, length, map, OnOk};
+ghost use Rattle.std.specs.Prelude.{◌≡◌, ◌++◌, map, OnOk};
 ghost use Rattle.std.specs.List.{flat_map};
-ghost use Rattle.co_sheet_text.specs.LinesAtFault.{sections_read};
-ghost use Rattle.co_sheet_text.specs.Text.{lines_of};
 ghost use Rattle.co_sheet_text.specs.Views.{section_view};
 ghost use Rattle.co_dict_build.specs.Built.{plan_of};
 ghost use Rattle.co_dict_build.specs.Capacities.{limits_view};
@@ -20,7 +18,6 @@ use co_dict_build::{BuildFault, Limits};
 use co_dict_faults::{BuildFaults, MappingFault, find_build_faults};
 use co_dict_list::ListStore;
 use co_sheet::Sheet;
-use co_sheet_faults::read_sections;
 use co_sheet_text::TextSection;
 use std::alloc::{AllocError, Global};
 
@@ -79,43 +76,36 @@ fn add_mapping_faults(
     Ok(())
 }
 
-// the marks of faults of a sheet, at the lines of its text
+// the marks of faults of a sheet, at the lines of its sections
 #[tactic(auto, unfolding(crate::specs::BuildLines::marks_with))]
 fn add_at_lines(
-    alloc: Global,
     marks: &mut Vec<Mark>,
-    text: &[u8],
     sheet: &Sheet<'_>,
+    sections: &[TextSection<'_, '_>],
     found: &BuildFaults,
 ) -> Result<(), AllocError>
-    requires { length text.now ≤ 1048576 }
     ensures { OnOk result (marks.new.items ≡ marks.old.items
-        ++ marks_with sheet.now (sections_read (lines_of text.now))
+        ++ marks_with sheet.now (map section_view sections.now)
         found.now.faults.items found.now.mappings.items) }
 {
-    if found.faults.is_empty() && found.mappings.is_empty() {
-        return Ok(());
-    }
-    let parsed = read_sections(alloc, text)?;
-    let sections = parsed.sections(alloc)?;
-    add_build_faults(marks, sheet, sections.as_slice(), found.faults.as_slice())?;
-    add_mapping_faults(marks, sheet, sections.as_slice(), found.mappings.as_slice())
+    add_build_faults(marks, sheet, sections, found.faults.as_slice())?;
+    add_mapping_faults(marks, sheet, sections, found.mappings.as_slice())
 }
 
-/// Adds why no dictionary can be built of a sheet for a node-ID, if none can. On an `Err` memory ran out.
+/// Adds why no dictionary can be built of a sheet, which has these sections, for a node-ID, if none can. On an `Err`
+/// memory ran out.
 pub(crate) fn add_build_marks(
     alloc: Global,
     marks: &mut Vec<Mark>,
-    text: &[u8],
     sheet: &Sheet<'_>,
+    sections: &[TextSection<'_, '_>],
     node_id: u8,
     limits: &Limits<'_>,
 ) -> Result<(), AllocError>
-    requires { length text.now ≤ 1048576 }
     ensures { OnOk result (marks.new.items ≡ marks.old.items
-        ++ built_marks sheet.now (sections_read (lines_of text.now))
+        ++ built_marks sheet.now (map section_view sections.now)
         (plan_of node_id (limits_view limits.now) sheet.now)) }
 {
     let found = find_build_faults::<ListStore>(alloc, sheet, node_id, limits)?;
-    add_at_lines(alloc, marks, text, sheet, &found)
+    add_at_lines(marks, sheet, sections, &found)
 }

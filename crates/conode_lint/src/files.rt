@@ -190,10 +190,10 @@ fn lint_all<R: Files + AllocGlobal + Input + Clone + Drop, O: Write, E: Write>(
     Ok(status_of(&counts, options.strict))
 }
 
-/// Lints files, the `*.eds` and `*.dcf` of folders, and standard input as `-`, and writes what is found to `out`. A file
-/// or a folder that can't be read is named on `err`, and the others are linted all the same. The status is 2 where one
-/// couldn't be read or a name that is to be allowed is none; else 1 with an error, where warnings count also with a
-/// warning, or where not all could be written; else 0.
+/// Lints files, the `*.eds` and `*.dcf` of folders, and standard input as `-`, and writes what is found to `out`. A
+/// file or a folder that can't be read is named on `err`, and the others are linted all the same. The status is 2
+/// where one couldn't be read or a name that is to be allowed is none; else 1 with an error, where warnings count
+/// also with a warning, or where not all could be written; else 0.
 pub fn lint_files<R: Files + AllocGlobal + Input + Clone + Drop, O: Write, E: Write>(
     rt: &R,
     paths: &[&str],

@@ -1,24 +1,7 @@
 //! The lines of a text.
 
-ghost use Rattle.std.specs.Prelude.{◌≡◌, map, take, IfOk};
-ghost use Rattle.conode_lint.specs.Found.{line_at, text_lines};
-
-use co_sheet_text::without_mark;
-use co_text::split_line;
-use std::alloc::{AllocError, Global};
-
-/// The lines of a text, without their ends and without a byte order mark.
-pub(crate) fn text_lines(alloc: Global, text: &[u8]) -> Result<Vec<&[u8]>, AllocError>
-    ensures { IfOk result (λ found. map (λ line. line.now) found.items ≡ text_lines text.now) }
-{
-    let mut lines = Vec::new(alloc);
-    let mut rest = without_mark(text);
-    while let Some((line, after)) = split_line(rest) {
-        lines.push(line)?;
-        rest = after;
-    }
-    Ok(lines)
-}
+ghost use Rattle.std.specs.Prelude.{◌≡◌, map, take};
+ghost use Rattle.conode_lint.specs.Found.{line_at};
 
 // at most the first 512 bytes of a line
 fn first_bytes(line: &[u8]) -> &[u8]

@@ -6,10 +6,11 @@ ghost use Rattle.conode_lint.specs.Found.{finding_of, seen};
 ghost use Rattle.conode_lint.specs.Linted.{IsLinted, IsMadeOf, left};
 
 use crate::allowed::{kept, names_in};
-use crate::lines::{line_at, text_lines};
+use crate::lines::line_at;
 use crate::mark::Mark;
 use crate::marks::{Checks, marks_of};
 use crate::words::{about_of, fix_of, meaning_of, name_of, place_of, severity_of, subject_of};
+use co_sheet_warnings::text_lines;
 use conode_lint_text::{Finding, Severity};
 use std::alloc::{AllocError, Global};
 
@@ -121,8 +122,8 @@ fn made_of<'a>(alloc: Global, lines: &[&'a [u8]], marks: &[Mark]) -> Result<Lint
     })
 }
 
-/// Everything that is found in a text: each fault of the sheet, else each reason why no dictionary can be built, and what
-/// is suspicious; without what the words or a comment let pass. On an `Err` memory ran out.
+/// Everything that is found in a text: each fault of the sheet, else each reason why no dictionary can be built, and
+/// what is suspicious; without what the words or a comment let pass. On an `Err` memory ran out.
 pub fn lint_text<'a>(
     alloc: Global,
     text: &'a [u8],

@@ -1,10 +1,9 @@
 //! Everything that is found in a text, in the order of its lines.
 
-ghost use Rattle.std.specs.Prelude.{◌≡◌, ◌≤◌, ◌++◌, [], ◌∷◌, length, map, IfOk, OnOk, IfSome};
-ghost use Rattle.co_sheet_text.specs.LinesAtFault.{sections_read};
-ghost use Rattle.co_sheet_text.specs.Text.{lines_of};
+ghost use Rattle.std.specs.Prelude.{◌≡◌, ◌<◌, ◌≤◌, ◌++◌, [], ◌∷◌, length, map, IfOk, OnOk, IfSome};
+ghost use Rattle.co_sheet_text.specs.Views.{section_view};
 ghost use Rattle.co_dict_build.specs.Capacities.{limits_view};
-ghost use Rattle.conode_lint.specs.Found.{text_lines};
+ghost use Rattle.co_sheet_warnings.specs.Lines.{text_lines};
 ghost use Rattle.conode_lint.specs.Marks.{
   IsByLine,
   IsFaultList,
@@ -23,8 +22,9 @@ use crate::build_marks::add_build_marks;
 use crate::mark::{Mark, OtherFormat, Subject};
 use crate::other_format::other_format;
 use co_dict_build::Limits;
-use co_sheet::{FaultKind, Sheet, SheetFault, read};
-use co_sheet_faults::{all_faults, find_faults};
+use co_sheet::{FaultKind, GREATEST_SIZE, Sheet, SheetFault, read};
+use co_sheet_faults::{all_faults, find_faults, read_sections};
+use co_sheet_text::TextSection;
 use co_sheet_warnings::{Warning, find_warnings};
 use std::alloc::{AllocError, Global};
 
@@ -40,23 +40,16 @@ pub struct Checks<'a> {
     pub allowed: &'a [&'a str],
 }
 
-fn add_faults(marks: &mut Vec<Mark>, faults: &[SheetFault]) -> Result<(), AllocError>
-    ensures { OnOk result (marks.new.items ≡ marks.old.items ++ map fault_mark faults.now) }
+fn fault_marks(alloc: Global, faults: &[SheetFault]) -> Result<Vec<Mark>, AllocError>
+    ensures { IfOk result (λ marks. marks.items ≡ map fault_mark faults.now) }
 {
+    let mut marks = Vec::new(alloc);
     for fault in faults {
         marks.push(Mark {
             line: fault.line,
             subject: Subject::Fault(fault.kind),
         })?;
     }
-    Ok(())
-}
-
-fn fault_marks(alloc: Global, faults: &[SheetFault]) -> Result<Vec<Mark>, AllocError>
-    ensures { IfOk result (λ marks. marks.items ≡ map fault_mark faults.now) }
-{
-    let mut marks = Vec::new(alloc);
-    add_faults(&mut marks, faults)?;
     Ok(marks)
 }
 
@@ -122,40 +115,74 @@ fn node_for(node: Option<u8>, sheet: &Option<Sheet<'_>>) -> Option<u8>
 fn add_built(
     alloc: Global,
     marks: &mut Vec<Mark>,
-    text: &[u8],
+    sections: &[TextSection<'_, '_>],
     sheet: &Option<Sheet<'_>>,
     node: Option<u8>,
     limits: &Limits<'_>,
 ) -> Result<(), AllocError>
-    requires { IfSome sheet.now (λ _. length text.now ≤ 1048576) }
     ensures { OnOk result (marks.new.items ≡ marks.old.items
-        ++ sheet_marks (limits_view limits.now) (sections_read (lines_of text.now)) sheet.now node) }
+        ++ sheet_marks (limits_view limits.now) (map section_view sections.now) sheet.now node) }
 {
     match (sheet, node) {
-        (Some(sheet), Some(node_id)) => add_build_marks(alloc, marks, text, sheet, node_id, limits),
+        (Some(sheet), Some(node_id)) => {
+            add_build_marks(alloc, marks, sheet, sections, node_id, limits)
+        }
         _ => Ok(()),
     }
 }
 
-// the marks of a text: its faults, its build and its warnings
-#[tactic(auto, unfolding(crate::specs::Marks::text_marks))]
-fn marked(
+// the marks of a text, which has these lines: its faults, its build and its warnings
+fn marked<'a>(
+    alloc: Global,
+    text: &'a [u8],
+    lines: &[&'a [u8]],
+    sheet: &Option<Sheet<'_>>,
+    faults: &[SheetFault],
+    checks: &Checks<'_>,
+) -> Result<Vec<Mark>, AllocError>
+    requires size { length text.now ≤ 1048576 }
+    requires lines { map (λ line. line.now) lines.now ≡ text_lines text.now }
+    requires sheet { sheet.now ≡ sheet_of text.now }
+    ensures { IfOk result (λ marks. IsMarked text.now checks.now faults.now marks.items) }
+{
+    let parsed = read_sections(alloc, text)?;
+    let sections = parsed.sections(alloc)?;
+    let mut marks = fault_marks(alloc, faults)?;
+    let node = node_for(checks.node, sheet);
+    add_built(
+        alloc,
+        &mut marks,
+        sections.as_slice(),
+        sheet,
+        node,
+        &checks.limits,
+    )?;
+    let warnings = find_warnings(
+        alloc,
+        text,
+        lines,
+        sections.as_slice(),
+        checks.node,
+        checks.all,
+    )?;
+    add_warnings(&mut marks, warnings.as_slice())?;
+    Ok(marks)
+}
+
+// the marks of a text that is too large to be read: its fault alone
+fn marked_large(
     alloc: Global,
     text: &[u8],
     sheet: &Option<Sheet<'_>>,
     faults: &[SheetFault],
     checks: &Checks<'_>,
 ) -> Result<Vec<Mark>, AllocError>
+    requires size { 1048576 < length text.now }
     requires sheet { sheet.now ≡ sheet_of text.now }
     requires small { IfSome sheet.now (λ _. length text.now ≤ 1048576) }
     ensures { IfOk result (λ marks. IsMarked text.now checks.now faults.now marks.items) }
 {
-    let mut marks = fault_marks(alloc, faults)?;
-    let node = node_for(checks.node, sheet);
-    add_built(alloc, &mut marks, text, sheet, node, &checks.limits)?;
-    let warnings = find_warnings(alloc, text, checks.node, checks.all)?;
-    add_warnings(&mut marks, warnings.as_slice())?;
-    Ok(marks)
+    fault_marks(alloc, faults)
 }
 
 // marks by line; those of a line stay in their order
@@ -190,10 +217,10 @@ fn format_alone(alloc: Global, format: OtherFormat) -> Result<Vec<Mark>, AllocEr
 
 /// Everything that is found in a text, which has these lines, by line. A text with faults that is of another format has
 /// that alone.
-pub(crate) fn marks_of(
+pub(crate) fn marks_of<'a>(
     alloc: Global,
-    text: &[u8],
-    lines: &[&[u8]],
+    text: &'a [u8],
+    lines: &[&'a [u8]],
     checks: &Checks<'_>,
 ) -> Result<Vec<Mark>, AllocError>
     requires { map (λ line. line.now) lines.now ≡ text_lines text.now }
@@ -204,5 +231,8 @@ pub(crate) fn marks_of(
     if let Some(format) = format_of(lines, faults.as_slice()) {
         return format_alone(alloc, format);
     }
-    by_line(marked(alloc, text, &sheet, faults.as_slice(), checks)?)
+    if text.len() > GREATEST_SIZE {
+        return by_line(marked_large(alloc, text, &sheet, faults.as_slice(), checks)?);
+    }
+    by_line(marked(alloc, text, lines, &sheet, faults.as_slice(), checks)?)
 }

@@ -1,7 +1,16 @@
 //! The words of what is found.
 
 ghost use Rattle.std.specs.Prelude.{◌≡◌};
-ghost use Rattle.conode_lint.specs.Words.{about_of, fault_place, fix_of, meaning_of, name_of, place_of, severity_of, subject_of};
+ghost use Rattle.conode_lint.specs.Words.{
+  about_of,
+  fault_place,
+  fix_of,
+  meaning_of,
+  name_of,
+  place_of,
+  severity_of,
+  subject_of,
+};
 
 use crate::build_words::{build_about, build_fix, build_meaning, build_place, build_subject};
 use crate::format_words::{format_fix, format_meaning, format_subject};

@@ -6,25 +6,20 @@ use Rattle.std.specs.HashSet.{HashSet, contains}
 use Rattle.co_sheet_warnings.specs.declared.infos.Format.{Format}
 use Rattle.co_sheet_warnings.specs.declared.infos.Format.TheVariants.{Date, Time}
 use Rattle.co_sheet_warnings.specs.declared.keys.WrittenKey.{WrittenKey as CodeKey}
-use Rattle.co_sheet_warnings.specs.declared.lines.Line.{Line as CodeLine}
 use Rattle.co_sheet_warnings.specs.declared.lists.ListCheck.{ListCheck}
 use Rattle.co_sheet_warnings.specs.declared.lists.ListCheck.TheVariants.{Objects, Order}
 use Rattle.co_sheet_warnings.specs.declared.repeats.UsedIdentifier.{UsedIdentifier}
 use Rattle.co_sheet_warnings.specs.declared.repeats.PlacedName.{PlacedName}
 use Rattle.co_sheet_warnings.specs.declared.repeats.ScopedName.{ScopedName as CodeName}
-use Rattle.co_sheet_text.specs.Text.{Line}
 use Rattle.co_sheet_text.specs.Sections.{TextSection, property_at}
 use Rattle.co_sheet.specs.ObjectLists.{Listing, is_listed}
 use Rattle.co_sheet_warnings.specs.Infos.{is_date, is_time}
 use Rattle.co_sheet_warnings.specs.Keys.{WrittenKey}
+use Rattle.co_sheet_warnings.specs.Lines.{first_other, numbered}
 use Rattle.co_sheet_warnings.specs.Lists.{wrong_listings, list_order}
 use Rattle.co_sheet_warnings.specs.ReadTexts.{ReadText}
 use Rattle.co_sheet_warnings.specs.Repeats.{Placed, ScopedName}
 use Rattle.co_sheet_warnings.specs.SubIndices.{is_constant_word}
-
--- a line
-abbrev pub line_view : CodeLine → Line
-line_view l = record { number = l.number; bytes = l.bytes.now }
 
 -- the lines of a section that fail a check of lists
 abbrev pub list_places : ListCheck → TextSection → List ℕ
@@ -61,15 +56,17 @@ name_view n = record { key = scoped_view n.name; line = n.line }
 
 -- a text, by its lists
 abbrev pub text_view :
-    List ℕ → List CodeLine → List TextSection → List CodeKey → Option ℕ → ReadText
+    List ℕ → List (List ℕ) → List TextSection → List CodeKey → Option ℕ → ReadText
 text_view text lines sections keys node = record {
   text = text;
-  lines = map line_view lines;
+  lines = numbered 1 lines;
   sections = sections;
   keys = map key_view keys;
   node = node;
 }
 
--- a set has the indices that the lists name
-pub record HasListed {S : Type 0} (sections : List TextSection) (indices : HashSet ℕ S) : Type 0 where
+-- what is looked up once: a set has the indices that the lists name, and a line is the first with a byte above 7Fh
+pub record IsLookedUp {S : Type 0} (sections : List TextSection) (lines : List (List ℕ))
+    (indices : HashSet ℕ S) (other : Option ℕ) : Type 0 where
   pub listed : (i : ℕ) → contains nat_eq indices i ≡ is_listed sections i
+  pub is_other : other ≡ first_other (numbered 1 lines)

@@ -1,7 +1,6 @@
-use Rattle.std.proofs.Common.{◌∙◌, ◌++◌, List, ap}
+use Rattle.std.proofs.Common.{◌∙◌, ◌++◌, List, map, ap}
 use Rattle.std.proofs.lemmas.Result.{on_ok_weaker}
-use Rattle.co_sheet_text.specs.LinesAtFault.{sections_read}
-use Rattle.co_sheet_text.specs.Text.{lines_of}
+use Rattle.co_sheet_text.specs.Views.{section_view}
 use Rattle.co_dict_build.specs.Built.{plan_of}
 use Rattle.co_dict_build.specs.Capacities.{limits_view}
 use Rattle.conode_lint.specs.declared.mark.Mark.{Mark}
@@ -11,5 +10,5 @@ use Rattle.conode_lint.proofs.build_marks.add_build_marks.Goals as goal
 pub returns : goal.returns
 returns c =
     let plan = plan_of c.args.node_id (limits_view c.args.limits.now) c.args.sheet.now in
-    let is = plan_marks c.args.sheet.now (sections_read (lines_of c.args.text.now)) plan _ _ c.in_ok-found.ensures.faults c.in_ok-found.ensures.mappings in
+    let is = plan_marks c.args.sheet.now (map section_view c.args.sections.now) plan _ _ c.in_ok-found.ensures.faults c.in_ok-found.ensures.mappings in
     on_ok_weaker c.add_at_lines.result (λ h. h ∙ ap (λ (l : List Mark). c.args.marks.now.items ++ l) is) c.add_at_lines.ensures

@@ -1,7 +1,7 @@
 use Rattle.std.proofs.Common.{◌≡◌, ◌++◌, map, length}
 use Rattle.std.specs.Str.Lines.{lines}
-use Rattle.conode_lint.specs.Found.{text_lines}
-use Rattle.conode_lint.proofs.lines.text_lines.Given as goal
+use Rattle.co_sheet_warnings.specs.Lines.{text_lines}
+use Rattle.co_sheet_warnings.proofs.lines.text_lines.Given as goal
 
 -- the lines so far and those of the rest are all
 abbrev pub invariant-loop-line : goal.invariant-loop-line
