@@ -9,6 +9,7 @@ ghost use Rattle.conode_io.specs.Written.{WritesLines};
 ghost use Rattle.conode_record.specs.Grammar.{IsIdentifier};
 ghost use Rattle.conode_record.specs.Lines.{line_in};
 ghost use Rattle.conode_explain_text.specs.SoFar.{nothing_seen, seen_with};
+ghost use Rattle.conode_explain_pdo.specs.Sheets.{sheet_pdos};
 ghost use Rattle.conode_explain.specs.Explained.{explained_line, said_lines, seen_after, faults_in};
 ghost use Rattle.conode_explain.specs.Taking.{Takes};
 
@@ -16,6 +17,7 @@ use crate::bad_words::{TOO_LONG, bad_words};
 use crate::frame_words::set_words;
 use co_bounded_lines::{BoundedLines, Found, ReadFault};
 use conode_decode::Names;
+use conode_explain_pdo::SheetPdo;
 use conode_explain_text::{Seen, StampForm, set_line};
 use conode_io::{CmdFault, flush, hand_over};
 use conode_record::{Record, RecordLine};
@@ -76,17 +78,25 @@ fn write_frame<W: Write>(
     room: &mut Room,
     seen: &mut Seen,
     settings: &Settings<'_, '_>,
+    pdos: &[SheetPdo],
     frame: &Record<'_>,
     out: &mut W,
 ) -> Result<(), CmdFault>
-    requires { IsIdentifier frame.now.id }
+    requires id { IsIdentifier frame.now.id }
+    requires pdos { pdos.now ≡ sheet_pdos (names_view settings.now.names) }
     ensures lines { OnOk result (WritesLines (W.contents out.old) (W.contents out.new)
         (explained_line settings.now.form (names_view settings.now.names) seen.old frame.now ∷ [])) }
     ensures seen { OnOk result
         (seen.new ≡ seen_with seen.old frame.now.micros frame.now.interface) }
     ensures err { IfErr result (λ fault. (fault ≡ CmdFault.Write) ⊎ (fault ≡ CmdFault.Memory)) }
 {
-    set_words(&mut room.said, settings.names, frame.id, &frame.content)?;
+    set_words(
+        &mut room.said,
+        settings.names,
+        pdos,
+        frame.id,
+        &frame.content,
+    )?;
     set_line(
         &mut room.line,
         &mut room.text,
@@ -104,11 +114,13 @@ fn explain_line<W: Write, E: Write>(
     room: &mut Room,
     seen: &mut Seen,
     settings: &Settings<'_, '_>,
+    pdos: &[SheetPdo],
     number: u64,
     line: &[u8],
     out: &mut W,
     err: &mut E,
 ) -> Result<u64, CmdFault>
+    requires { pdos.now ≡ sheet_pdos (names_view settings.now.names) }
     ensures lines { OnOk result (WritesLines (W.contents out.old) (W.contents out.new)
         (said_lines settings.now.form (names_view settings.now.names) seen.old (line_in line.now))) }
     ensures seen { OnOk result (seen.new ≡ seen_after seen.old (line_in line.now)) }
@@ -118,7 +130,7 @@ fn explain_line<W: Write, E: Write>(
     match RecordLine::read(line) {
         Ok(RecordLine::Skipped) => Ok(0),
         Ok(RecordLine::Frame(frame)) => {
-            write_frame(room, seen, settings, &frame, out)?;
+            write_frame(room, seen, settings, pdos, &frame, out)?;
             Ok(0)
         }
         Err(bad) => {
@@ -157,10 +169,12 @@ impl Explaining {
         &mut self,
         reader: &mut R,
         settings: &Settings<'_, '_>,
+        pdos: &[SheetPdo],
         number: u64,
         out: &mut W,
         err: &mut E,
     ) -> Result<Option<u64>, CmdFault>
+        requires { pdos.now ≡ sheet_pdos (names_view settings.now.names) }
         ensures line { IfOk result (λ next. IfSome next (λ bad.
             Takes settings.now.form (names_view settings.now.names)
             self.old.lines self.new.lines (R.remaining reader.old) (R.remaining reader.new)
@@ -183,6 +197,7 @@ impl Explaining {
                     &mut self.room,
                     &mut self.seen,
                     settings,
+                    pdos,
                     number,
                     line,
                     out,
@@ -196,6 +211,7 @@ impl Explaining {
                     &mut self.room,
                     &mut self.seen,
                     settings,
+                    pdos,
                     number,
                     line,
                     out,
