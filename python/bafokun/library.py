@@ -56,7 +56,7 @@ _CALLS = {
     "free": (None, _NODE),
     "boot": (c_size_t, _NODE, *_FRAMES),
     "take": (c_size_t, _NODE, POINTER(CFrame), *_FRAMES),
-    "tick": (c_size_t, _NODE, *_FRAMES),
+    "ticks": (c_size_t, _NODE, c_uint32, POINTER(c_uint32), *_FRAMES),
     "write": (c_size_t, _NODE, *_KEY, c_char_p, c_size_t, *_FRAMES),
     "event": (c_size_t, _NODE, c_uint16, *_FRAMES),
     "changed": (c_size_t, _NODE, *_KEY, *_FRAMES),

@@ -176,9 +176,12 @@ class Node:
 
     def tick(self, ms: int = 1) -> List[Frame]:
         """So many ms elapsed, at most a day."""
+        left, elapsed = _checked("ms", ms, _DAY), ctypes.c_uint32()
         with self._lock:
-            for _ in range(_checked("ms", ms, _DAY)):
-                self._input("tick")
+            while left:
+                # these end with the first one that sends frames
+                self._input("ticks", left, elapsed)
+                left -= elapsed.value
             return self.frames()
 
     # ---- the application

@@ -116,6 +116,14 @@ class Sessions(unittest.TestCase):
     def test_module(self):
         self.play(MODULE, 8, "io-module-session")
 
+    def test_many_ms(self):
+        """Many ms at once give the frames of each, in order: the heartbeats of 1,000 ms."""
+        at_once, one_by_one = (bafokun.Node.from_sheet(SENSOR, 5) for _ in range(2))
+        frames = [frame for _ in range(2500) for frame in one_by_one.tick()]
+        self.assertEqual(frames, [(0x705, b"\x7F")] * 2)
+        self.assertEqual(at_once.tick(2500), frames)
+        self.assertEqual(at_once.tick(0), [])
+
 
 class Entries(unittest.TestCase):
     def test_names(self):

@@ -1,3 +1,4 @@
 pub mod AsBox
+pub mod Nothing
 pub mod Terminated
 pub mod Ticks

@@ -65,6 +65,7 @@ impl Handle {
         replace(self, Handle::empty(alloc)).into_box(alloc)
     }
 
+    #[tactic(auto, using(crate::proofs::Nothing::nothing_put))]
     /// A device again after an input, whose frames go into the array, as many as it has room for. It gives how many there are.
     #[inline(always)]
     pub(crate) fn give(&mut self, held: Box<Held>, frames: &mut [CanFrame]) -> usize
@@ -72,8 +73,10 @@ impl Handle {
         ensures put { ArePut held.value.sent.items frames.old frames.new }
         ensures count { result ≡ length held.value.sent.items }
     {
-        put(&held.sent, frames);
         let count = held.sent.len();
+        if count > 0 {
+            put(&held.sent, frames);
+        }
         *self = Handle::of(held);
         count
     }
