@@ -5,7 +5,15 @@ ghost use Rattle.std.specs.Prelude.{◌≡◌, ℕ, Some, None, map, option_map,
 ghost use Rattle.std.specs.Option.{option_copied, option_or};
 ghost use Rattle.indexmap.specs.IndexMap.{get};
 ghost use Rattle.co_value.specs.Keys.{same_key};
-ghost use Rattle.co_sheet_adapt.specs.Named.{index_named, sub_named, text_in_line, text_in_body, text_in_group, text_in_groups};
+ghost use Rattle.co_sheet_adapt.specs.Named.{
+  index_named,
+  object_index,
+  sub_named,
+  text_in_body,
+  text_in_group,
+  text_in_groups,
+  text_in_line,
+};
 ghost use Rattle.co_sheet_changes.specs.Views.{line_view, group_view};
 ghost use Rattle.co_sheet_adapt.specs.private.Named.{texts_at};
 
@@ -15,6 +23,15 @@ use co_value::Key;
 use indexmap::IndexMap;
 use std::alloc::{AllocError, Global};
 
+fn object_index(kind: SectionKind) -> Option<u16>
+    ensures { result ≡ object_index kind }
+{
+    match kind {
+        SectionKind::Object(index) => Some(index),
+        _ => None,
+    }
+}
+
 // the index of an object that such a section's name has in front of a word
 fn index_named(name: &[u8], word: &[u8]) -> Option<u16>
     ensures { result ≡ index_named word.now name.now }
@@ -23,10 +40,7 @@ fn index_named(name: &[u8], word: &[u8]) -> Option<u16>
     if !same_name(end, word) {
         return None;
     }
-    match SectionKind::of_name(front) {
-        SectionKind::Object(index) => Some(index),
-        _ => None,
-    }
+    object_index(SectionKind::of_name(front))
 }
 
 // the sub-index that a key of such a section is, in decimal digits

@@ -5,4 +5,4 @@ use Rattle.co_sheet_adapt.proofs.compact_pdo.PdoForm.push_objects.Given as goal
 
 -- those so far
 abbrev pub invariant-loop-index : goal.invariant-loop-index
-invariant-loop-index l = l.text.items ≡ l.fn.text.items ++ flat_map (object_text l.self.bits) (take l.index-index l.self.absent.items)
+invariant-loop-index l = l.text.items ≡ l.fn.text.items ++ flat_map (object_text l.self.subs) (take l.index-index l.self.absent.items)
