@@ -1,6 +1,6 @@
 #!/usr/bin/env python3
-"""Random data sheets with the forms that `conode adapt` rewrites: each is accepted after it, or refused for a fault that this
-script put in. Entries that were readable before are shown the same after, and each rewritten one has the value that Python
+"""Random data sheets with the forms that `conode adapt` rewrites, by its rules and by its options: each is accepted after it,
+or refused for a fault that this script put in. Entries that were readable before are shown the same after, and each rewritten one has the value that Python
 computes.
 
     bench/adapt_random.py [PROGRAM [COUNT [SEED]]]     COUNT is 10000 if not given
@@ -36,17 +36,92 @@ class Sheet:
     """A sheet, what is expected of it after `adapt`, and whether it is to be refused."""
 
     def __init__(self):
-        self.sections, self.listed = [], [0x1000, 0x1001, 0x1018]
+        self.sections, self.listed, self.optional = [], [0x1000, 0x1001, 0x1018], []
         self.plain, self.values, self.refused = set(), {}, False
+        self.zeros = dice.choice([None, None, "octal", "decimal"])
+        self.force = dice.random() < 0.3
+        # a list of optional objects stands even where it is empty, since CompactPDO needs it
+        self.info = None
+        if dice.random() < 0.2:
+            self.pdos()
+        if dice.random() < 0.2:
+            self.sync()
+        if dice.random() < 0.2:
+            self.mapping()
         self.add("[1000]", ["DataType=7", "AccessType=ro", "DefaultValue=0x191"], plain="1000:00")
-        self.add("[1001]", ["DataType=5", "AccessType=ro"], plain="1001:00")
+        self.add("[1001]", ["DataType=5", "AccessType=ro", "PDOMapping=1"], plain="1001:00")
         self.add("[1018]", ["ObjectType=9"])
         self.sub0("1018", 1)
         self.add("[1018sub1]", ["DataType=7", "AccessType=ro"], plain="1018:01")
         for index in dice.sample(range(0x2000, 0x6000), dice.randint(1, 6)):
             self.listed.append(index)
-            dice.choice([self.number, self.number, self.signed, self.real, self.text, self.octets, self.time, self.compact, self.record])(
-                "%04X" % index)
+            dice.choice([self.number, self.number, self.signed, self.real, self.text, self.octets, self.time, self.compact, self.record,
+                         self.zero, self.limit])("%04X" % index)
+
+    def options(self):
+        return (["--leading-zeros", self.zeros] if self.zeros else []) + (["--force"] if self.force else [])
+
+    def zero(self, index):
+        """A number that octal would read otherwise."""
+        digits = "0" + "".join(dice.choice("01234567" if dice.random() < 0.9 else "0123456789") for _ in range(dice.randint(2, 4)))
+        if int(digits) < 8:
+            digits += "0"
+        sign = dice.choice(["", "-"])
+        self.add("[%s]" % index, ["DataType=0x0003", self.access(), "DefaultValue=" + sign + digits])
+        if self.zeros is None or (self.zeros == "octal" and re.search("[89]", digits)):
+            # of digits that all but the last are 0, and the last is 0 to 7, the number is the same in every base
+            if not re.fullmatch("0*[0-7]", digits):
+                self.refused = True
+        elif not re.fullmatch("0*[0-7]", digits):
+            self.expect("[%s]" % index, {"DefaultValue": sign + str(int(digits, 8 if self.zeros == "octal" else 10))})
+
+    def limit(self, index):
+        """A limit that is no number of its type."""
+        limit = dice.choice(["256", "0x1FF", "-1", "1.5", "high"])
+        self.add("[%s]" % index, ["DataType=0x0005", self.access(), "HighLimit=" + limit])
+        if self.force:
+            self.expect("[%s]" % index, {"HighLimit": None})
+        else:
+            self.refused = True
+
+    def sync(self):
+        word = dice.choice([0x40000080, 0x80])
+        self.optional.append(0x1005)
+        self.add("[1005]", ["DataType=0x0007", "AccessType=rw", "DefaultValue=0x%08X" % word])
+        self.expect("[1005]", {"DefaultValue": "0x%08X" % (0x80 if self.force else word)})
+
+    def mapping(self):
+        """TPDO 5 with a mapping that is good, or at fault: by a length of 1 bit."""
+        bits = dice.choice([1, 8])
+        self.optional += [0x1804, 0x1A04]
+        self.add("[1804]", ["ObjectType=9"])
+        self.sub0("1804", 2)
+        self.add("[1804sub1]", ["DataType=7", "AccessType=rw", "DefaultValue=0x80000000"])
+        self.add("[1804sub2]", ["DataType=5", "AccessType=rw", "DefaultValue=255"])
+        self.add("[1A04]", ["ObjectType=9"])
+        self.add("[1A04sub0]", ["DataType=5", "AccessType=rw", "DefaultValue=1"])
+        self.add("[1A04sub1]", ["DataType=7", "AccessType=rw", "DefaultValue=0x100100%02X" % bits])
+        self.expect("[1A04sub0]", {"DefaultValue": "0" if self.force and bits == 1 else "1"})
+
+    def pdos(self):
+        """CompactPDO of some PDOs each way."""
+        receive, transmit = dice.randint(0, 4), dice.randint(0, 4)
+        # COB-ID and transmission type, and some of the others: from sub-index 1, or from sub-index 0 where that can be told
+        subs = {1, 2} | set(dice.sample([3, 4, 5, 6], dice.randint(0, 4)))
+        first = 0 if dice.random() < 0.5 and (6 in subs or (3 in subs and 4 not in subs)) else 1
+        if first == 1 and 4 in subs:
+            subs.add(5)
+        bits = sum(1 << sub - first for sub in subs) + (1 if first == 0 else 0)
+        self.info = ["[DeviceInfo]", "NrOfRXPDO=%d" % receive, "NrOfTXPDO=%d" % transmit,
+                     "CompactPDO=" + dice.choice(["%d", "0x%02X"]) % bits]
+        self.expect("[DeviceInfo]", {"CompactPDO": "0"})
+        for first, count in ((0x1400, receive), (0x1800, transmit)):
+            for index in range(first, first + count):
+                for sub in range(1, 7):
+                    given = sub in subs
+                    self.expect("[%04Xsub%d]" % (index, sub), {"AccessType": "rw" if given else None})
+                self.expect("[%04Xsub0]" % index, {"DefaultValue": str(max(subs))})
+                self.expect("[%04Xsub0]" % (index + 0x200), {"DefaultValue": "0"})
 
     def add(self, head, lines, plain=None):
         lines = list(lines)
@@ -164,13 +239,13 @@ class Sheet:
         end = dice.choice(["\n", "\r\n"])
         zeros = dice.random() < 0.4
         lists = []
-        for name, indices in (("Mandatory", self.listed[:3]), ("Manufacturer", self.listed[3:])):
+        for name, indices in (("Mandatory", self.listed[:3]), ("Optional", self.optional), ("Manufacturer", self.listed[3:])):
             lines = ["[%sObjects]" % name, "SupportedObjects=%d" % len(indices)]
             for place, index in enumerate(indices, 1):
                 lines.append("%s%d=0x%04X" % ("0" if zeros and place < 10 else "", place, index))
             lists.append(lines)
         lines = ["; made at random"]
-        for section in lists + self.sections:
+        for section in ([self.info] if self.info else []) + lists + self.sections:
             lines += section + [""] * dice.randint(0, 2)
         mark = "\ufeff" if dice.random() < 0.2 else ""
         return mark + end.join(lines) + dice.choice(["", end])
@@ -207,7 +282,7 @@ def main():
             text = sheet.text_of()
             with open(source, "w", encoding="utf-8", newline="") as file:
                 file.write(text)
-            status, out, err = run("adapt", source)
+            status, out, err = run("adapt", source, *sheet.options())
 
             def fail(why):
                 sys.exit(f"seed {seed}, sheet {turn}: {why}\n{text}\n--- status {status}\n{err}\n{out}")
@@ -221,7 +296,7 @@ def main():
                 fail("it is refused")
             with open(target, "w", encoding="utf-8", newline="") as file:
                 file.write(out)
-            if run("check", target)[0] != 0:
+            if run("check", target, *(["--node", "5"] if sheet.force else []))[0] != 0:
                 fail("what is adapted isn't accepted")
             before, after = shown(source), shown(target)
             for key in sheet.plain:

@@ -1,6 +1,6 @@
 -- A comment before a text: the same sections, one line later.
 use Rattle.std.proofs.Common.{◌≡◌, ℕ, suc, ◌+◌, ◌-◌, ◌<◌, Bool, true, false, ◌||◌, cond, true≢false, List, [], ◌∷◌, ◌++◌, length, reverse, take, map, refl, sym, ◌∙◌, ap, arith}
-use Rattle.std.specs.Prelude.{Option, Some, None, option_map, filter_map, ◌==◌, nat_lt, if◌then◌else◌}
+use Rattle.std.specs.Prelude.{Option, Some, None, is_none, flat_map, option_map, filter_map, ◌==◌, nat_lt, if◌then◌else◌}
 use Rattle.std.specs.List.{list_any, slice_split, onto_first, enumerate_from, cons_option}
 use Rattle.std.specs.Str.Lines.{lines, lines_of_parts, strip_carriage_return}
 use Rattle.std.proofs.lemmas.Bool.Decides.{nat_tests}
@@ -9,11 +9,14 @@ use Rattle.std.proofs.lemmas.List.Folds.{list_any-append}
 use Rattle.std.proofs.lemmas.List.Splits.{length-slice_split}
 use Rattle.co_text.specs.Texts.{is_blank}
 use Rattle.co_sheet_text.specs.declared.section_kind.SectionKind.{SectionKind}
-use Rattle.co_sheet_text.specs.Text.{Line, trim, trim_front, without_mark}
+use Rattle.co_sheet_text.specs.Text.{Line, lines_of, trim, trim_front, without_mark}
 use Rattle.co_sheet_text.specs.Sections.{LineForm, skipped, section_line, unclosed, name_value, malformed, is_section_line, Property, TextSection, is_given, property_given, body_of, section_begun, sections_of, line_form, form_of}
-use Rattle.co_sheet.specs.Accepted.{sections_in}
-use Rattle.co_sheet_adapt.specs.Adapted.{shown_byte, comment_front, comment_end, comment_text, commented, property_later, one_later}
-use Rattle.co_sheet_adapt.proofs.PieceLemmas.{numbered}
+use Rattle.co_sheet_rows.specs.declared.fault.SheetFault.{SheetFault}
+use Rattle.co_sheet.specs.Accepted.{first_fault, sections_in}
+use Rattle.co_sheet_changes.specs.Pieces.{written}
+use Rattle.co_sheet_adapt.specs.Pieces.{all_pieces}
+use Rattle.co_sheet_adapt.specs.Adapted.{adapted_text, shown_byte, comment_front, comment_end, comment_line, comment_text, commented, property_later, one_later}
+use Rattle.co_sheet_changes.proofs.LineLemmas.{numbered}
 
 -- ---- lines one later
 
@@ -171,3 +174,11 @@ commented-later by text =
     ∙ ap (λ (s : List TextSection). s ++ sections_of (numbered 2 ls))
     (skipped-first (line_form first) 1 (body_of (numbered 2 ls)) (strip-skipped 32 (Rattle.std.specs.Prelude.drop 2 (comment_text by))))
     ∙ ap sections_of (numbered-later 1 ls) ∙ sections-later (numbered 1 ls)
+
+-- a text that is accepted stays
+pub accepted-stays : (by text : List ℕ) → first_fault text ≡ None → adapted_text by text ≡ commented by text
+accepted-stays by text e =
+    ap (λ (o : Option SheetFault). comment_line by ++ (if is_none o then without_mark text else flat_map written (all_pieces (lines_of text)))) e
+
+pub accepted-later : (by text : List ℕ) → first_fault text ≡ None → sections_in (adapted_text by text) ≡ map one_later (sections_in text)
+accepted-later by text e = ap sections_in (accepted-stays by text e) ∙ commented-later by text

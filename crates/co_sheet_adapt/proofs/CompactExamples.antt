@@ -6,9 +6,10 @@ use Rattle.std.specs.Fmt.{digits}
 use Rattle.fast_float.proofs.OnLiterals.{fast_float_on_literals}
 use Rattle.co_text.specs.Printed.{digits_text}
 use Rattle.co_sheet_text.specs.Text.{lines_of}
-use Rattle.co_sheet_adapt.specs.declared.change.ChangeKind.TheVariants.{CompactSubObj}
-use Rattle.co_sheet_adapt.specs.Pieces.{Piece, kept, changed, added_lines, all_pieces}
-use Rattle.co_sheet_adapt.specs.Entries.{assigned}
+use Rattle.co_sheet_changes.specs.declared.change.ChangeKind.TheVariants.{CompactSubObj}
+use Rattle.co_sheet_changes.specs.Pieces.{Piece, kept, changed, added_lines}
+use Rattle.co_sheet_adapt.specs.Pieces.{all_pieces}
+use Rattle.co_sheet_changes.specs.Pieces.{assigned}
 use Rattle.co_sheet_adapt.specs.Compact.{sub_head, written_as, name_line, value_line, type_line, sub_section, first_keys, last_keys, first_section}
 
 abbrev pieces : List ℕ → List Piece

@@ -6,15 +6,17 @@ use Rattle.fast_float.proofs.OnLiterals.{fast_float_on_literals}
 use Rattle.co_value.specs.declared.data_type.DataType.TheVariants.{Integer8, Integer16, Integer32, Integer64, Unsigned16}
 use Rattle.co_text.specs.Printed.{digits_text}
 use Rattle.co_sheet_text.specs.Text.{lines_of}
-use Rattle.co_sheet_adapt.specs.declared.change.ChangeKind.{ChangeKind}
-use Rattle.co_sheet_adapt.specs.declared.change.ChangeKind.TheVariants.{SectionName, ListKey, SubIndex0, DataType, RealLimit, RealValue, UnicodeValue, UnsignedLimit, SignExtended, OctetBlanks}
+use Rattle.co_sheet_changes.specs.declared.change.ChangeKind.{ChangeKind}
+use Rattle.co_sheet_changes.specs.declared.change.ChangeKind.TheVariants.{SectionName, ListKey, SubIndex0, DataType, RealLimit, RealValue, UnicodeValue, UnsignedLimit, SignExtended, OctetBlanks}
 use Rattle.co_sheet_adapt.specs.declared.left_out.LeftOut.TheVariants.{Real32, UnicodeString, TimeOfDay}
 use Rattle.co_sheet_adapt.specs.LeftOut.{left_out_with, real32_bits, real64_bits, value_in_place}
-use Rattle.co_sheet_adapt.specs.Values.{is_whole_unsigned, sign_extended, pairs_without_blanks}
+use Rattle.co_sheet_changes.specs.Limits.{is_whole_unsigned}
+use Rattle.co_sheet_adapt.specs.Values.{sign_extended, pairs_without_blanks}
 use Rattle.co_sheet_adapt.specs.Named.{index_named, sub_named}
 use Rattle.co_sheet_adapt.specs.Facts.{count_of}
-use Rattle.co_sheet_adapt.specs.Pieces.{Piece, kept, changed, is_padded, is_written_first, all_pieces}
-use Rattle.co_sheet_adapt.specs.Entries.{assigned}
+use Rattle.co_sheet_changes.specs.Pieces.{Piece, kept, changed}
+use Rattle.co_sheet_adapt.specs.Pieces.{is_padded, is_written_first, all_pieces}
+use Rattle.co_sheet_changes.specs.Pieces.{assigned}
 use Rattle.co_sheet_adapt.specs.Adapted.{comment_front, comment_end, comment_line}
 
 abbrev pieces : List ℕ → List Piece

@@ -1,7 +1,7 @@
-mod PieceLemmas
 mod NamedLemmas
 mod PiecesLemmas
 mod CompactLemmas
 mod CommentLemmas
 mod Examples
 mod CompactExamples
+mod CompactPdoExamples

@@ -5,7 +5,8 @@ use Rattle.std.specs.List.{flat_map}
 use Rattle.co_sheet_text.specs.Text.{lines_of, without_mark}
 use Rattle.co_sheet_text.specs.Sections.{Property, TextSection}
 use Rattle.co_sheet.specs.Accepted.{first_fault}
-use Rattle.co_sheet_adapt.specs.Pieces.{Piece, kept, changed, added_lines, all_pieces}
+use Rattle.co_sheet_changes.specs.Pieces.{Piece, written}
+use Rattle.co_sheet_adapt.specs.Pieces.{all_pieces}
 
 -- a control character would end the line
 abbrev pub shown_byte : ℕ → ℕ
@@ -22,12 +23,6 @@ comment_text by = comment_front ++ map shown_byte (take 256 by) ++ comment_end
 
 abbrev pub comment_line : List ℕ → List ℕ
 comment_line by = comment_text by ++ 10 ∷ []
-
--- a piece as it is written: each line is ended by LF
-abbrev pub written : Piece → List ℕ
-written (kept line) = line ++ 10 ∷ []
-written (changed change) = change.new
-written (added_lines line text) = text
 
 -- a text that is accepted has no pieces: it stays as it is, but for its byte order mark
 abbrev pub pieces_in : List ℕ → List Piece

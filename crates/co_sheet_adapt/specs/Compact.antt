@@ -6,9 +6,10 @@ use Rattle.co_text.specs.Printed.{digits_text, byte_text, printed_digit}
 use Rattle.co_value.specs.declared.key.Key.{Key}
 use Rattle.co_sheet_text.specs.Text.{Line, same_name}
 use Rattle.co_sheet_adapt.specs.declared.facts.Facts.{Facts}
-use Rattle.co_sheet_adapt.specs.Groups.{Given, Group, property_in, value_in}
+use Rattle.co_sheet_changes.specs.Groups.{Given, Group, property_in, value_in}
 use Rattle.co_sheet_adapt.specs.LeftOut.{value_in_place}
-use Rattle.co_sheet_adapt.specs.Entries.{assigned, entry_change}
+use Rattle.co_sheet_changes.specs.Pieces.{assigned}
+use Rattle.co_sheet_adapt.specs.Entries.{entry_change}
 
 -- `[2300sub1]`
 abbrev pub sub_digits : ℕ → List ℕ

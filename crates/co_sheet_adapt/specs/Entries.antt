@@ -1,41 +1,25 @@
 -- What the lines of an entry become (CiA 306, object description): each kind of change, with the lines that it makes.
-use Rattle.std.specs.Prelude.{ℕ, Bool, ◌&&◌, ◌||◌, if◌then◌else◌, List, [], ◌∷◌, ◌++◌, codes, Option, Some, None, option_map, option_and_then}
+use Rattle.std.specs.Prelude.{ℕ, Bool, ◌&&◌, if◌then◌else◌, List, [], ◌∷◌, ◌++◌, codes, Option, Some, None, option_map, option_and_then}
 use Rattle.std.specs.Option.{option_map_or}
 use Rattle.co_value.specs.declared.data_type.DataType.{DataType}
 use Rattle.co_value.specs.declared.data_type.DataType.TheVariants.{OctetString}
 use Rattle.co_value.specs.Types.{code_of}
 use Rattle.co_sheet_text.specs.Text.{same_name}
-use Rattle.co_sheet_adapt.specs.declared.change.ChangeKind.{ChangeKind}
-use Rattle.co_sheet_adapt.specs.declared.change.ChangeKind.TheVariants as kind
+use Rattle.co_sheet_changes.specs.declared.change.ChangeKind.{ChangeKind}
+use Rattle.co_sheet_changes.specs.declared.change.ChangeKind.TheVariants as kind
+use Rattle.co_sheet_changes.specs.Limits.{is_limit, is_preset}
+use Rattle.co_sheet_changes.specs.Pieces.{Mended, mended, assigned}
 use Rattle.co_sheet_adapt.specs.declared.left_out.LeftOut.{LeftOut}
 use Rattle.co_sheet_adapt.specs.declared.left_out.LeftOut.TheVariants.{Real32, UnicodeString, TimeOfDay, TimeDifference, Real64}
 use Rattle.co_sheet_adapt.specs.declared.facts.Facts.{Facts}
 use Rattle.co_sheet_adapt.specs.LeftOut.{left_out_code, code_in_place, is_real, hexadecimal, value_in_place}
 use Rattle.co_sheet_adapt.specs.Values.{sign_extended, pairs_without_blanks}
 
--- why a line is changed, and what comes in its place
-pub record Mended : Type 0 where
-  pub kind : ChangeKind
-  pub new : List ℕ
-
-abbrev pub mended : ChangeKind → List ℕ → Mended
-mended why lines = record { kind = why; new = lines }
-
--- `NAME=VALUE`, ended by LF
-unfoldable pub assigned : List ℕ → List ℕ → List ℕ
-assigned name value = name ++ 61 ∷ [] ++ value ++ 10 ∷ []
-
 -- the code of the type that stands for the one that is left out, and that one's in a key of our own
 abbrev pub type_lines : LeftOut → List ℕ → List ℕ
 type_lines t name =
     assigned name (hexadecimal 4 (code_in_place t))
     ++ assigned (codes "OriginalDataType") (hexadecimal 4 (left_out_code t))
-
-abbrev pub is_limit : List ℕ → Bool
-is_limit name = same_name name (codes "LowLimit") || same_name name (codes "HighLimit")
-
-abbrev pub is_preset : List ℕ → Bool
-is_preset name = same_name name (codes "DefaultValue") || same_name name (codes "ParameterValue")
 
 -- a number of REAL32 and REAL64 becomes its bits, a text its bytes; a time stays as it is
 abbrev pub preset_kind : LeftOut → Option ChangeKind

@@ -2,17 +2,16 @@
 use Rattle.std.specs.Prelude.{ℕ, Bool, true, false, ◌&&◌, ◌||◌, nat_le, if◌then◌else◌, List, codes, Option, Some, None, is_some, option_and_then}
 use Rattle.std.specs.Option.{option_map_or}
 use Rattle.std.specs.Result.{result_ok}
-use Rattle.co_value.specs.declared.data_type.DataType.{DataType}
 use Rattle.co_sheet_text.specs.declared.section_kind.SectionKind.{SectionKind}
 use Rattle.co_sheet_text.specs.declared.section_kind.SectionKind.TheVariants.{Object, SubIndex}
 use Rattle.co_sheet_text.specs.Numerals.{unsigned_number}
 use Rattle.co_sheet.specs.ObjectLists.{is_one_of}
-use Rattle.co_sheet.specs.Entries.{single_codes, compound_codes, data_type_with}
+use Rattle.co_sheet.specs.Entries.{single_codes, compound_codes}
 use Rattle.co_sheet_adapt.specs.declared.left_out.LeftOut.{LeftOut}
 use Rattle.co_sheet_adapt.specs.declared.facts.Facts.{Facts}
-use Rattle.co_sheet_adapt.specs.Groups.{Group, value_in, number_in_group}
+use Rattle.co_sheet_changes.specs.Limits.{data_type_of, has_unsigned_limits}
+use Rattle.co_sheet_changes.specs.Groups.{Group, value_in, number_in_group}
 use Rattle.co_sheet_adapt.specs.LeftOut.{left_out_with, value_in_place}
-use Rattle.co_sheet_adapt.specs.Values.{is_whole_unsigned}
 
 -- the code of the object type, 7 where there is none
 abbrev pub object_code : Group → Option ℕ
@@ -43,9 +42,6 @@ abbrev pub is_entry : Group → Bool
 is_entry g =
     is_entry_of g.kind (is_one_of single_codes (object_code g) || is_some (compact_count g))
 
-abbrev pub data_type_of : Group → Option DataType
-data_type_of g = option_and_then data_type_with (number_in_group (codes "DataType") g)
-
 -- a type that is left out, where its default and its value can be written at the type that stands for it
 abbrev pub converts : LeftOut → Option (List ℕ) → Bool
 converts t value = option_map_or (λ v. is_some (value_in_place t v)) value true
@@ -62,14 +58,6 @@ abbrev pub left_out_of : Group → Option LeftOut
 left_out_of g =
     option_and_then (if_convertible g)
     (option_and_then left_out_with (number_in_group (codes "DataType") g))
-
--- both limits of a signed number are those of the unsigned type
-abbrev pub has_unsigned_limits : Group → Bool
-has_unsigned_limits g =
-    option_map_or
-    (λ t. is_whole_unsigned t (number_in_group (codes "LowLimit") g)
-    (number_in_group (codes "HighLimit") g))
-    (data_type_of g) false
 
 abbrev pub facts_of : Group → Facts
 facts_of g = record {

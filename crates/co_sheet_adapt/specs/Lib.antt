@@ -1,12 +1,10 @@
-pub mod Groups
 pub mod LeftOut
 pub mod Values
 pub mod Facts
 pub mod Entries
 pub mod Named
 pub mod Compact
+pub mod CompactPdo
 pub mod Pieces
-pub mod Views
 pub mod Adapted
-pub mod Words
 pub mod private

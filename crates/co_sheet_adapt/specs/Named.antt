@@ -7,7 +7,7 @@ use Rattle.co_sheet_text.specs.declared.section_kind.SectionKind.TheVariants.{Ob
 use Rattle.co_sheet_text.specs.Names.{kind_of, number_in}
 use Rattle.co_sheet_text.specs.Numerals.{is_number_in}
 use Rattle.co_sheet_text.specs.Text.{Line, same_name}
-use Rattle.co_sheet_adapt.specs.Groups.{Given, Group, property_in}
+use Rattle.co_sheet_changes.specs.Groups.{Given, Group, property_in}
 
 -- the index of an object
 abbrev pub object_index : SectionKind → Option ℕ

@@ -2,7 +2,7 @@
 -- description, compact storage). A line that isn't changed stays as it is.
 use Rattle.std.specs.Prelude.{ℕ, Bool, ◌&&◌, ◌||◌, not, ◌==◌, nat_le, nat_lt, if◌then◌else◌, List, [], ◌∷◌, ◌++◌, length, map, flat_map, codes, Option, Some, None, is_none, option_and_then}
 use Rattle.std.specs.List.{list_all}
-use Rattle.std.specs.Option.{option_map_or}
+use Rattle.std.specs.Option.{option_map_or, option_or}
 use Rattle.std.specs.Char.{is_digit}
 use Rattle.co_value.specs.declared.key.Key.{Key}
 use Rattle.co_sheet_text.specs.declared.section_kind.SectionKind.{SectionKind}
@@ -10,27 +10,16 @@ use Rattle.co_sheet_text.specs.declared.section_kind.SectionKind.TheVariants.{Ob
 use Rattle.co_sheet_text.specs.Names.{kind_of, is_read, is_list}
 use Rattle.co_sheet_text.specs.Text.{Line, is_empty, same_name}
 use Rattle.co_sheet.specs.ObjectLists.{is_one_of}
-use Rattle.co_sheet_adapt.specs.declared.change.ChangeKind.{ChangeKind}
-use Rattle.co_sheet_adapt.specs.declared.change.ChangeKind.TheVariants as kind
+use Rattle.co_sheet_changes.specs.declared.change.ChangeKind.{ChangeKind}
+use Rattle.co_sheet_changes.specs.declared.change.ChangeKind.TheVariants as kind
+use Rattle.co_sheet_changes.specs.Pieces.{Mended, mended, assigned, Piece, added_lines, piece_of, kept_piece}
 use Rattle.co_sheet_adapt.specs.declared.facts.Facts.{Facts}
-use Rattle.co_sheet_adapt.specs.Groups.{Group, property_in, value_in, number_in_group, without_blanks, before_sections, groups_of}
+use Rattle.co_sheet_changes.specs.Groups.{Group, property_in, value_in, number_in_group, without_blanks, before_sections, groups_of}
 use Rattle.co_sheet_adapt.specs.Facts.{facts_of}
-use Rattle.co_sheet_adapt.specs.Entries.{Mended, mended, assigned, entry_change}
+use Rattle.co_sheet_adapt.specs.Entries.{entry_change}
 use Rattle.co_sheet_adapt.specs.Named.{text_in_groups}
 use Rattle.co_sheet_adapt.specs.Compact.{compact_text}
-
--- a line that is changed: its number, why, what it was, and the lines that come in its place
-pub record Change : Type 0 where
-  pub line : ℕ
-  pub kind : ChangeKind
-  pub old : List ℕ
-  pub new : List ℕ
-
--- a line that stays, one that is changed, and lines that are added for a change of a line
-pub data Piece : Type 0 where
-  kept : List ℕ → Piece
-  changed : Change → Piece
-  added_lines : ℕ → List ℕ → Piece
+use Rattle.co_sheet_adapt.specs.CompactPdo.{PdoForm, pdo_form, pdo_change, pdo_added}
 
 -- ---- object lists
 
@@ -120,14 +109,15 @@ given_change (Object index) facts name value =
     (other_change (Object index) facts name value)
 given_change k facts name value = other_change k facts name value
 
-abbrev pub piece_of : Line → Option Mended → Piece
-piece_of line None = kept line.bytes
-piece_of line (Some m) =
-    changed (record { line = line.number; kind = m.kind; old = line.bytes; new = m.new })
+-- PDOs in compact form change lines of two sections beside
+abbrev pub line_change : Option PdoForm → SectionKind → Facts → List ℕ → List ℕ → Option Mended
+line_change pdos k facts name value =
+    option_or (pdo_change pdos k name) (given_change k facts name value)
 
-abbrev pub line_piece : SectionKind → Facts → Line → Piece
-line_piece k facts line =
-    piece_of line (option_and_then (λ given. given_change k facts given.name given.value) (property_in line))
+abbrev pub line_piece : Option PdoForm → SectionKind → Facts → Line → Piece
+line_piece pdos k facts line =
+    piece_of line
+    (option_and_then (λ given. line_change pdos k facts given.name given.value) (property_in line))
 
 -- ---- sections, and all of them
 
@@ -139,18 +129,18 @@ abbrev pub added : (Key → Option (List ℕ)) → (Key → Option (List ℕ)) �
 added names values facts g =
     added_at g.kind facts.compact (compact_text names values facts g) g.head.number
 
-abbrev pub group_pieces : (Key → Option (List ℕ)) → (Key → Option (List ℕ)) → Group → List Piece
-group_pieces names values g =
-    (piece_of g.head (head_change g) ∷ map (line_piece g.kind (facts_of g)) g.body)
-    ++ added names values (facts_of g) g
+abbrev pub own_pieces : Option PdoForm → Facts → Group → List Piece
+own_pieces pdos facts g = piece_of g.head (head_change g) ∷ map (line_piece pdos g.kind facts) g.body
 
-abbrev pub kept_piece : Line → Piece
-kept_piece line = kept line.bytes
+abbrev pub group_pieces : (Key → Option (List ℕ)) → (Key → Option (List ℕ)) → Option PdoForm → Group
+    → List Piece
+group_pieces names values pdos g =
+    own_pieces pdos (facts_of g) g ++ added names values (facts_of g) g ++ pdo_added pdos g
 
 abbrev pub all_pieces : List Line → List Piece
 all_pieces lines =
     map kept_piece (before_sections lines)
     ++ flat_map
     (group_pieces (λ k. text_in_groups (codes "Name") k (groups_of lines))
-    (λ k. text_in_groups (codes "Value") k (groups_of lines)))
+    (λ k. text_in_groups (codes "Value") k (groups_of lines)) (pdo_form (groups_of lines)))
     (groups_of lines)

@@ -9,7 +9,8 @@ use Rattle.co_sheet_text.specs.declared.numeral.Numeral.TheVariants.{Hexadecimal
 use Rattle.co_sheet_text.specs.declared.numeral.NumeralFault.{NumeralFault}
 use Rattle.co_sheet_text.specs.Numerals.{signed_numeral}
 use Rattle.co_sheet.specs.Limits.{is_pairs}
-use Rattle.co_sheet_adapt.specs.Groups.{without_blanks}
+use Rattle.co_sheet_changes.specs.Groups.{without_blanks}
+use Rattle.co_sheet_changes.specs.Limits.{signed_width}
 use Rattle.co_sheet_adapt.specs.LeftOut.{hexadecimal}
 
 -- the number of hexadecimal digits after `0x`
@@ -29,10 +30,6 @@ abbrev pub is_sign_extended : ℕ → ℕ → Bool
 is_sign_extended width n =
     is_extended_to 16 width n || is_extended_to 32 width n || is_extended_to 64 width n
 
--- the bytes of a type in two's complement
-abbrev pub signed_width : DataType → Option ℕ
-signed_width t = if is_signed t then width_of t else None
-
 -- a negative value whose sign is extended, in the bytes of its type
 abbrev pub within_width : ℕ → ℕ → Option (List ℕ)
 within_width width n = if is_sign_extended width n then Some (hexadecimal (2 * width) n) else None
@@ -41,14 +38,6 @@ abbrev pub sign_extended : DataType → List ℕ → Option (List ℕ)
 sign_extended t value =
     option_and_then (λ width. option_and_then (within_width width) (hexadecimal_in value))
     (signed_width t)
-
--- two limits are 0 and the greatest number of the unsigned type of as many bytes as a signed one has
-abbrev pub is_whole_at : Option ℕ → Option ℕ → Option ℕ → Bool
-is_whole_at (Some width) (Some low) (Some high) = (low == 0) && (high + 1 == 2 ^ (8 * width))
-is_whole_at width low high = false
-
-abbrev pub is_whole_unsigned : DataType → Option ℕ → Option ℕ → Bool
-is_whole_unsigned t low high = is_whole_at (signed_width t) low high
 
 -- pairs of hexadecimal digits, and blanks between whole pairs
 abbrev pub is_spaced : List ℕ → Bool

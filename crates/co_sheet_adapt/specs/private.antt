@@ -1,3 +1,3 @@
 -- What the crate's own functions promise one another; no public contract rests on these.
-pub mod Views
 pub mod Named
+pub mod Pdos

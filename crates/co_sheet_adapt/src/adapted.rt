@@ -1,7 +1,6 @@
 //! A text adapted, and read again.
 
-ghost use Rattle.std.specs.Prelude.{◌≡◌, ◌++◌, ◌≤◌, ℕ, List, length, map, take, is_none, IfOk, OnOk};
-ghost use Rattle.std.specs.List.{flat_map};
+ghost use Rattle.std.specs.Prelude.{◌≡◌, ◌++◌, ◌≤◌, ℕ, List, length, map, take, is_none, None, IfOk, OnOk};
 ghost use Rattle.co_sheet_text.specs.Text.{lines_of};
 ghost use Rattle.co_sheet.specs.Accepted.{first_fault, sections_in};
 ghost use Rattle.co_sheet_adapt.specs.Pieces.{all_pieces};
@@ -10,19 +9,17 @@ ghost use Rattle.co_sheet_adapt.specs.Adapted.{
   comment_front,
   comment_end,
   comment_line,
-  written,
   pieces_in,
   body_in,
   adapted_text,
   commented,
   one_later,
 };
-ghost use Rattle.co_sheet_adapt.specs.Views.{piece_view};
+ghost use Rattle.co_sheet_changes.specs.Pieces.{piece_view};
 
-use crate::change::{AdaptFault, Piece};
-use crate::line::lines_in;
 use crate::pieces::pieces_of;
 use co_sheet::{FaultKind, GREATEST_SIZE, read};
+use co_sheet_changes::{AdaptFault, Piece, lines_in, push_pieces};
 use co_sheet_text::without_mark;
 use std::alloc::{AllocError, Global};
 
@@ -103,30 +100,6 @@ fn comment_line(alloc: Global, by: &[u8]) -> Result<Vec<u8>, AllocError>
     Ok(made)
 }
 
-fn push_piece(text: &mut Vec<u8>, piece: &Piece) -> Result<(), AllocError>
-    ensures { OnOk result (text.new.items ≡ text.old.items ++ written (piece_view piece.now)) }
-{
-    match piece {
-        Piece::Kept(line) => {
-            text.extend_from_slice(line)?;
-            text.push(b'\n')?;
-            Ok(())
-        }
-        Piece::Changed(change) => text.extend_from_slice(change.new.as_slice()),
-        Piece::Added { text: added, .. } => text.extend_from_slice(added.as_slice()),
-    }
-}
-
-fn push_pieces(text: &mut Vec<u8>, pieces: &[Piece]) -> Result<(), AllocError>
-    ensures { OnOk result
-        (text.new.items ≡ text.old.items ++ flat_map written (map piece_view pieces.now)) }
-{
-    for piece in pieces {
-        push_piece(text, piece)?;
-    }
-    Ok(())
-}
-
 // the pieces of a text that isn't accepted
 fn rewritten<'a>(alloc: Global, text: &'a [u8]) -> Result<Vec<Piece<'a>>, AdaptFault>
     requires { length text.now ≤ 1048576 }
@@ -172,9 +145,12 @@ pub fn adapt<'a>(alloc: Global, text: &'a [u8], by: &[u8]) -> Result<Adapted<'a>
     })
 }
 
-/// After the first line that says who adapted it, a text has the same sections with the same properties, each one line
-/// later. This is a law: a call of it changes nothing.
-pub fn commented_sections()
-    ensures { (by text : List ℕ) →
-        sections_in (commented by text) ≡ map one_later (sections_in text) }
+/// A text that is accepted stays as it is, after the first line that says who adapted it and but for a byte order mark: it
+/// has the same sections with the same properties, each one line later, so the same objects, entries and values. This is a
+/// law: a call of it changes nothing.
+pub fn accepted_text_stays()
+    ensures text { (by text : List ℕ) → first_fault text ≡ None →
+        adapted_text by text ≡ commented by text }
+    ensures sections { (by text : List ℕ) → first_fault text ≡ None →
+        sections_in (adapted_text by text) ≡ map one_later (sections_in text) }
 {}

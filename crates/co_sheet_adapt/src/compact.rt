@@ -23,14 +23,13 @@ ghost use Rattle.co_sheet_adapt.specs.Compact.{
   compact_text,
   written_as,
 };
-ghost use Rattle.co_sheet_adapt.specs.private.Views.{line_view, group_view};
+ghost use Rattle.co_sheet_changes.specs.Views.{line_view, group_view};
 ghost use Rattle.co_sheet_adapt.specs.private.Named.{texts_at};
 
-use crate::entry::{assigned, entry_change};
+use crate::entry::entry_change;
 use crate::facts::Facts;
-use crate::group::Group;
-use crate::line::Line;
 use crate::named::Texts;
+use co_sheet_changes::{Group, Line, assigned};
 use co_sheet_text::same_name;
 use co_text::{push_byte, push_decimal, push_digit, push_u16};
 use co_value::Key;
@@ -48,7 +47,7 @@ fn push_sub(text: &mut String, sub: u8) -> Result<(), AllocError>
 
 // the section line of a sub-index
 #[tactic(auto, unfolding(crate::specs::Compact::sub_head))]
-fn sub_head(alloc: Global, key: Key) -> Result<Vec<u8>, AllocError>
+pub(crate) fn sub_head(alloc: Global, key: Key) -> Result<Vec<u8>, AllocError>
     ensures { IfOk result (λ made. made.items ≡ sub_head key) }
 {
     let mut text = String::new(alloc);
@@ -157,6 +156,26 @@ fn last_keys() -> &'static [u8]
     b"\nPDOMapping=0\n\n"
 }
 
+/// Appends the section of sub-index 0.
+#[tactic(auto, unfolding(crate::specs::Compact::first_section))]
+pub(crate) fn push_first_section(
+    alloc: Global,
+    text: &mut Vec<u8>,
+    index: u16,
+    count: u8,
+) -> Result<(), AllocError>
+    ensures { OnOk result (text.new.items ≡ text.old.items ++ first_section index count) }
+{
+    let head = sub_head(alloc, Key { index, sub: 0 })?;
+    let mut digits = String::new(alloc);
+    push_decimal(&mut digits, u64::from(count))?;
+    text.extend_from_slice(head.as_slice())?;
+    text.extend_from_slice(first_keys())?;
+    text.extend_from_slice(digits.as_bytes())?;
+    text.extend_from_slice(last_keys())?;
+    Ok(())
+}
+
 /// What an object in compact form says of its sub-indices.
 #[derive(Clone, Copy)]
 pub(crate) struct Compact<'r, 's, 'a> {
@@ -242,31 +261,6 @@ impl Compact<'_, '_, '_> {
         Ok(())
     }
 
-    // appends the section of sub-index 0
-    #[tactic(auto, unfolding(crate::specs::Compact::first_section))]
-    fn push_first_section(
-        &self,
-        alloc: Global,
-        text: &mut Vec<u8>,
-        count: u8,
-    ) -> Result<(), AllocError>
-        ensures { OnOk result
-            (text.new.items ≡ text.old.items ++ first_section self.now.index count) }
-    {
-        let key = Key {
-            index: self.index,
-            sub: 0,
-        };
-        let head = sub_head(alloc, key)?;
-        let mut digits = String::new(alloc);
-        push_decimal(&mut digits, u64::from(count))?;
-        text.extend_from_slice(head.as_slice())?;
-        text.extend_from_slice(first_keys())?;
-        text.extend_from_slice(digits.as_bytes())?;
-        text.extend_from_slice(last_keys())?;
-        Ok(())
-    }
-
     /// The sections of sub-index 0 to this number.
     #[tactic(auto, using(crate::proofs::CompactLemmas::one_section_more))]
     pub(crate) fn text(&self, alloc: Global, count: u8) -> Result<Vec<u8>, AllocError>
@@ -276,7 +270,7 @@ impl Compact<'_, '_, '_> {
     {
         let copied = copied_lines(alloc, self.facts, self.group)?;
         let mut text = Vec::new(alloc);
-        self.push_first_section(alloc, &mut text, count)?;
+        push_first_section(alloc, &mut text, self.index, count)?;
         for before in 0..count {
             self.push_sub_section(alloc, &mut text, copied.as_slice(), before + 1)?;
         }

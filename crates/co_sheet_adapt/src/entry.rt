@@ -2,11 +2,7 @@
 
 ghost use Rattle.std.specs.Prelude.{◌≡◌, ◌++◌, ◌∷◌, [], codes, option_map, IfOk, OnOk};
 ghost use Rattle.co_sheet_adapt.specs.Entries.{
-  assigned,
-  mended,
   type_lines,
-  is_limit,
-  is_preset,
   preset_kind,
   preset_in_place,
   in_place,
@@ -14,53 +10,17 @@ ghost use Rattle.co_sheet_adapt.specs.Entries.{
   at_type,
   entry_change,
 };
-ghost use Rattle.co_sheet_adapt.specs.private.Views.{mended_view};
+ghost use Rattle.co_sheet_changes.specs.Pieces.{assigned, mended, mended_view};
 
-use crate::change::ChangeKind;
-use crate::digits::hexadecimal;
 use crate::facts::Facts;
 use crate::left_out::LeftOut;
 use crate::values::{pairs_without_blanks, sign_extended};
+use co_sheet_changes::{
+    ChangeKind, Mended, assigned, hexadecimal, is_limit, is_preset, with_value,
+};
 use co_sheet_text::same_name;
 use co_value::DataType;
 use std::alloc::{AllocError, Global};
-
-/// What comes in a line's place, and why: lines, each ended by LF.
-#[derive(Drop)]
-pub(crate) struct Mended {
-    pub(crate) kind: ChangeKind,
-    pub(crate) new: Vec<u8>,
-}
-
-/// A line with a name and a value.
-#[tactic(auto, unfolding(crate::specs::Entries::assigned))]
-pub(crate) fn assigned(alloc: Global, name: &[u8], value: &[u8]) -> Result<Vec<u8>, AllocError>
-    ensures { IfOk result (λ made. made.items ≡ assigned name.now value.now) }
-{
-    let mut made = Vec::new(alloc);
-    made.extend_from_slice(name)?;
-    made.push(b'=')?;
-    made.extend_from_slice(value)?;
-    made.push(b'\n')?;
-    Ok(made)
-}
-
-// a line with a value in another's place, if there is one
-fn with_value(
-    alloc: Global,
-    kind: ChangeKind,
-    name: &[u8],
-    value: Option<Vec<u8>>,
-) -> Result<Option<Mended>, AllocError>
-    ensures { IfOk result (λ made. option_map mended_view made
-        ≡ option_map (λ v. mended kind (assigned name.now v.items)) value) }
-{
-    let Some(value) = value else {
-        return Ok(None);
-    };
-    let new = assigned(alloc, name, value.as_slice())?;
-    Ok(Some(Mended { kind, new }))
-}
 
 fn dropped(alloc: Global, kind: ChangeKind) -> Mended
     ensures { mended_view result ≡ mended kind [] }
@@ -81,18 +41,6 @@ fn type_lines(alloc: Global, left_out: LeftOut, name: &[u8]) -> Result<Vec<u8>, 
     let second = assigned(alloc, b"OriginalDataType", original.as_slice())?;
     made.extend_from_slice(second.as_slice())?;
     Ok(made)
-}
-
-fn is_limit(name: &[u8]) -> bool
-    ensures { result ≡ is_limit name.now }
-{
-    same_name(name, b"LowLimit") || same_name(name, b"HighLimit")
-}
-
-fn is_preset(name: &[u8]) -> bool
-    ensures { result ≡ is_preset name.now }
-{
-    same_name(name, b"DefaultValue") || same_name(name, b"ParameterValue")
 }
 
 // why a value is written otherwise at the type that stands for its own; a time's isn't

@@ -7,19 +7,15 @@ ghost use Rattle.co_sheet_adapt.specs.Facts.{
   count_of,
   compact_count,
   is_entry,
-  data_type_of,
   converts,
   is_convertible,
   left_out_of,
   facts_of,
-  has_unsigned_limits,
 };
-ghost use Rattle.co_sheet_adapt.specs.private.Views.{group_view};
+ghost use Rattle.co_sheet_changes.specs.Views.{group_view};
 
-use crate::group::Group;
 use crate::left_out::LeftOut;
-use crate::values::is_whole_unsigned;
-use co_sheet::data_type_with;
+use co_sheet_changes::{Group, data_type_of, has_unsigned_limits};
 use co_sheet_text::{SectionKind, unsigned_number};
 use co_value::DataType;
 use std::alloc::{AllocError, Global};
@@ -79,12 +75,6 @@ fn is_entry(group: &Group) -> bool
     }
 }
 
-fn data_type_of(group: &Group) -> Option<DataType>
-    ensures { result ≡ data_type_of (group_view group.now) }
-{
-    data_type_with(group.number(b"DataType")?)
-}
-
 fn converts(alloc: Global, left_out: LeftOut, value: Option<&[u8]>) -> Result<bool, AllocError>
     ensures { IfOk result (λ is. is ≡ converts left_out (option_copied value.entry)) }
 {
@@ -115,19 +105,6 @@ fn left_out_of(alloc: Global, group: &Group) -> Result<Option<LeftOut>, AllocErr
         Ok(Some(left_out))
     } else {
         Ok(None)
-    }
-}
-
-fn has_unsigned_limits(group: &Group) -> bool
-    ensures { result ≡ has_unsigned_limits (group_view group.now) }
-{
-    match data_type_of(group) {
-        Some(data_type) => is_whole_unsigned(
-            data_type,
-            group.number(b"LowLimit"),
-            group.number(b"HighLimit"),
-        ),
-        None => false,
     }
 }
 

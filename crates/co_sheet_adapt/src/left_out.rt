@@ -13,7 +13,7 @@ ghost use Rattle.co_sheet_adapt.specs.LeftOut.{
   value_in_place,
 };
 
-use crate::digits::hexadecimal;
+use co_sheet_changes::hexadecimal;
 use co_sheet_text::unsigned_number;
 use co_text::push_byte;
 use std::alloc::{AllocError, Global};

@@ -2,19 +2,13 @@
 #![tactic(auto)]
 
 mod adapted;
-mod change;
 mod compact;
-mod digits;
+mod compact_pdo;
 mod entry;
 mod facts;
-mod group;
 mod left_out;
-mod line;
 mod named;
 mod pieces;
 mod values;
-mod words;
 
-pub use adapted::{Adapted, adapt, commented_sections};
-pub use change::{AdaptFault, Change, ChangeKind, Piece};
-pub use words::change_name;
+pub use adapted::{Adapted, accepted_text_stays, adapt};

@@ -6,11 +6,10 @@ ghost use Rattle.std.specs.Option.{option_copied, option_or};
 ghost use Rattle.indexmap.specs.IndexMap.{get};
 ghost use Rattle.co_value.specs.Keys.{same_key};
 ghost use Rattle.co_sheet_adapt.specs.Named.{index_named, sub_named, text_in_line, text_in_body, text_in_group, text_in_groups};
-ghost use Rattle.co_sheet_adapt.specs.private.Views.{line_view, group_view};
+ghost use Rattle.co_sheet_changes.specs.Views.{line_view, group_view};
 ghost use Rattle.co_sheet_adapt.specs.private.Named.{texts_at};
 
-use crate::group::Group;
-use crate::line::Line;
+use co_sheet_changes::{Group, Line};
 use co_sheet_text::{SectionKind, number_in, same_name};
 use co_value::Key;
 use indexmap::IndexMap;

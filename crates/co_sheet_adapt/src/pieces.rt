@@ -15,27 +15,30 @@ ghost use Rattle.co_sheet_adapt.specs.Pieces.{
   head_change,
   compact_change,
   given_change,
-  piece_of,
+  line_change,
   line_piece,
+  own_pieces,
   added,
   group_pieces,
-  kept_piece,
   all_pieces,
   access_line,
 };
 ghost use Rattle.co_sheet_adapt.specs.Named.{text_in_groups};
-ghost use Rattle.co_sheet_adapt.specs.private.Views.{line_view, group_view, mended_view};
 ghost use Rattle.co_sheet_adapt.specs.private.Named.{texts_at, IsTablesOf};
-ghost use Rattle.co_sheet_adapt.specs.Views.{piece_view};
+ghost use Rattle.co_sheet_adapt.specs.private.Pdos.{form_view};
+ghost use Rattle.co_sheet_changes.specs.Pieces.{mended_view, piece_view};
+ghost use Rattle.co_sheet_changes.specs.Views.{group_view, line_view};
 
-use crate::change::{AdaptFault, Change, ChangeKind, Piece};
 use crate::compact::Compact;
-use crate::entry::{Mended, assigned, entry_change};
+use crate::compact_pdo::{PdoForm, pdo_change, push_pdos};
+use crate::entry::entry_change;
 use crate::facts::Facts;
-use crate::group::{Group, before_sections, groups_in, without_blanks};
-use crate::line::Line;
 use crate::named::Texts;
 use co_sheet::GREATEST_SIZE;
+use co_sheet_changes::{
+    AdaptFault, ChangeKind, Group, Line, Mended, Piece, assigned, before_sections, groups_in,
+    piece_of, push_kept, without_blanks,
+};
 use co_sheet_text::{SectionKind, all_digits, same_name};
 use std::alloc::{AllocError, Global};
 
@@ -195,41 +198,47 @@ fn given_change(
     }
 }
 
-fn piece_of<'a>(line: &Line<'a>, mended: Option<Mended>) -> Piece<'a>
-    ensures { piece_view result ≡ piece_of (line_view line.now) (option_map mended_view mended) }
+// what a name and its value become, in the sections of PDOs in compact form too
+fn line_change(
+    alloc: Global,
+    pdos: Option<&PdoForm>,
+    kind: SectionKind,
+    facts: &Facts,
+    name: &[u8],
+    value: &[u8],
+) -> Result<Option<Mended>, AllocError>
+    ensures { IfOk result (λ made. option_map mended_view made
+        ≡ line_change (option_map (λ f. form_view f.now) pdos.entry) kind facts.now name.now value.now) }
 {
-    match mended {
-        Some(Mended { kind, new }) => Piece::Changed(Change {
-            line: line.number,
-            kind,
-            old: line.bytes,
-            new,
-        }),
-        None => Piece::Kept(line.bytes),
+    match pdo_change(alloc, pdos, kind, name)? {
+        Some(mended) => Ok(Some(mended)),
+        None => given_change(alloc, kind, facts, name, value),
     }
 }
 
 fn line_piece<'a>(
     alloc: Global,
+    pdos: Option<&PdoForm>,
     kind: SectionKind,
     facts: &Facts,
     line: &Line<'a>,
 ) -> Result<Piece<'a>, AllocError>
-    ensures { IfOk result (λ piece.
-        piece_view piece ≡ line_piece kind facts.now (line_view line.now)) }
+    ensures { IfOk result (λ piece. piece_view piece
+        ≡ line_piece (option_map (λ f. form_view f.now) pdos.entry) kind facts.now (line_view line.now)) }
 {
     let mended = match line.property() {
-        Some((name, value)) => given_change(alloc, kind, facts, name, value)?,
+        Some((name, value)) => line_change(alloc, pdos, kind, facts, name, value)?,
         None => None,
     };
     Ok(piece_of(line, mended))
 }
 
-/// The names and the values that the sections of a text give sub-indices.
+/// The names and the values that the sections of a text give sub-indices, and what they say of PDOs in compact form.
 #[derive(Drop)]
 pub(crate) struct Tables<'a> {
     pub(crate) names: Texts<'a>,
     pub(crate) values: Texts<'a>,
+    pub(crate) pdos: Option<PdoForm>,
 }
 
 impl<'a> Tables<'a> {
@@ -239,6 +248,7 @@ impl<'a> Tables<'a> {
         Ok(Tables {
             names: Texts::of(alloc, groups, b"Name")?,
             values: Texts::of(alloc, groups, b"Value")?,
+            pdos: PdoForm::of(alloc, groups)?,
         })
     }
 
@@ -279,7 +289,8 @@ impl<'a> Tables<'a> {
     ) -> Result<(), AdaptFault>
         ensures { OnOk result (map piece_view pieces.new.items
             ≡ map piece_view pieces.old.items ++ flat_map (group_pieces (texts_at self.now.names)
-            (texts_at self.now.values)) (map group_view groups.now)) }
+            (texts_at self.now.values) (option_map form_view self.now.pdos))
+            (map group_view groups.now)) }
     {
         let mut size: usize = 0;
         for group in groups {
@@ -301,40 +312,47 @@ impl<'a> Tables<'a> {
     ) -> Result<(), AllocError>
         ensures { OnOk result (map piece_view pieces.new.items
             ≡ map piece_view pieces.old.items ++ group_pieces (texts_at self.now.names)
-            (texts_at self.now.values) (group_view group.now)) }
+            (texts_at self.now.values) (option_map form_view self.now.pdos) (group_view group.now)) }
     {
+        let pdos = self.pdos.as_ref();
         let facts = Facts::of(alloc, group)?;
-        let head = head_change(alloc, group)?;
-        pieces.push(piece_of(&group.head, head))?;
-        push_lines(alloc, pieces, group.kind, &facts, group.body)?;
-        self.push_added(alloc, pieces, &facts, group)
+        push_own(alloc, pieces, pdos, &facts, group)?;
+        self.push_added(alloc, pieces, &facts, group)?;
+        push_pdos(alloc, pieces, pdos, group)
     }
+}
+
+// adds the pieces of a section's own lines
+fn push_own<'a>(
+    alloc: Global,
+    pieces: &mut Vec<Piece<'a>>,
+    pdos: Option<&PdoForm>,
+    facts: &Facts,
+    group: &Group<'_, 'a>,
+) -> Result<(), AllocError>
+    ensures { OnOk result (map piece_view pieces.new.items ≡ map piece_view pieces.old.items
+        ++ own_pieces (option_map (λ f. form_view f.now) pdos.entry) facts.now (group_view group.now)) }
+{
+    let head = head_change(alloc, group)?;
+    pieces.push(piece_of(&group.head, head))?;
+    push_lines(alloc, pieces, pdos, group.kind, facts, group.body)
 }
 
 // adds the pieces of lines of a section
 fn push_lines<'a>(
     alloc: Global,
     pieces: &mut Vec<Piece<'a>>,
+    pdos: Option<&PdoForm>,
     kind: SectionKind,
     facts: &Facts,
     lines: &[Line<'a>],
 ) -> Result<(), AllocError>
     ensures { OnOk result (map piece_view pieces.new.items ≡ map piece_view pieces.old.items
-        ++ map (line_piece kind facts.now) (map line_view lines.now)) }
+        ++ map (line_piece (option_map (λ f. form_view f.now) pdos.entry) kind facts.now)
+        (map line_view lines.now)) }
 {
     for line in lines {
-        pieces.push(line_piece(alloc, kind, facts, line)?)?;
-    }
-    Ok(())
-}
-
-// adds lines that stay
-fn push_kept<'a>(pieces: &mut Vec<Piece<'a>>, lines: &[Line<'a>]) -> Result<(), AllocError>
-    ensures { OnOk result (map piece_view pieces.new.items
-        ≡ map piece_view pieces.old.items ++ map kept_piece (map line_view lines.now)) }
-{
-    for line in lines {
-        pieces.push(Piece::Kept(line.bytes))?;
+        pieces.push(line_piece(alloc, pdos, kind, facts, line)?)?;
     }
     Ok(())
 }

@@ -6,16 +6,13 @@ ghost use Rattle.co_sheet_adapt.specs.Values.{
   hexadecimal_in,
   is_extended_to,
   is_sign_extended,
-  signed_width,
   sign_extended,
-  is_whole_unsigned,
   is_spaced,
   pairs_without_blanks,
 };
 
-use crate::digits::hexadecimal;
-use crate::group::without_blanks;
 use co_sheet::is_pairs;
+use co_sheet_changes::{hexadecimal, power_of_two, signed_width, without_blanks};
 use co_sheet_text::{Numeral, signed_numeral};
 use co_text::{is_blank, pair_at};
 use co_value::DataType;
@@ -29,13 +26,6 @@ fn hexadecimal_in(text: &[u8]) -> Option<u64>
         Ok(Numeral::Hexadecimal(number)) => Some(number),
         _ => None,
     }
-}
-
-fn power_of_two(bits: usize) -> u128
-    requires { bits ≤ 64 }
-    ensures { result ≡ 2 ^ bits }
-{
-    1u128 << bits
 }
 
 // whether a number of so many bits is a negative one of a smaller width, in bytes, with its sign extended
@@ -60,17 +50,6 @@ fn is_sign_extended(width: usize, number: u64) -> bool
         || is_extended_to(64, width, number)
 }
 
-// the bytes of a type in two's complement
-fn signed_width(data_type: DataType) -> Option<usize>
-    ensures { result ≡ signed_width data_type }
-{
-    if data_type.is_signed() {
-        data_type.width()
-    } else {
-        None
-    }
-}
-
 /// A negative value whose sign is extended to 16, 32 or 64 bits, in the bytes of its type.
 pub(crate) fn sign_extended(
     alloc: Global,
@@ -87,16 +66,6 @@ pub(crate) fn sign_extended(
         Ok(Some(hexadecimal(alloc, 2 * width as u8, number)?))
     } else {
         Ok(None)
-    }
-}
-
-/// Whether two limits are those of the unsigned type of as many bytes as a signed one has.
-pub(crate) fn is_whole_unsigned(data_type: DataType, low: Option<u64>, high: Option<u64>) -> bool
-    ensures { result ≡ is_whole_unsigned data_type low high }
-{
-    match (signed_width(data_type), low, high) {
-        (Some(width), Some(0), Some(high)) => { u128::from(high) + 1 == power_of_two(8 * width) }
-        _ => false,
     }
 }
 

@@ -4,7 +4,7 @@
 
 use co_dict_build::Limits;
 use co_node::Config;
-use conode_adapt::adapt_file;
+use conode_adapt::{AdaptWords, LeadingZeros as ZerosRead, adapt_file};
 use conode_check::check_file;
 use conode_decode::decode_files;
 use conode_explain::{StampForm, explain_files};
@@ -14,7 +14,8 @@ use conode_loop::loop_files;
 use conode_replay::{replay_files, replay_stored};
 use conode_show::{Form as ShownForm, Format as ShownFormat, show_file};
 use conode_words::{
-    Colours, DeviceWords, DictionaryWords, Format, LintWords, ShownAs, Stamps, Task, VERSION, task,
+    Colours, DeviceWords, DictionaryWords, Format, LeadingZeros, LintWords, ShownAs, Stamps, Task,
+    VERSION, task,
 };
 use std::io::{BufWriter, IsTerminal, Write};
 use std::process::ExitCode;
@@ -53,6 +54,19 @@ fn stamp_form(stamps: Stamps) -> StampForm {
         Stamps::Absolute => StampForm::Absolute,
         Stamps::Delta => StampForm::Delta,
         Stamps::Date => StampForm::Date,
+    }
+}
+
+/// What is asked for beside the rules of `adapt`.
+fn adapt_words(leading_zeros: Option<LeadingZeros>, force: bool) -> AdaptWords {
+    let leading_zeros = match leading_zeros {
+        Some(LeadingZeros::Octal) => Some(ZerosRead::Octal),
+        Some(LeadingZeros::Decimal) => Some(ZerosRead::Decimal),
+        None => None,
+    };
+    AdaptWords {
+        leading_zeros,
+        force,
     }
 }
 
@@ -149,7 +163,14 @@ fn carry_out_task<O: Write, E: Write>(
             node,
             shown_as,
         } => show_file(rt, sheet, shown_form(shown_as), node, out, err),
-        Task::Adapt { sheet } => adapt_file(rt, sheet, version(), out, err),
+        Task::Adapt {
+            sheet,
+            leading_zeros,
+            force,
+        } => {
+            let words = adapt_words(leading_zeros, force);
+            adapt_file(rt, sheet, version(), words, out, err)
+        }
         Task::Explain {
             trace,
             sheet,

@@ -3,10 +3,10 @@ use Rattle.std.specs.Prelude.{ℕ, ◌+◌, ◌-◌, Bool, false, length, take, 
 use Rattle.std.specs.List.{flat_map, starts_with}
 use Rattle.co_text.specs.Printed.{digits_text}
 use Rattle.co_sheet_text.specs.Text.{trim, is_empty}
-use Rattle.co_sheet_adapt.specs.declared.change.ChangeKind.{ChangeKind}
-use Rattle.co_sheet_adapt.specs.declared.change.ChangeKind.TheVariants.{CompactSubObj}
-use Rattle.co_sheet_adapt.specs.Pieces.{Change, Piece, changed}
-use Rattle.co_sheet_adapt.specs.Words.{change_name}
+use Rattle.co_sheet_changes.specs.declared.change.ChangeKind.{ChangeKind}
+use Rattle.co_sheet_changes.specs.declared.change.ChangeKind.TheVariants.{CompactSubObj, CompactPdo}
+use Rattle.co_sheet_changes.specs.Pieces.{Change, Piece, changed}
+use Rattle.co_sheet_changes.specs.Words.{change_name}
 
 -- a control character is shown as `?`
 abbrev pub shown_byte : ℕ → ℕ
@@ -32,8 +32,25 @@ abbrev pub sections_text : ℕ → ℕ → List ℕ
 sections_text index count =
     codes ", [" ++ digits_text 16 4 index ++ codes "sub0] and " ++ decimal count ++ codes " more"
 
+-- the objects that PDOs in compact form get, with the sub-indices of those of communication, and what the sheet doesn't say
+abbrev pub word_if : Bool → List ℕ → List ℕ
+word_if is word = if is then word else []
+
+abbrev pub subs_text : ℕ → List ℕ
+subs_text subs =
+    word_if (subs / 4 % 2 == 1) (codes " 3") ++ word_if (subs / 8 % 2 == 1) (codes " 4")
+    ++ word_if (subs / 16 % 2 == 1) (codes " 5") ++ word_if (subs / 32 % 2 == 1) (codes " 6")
+
+unfoldable pub invented : List ℕ
+invented = codes "; invented: not valid, type 255, timers 0, mappings of 0 entries"
+
+abbrev pub objects_text : ℕ → ℕ → List ℕ
+objects_text count subs =
+    codes ", " ++ decimal count ++ codes " objects, sub-indices 0 1 2" ++ subs_text subs ++ invented
+
 unfoldable pub sub_indices_text : ChangeKind → List ℕ
 sub_indices_text (CompactSubObj index count) = sections_text index count
+sub_indices_text (CompactPdo count subs) = objects_text count subs
 sub_indices_text kind = []
 
 -- `NAME:LINE: `

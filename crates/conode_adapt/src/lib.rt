@@ -4,6 +4,11 @@
 mod adapted_file;
 mod line_ends;
 mod listing;
+mod mappings;
+mod orders;
+mod outcome;
 mod remaining;
 
-pub use adapted_file::{adapt_file, write_adapted};
+pub use adapted_file::{AdaptWords, adapt_file, write_adapted};
+pub use co_sheet_requested::LeadingZeros;
+pub use orders::Orders;

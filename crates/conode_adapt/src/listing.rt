@@ -3,21 +3,26 @@
 
 ghost use Rattle.std.specs.Prelude.{◌≡◌, ◌++◌, ◌∷◌, [], map, OnOk, string_bytes};
 ghost use Rattle.std.specs.List.{flat_map};
-ghost use Rattle.co_sheet_adapt.specs.Views.{change_view, piece_view};
+ghost use Rattle.co_sheet_changes.specs.Pieces.{change_view, piece_view};
 ghost use Rattle.conode_adapt.specs.Listing.{
   shown_byte,
   shown,
   new_byte,
   front_of,
+  invented,
   new_text,
+  objects_text,
+  sections_text,
   sub_indices_text,
+  subs_text,
+  word_if,
   place_text,
   old_and_new,
   change_line,
   piece_line,
 };
 
-use co_sheet_adapt::{Change, ChangeKind, Piece, change_name};
+use co_sheet_changes::{Change, ChangeKind, Piece, change_name};
 use co_sheet_text::trim;
 use co_text::{push_decimal, push_u16};
 use std::alloc::{AllocError, Global};
@@ -81,21 +86,63 @@ fn push_new(text: &mut Vec<u8>, lines: &[u8]) -> Result<(), AllocError>
 }
 
 // the sections that an object in compact form gets
+fn push_sections(words: &mut String, index: u16, count: u8) -> Result<(), AllocError>
+    ensures { OnOk result (string_bytes words.new ≡ string_bytes words.old ++ sections_text index count) }
+{
+    words.push_str(", [")?;
+    push_u16(words, index)?;
+    words.push_str("sub0] and ")?;
+    push_decimal(words, u64::from(count))?;
+    words.push_str(" more")
+}
+
+#[tactic(auto, unfolding(crate::specs::Listing::invented))]
+fn invented() -> &'static str
+    ensures { result.now ≡ invented }
+{
+    "; invented: not valid, type 255, timers 0, mappings of 0 entries"
+}
+
+fn push_if(words: &mut String, is: bool, word: &str) -> Result<(), AllocError>
+    ensures { OnOk result (string_bytes words.new ≡ string_bytes words.old ++ word_if is word.now) }
+{
+    if is { words.push_str(word) } else { Ok(()) }
+}
+
+// the sub-indices from 3 on of a communication object
+fn push_subs(words: &mut String, subs: u64) -> Result<(), AllocError>
+    ensures { OnOk result (string_bytes words.new ≡ string_bytes words.old ++ subs_text subs) }
+{
+    push_if(words, subs / 4 % 2 == 1, " 3")?;
+    push_if(words, subs / 8 % 2 == 1, " 4")?;
+    push_if(words, subs / 16 % 2 == 1, " 5")?;
+    push_if(words, subs / 32 % 2 == 1, " 6")
+}
+
+// the objects that PDOs in compact form get
+fn push_objects(words: &mut String, count: u64, subs: u64) -> Result<(), AllocError>
+    ensures { OnOk result
+        (string_bytes words.new ≡ string_bytes words.old ++ objects_text count subs) }
+{
+    words.push_str(", ")?;
+    push_decimal(words, count)?;
+    words.push_str(" objects, sub-indices 0 1 2")?;
+    push_subs(words, subs)?;
+    words.push_str(invented())
+}
+
+// what comes with a change
 #[tactic(auto, unfolding(crate::specs::Listing::sub_indices_text))]
 fn push_sub_indices(text: &mut Vec<u8>, alloc: Global, kind: ChangeKind) -> Result<(), AllocError>
     ensures { OnOk result (text.new.items ≡ text.old.items ++ sub_indices_text kind) }
 {
-    let ChangeKind::CompactSubObj { index, count } = kind else {
-        return Ok(());
-    };
     let mut words = String::new(alloc);
-    words.push_str(", [")?;
-    push_u16(&mut words, index)?;
-    words.push_str("sub0] and ")?;
-    push_decimal(&mut words, u64::from(count))?;
-    words.push_str(" more")?;
-    text.extend_from_slice(words.as_bytes())?;
-    Ok(())
+    match kind {
+        ChangeKind::CompactSubObj { index, count } => push_sections(&mut words, index, count)?,
+        ChangeKind::CompactPdo { count, subs } => push_objects(&mut words, count, subs)?,
+        _ => {}
+    }
+    text.extend_from_slice(words.as_bytes())
 }
 
 // where a change is

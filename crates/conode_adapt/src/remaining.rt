@@ -1,6 +1,6 @@
 //! What no rule mends: the faults of a text that was rewritten, at the lines that they come from.
 
-use co_sheet_adapt::Piece;
+use co_sheet_changes::Piece;
 use co_sheet_faults::{FaultKind, SheetFault, find_faults, fix_of, meaning_of, subject_of};
 use co_sheet_text::{number_in, same_name, trim, without_mark};
 use co_text::{push_decimal, split_at_first, split_line};

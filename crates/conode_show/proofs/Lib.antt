@@ -1,1 +1,2 @@
 pub mod JsonExamples
+pub mod RetypedLemmas

@@ -1,2 +1,3 @@
 pub mod JsonForm
 pub mod Shown
+pub mod Retyped

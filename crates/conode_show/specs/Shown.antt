@@ -1,12 +1,14 @@
 -- What is written of a text.
-use Rattle.std.specs.Prelude.{ℕ, nat_lt, Bool, List, [], ◌∷◌, ◌++◌, length, if◌then◌else◌, Option}
+use Rattle.std.specs.Prelude.{ℕ, nat_lt, Bool, List, [], ◌∷◌, ◌++◌, length, map, codes, if◌then◌else◌, Option}
+use Rattle.std.specs.Option.{option_map_or}
 use Rattle.co_sheet_rows.specs.declared.fault.FaultKind.TheVariants.{TooLarge}
 use Rattle.co_sheet_rows.specs.declared.fault.SheetFault.{SheetFault}
 use Rattle.co_sheet_rows.specs.FaultTexts.{fault_text}
 use Rattle.co_sheet.specs.Faults.{fault_at}
 use Rattle.co_sheet_text.specs.LinesAtFault.{sections_read}
-use Rattle.co_sheet_text.specs.Sections.{TextSection}
-use Rattle.co_sheet_text.specs.Text.{lines_of}
+use Rattle.co_sheet_text.specs.Sections.{Property, TextSection}
+use Rattle.co_sheet_text.specs.Text.{lines_of, same_name}
+use Rattle.co_sheet_originals.specs.Originals.{original_at}
 use Rattle.conode_show.specs.declared.form.Form.{Form}
 use Rattle.conode_show.specs.declared.form.Form.TheVariants.{Lines, Json}
 use Rattle.conode_show_text.specs.Document.{document, node_for, ordered}
@@ -29,12 +31,28 @@ abbrev pub fault_in : Form → SheetFault → List ℕ
 fault_in (Lines format) fault = fault_line fault
 fault_in Json fault = json_fault fault
 
+-- a property with the code of the original type in the place of the one that stands for it
+abbrev pub retyped_property : List ℕ → Property → Property
+retyped_property code k =
+    if same_name k.name (codes "DataType") then record k { value = code } else k
+
+-- a section with its original type, if it has one
+abbrev pub properties_with : Option (List ℕ) → List Property → List Property
+properties_with code properties = option_map_or (λ c. map (retyped_property c) properties) code properties
+
+abbrev pub retyped : (ℕ → Option (List ℕ)) → TextSection → TextSection
+retyped originals s = record s { properties = properties_with (originals s.line) s.properties }
+
+-- the sections of a text, read in spite of its lines at fault, with the original types of one that was adapted
+unfoldable pub sections_of : List ℕ → List TextSection
+sections_of text = map (retyped (original_at text)) (sections_read (lines_of text))
+
 -- the document of sections, which are put in order, for the node-ID that is given or else theirs
 abbrev pub document_of : Form → Option ℕ → List TextSection → List ℕ
 document_of form node sections = document_in form (node_for node sections) (ordered sections)
 
--- the document of a text's sections, read in spite of its lines at fault; or why it isn't read
+-- the document of a text's sections, or why it isn't read
 unfoldable pub shown : Form → Option ℕ → List ℕ → List ℕ
 shown form node text =
     if is_too_large text then fault_in form (fault_at 0 TooLarge)
-    else document_of form node (sections_read (lines_of text))
+    else document_of form node (sections_of text)

@@ -9,6 +9,7 @@ mod json_services;
 mod json_words;
 mod json_writer;
 mod own_text;
+mod retyped;
 mod shown_file;
 
 pub use conode_show_text::Format;

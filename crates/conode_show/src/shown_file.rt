@@ -1,16 +1,20 @@
 //! The file of a data sheet, shown.
 
-ghost use Rattle.std.specs.Prelude.{◌≡◌, ◌⊎◌, map, not, IfOk, IfErr, OnOk, Err};
+ghost use Rattle.std.specs.Prelude.{◌≡◌, ◌⊎◌, ◌≤◌, length, map, not, IfOk, IfErr, OnOk, Err};
 ghost use Rattle.std.specs.Io.KnownBytes.{Appends, Keeps};
 ghost use Rattle.std.specs.Process.{exit_status};
 ghost use Rattle.co_sheet_text.specs.Views.{section_view};
 ghost use Rattle.conode_io.specs.Written.{AppendsFront};
+ghost use Rattle.co_sheet_text.specs.LinesAtFault.{sections_read};
+ghost use Rattle.co_sheet_text.specs.Text.{lines_of};
 ghost use Rattle.conode_show_text.specs.Document.{ordered};
-ghost use Rattle.conode_show.specs.Shown.{document_in, document_of, fault_in, fault_line, is_too_large, shown};
+ghost use Rattle.conode_show.specs.Shown.{document_in, document_of, fault_in, fault_line, is_too_large, sections_of, shown};
 
 use crate::form::Form;
 use crate::json_form::{json_document, json_fault};
+use crate::retyped::{all_retyped, sections_in as retyped_sections};
 use co_sheet::GREATEST_SIZE;
+use co_sheet_originals::Originals;
 use co_sheet_rows::{FaultKind, SheetFault};
 use co_sheet_text::{ParsedText, TextSection, all_sections_in};
 use conode_io::{CmdFault, file_text, flushed, hand_over, no_text, out_of_memory, stopped};
@@ -50,16 +54,22 @@ fn ordered_document(
     document_in(alloc, form, node, sections)
 }
 
-// the document of a text's sections
+// the document of a text's sections, with the original types of one that was adapted
 fn document_of(
     alloc: Global,
     form: Form,
     node: Option<u8>,
+    text: &[u8],
     parsed: &ParsedText<'_>,
 ) -> Result<Vec<u8>, AllocError>
-    ensures { IfOk result (λ text. text.items ≡ document_of form node parsed.now) }
+    requires size { length text.now ≤ 1048576 }
+    requires parsed { parsed.now ≡ sections_read (lines_of text.now) }
+    ensures { IfOk result (λ made. made.items ≡ document_of form node (sections_of text.now)) }
 {
-    let mut sections = parsed.sections(alloc)?;
+    let originals = Originals::in_text(alloc, text)?;
+    let given = parsed.sections(alloc)?;
+    let retyped = all_retyped(alloc, &originals, given.as_slice())?;
+    let mut sections = retyped_sections(alloc, retyped.as_slice())?;
     let node = node_for(node, sections.as_slice());
     ordered_document(alloc, form, node, sections.as_mut_slice())
 }
@@ -99,7 +109,7 @@ fn shown(alloc: Global, form: Form, node: Option<u8>, text: &[u8]) -> Result<Vec
         return fault_in(alloc, form, TOO_LARGE);
     }
     let (parsed, _faults) = all_sections_in(alloc, text)?;
-    document_of(alloc, form, node, &parsed)
+    document_of(alloc, form, node, text, &parsed)
 }
 
 /// Shows the object dictionary of a data sheet (CiA 306): an entry in each line, by index and sub-index, then its PDOs and

@@ -1,6 +1,7 @@
 -- What is asked for is what the fields say, and the fields say one thing at most.
 use Rattle.std.proofs.Common.{◌≡◌, Bool, true, false, List, Option, Some, None, IfSome, IsSomeAnd, codes, refl, sym, ap, subst, ◌∙◌}
 use Rattle.std.specs.Prelude.{if◌then◌else◌, option_and_then, option_map}
+use Rattle.std.specs.Option.{option_map_or}
 use Rattle.std.specs.Str.{bytes_eq}
 use Rattle.std.proofs.lemmas.Option.{option_and_then_some}
 use Rattle.std.proofs.lemmas.Slice.Eq.{bytes_eq-Decides}
@@ -9,7 +10,7 @@ use Rattle.conode_words.specs.declared.tasks.DeviceWords.{DeviceWords}
 use Rattle.conode_words.specs.declared.tasks.DictionaryWords.{DictionaryWords}
 use Rattle.conode_words.specs.declared.tasks.Task.{Task}
 use Rattle.conode_words.specs.Fields.{AsksFor, GivesDevice, GivesDictionary}
-use Rattle.conode_words.specs.Tasks.{Asked, AskedAdapt, AskedCheck, AskedDecode, AskedExplain, AskedLint, AskedLoop, AskedReplay, AskedShow, adapt, asked_adapt, asked_by, asked_check, asked_decode, asked_device, asked_dictionary, asked_explain, asked_in, asked_lint, asked_lint_of, asked_loop, asked_of, asked_other, asked_replay, asked_show, check, colours_for, colours_of, decode, explain, format_for, format_of, lint, loop_back, mode_for, mode_of, number_for, number_of_bits, replay, show, shown_as, shown_for, stamps_for, stamps_of}
+use Rattle.conode_words.specs.Tasks.{Asked, AskedAdapt, AskedCheck, AskedDecode, AskedExplain, AskedLint, AskedLoop, AskedReplay, AskedShow, adapt, asked_adapt, asked_by, asked_check, asked_decode, asked_device, asked_dictionary, asked_explain, asked_in, asked_lint, asked_lint_of, asked_loop, asked_of, asked_other, asked_replay, asked_show, check, colours_for, colours_of, decode, explain, format_for, format_of, lint, loop_back, mode_for, mode_of, number_for, number_of_bits, replay, show, shown_as, shown_for, stamps_for, stamps_of, zeros_for, zeros_of}
 
 -- a value that is made of another
 mapped : {A B P : Type 0} (f : A → B) (o : Option A) (b : B) → option_map f o ≡ Some b → ((a : A) → o ≡ Some a → f a ≡ b → P) → P
@@ -24,6 +25,28 @@ chosen choice (Some word) a e = e
 choice_is : {A : Type 0} (choice : Text → Option A) (word : Option Text) (a : A) → IsSomeAnd word (λ w. choice w ≡ Some a) → option_and_then choice word ≡ Some a
 choice_is choice None a h = absurd h
 choice_is choice (Some word) a h = h
+
+-- the word of an option that needn't be used
+used_choice : {A : Type 0} (c : Option A) (a : Option A) → option_map (λ x. Some x) c ≡ Some a → Some c ≡ option_map (λ x. Some x) a
+used_choice None a e = absurd cc
+used_choice (Some x) None e = absurd cc
+used_choice (Some x) (Some y) e = e
+
+chosen_if_used : {A : Type 0} (choice : Text → Option A) (word : Option Text) (a : Option A) → option_map_or (λ w. option_map (λ x. Some x) (choice w)) word (Some None) ≡ Some a → option_map choice word ≡ option_map (λ x. Some x) a
+chosen_if_used choice None None e = refl
+chosen_if_used choice None (Some x) e = absurd cc
+chosen_if_used choice (Some word) a e = used_choice (choice word) a e
+
+used_is : {A : Type 0} (c : Option A) (a : Option A) → Some c ≡ option_map (λ x. Some x) a → option_map (λ x. Some x) c ≡ Some a
+used_is None None e = absurd cc
+used_is None (Some y) e = absurd cc
+used_is (Some x) None e = absurd cc
+used_is (Some x) (Some y) e = e
+
+choice_if_used : {A : Type 0} (choice : Text → Option A) (word : Option Text) (a : Option A) → option_map choice word ≡ option_map (λ x. Some x) a → option_map_or (λ w. option_map (λ x. Some x) (choice w)) word (Some None) ≡ Some a
+choice_if_used choice None None e = refl
+choice_if_used choice None (Some x) e = absurd cc
+choice_if_used choice (Some word) a e = used_is (choice word) a e
 
 named : (name known : Text) → bytes_eq name known ≡ true → name ≡ known
 named name known e = (bytes_eq-Decides name known).0 e
@@ -106,9 +129,11 @@ show_fields rows a e =
     subst (AsksFor (codes "show") rows) is (refl, e0, refl, chosen shown_as (first_of (codes "format") rows) form e1)))
 
 adapt_fields : (rows : List Row) (a : Asked) → asked_adapt rows ≡ Some a → AsksFor (codes "adapt") rows a
-unfolding asked_adapt
+unfolding asked_adapt zeros_for
 adapt_fields rows a e =
-    mapped _ (first_of (codes "SHEET") rows) a e (λ sheet e0 is. subst (AsksFor (codes "adapt") rows) is (refl, e0))
+    option_and_then_some _ (first_of (codes "SHEET") rows) a e (λ sheet e0 f0.
+    mapped _ (zeros_for rows) a f0 (λ zeros e1 is.
+    subst (AsksFor (codes "adapt") rows) is (refl, e0, chosen_if_used zeros_of (first_of (codes "leading-zeros") rows) zeros e1, refl)))
 
 explain_fields : (rows : List Row) (a : Asked) → asked_explain rows ≡ Some a → AsksFor (codes "explain") rows a
 unfolding asked_explain stamps_for
@@ -242,9 +267,10 @@ show_is rows a (name_is, sheet, node, f) =
     rw (sheet, form, ← node) refl
 
 adapt_is : (rows : List Row) (a : AskedAdapt) → AsksFor (codes "adapt") rows (adapt a) → asked_adapt rows ≡ Some (adapt a)
-unfolding asked_adapt
-adapt_is rows a (name_is, sheet) =
-    rw (sheet) refl
+unfolding asked_adapt zeros_for
+adapt_is rows a (name_is, sheet, z, force) =
+    let zeros = choice_if_used zeros_of (first_of (codes "leading-zeros") rows) a.leading_zeros z in
+    rw (sheet, zeros, ← force) refl
 
 explain_is : (rows : List Row) (a : AskedExplain) → AsksFor (codes "explain") rows (explain a) → asked_explain rows ≡ Some (explain a)
 unfolding asked_explain stamps_for

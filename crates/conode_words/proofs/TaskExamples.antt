@@ -10,11 +10,12 @@ use Rattle.conode_words.specs.declared.tasks.DeviceWords.{DeviceWords}
 use Rattle.conode_words.specs.declared.tasks.DictionaryWords.{DictionaryWords}
 use Rattle.conode_words.specs.declared.tasks.ShownAs.TheVariants.{Columns, Markdown}
 use Rattle.conode_words.specs.declared.tasks.ShownAs.TheVariants as shown_form
+use Rattle.conode_words.specs.declared.tasks.LeadingZeros.TheVariants.{Octal, Decimal}
 use Rattle.conode_words.specs.declared.tasks.Stamps.TheVariants.{Relative, Absolute, Delta, Date}
 use Rattle.conode_words.specs.declared.tasks.Colours.TheVariants.{Auto, Always, Never}
 use Rattle.conode_words.specs.declared.tasks.Format.TheVariants.{Json, Sarif, Text as AsText}
 use Rattle.conode_words.specs.Commands.{adapt_command, check_command, conode_command, decode_command, domains_option, explain_command, lint_command, loop_command, node_option, replay_command, show_command, strings_option, time_option}
-use Rattle.conode_words.specs.Tasks.{Asked, check, lint, decode, replay, loop_back, show, adapt, explain, asked_in, asked_of, colours_of, format_of, mode_of, shown_as, stamps_of, word_fault}
+use Rattle.conode_words.specs.Tasks.{Asked, check, lint, decode, replay, loop_back, show, adapt, explain, asked_in, asked_of, colours_of, format_of, mode_of, shown_as, stamps_of, word_fault, zeros_of}
 use Rattle.conode_words.proofs.OnLiterals.{words_on_literals}
 
 -- what all words ask for, by the program's command; and those after the name of a subcommand, by that alone, which is computed
@@ -189,9 +190,22 @@ show_in_another_format : fault_after show_command (codes "show") (codes "a" ∷ 
 unfolding words_on_literals
 show_in_another_format = refl
 
-adapt_of_a_sheet : asked_after adapt_command (codes "adapt") (codes "a" ∷ []) ≡ Some (adapt (record { sheet = codes "a" }))
+adapt_of_a_sheet : asked_after adapt_command (codes "adapt") (codes "a" ∷ []) ≡ Some (adapt (record { sheet = codes "a"; leading_zeros = None; force = false }))
 unfolding words_on_literals
 adapt_of_a_sheet = refl
+
+adapt_by_force : asked_after adapt_command (codes "adapt") (codes "--leading-zeros=octal" ∷ codes "a" ∷ codes "--force" ∷ [])
+    ≡ Some (adapt (record { sheet = codes "a"; leading_zeros = Some Octal; force = true }))
+unfolding words_on_literals
+adapt_by_force = refl
+
+leading_zeros : map zeros_of (codes "octal" ∷ codes "decimal" ∷ codes "Octal" ∷ codes "8" ∷ []) ≡ Some Octal ∷ Some Decimal ∷ None ∷ None ∷ []
+unfolding words_on_literals
+leading_zeros = refl
+
+adapt_by_another_base : fault_after adapt_command (codes "adapt") (codes "a" ∷ codes "--leading-zeros" ∷ codes "hex" ∷ []) ≡ kind.InvalidValue ∷ []
+unfolding words_on_literals
+adapt_by_another_base = refl
 
 adapt_without_sheet : fault_after adapt_command (codes "adapt") [] ≡ kind.MissingRequiredArgument ∷ []
 unfolding words_on_literals

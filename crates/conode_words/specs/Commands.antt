@@ -106,9 +106,11 @@ show_command =
     with_rule (with_rule (with_rule (new_app (codes "show")) (wanted (codes "SHEET"))) node_option)
     (worded (codes "format") (codes "text"))
 
--- `adapt SHEET`
+-- `adapt SHEET [--leading-zeros octal|decimal] [--force]`
 unfoldable pub adapt_command : App
-adapt_command = with_rule (new_app (codes "adapt")) (wanted (codes "SHEET"))
+adapt_command =
+    with_rule (with_rule (with_rule (new_app (codes "adapt")) (wanted (codes "SHEET")))
+    (valued (codes "leading-zeros"))) (flag (codes "force"))
 
 -- `explain TRACE [--sheet SHEET] [--stamps FORM|-t FORM]`
 abbrev pub stamps_option : Rule

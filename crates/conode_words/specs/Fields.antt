@@ -1,9 +1,9 @@
 -- Which word and which option gives which field of what is asked for.
-use Rattle.std.specs.Prelude.{◌≡◌, ℕ, List, codes, Option, Some, IsSomeAnd}
+use Rattle.std.specs.Prelude.{◌≡◌, ℕ, List, codes, Option, Some, IsSomeAnd, option_map}
 use Rattle.clap.specs.Words.{Row, Text, first_of}
 use Rattle.conode_words.specs.declared.tasks.DeviceWords.{DeviceWords}
 use Rattle.conode_words.specs.declared.tasks.DictionaryWords.{DictionaryWords}
-use Rattle.conode_words.specs.Tasks.{Asked, check, lint, decode, replay, loop_back, show, adapt, explain, colours_of, format_of, is_used, mode_of, number_for, number_of_bits, shown_as, stamps_of, words_for}
+use Rattle.conode_words.specs.Tasks.{Asked, check, lint, decode, replay, loop_back, show, adapt, explain, colours_of, format_of, is_used, mode_of, number_for, number_of_bits, shown_as, stamps_of, words_for, zeros_of}
 
 -- the word, or the value of an option, is this one
 abbrev pub IsWord : Text → List Row → Text → Type 0
@@ -16,6 +16,11 @@ IsNumber name rows number = IsSomeAnd (first_of name rows) (λ word. number_of_b
 -- it names this choice
 abbrev pub IsChoice : {A : Type 0} → (Text → Option A) → Text → List Row → A → Type 0
 IsChoice choice name rows a = IsSomeAnd (first_of name rows) (λ word. choice word ≡ Some a)
+
+-- it names this choice, if it is used
+abbrev pub IsChoiceIfUsed : {A : Type 0} → (Text → Option A) → Text → List Row → Option A → Type 0
+IsChoiceIfUsed choice name rows a =
+    option_map choice (first_of name rows) ≡ option_map (λ used. Some used) a
 
 -- `--node`, if it is used
 abbrev pub IsNode : List Row → Option ℕ → Type 0
@@ -54,7 +59,10 @@ AsksFor name rows (loop_back a) =
 AsksFor name rows (show a) =
     (name ≡ codes "show") × IsWord (codes "SHEET") rows a.sheet × IsNode rows a.node
     × IsChoice shown_as (codes "format") rows a.shown_as
-AsksFor name rows (adapt a) = (name ≡ codes "adapt") × IsWord (codes "SHEET") rows a.sheet
+AsksFor name rows (adapt a) =
+    (name ≡ codes "adapt") × IsWord (codes "SHEET") rows a.sheet
+    × IsChoiceIfUsed zeros_of (codes "leading-zeros") rows a.leading_zeros
+    × (a.force ≡ is_used (codes "force") rows)
 AsksFor name rows (explain a) =
     (name ≡ codes "explain") × IsWord (codes "TRACE") rows a.trace
     × (a.sheet ≡ first_of (codes "sheet") rows) × IsChoice stamps_of (codes "stamps") rows a.stamps

@@ -18,6 +18,8 @@ use Rattle.conode_words.specs.declared.tasks.Format.{Format}
 use Rattle.conode_words.specs.declared.tasks.Format.TheVariants as format
 use Rattle.conode_words.specs.declared.tasks.Task.{Task}
 use Rattle.conode_words.specs.declared.tasks.Task.TheVariants.{Check, Lint, Decode, Replay, LoopBack, Show, Adapt, Explain}
+use Rattle.conode_words.specs.declared.tasks.LeadingZeros.{LeadingZeros}
+use Rattle.conode_words.specs.declared.tasks.LeadingZeros.TheVariants.{Octal, Decimal}
 use Rattle.conode_words.specs.declared.tasks.Stamps.{Stamps}
 use Rattle.conode_words.specs.declared.tasks.Stamps.TheVariants.{Relative, Absolute, Delta, Date}
 use Rattle.conode_words.specs.declared.tasks.ShownAs.{ShownAs}
@@ -68,6 +70,8 @@ pub record AskedShow : Type 0 where
 -- what the words after `adapt` ask for
 pub record AskedAdapt : Type 0 where
   pub sheet : Text
+  pub leading_zeros : Option LeadingZeros
+  pub force : Bool
 
 -- what the words after `explain` ask for
 pub record AskedExplain : Type 0 where
@@ -106,7 +110,8 @@ asked_by (Replay sheet trace device) =
 asked_by (LoopBack sheet key bytes mode device) =
     loop_back (record { sheet = sheet.now; key = key.now; bytes = bytes.now; mode = mode; device = device })
 asked_by (Show sheet node form) = show (record { sheet = sheet.now; node = node; shown_as = form })
-asked_by (Adapt sheet) = adapt (record { sheet = sheet.now })
+asked_by (Adapt sheet zeros force) =
+    adapt (record { sheet = sheet.now; leading_zeros = zeros; force = force })
 asked_by (Explain trace sheet stamps) =
     explain (record { trace = trace.now; sheet = option_copied sheet; stamps = stamps })
 
@@ -239,10 +244,24 @@ asked_show rows =
     show (record { sheet = sheet; node = number_for 8 (codes "node") rows; shown_as = form }))
     (shown_for rows)) (first_of (codes "SHEET") rows)
 
+-- how a word says that leading zeros are read
+unfoldable pub zeros_of : Text → Option LeadingZeros
+zeros_of word =
+    if bytes_eq word (codes "octal") then Some Octal
+    else (if bytes_eq word (codes "decimal") then Some Decimal else None)
+
+-- the same of matches: not at all where the option isn't used; None where its word is no such word
+unfoldable pub zeros_for : List Row → Option (Option LeadingZeros)
+zeros_for rows =
+    option_map_or (λ word. option_map (λ zeros. Some zeros) (zeros_of word))
+    (first_of (codes "leading-zeros") rows) (Some None)
+
 -- what the matches of `adapt` ask for
 unfoldable pub asked_adapt : List Row → Option Asked
 asked_adapt rows =
-    option_map (λ sheet. adapt (record { sheet = sheet })) (first_of (codes "SHEET") rows)
+    option_and_then (λ sheet. option_map (λ zeros.
+    adapt (record { sheet = sheet; leading_zeros = zeros; force = is_used (codes "force") rows }))
+    (zeros_for rows)) (first_of (codes "SHEET") rows)
 
 -- the form of stamps that a word names, or a letter, as candump has them
 unfoldable pub stamps_of : Text → Option Stamps
@@ -283,13 +302,14 @@ unfoldable pub asked_of : Option (Text × List Row) → Option Asked
 asked_of matches = option_and_then (λ m. asked_in m.0 m.1) matches
 
 -- the matches of a subcommand have a word that is none of those that it takes: the mode of `loop`, the format and
--- the colours of `lint`, the form of `show`, the stamps of `explain`
+-- the colours of `lint`, the form of `show`, the leading zeros of `adapt`, the stamps of `explain`
 unfoldable pub is_other : Text → List Row → Bool
 is_other name rows =
     if bytes_eq name (codes "loop") then is_none (mode_for rows)
     else (if bytes_eq name (codes "lint") then is_none (format_for rows) || is_none (colours_for rows)
     else (if bytes_eq name (codes "show") then is_none (shown_for rows)
-    else (if bytes_eq name (codes "explain") then is_none (stamps_for rows) else false)))
+    else (if bytes_eq name (codes "adapt") then is_none (zeros_for rows)
+    else (if bytes_eq name (codes "explain") then is_none (stamps_for rows) else false))))
 
 unfoldable pub has_other_word : Option (Text × List Row) → Bool
 has_other_word matches = option_map_or (λ m. is_other m.0 m.1) matches false

@@ -31,10 +31,12 @@ ghost use Rattle.conode_words.specs.Tasks.{
   stamps_for,
   stamps_of,
   words_for,
+  zeros_for,
+  zeros_of,
 };
 
 use crate::tasks::{
-    Colours, DeviceWords, DictionaryWords, Format, LintWords, ShownAs, Stamps, Task,
+    Colours, DeviceWords, DictionaryWords, Format, LeadingZeros, LintWords, ShownAs, Stamps, Task,
 };
 use clap::ArgMatches;
 use co_sdo_client::Mode;
@@ -322,13 +324,42 @@ fn asked_show<'a>(found: &ArgMatches<'a>) -> Option<Task<'a>>
     })
 }
 
+// how a word says that leading zeros are read
+#[tactic(auto, unfolding(crate::specs::Tasks::zeros_of))]
+fn zeros_of(word: &str) -> Option<LeadingZeros>
+    ensures { result ≡ zeros_of word.now }
+{
+    if is(word, "octal") {
+        Some(LeadingZeros::Octal)
+    } else if is(word, "decimal") {
+        Some(LeadingZeros::Decimal)
+    } else {
+        None
+    }
+}
+
+#[tactic(auto, unfolding(crate::specs::Tasks::zeros_for))]
+pub(crate) fn zeros_for(found: &ArgMatches<'_>) -> Option<Option<LeadingZeros>>
+    ensures { result ≡ zeros_for (rows_of (found_of found.now)) }
+{
+    match word_for(found, "leading-zeros") {
+        Some(word) => Some(Some(zeros_of(word)?)),
+        None => Some(None),
+    }
+}
+
 // what the words after `adapt` ask for
 #[tactic(auto, unfolding(crate::specs::Tasks::asked_adapt))]
 fn asked_adapt<'a>(found: &ArgMatches<'a>) -> Option<Task<'a>>
     ensures { option_map asked_by result ≡ asked_adapt (rows_of (found_of found.now)) }
 {
     let sheet = word_for(found, "SHEET")?;
-    Some(Task::Adapt { sheet })
+    let leading_zeros = zeros_for(found)?;
+    Some(Task::Adapt {
+        sheet,
+        leading_zeros,
+        force: is_used(found, "force"),
+    })
 }
 
 // the form of stamps that a word names

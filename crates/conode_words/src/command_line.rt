@@ -13,7 +13,9 @@ ghost use Rattle.conode_words.specs.Tasks.{
   word_fault,
 };
 
-use crate::asked::{asked_in, colours_for, format_for, is, mode_for, shown_for, stamps_for};
+use crate::asked::{
+    asked_in, colours_for, format_for, is, mode_for, shown_for, stamps_for, zeros_for,
+};
 use crate::commands::conode_command;
 use crate::help;
 use crate::tasks::Task;
@@ -40,6 +42,10 @@ fn other_of(name: &str, found: &ArgMatches<'_>) -> Option<&'static str>
     } else if is(name, "show") {
         if shown_for(found).is_none() {
             return Some(help::SHOWN_FORMS);
+        }
+    } else if is(name, "adapt") {
+        if zeros_for(found).is_none() {
+            return Some(help::LEADING_ZEROS);
         }
     } else if is(name, "explain") && stamps_for(found).is_none() {
         return Some(help::STAMPS);

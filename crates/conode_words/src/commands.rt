@@ -219,7 +219,20 @@ fn adapt_command<'a>(alloc: Global) -> Result<Command<'a>, AllocError>
         "SHEET",
         "The vendor's data sheet (EDS or DCF, CiA 306)",
     );
-    with_arg(command, sheet)
+    let command = with_arg(command, sheet)?;
+    let zeros = valued(
+        alloc,
+        "leading-zeros",
+        "BASE",
+        "Read 010 as octal or as decimal; else it stays",
+    );
+    let command = with_arg(command, zeros)?;
+    let force = flag(
+        alloc,
+        "force",
+        "Also drop bad limits, mappings, bit 30 of 1005h",
+    );
+    with_arg(command, force)
 }
 
 fn stamps_arg<'a>(alloc: Global) -> Arg<'a>

@@ -184,6 +184,14 @@ standard error, as `NAME:LINE: what changed: old -> new`; all other lines stay.
 
   conode adapt vendor.eds > adapted.eds
 
+CompactPDO gets the sections that it stands for: PDOs that aren't valid, with
+mappings of 0 entries, since the sheet doesn't say more.
+
+--leading-zeros octal reads 010 as 8, --leading-zeros decimal as 10; without the
+option it stays, and is listed with both. --force also mends what is lost by it:
+a limit that is no number of its type becomes a comment, a mapping at fault, as
+one of single bits, gets 0 entries, and bit 30 of 1005h is cleared.
+
 Where something remains that no rule mends, nothing is printed but its faults,
 on standard error, as `lint` prints them. A sheet that is accepted already
 stays as it is. The first line says what the sheet was made from: it is for this
@@ -205,6 +213,9 @@ Empty lines, comments (`;`), event lines (`!`) and other frames print nothing.
 Status: 0 if all of the trace was decoded, 1 if not; then the last line says
 why, as `stopped: BadLine 3`, or `fault 9 BadList line 1` for the sheet; 2 if
 the words are wrong.";
+
+/// What is said of a base of leading zeros that is none.
+pub const LEADING_ZEROS: &str = "invalid value for '--leading-zeros <BASE>': octal or decimal";
 
 /// What is said of a form of stamps that is none.
 pub const STAMPS: &str = "invalid value for '--stamps <FORM>': relative, absolute, delta or date";

@@ -10,4 +10,6 @@ mod tasks;
 
 pub use command_line::task;
 pub use help::VERSION;
-pub use tasks::{Colours, DeviceWords, DictionaryWords, Format, LintWords, ShownAs, Stamps, Task};
+pub use tasks::{
+    Colours, DeviceWords, DictionaryWords, Format, LeadingZeros, LintWords, ShownAs, Stamps, Task,
+};

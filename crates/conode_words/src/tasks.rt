@@ -33,6 +33,13 @@ pub enum ShownAs {
     Json,
 }
 
+/// How `adapt` reads a number with a leading zero.
+#[derive(Clone, Copy, Debug, PartialEq, Eq)]
+pub enum LeadingZeros {
+    Octal,
+    Decimal,
+}
+
 /// In which form `explain` writes stamps.
 #[derive(Clone, Copy, Debug, PartialEq, Eq)]
 pub enum Stamps {
@@ -139,6 +146,10 @@ pub enum Task<'a> {
     Adapt {
         /// The sheet's path.
         sheet: &'a str,
+        /// How a number with a leading zero is read; `None`: it stays as it is.
+        leading_zeros: Option<LeadingZeros>,
+        /// Whether what the rules leave at fault is forced.
+        force: bool,
     },
     /// To explain a recording.
     Explain {

@@ -1,7 +1,7 @@
 use Rattle.std.proofs.Common.{◌≡◌, map, take}
 use Rattle.std.specs.List.{flat_map}
 use Rattle.co_sheet_adapt.specs.Compact.{copied_line}
-use Rattle.co_sheet_adapt.specs.private.Views.{line_view}
+use Rattle.co_sheet_changes.specs.Views.{line_view}
 use Rattle.co_sheet_adapt.proofs.compact.copied_lines.Given as goal
 
 -- those so far

@@ -1,6 +1,6 @@
 use Rattle.std.proofs.Common.{◌≡◌, ◌++◌, map, take}
 use Rattle.std.specs.List.{flat_map}
-use Rattle.co_sheet_adapt.specs.Views.{piece_view}
+use Rattle.co_sheet_changes.specs.Pieces.{piece_view}
 use Rattle.conode_adapt.specs.Listing.{piece_line}
 use Rattle.conode_adapt.proofs.listing.push_changes.Given as goal
 

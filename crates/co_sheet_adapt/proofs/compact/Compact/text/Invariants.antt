@@ -1,7 +1,7 @@
 use Rattle.std.proofs.Common.{◌≡◌, ◌++◌}
 use Rattle.co_sheet_adapt.specs.Compact.{copied_lines, first_section, sub_section, sub_sections}
 use Rattle.co_sheet_adapt.specs.private.Named.{texts_at}
-use Rattle.co_sheet_adapt.specs.private.Views.{group_view}
+use Rattle.co_sheet_changes.specs.Views.{group_view}
 use Rattle.co_sheet_adapt.proofs.compact.Compact.text.Given as goal
 
 -- those so far

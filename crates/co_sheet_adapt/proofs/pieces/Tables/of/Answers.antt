@@ -5,4 +5,5 @@ pub returns : goal.returns
 returns c = record {
   names = λ i k. c.in_ok-of.ensures k i;
   values = λ i k. c.in_ok-of-2.ensures k i;
+  pdos = c.in_ok-of-3.ensures;
 }

@@ -1,8 +1,0 @@
-use Rattle.std.proofs.Common.{◌≡◌, drop, map}
-use Rattle.co_sheet_adapt.specs.Groups.{value_in}
-use Rattle.co_sheet_adapt.specs.private.Views.{line_view}
-use Rattle.co_sheet_adapt.proofs.group.Group.value.Given as goal
-
--- what the rest has is what all have
-abbrev pub invariant-loop-line : goal.invariant-loop-line
-invariant-loop-line l = value_in l.name (map line_view (drop l.line-index l.line-items)) ≡ value_in l.name (map line_view l.line-items)

@@ -1,0 +1,531 @@
+//! PDOs in compact form (CiA 306, compact storage): the objects that no section describes.
+
+ghost use Rattle.std.specs.Prelude.{◌≡◌, ◌≤◌, ◌+◌, ◌++◌, ◌∷◌, [], codes, decimal, map, option_and_then, option_map, IfOk, IfSome, OnOk};
+ghost use Rattle.std.specs.List.{flat_map, list_any};
+ghost use Rattle.std.specs.Option.{option_copied};
+ghost use Rattle.co_sheet_text.specs.declared.section_kind.SectionKind.TheVariants.{DeviceInfo, OptionalObjects};
+ghost use Rattle.co_text.specs.Printed.{digits_text};
+ghost use Rattle.co_sheet_changes.specs.Pieces.{mended_view, piece_view};
+ghost use Rattle.co_sheet_changes.specs.Views.{group_view};
+ghost use Rattle.co_sheet_adapt.specs.Compact.{sub_head, sub_sections};
+ghost use Rattle.co_sheet_adapt.specs.CompactPdo.{
+  absent_objects,
+  absent_of,
+  communication_text,
+  count_change,
+  ends_reserved,
+  form_change,
+  form_in,
+  group_at,
+  has_needed,
+  highest_of,
+  keys_of,
+  is_communication,
+  is_kind,
+  is_object_of,
+  mapping_text,
+  number_within,
+  object_head,
+  object_text,
+  pdo_added,
+  pdo_change,
+  pdo_form,
+  pdo_text,
+  place_line,
+  places_from,
+  sub_if,
+  subs_of,
+  word_section,
+};
+ghost use Rattle.co_sheet_adapt.specs.private.Pdos.{form_view};
+
+use crate::compact::{push_first_section, sub_head};
+use co_sheet_changes::{ChangeKind, Group, Mended, Piece, assigned, hexadecimal};
+use co_sheet_text::{SectionKind, same_name};
+use co_text::{push_decimal, push_u16};
+use co_value::Key;
+use std::alloc::{AllocError, Global};
+
+/// What sections say of PDOs in compact form.
+#[derive(Drop)]
+pub(crate) struct PdoForm {
+    /// The sub-indices of communication objects: bit 0 for sub-index 1, to bit 5 for sub-index 6.
+    pub(crate) subs: u64,
+    /// How many objects the list of optional objects has.
+    pub(crate) listed: u16,
+    /// The indices of the objects that get sections.
+    pub(crate) absent: Vec<u16>,
+}
+
+fn is_object_of(index: u16, group: &Group) -> bool
+    ensures { result ≡ is_object_of index (group_view group.now) }
+{
+    group.kind == SectionKind::Object(index)
+}
+
+fn has_object(groups: &[Group], index: u16) -> bool
+    ensures { result ≡ list_any (is_object_of index) (map group_view groups.now) }
+{
+    for group in groups {
+        if is_object_of(index, group) {
+            return true;
+        }
+    }
+    false
+}
+
+// those of so many objects that have no section
+fn absent_of(
+    alloc: Global,
+    groups: &[Group],
+    first: u16,
+    count: u16,
+) -> Result<Vec<u16>, AllocError>
+    requires first { first ≤ 0x1A00 }
+    requires few { count ≤ 512 }
+    ensures { IfOk result (λ made. made.items ≡ absent_of (map group_view groups.now) first count) }
+{
+    (first..first + count)
+        .filter(|index| !has_object(groups, *index))
+        .collect(alloc)
+}
+
+fn is_info(group: &Group) -> bool
+    ensures { result ≡ is_kind DeviceInfo (group_view group.now) }
+{
+    group.kind == SectionKind::DeviceInfo
+}
+
+fn is_list(group: &Group) -> bool
+    ensures { result ≡ is_kind OptionalObjects (group_view group.now) }
+{
+    group.kind == SectionKind::OptionalObjects
+}
+
+fn info_in<'g, 's, 'a>(groups: &'g [Group<'s, 'a>]) -> Option<&'g Group<'s, 'a>>
+    ensures { option_map group_view (option_copied result)
+        ≡ group_at DeviceInfo (map group_view groups.entry.now) }
+{
+    for group in groups {
+        if is_info(group) {
+            return Some(group);
+        }
+    }
+    None
+}
+
+fn list_in<'g, 's, 'a>(groups: &'g [Group<'s, 'a>]) -> Option<&'g Group<'s, 'a>>
+    ensures { option_map group_view (option_copied result)
+        ≡ group_at OptionalObjects (map group_view groups.entry.now) }
+{
+    for group in groups {
+        if is_list(group) {
+            return Some(group);
+        }
+    }
+    None
+}
+
+fn number_within(low: u64, high: u64, name: &[u8], group: &Group) -> Option<u64>
+    ensures number { result ≡ number_within low high name.now (group_view group.now) }
+    ensures high { IfSome result (λ number. number ≤ high) }
+{
+    match group.number(name) {
+        Some(number) if low <= number && number <= high => Some(number),
+        _ => None,
+    }
+}
+
+// whether COB-ID and transmission type are there, and at most sub-index 6
+fn has_needed(subs: u64) -> bool
+    ensures { result ≡ has_needed subs }
+{
+    subs % 4 == 3 && subs < 64
+}
+
+// whether the reserved sub-index 4 is there, and no sub-index 5
+fn ends_reserved(subs: u64) -> bool
+    ensures { result ≡ ends_reserved subs }
+{
+    subs / 8 % 2 == 1 && subs / 16 % 2 == 0
+}
+
+// the sub-indices by the bits of CompactPDO, which are counted from sub-index 1 or from sub-index 0
+fn subs_of(bits: u64) -> Option<u64>
+    ensures { result ≡ subs_of bits }
+{
+    if has_needed(bits) && !ends_reserved(bits) {
+        Some(bits)
+    } else if has_needed(bits / 2) {
+        Some(bits / 2)
+    } else {
+        None
+    }
+}
+
+fn subs_in(info: &Group) -> Option<u64>
+    ensures { result ≡ option_and_then subs_of
+        (number_within 1 127 (codes "CompactPDO") (group_view info.now)) }
+{
+    subs_of(number_within(1, 127, b"CompactPDO", info)?)
+}
+
+// the objects of so many PDOs that have no section
+fn absent_objects(
+    alloc: Global,
+    groups: &[Group],
+    receive: u16,
+    transmit: u16,
+) -> Result<Vec<u16>, AllocError>
+    requires receive { receive ≤ 512 }
+    requires transmit { transmit ≤ 512 }
+    ensures { IfOk result (λ made.
+        made.items ≡ absent_objects (map group_view groups.now) receive transmit) }
+{
+    let mut indices = Vec::new(alloc);
+    indices.extend_from_slice(absent_of(alloc, groups, 0x1400, receive)?.as_slice())?;
+    indices.extend_from_slice(absent_of(alloc, groups, 0x1600, receive)?.as_slice())?;
+    indices.extend_from_slice(absent_of(alloc, groups, 0x1800, transmit)?.as_slice())?;
+    indices.extend_from_slice(absent_of(alloc, groups, 0x1A00, transmit)?.as_slice())?;
+    Ok(indices)
+}
+
+impl PdoForm {
+    // by the section DeviceInfo and the list of optional objects
+    fn within(
+        alloc: Global,
+        groups: &[Group],
+        info: &Group,
+        list: &Group,
+    ) -> Result<Option<PdoForm>, AllocError>
+        ensures { IfOk result (λ form. option_map form_view form
+            ≡ form_in (map group_view groups.now) (group_view info.now) (group_view list.now)) }
+    {
+        let (Some(subs), Some(receive), Some(transmit), Some(listed)) = (
+            subs_in(info),
+            number_within(0, 512, b"NrOfRXPDO", info),
+            number_within(0, 512, b"NrOfTXPDO", info),
+            number_within(0, 60_000, b"SupportedObjects", list),
+        ) else {
+            return Ok(None);
+        };
+        let absent = absent_objects(alloc, groups, receive as u16, transmit as u16)?;
+        Ok(Some(PdoForm {
+            subs,
+            listed: listed as u16,
+            absent,
+        }))
+    }
+
+    /// What sections say; `None` where there is no compact form, or what it needs isn't there.
+    pub(crate) fn of(alloc: Global, groups: &[Group]) -> Result<Option<PdoForm>, AllocError>
+        ensures { IfOk result (λ form.
+            option_map form_view form ≡ pdo_form (map group_view groups.now)) }
+    {
+        match (info_in(groups), list_in(groups)) {
+            (Some(info), Some(list)) => PdoForm::within(alloc, groups, info, list),
+            _ => Ok(None),
+        }
+    }
+
+    fn form_change(&self, alloc: Global, name: &[u8]) -> Result<Option<Mended>, AllocError>
+        ensures { IfOk result (λ made.
+            option_map mended_view made ≡ form_change (form_view self.now) name.now) }
+    {
+        if !same_name(name, b"CompactPDO") {
+            return Ok(None);
+        }
+        let new = assigned(alloc, name, b"0")?;
+        let count = self.absent.len() as u64;
+        let subs = self.subs;
+        let kind = ChangeKind::CompactPdo { count, subs };
+        Ok(Some(Mended { kind, new }))
+    }
+
+    fn count_change(&self, alloc: Global, name: &[u8]) -> Result<Option<Mended>, AllocError>
+        ensures { IfOk result (λ made.
+            option_map mended_view made ≡ count_change (form_view self.now) name.now) }
+    {
+        if !same_name(name, b"SupportedObjects") || self.absent.is_empty() {
+            return Ok(None);
+        }
+        let mut digits = String::new(alloc);
+        push_decimal(
+            &mut digits,
+            u64::from(self.listed) + self.absent.len() as u64,
+        )?;
+        let new = assigned(alloc, name, digits.as_bytes())?;
+        let kind = ChangeKind::ListCount;
+        Ok(Some(Mended { kind, new }))
+    }
+}
+
+/// What a line of DeviceInfo or of the list of optional objects becomes.
+pub(crate) fn pdo_change(
+    alloc: Global,
+    form: Option<&PdoForm>,
+    kind: SectionKind,
+    name: &[u8],
+) -> Result<Option<Mended>, AllocError>
+    ensures { IfOk result (λ made. option_map mended_view made
+        ≡ pdo_change (option_map (λ f. form_view f.now) form.entry) kind name.now) }
+{
+    match (form, kind) {
+        (Some(form), SectionKind::DeviceInfo) => form.form_change(alloc, name),
+        (Some(form), SectionKind::OptionalObjects) => form.count_change(alloc, name),
+        _ => Ok(None),
+    }
+}
+
+// the section line of an object
+#[tactic(auto, unfolding(crate::specs::CompactPdo::object_head))]
+fn push_object_head(alloc: Global, text: &mut Vec<u8>, index: u16) -> Result<(), AllocError>
+    ensures { OnOk result (text.new.items ≡ text.old.items ++ object_head index) }
+{
+    let mut head = String::new(alloc);
+    head.push('[')?;
+    push_u16(&mut head, index)?;
+    head.push_str("]\n")?;
+    text.extend_from_slice(head.as_bytes())
+}
+
+// a sub-index, where it is there
+fn push_sub_if(
+    alloc: Global,
+    text: &mut Vec<u8>,
+    is: bool,
+    key: Key,
+    part: Part,
+) -> Result<(), AllocError>
+    ensures { OnOk result (text.new.items ≡ text.old.items ++ sub_if is key (keys_of part)) }
+{
+    if is {
+        push_part(alloc, text, key, part)
+    } else {
+        Ok(())
+    }
+}
+
+// the highest sub-index of a communication object
+fn highest_of(subs: u64) -> u8
+    ensures { result ≡ highest_of subs }
+{
+    match subs {
+        32.. => 6,
+        16..=31 => 5,
+        8..=15 => 4,
+        4..=7 => 3,
+        _ => 2,
+    }
+}
+
+/// A communication or a mapping object, or one of their sub-indices.
+#[derive(Clone, Copy)]
+pub(crate) enum Part {
+    Communication,
+    Mapping,
+    CobId,
+    TransmissionType,
+    InhibitTime,
+    Reserved,
+    EventTimer,
+    SyncStart,
+    MappingCount,
+    MappingWord,
+}
+
+impl Part {
+    #[tactic(auto, unfolding(crate::specs::CompactPdo::keys_of))]
+    fn keys(self) -> &'static [u8]
+        ensures { result.now ≡ keys_of self }
+    {
+        match self {
+            Part::Communication => b"ParameterName=PDO communication parameter\nObjectType=0x9\n\n",
+            Part::Mapping => b"ParameterName=PDO mapping parameter\nObjectType=0x9\n\n",
+            Part::CobId => {
+                b"ParameterName=COB-ID\nDataType=0x0007\nAccessType=rw\nDefaultValue=0x80000000\n\n"
+            }
+            Part::TransmissionType => {
+                b"ParameterName=Transmission type\nDataType=0x0005\nAccessType=rw\nDefaultValue=255\n\n"
+            }
+            Part::InhibitTime => {
+                b"ParameterName=Inhibit time\nDataType=0x0006\nAccessType=rw\nDefaultValue=0\n\n"
+            }
+            Part::Reserved => {
+                b"ParameterName=Reserved\nDataType=0x0005\nAccessType=rw\nDefaultValue=0\n\n"
+            }
+            Part::EventTimer => {
+                b"ParameterName=Event timer\nDataType=0x0006\nAccessType=rw\nDefaultValue=0\n\n"
+            }
+            Part::SyncStart => {
+                b"ParameterName=SYNC start value\nDataType=0x0005\nAccessType=rw\nDefaultValue=0\n\n"
+            }
+            Part::MappingCount => {
+                b"ParameterName=Number of mapped objects\nDataType=0x0005\nAccessType=rw\nDefaultValue=0\n\n"
+            }
+            Part::MappingWord => {
+                b"ParameterName=Mapped object\nDataType=0x0007\nAccessType=rw\nDefaultValue=0\n\n"
+            }
+        }
+    }
+}
+
+// the sections of a communication object
+#[tactic(auto, unfolding(crate::specs::CompactPdo::communication_text))]
+fn push_communication(
+    alloc: Global,
+    text: &mut Vec<u8>,
+    subs: u64,
+    index: u16,
+) -> Result<(), AllocError>
+    ensures { OnOk result (text.new.items ≡ text.old.items ++ communication_text subs index) }
+{
+    push_object_head(alloc, text, index)?;
+    text.extend_from_slice(Part::Communication.keys())?;
+    push_first_section(alloc, text, index, highest_of(subs))?;
+    push_part(alloc, text, Key { index, sub: 1 }, Part::CobId)?;
+    push_part(alloc, text, Key { index, sub: 2 }, Part::TransmissionType)?;
+    push_sub_if(
+        alloc,
+        text,
+        subs / 4 % 2 == 1,
+        Key { index, sub: 3 },
+        Part::InhibitTime,
+    )?;
+    push_sub_if(
+        alloc,
+        text,
+        subs / 8 % 2 == 1,
+        Key { index, sub: 4 },
+        Part::Reserved,
+    )?;
+    push_sub_if(
+        alloc,
+        text,
+        subs / 16 % 2 == 1,
+        Key { index, sub: 5 },
+        Part::EventTimer,
+    )?;
+    push_sub_if(
+        alloc,
+        text,
+        subs / 32 % 2 == 1,
+        Key { index, sub: 6 },
+        Part::SyncStart,
+    )
+}
+
+// the section of a mapping's sub-index
+fn push_part(alloc: Global, text: &mut Vec<u8>, key: Key, part: Part) -> Result<(), AllocError>
+    ensures { OnOk result (text.new.items ≡ text.old.items ++ sub_head key ++ keys_of part) }
+{
+    let head = sub_head(alloc, key)?;
+    text.extend_from_slice(head.as_slice())?;
+    text.extend_from_slice(part.keys())
+}
+
+// the sections of a mapping's entries
+#[tactic(auto, using(crate::proofs::CompactLemmas::one_section_more))]
+fn push_words(alloc: Global, text: &mut Vec<u8>, index: u16) -> Result<(), AllocError>
+    ensures { OnOk result
+        (text.new.items ≡ text.old.items ++ sub_sections word_section index 8) }
+{
+    for before in 0..8u8 {
+        let key = Key {
+            index,
+            sub: before + 1,
+        };
+        push_part(alloc, text, key, Part::MappingWord)?;
+    }
+    Ok(())
+}
+
+// the sections of a mapping object
+#[tactic(auto, unfolding(crate::specs::CompactPdo::mapping_text))]
+fn push_mapping(alloc: Global, text: &mut Vec<u8>, index: u16) -> Result<(), AllocError>
+    ensures { OnOk result (text.new.items ≡ text.old.items ++ mapping_text index) }
+{
+    push_object_head(alloc, text, index)?;
+    text.extend_from_slice(Part::Mapping.keys())?;
+    push_part(alloc, text, Key { index, sub: 0 }, Part::MappingCount)?;
+    push_words(alloc, text, index)
+}
+
+fn push_object(alloc: Global, text: &mut Vec<u8>, subs: u64, index: u16) -> Result<(), AllocError>
+    ensures { OnOk result (text.new.items ≡ text.old.items ++ object_text subs index) }
+{
+    if matches!(index, 0..=0x15FF | 0x1800..=0x19FF) {
+        push_communication(alloc, text, subs, index)
+    } else {
+        push_mapping(alloc, text, index)
+    }
+}
+
+// a place in the list
+fn push_place(text: &mut Vec<u8>, alloc: Global, place: u64, index: u16) -> Result<(), AllocError>
+    ensures { OnOk result (text.new.items ≡ text.old.items ++ place_line place index) }
+{
+    let mut digits = String::new(alloc);
+    push_decimal(&mut digits, place)?;
+    let index = hexadecimal(alloc, 4, u64::from(index))?;
+    let line = assigned(alloc, digits.as_bytes(), index.as_slice())?;
+    text.extend_from_slice(line.as_slice())
+}
+
+impl PdoForm {
+    // the sections of all objects
+    fn push_objects(&self, alloc: Global, text: &mut Vec<u8>) -> Result<(), AllocError>
+        ensures { OnOk result (text.new.items ≡ text.old.items
+            ++ flat_map (object_text (form_view self.now).subs) (form_view self.now).absent) }
+    {
+        for index in &self.absent {
+            push_object(alloc, text, self.subs, *index)?;
+        }
+        Ok(())
+    }
+
+    // their places in the list
+    fn push_places(&self, alloc: Global, text: &mut Vec<u8>) -> Result<(), AllocError>
+        ensures { OnOk result (text.new.items ≡ text.old.items
+            ++ places_from ((form_view self.now).listed + 1) (form_view self.now).absent) }
+    {
+        let mut place = u64::from(self.listed) + 1;
+        for index in &self.absent {
+            push_place(text, alloc, place, *index)?;
+            place += 1;
+        }
+        Ok(())
+    }
+}
+
+// what is added to a section
+fn pdo_text(alloc: Global, form: Option<&PdoForm>, kind: SectionKind) -> Result<Vec<u8>, AllocError>
+    ensures { IfOk result (λ made.
+        made.items ≡ pdo_text (option_map (λ f. form_view f.now) form.entry) kind) }
+{
+    let mut text = Vec::new(alloc);
+    match (form, kind) {
+        (Some(form), SectionKind::DeviceInfo) => form.push_objects(alloc, &mut text)?,
+        (Some(form), SectionKind::OptionalObjects) => form.push_places(alloc, &mut text)?,
+        _ => {}
+    }
+    Ok(text)
+}
+
+/// Adds what comes after the lines of a section.
+pub(crate) fn push_pdos<'a>(
+    alloc: Global,
+    pieces: &mut Vec<Piece<'a>>,
+    form: Option<&PdoForm>,
+    group: &Group<'_, 'a>,
+) -> Result<(), AllocError>
+    ensures { OnOk result (map piece_view pieces.new.items ≡ map piece_view pieces.old.items
+        ++ pdo_added (option_map (λ f. form_view f.now) form.entry) (group_view group.now)) }
+{
+    let text = pdo_text(alloc, form, group.kind)?;
+    if !text.is_empty() {
+        let line = group.head.number;
+        pieces.push(Piece::Added { line, text })?;
+    }
+    Ok(())
+}

@@ -1,0 +1,30 @@
+//! Numbers in hexadecimal digits.
+
+ghost use Rattle.std.specs.Prelude.{◌≡◌, ◌++◌, OnOk, IfOk, string_bytes, codes};
+ghost use Rattle.co_text.specs.Printed.{digits_text};
+
+use co_text::push_digit;
+use std::alloc::{AllocError, Global};
+
+// appends the last digits of a number, as many as are asked for
+#[tactic(auto, unfolding(co_text::specs::Printed::digits_text))]
+fn push_hexadecimal(text: &mut String, count: u8, number: u64) -> Result<(), AllocError>
+    ensures { OnOk result
+        (string_bytes text.new ≡ string_bytes text.old ++ digits_text 16 count number) }
+{
+    if count == 0 {
+        return Ok(());
+    }
+    push_hexadecimal(text, count - 1, number / 16)?;
+    push_digit(text, (number % 16) as u8)
+}
+
+/// The last digits of a number after `0x`, as many as are asked for.
+pub fn hexadecimal(alloc: Global, count: u8, number: u64) -> Result<Vec<u8>, AllocError>
+    ensures { IfOk result (λ made. made.items ≡ codes "0x" ++ digits_text 16 count number) }
+{
+    let mut text = String::new(alloc);
+    text.push_str("0x")?;
+    push_hexadecimal(&mut text, count, number)?;
+    Ok(text.into_bytes())
+}

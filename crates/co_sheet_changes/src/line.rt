@@ -1,0 +1,76 @@
+//! The lines of a text.
+
+ghost use Rattle.std.specs.Prelude.{◌≡◌, ◌≤◌, length, map, IfOk, option_map};
+ghost use Rattle.std.specs.List.{before_first};
+ghost use Rattle.std.specs.Option.{option_copied};
+ghost use Rattle.co_sheet_text.specs.Text.{lines_of, trim};
+ghost use Rattle.co_sheet_text.specs.Sections.{form_of, is_equals};
+ghost use Rattle.co_sheet_changes.specs.Groups.{property_in, section_in, property_of};
+ghost use Rattle.co_sheet_changes.specs.Views.{line_view, pair_view};
+
+use co_sheet_text::{trim, without_mark};
+use co_text::{split_at_first, split_line};
+use std::alloc::{AllocError, Global};
+
+/// A line of a text without its end, and its number, from 1.
+#[derive(Clone, Copy)]
+pub struct Line<'a> {
+    pub number: usize,
+    pub bytes: &'a [u8],
+}
+
+/// The lines of a text.
+pub fn lines_in(alloc: Global, text: &[u8]) -> Result<Vec<Line<'_>>, AllocError>
+    requires { length text.now ≤ 1048576 }
+    ensures { IfOk result (λ lines. map line_view lines.items ≡ lines_of text.now) }
+{
+    let mut lines = Vec::new(alloc);
+    let mut rest = without_mark(text);
+    let mut number = 1;
+    while let Some((bytes, others)) = split_line(rest) {
+        lines.push(Line { number, bytes })?;
+        rest = others;
+        number += 1;
+    }
+    Ok(lines)
+}
+
+// cut at the first `=`, with a name before it and a value after it
+fn property_of(text: &[u8]) -> Option<(&[u8], &[u8])>
+    ensures { option_map pair_view result
+        ≡ property_of text.now (trim (before_first is_equals text.now)) }
+{
+    let (name, value) = split_at_first(text, b'=')?;
+    let name = trim(name);
+    let value = trim(value);
+    if name.is_empty() || value.is_empty() {
+        return None;
+    }
+    Some((name, value))
+}
+
+impl<'a> Line<'a> {
+    /// The name and the value that the line gives a section.
+    pub fn property(&self) -> Option<(&'a [u8], &'a [u8])>
+        ensures { option_map pair_view result ≡ property_in (line_view self.now) }
+    {
+        let text = trim(self.bytes);
+        match text {
+            [] | [b';' | b'[', ..] => None,
+            _ => property_of(text),
+        }
+    }
+
+    /// The name of the section that the line begins.
+    pub fn section(&self) -> Option<&'a [u8]>
+        ensures { option_copied result ≡ section_in (line_view self.now) }
+    {
+        match trim(self.bytes) {
+            [b'[', rest @ ..] => {
+                let (name, _) = split_at_first(rest, b']')?;
+                Some(trim(name))
+            }
+            _ => None,
+        }
+    }
+}

@@ -1,0 +1,2 @@
+mod OriginalLemmas
+mod Examples

@@ -1,0 +1,2 @@
+pub mod Originals
+pub mod Views

@@ -1,0 +1,168 @@
+//! What only force mends.
+
+ghost use Rattle.std.specs.Prelude.{◌≡◌, ◌∷◌, codes, option_map, IfOk};
+ghost use Rattle.co_sheet_changes.specs.Pieces.{mended, mended_view};
+ghost use Rattle.co_sheet_changes.specs.Views.{group_view};
+ghost use Rattle.co_sheet_requested.specs.Forced.{
+  as_comment,
+  forced_change,
+  is_among,
+  is_count,
+  is_forced_at,
+  is_forced_limit,
+  is_mapping_of,
+  is_sync,
+  limited_type,
+  mapping_change,
+  sync_change,
+  without_bit_30,
+};
+
+use co_sheet::is_in_type;
+use co_sheet_changes::{
+    ChangeKind, Group, Mended, assigned, data_type_of, has_unsigned_limits, hexadecimal, is_limit,
+    is_preset, with_value,
+};
+use co_sheet_text::{NumeralFault, SectionKind, signed_numeral, unsigned_number};
+use co_value::DataType;
+use std::alloc::{AllocError, Global};
+
+/// The type that the limits of a section are held against.
+pub(crate) fn limited_type(group: &Group) -> Option<DataType>
+    ensures { result ≡ limited_type (group_view group.now) }
+{
+    if has_unsigned_limits(group) {
+        None
+    } else {
+        data_type_of(group)
+    }
+}
+
+// whether a limit is no number of its type
+fn is_forced_at(data_type: DataType, value: &[u8]) -> bool
+    ensures { result ≡ is_forced_at data_type value.now }
+{
+    let is_against = match signed_numeral(value) {
+        Ok(numeral) => !is_in_type(data_type, numeral.value_at(data_type)),
+        Err(NumeralFault::Malformed) => true,
+        Err(NumeralFault::Ambiguous) => false,
+    };
+    data_type.width().is_some() && is_against
+}
+
+fn is_forced_limit(data_type: Option<DataType>, name: &[u8], value: &[u8]) -> bool
+    ensures { result ≡ is_forced_limit data_type name.now value.now }
+{
+    match data_type {
+        Some(data_type) => is_limit(name) && is_forced_at(data_type, value),
+        None => false,
+    }
+}
+
+// a line as a comment
+fn as_comment(alloc: Global, name: &[u8], value: &[u8]) -> Result<Vec<u8>, AllocError>
+    ensures { IfOk result (λ made. made.items ≡ as_comment name.now value.now) }
+{
+    let line = assigned(alloc, name, value)?;
+    let mut made = Vec::new(alloc);
+    made.push(b';')?;
+    made.extend_from_slice(line.as_slice())?;
+    Ok(made)
+}
+
+// the COB-ID of the SYNC without bit 30
+fn without_bit_30(alloc: Global, word: u64) -> Result<Option<Vec<u8>>, AllocError>
+    ensures { IfOk result (λ made. option_map (λ v. v.items) made ≡ without_bit_30 word) }
+{
+    if word < 0x1_0000_0000 && word / 0x4000_0000 % 2 == 1 {
+        Ok(Some(hexadecimal(alloc, 8, word - 0x4000_0000)?))
+    } else {
+        Ok(None)
+    }
+}
+
+fn sync_change(alloc: Global, name: &[u8], value: &[u8]) -> Result<Option<Mended>, AllocError>
+    ensures { IfOk result (λ made.
+        option_map mended_view made ≡ sync_change name.now value.now) }
+{
+    let Ok(word) = unsigned_number(value) else {
+        return Ok(None);
+    };
+    let anew = without_bit_30(alloc, word)?;
+    with_value(alloc, ChangeKind::ForcedSync, name, anew)
+}
+
+// whether a line says how many entries a mapping has, and not 0
+fn is_count(name: &[u8], value: &[u8]) -> bool
+    ensures { result ≡ is_count name.now value.now }
+{
+    is_preset(name) && !matches!(unsigned_number(value), Ok(0))
+}
+
+fn mapping_change(
+    alloc: Global,
+    is_at_fault: bool,
+    name: &[u8],
+    value: &[u8],
+) -> Result<Option<Mended>, AllocError>
+    ensures { IfOk result (λ made.
+        option_map mended_view made ≡ mapping_change is_at_fault name.now value.now) }
+{
+    if is_at_fault && is_count(name, value) {
+        let new = assigned(alloc, name, b"0")?;
+        let kind = ChangeKind::ForcedMapping;
+        Ok(Some(Mended { kind, new }))
+    } else {
+        Ok(None)
+    }
+}
+
+fn is_among(mappings: &[u16], index: u16) -> bool
+    ensures { result ≡ is_among mappings.now index }
+{
+    for mapping in mappings {
+        if *mapping == index {
+            return true;
+        }
+    }
+    false
+}
+
+fn is_mapping_of(mappings: &[u16], kind: SectionKind) -> bool
+    ensures { result ≡ is_mapping_of mappings.now kind }
+{
+    match kind {
+        SectionKind::SubIndex(key) => key.sub == 0 && is_among(mappings, key.index),
+        _ => false,
+    }
+}
+
+fn is_sync(kind: SectionKind) -> bool
+    ensures { result ≡ is_sync kind }
+{
+    matches!(kind, SectionKind::Object(0x1005))
+}
+
+/// What a name and its value become in a section by force; `mappings` are the mapping objects at fault.
+pub(crate) fn forced_change(
+    alloc: Global,
+    mappings: &[u16],
+    kind: SectionKind,
+    data_type: Option<DataType>,
+    name: &[u8],
+    value: &[u8],
+) -> Result<Option<Mended>, AllocError>
+    ensures { IfOk result (λ made. option_map mended_view made
+        ≡ forced_change mappings.now kind data_type name.now value.now) }
+{
+    if is_forced_limit(data_type, name, value) {
+        let new = as_comment(alloc, name, value)?;
+        let kind = ChangeKind::ForcedLimit;
+        return Ok(Some(Mended { kind, new }));
+    }
+    if is_sync(kind) && is_preset(name) {
+        return sync_change(alloc, name, value);
+    }
+    let is_at_fault = is_mapping_of(mappings, kind);
+    mapping_change(alloc, is_at_fault, name, value)
+}

@@ -1,0 +1,247 @@
+//! A text as it is requested.
+
+ghost use Rattle.std.specs.Prelude.{◌≡◌, ◌++◌, ◌≤◌, ◌∷◌, [], length, map, option_map, IfOk, OnOk};
+ghost use Rattle.std.specs.List.{flat_map};
+ghost use Rattle.co_sheet_text.specs.Text.{lines_of};
+ghost use Rattle.co_sheet_changes.specs.Pieces.{mended_view, piece_view};
+ghost use Rattle.co_sheet_changes.specs.Views.{group_view, line_view};
+ghost use Rattle.co_sheet_requested.specs.Requested.{
+  change_in,
+  facts_of,
+  group_pieces,
+  has_changes,
+  is_changed,
+  line_piece,
+  numbers_of,
+  pieces_on,
+  request_view,
+  requested_pieces,
+  requested_text,
+  text_with,
+};
+
+use crate::forced::{forced_change, limited_type};
+use crate::request::Request;
+use crate::zeros::{has_numbers, zero_change};
+use co_sheet::GREATEST_SIZE;
+use co_sheet_changes::{
+    AdaptFault, Group, Line, Mended, Piece, before_sections, groups_in, lines_in, piece_of,
+    push_kept, push_pieces,
+};
+use co_sheet_text::SectionKind;
+use co_value::DataType;
+use std::alloc::{AllocError, Global};
+
+/// A text as it is requested.
+#[derive(Drop)]
+pub struct Requested<'a> {
+    /// What it becomes; it has as many lines, each in the place of the one with its number.
+    pub text: Vec<u8>,
+    /// Its lines, kept or changed; none where nothing is requested.
+    pub pieces: Vec<Piece<'a>>,
+    /// Whether a line is changed. Else the text stays as it is.
+    pub has_changes: bool,
+}
+
+/// What the lines of a section are changed by.
+#[derive(Clone, Copy)]
+pub(crate) struct Facts {
+    pub(crate) kind: SectionKind,
+    /// Whether the values of its entry are numbers.
+    pub(crate) numbers: bool,
+    /// The type that its limits are held against.
+    pub(crate) data_type: Option<DataType>,
+}
+
+fn numbers_of(alloc: Global, request: Request<'_>, group: &Group) -> Result<bool, AllocError>
+    ensures { IfOk result (λ has. has ≡ numbers_of (request_view request.entry) (group_view group.now)) }
+{
+    match request {
+        Request::LeadingZeros(zeros) => has_numbers(alloc, zeros, group),
+        Request::Force(_) => Ok(false),
+    }
+}
+
+fn facts_of(alloc: Global, request: Request<'_>, group: &Group) -> Result<Facts, AllocError>
+    ensures { IfOk result (λ facts. facts ≡ facts_of (request_view request.entry) (group_view group.now)) }
+{
+    Ok(Facts {
+        kind: group.kind,
+        numbers: numbers_of(alloc, request, group)?,
+        data_type: limited_type(group),
+    })
+}
+
+fn change_in(
+    alloc: Global,
+    request: Request<'_>,
+    facts: &Facts,
+    name: &[u8],
+    value: &[u8],
+) -> Result<Option<Mended>, AllocError>
+    ensures { IfOk result (λ made. option_map mended_view made
+        ≡ change_in (request_view request.entry) facts.now name.now value.now) }
+{
+    match request {
+        Request::LeadingZeros(zeros) => {
+            zero_change(alloc, zeros, facts.kind, facts.numbers, name, value)
+        }
+        Request::Force(mappings) => {
+            forced_change(alloc, mappings, facts.kind, facts.data_type, name, value)
+        }
+    }
+}
+
+fn line_piece<'a>(
+    alloc: Global,
+    request: Request<'_>,
+    facts: &Facts,
+    line: &Line<'a>,
+) -> Result<Piece<'a>, AllocError>
+    ensures { IfOk result (λ piece. piece_view piece
+        ≡ line_piece (request_view request.entry) facts.now (line_view line.now)) }
+{
+    let mended = match line.property() {
+        Some((name, value)) => change_in(alloc, request, facts, name, value)?,
+        None => None,
+    };
+    Ok(piece_of(line, mended))
+}
+
+// adds the lines of a section
+fn push_lines<'a>(
+    alloc: Global,
+    pieces: &mut Vec<Piece<'a>>,
+    request: Request<'_>,
+    facts: &Facts,
+    lines: &[Line<'a>],
+) -> Result<(), AllocError>
+    ensures { OnOk result (map piece_view pieces.new.items ≡ map piece_view pieces.old.items
+        ++ map (line_piece (request_view request.entry) facts.now) (map line_view lines.now)) }
+{
+    for line in lines {
+        pieces.push(line_piece(alloc, request, facts, line)?)?;
+    }
+    Ok(())
+}
+
+fn push_group<'a>(
+    alloc: Global,
+    pieces: &mut Vec<Piece<'a>>,
+    request: Request<'_>,
+    group: &Group<'_, 'a>,
+) -> Result<(), AllocError>
+    ensures { OnOk result (map piece_view pieces.new.items ≡ map piece_view pieces.old.items
+        ++ group_pieces (request_view request.entry) (group_view group.now)) }
+{
+    let facts = facts_of(alloc, request, group)?;
+    pieces.push(Piece::Kept(group.head.bytes))?;
+    push_lines(alloc, pieces, request, &facts, group.body)
+}
+
+fn push_groups<'a>(
+    alloc: Global,
+    pieces: &mut Vec<Piece<'a>>,
+    request: Request<'_>,
+    groups: &[Group<'_, 'a>],
+) -> Result<(), AllocError>
+    ensures { OnOk result (map piece_view pieces.new.items ≡ map piece_view pieces.old.items
+        ++ flat_map (group_pieces (request_view request.entry)) (map group_view groups.now)) }
+{
+    for group in groups {
+        push_group(alloc, pieces, request, group)?;
+    }
+    Ok(())
+}
+
+// the lines of a text
+fn pieces_on<'a>(
+    alloc: Global,
+    request: Request<'_>,
+    text: &'a [u8],
+) -> Result<Vec<Piece<'a>>, AllocError>
+    requires { length text.now ≤ 1048576 }
+    ensures { IfOk result (λ pieces. map piece_view pieces.items
+        ≡ pieces_on (request_view request.entry) (lines_of text.entry.now)) }
+{
+    let lines = lines_in(alloc, text)?;
+    let groups = groups_in(alloc, lines.as_slice())?;
+    let mut pieces = Vec::new(alloc);
+    push_kept(&mut pieces, before_sections(lines.as_slice()))?;
+    push_groups(alloc, &mut pieces, request, groups.as_slice())?;
+    Ok(pieces)
+}
+
+fn requested_pieces<'a>(
+    alloc: Global,
+    text: &'a [u8],
+    request: Option<Request<'_>>,
+) -> Result<Vec<Piece<'a>>, AllocError>
+    requires { length text.now ≤ 1048576 }
+    ensures { IfOk result (λ pieces. map piece_view pieces.items
+        ≡ requested_pieces (option_map request_view request.entry) text.entry.now) }
+{
+    match request {
+        Some(request) => pieces_on(alloc, request, text),
+        None => Ok(Vec::new(alloc)),
+    }
+}
+
+fn is_changed(piece: &Piece<'_>) -> bool
+    ensures { result ≡ is_changed (piece_view piece.now) }
+{
+    matches!(piece, Piece::Changed(_))
+}
+
+fn has_changes(pieces: &[Piece<'_>]) -> bool
+    ensures { result ≡ has_changes (map piece_view pieces.now) }
+{
+    for piece in pieces {
+        if is_changed(piece) {
+            return true;
+        }
+    }
+    false
+}
+
+// a text by its lines
+fn text_with(alloc: Global, pieces: &[Piece<'_>], text: &[u8]) -> Result<Vec<u8>, AllocError>
+    ensures { IfOk result (λ made.
+        made.items ≡ text_with (map piece_view pieces.now) text.now) }
+{
+    let mut made = Vec::new(alloc);
+    if has_changes(pieces) {
+        push_pieces(&mut made, pieces)?;
+    } else {
+        made.extend_from_slice(text)?;
+    }
+    Ok(made)
+}
+
+/// Rewrites a data sheet (CiA 306) as it is requested, each line by one line, and all others as they are.
+///
+/// `TooLarge` where the text has more than 1,048,576 bytes, `Memory` where memory ran out.
+pub fn on_request<'a>(
+    alloc: Global,
+    text: &'a [u8],
+    request: Option<Request<'_>>,
+) -> Result<Requested<'a>, AdaptFault>
+    ensures pieces { IfOk result (λ made. map piece_view made.pieces.items
+        ≡ requested_pieces (option_map request_view request.entry) text.entry.now) }
+    ensures text { IfOk result (λ made. made.text.items
+        ≡ requested_text (option_map request_view request.entry) text.entry.now) }
+    ensures changes { IfOk result (λ made. made.has_changes
+        ≡ has_changes (requested_pieces (option_map request_view request.entry) text.entry.now)) }
+{
+    if text.len() > GREATEST_SIZE {
+        return Err(AdaptFault::TooLarge);
+    }
+    let pieces = requested_pieces(alloc, text, request)?;
+    let made = text_with(alloc, pieces.as_slice(), text)?;
+    let has_changes = has_changes(pieces.as_slice());
+    Ok(Requested {
+        text: made,
+        pieces,
+        has_changes,
+    })
+}

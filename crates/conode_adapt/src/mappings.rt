@@ -1,0 +1,51 @@
+//! The mappings that are at fault where nothing else is.
+
+use crate::orders::Orders;
+use co_dict_build::{BuildFault, Limits};
+use co_dict_faults::find_build_faults;
+use co_dict_list::ListStore;
+use co_sheet::{FaultKind, read};
+use co_sheet_adapt::adapt;
+use co_sheet_changes::AdaptFault;
+use co_sheet_requested::{LeadingZeros, on_request};
+use std::alloc::{AllocError, Global};
+
+// those of a sheet for its node-ID, or else for 1; a text that isn't accepted has none
+fn faulty_mappings(alloc: Global, text: &[u8]) -> Result<Vec<u16>, AllocError> {
+    let mut mappings = Vec::new(alloc);
+    let sheet = match read(alloc, text) {
+        Ok(sheet) => sheet,
+        Err(fault) if fault.kind == FaultKind::Memory => return Err(AllocError),
+        Err(_) => return Ok(mappings),
+    };
+    let limits = Limits {
+        strings: 0,
+        domains: 0,
+        own: &[],
+    };
+    let node = sheet.node_id().unwrap_or(1);
+    let found = find_build_faults::<ListStore>(alloc, &sheet, node, &limits)?;
+    for fault in &found.faults {
+        if let BuildFault::BadMapping(key) = fault {
+            mappings.push(key.index)?;
+        }
+    }
+    Ok(mappings)
+}
+
+/// The mapping objects that are at fault in what becomes of a text, with the rest forced.
+pub(crate) fn mappings_at_fault(
+    alloc: Global,
+    text: &[u8],
+    leading_zeros: Option<LeadingZeros>,
+) -> Result<Vec<u16>, AdaptFault> {
+    let orders = Orders {
+        leading_zeros,
+        force: Some(&[]),
+    };
+    let read = on_request(alloc, text, orders.zeros_request())?;
+    let forced = on_request(alloc, read.text.as_slice(), orders.force_request())?;
+    let adapted = adapt(alloc, forced.text.as_slice(), b"")?;
+    let mappings = faulty_mappings(alloc, adapted.text.as_slice())?;
+    Ok(mappings)
+}

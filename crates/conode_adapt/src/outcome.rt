@@ -1,0 +1,134 @@
+//! What becomes of a text, before it is written.
+
+ghost use Rattle.std.specs.Prelude.{◌≡◌, ◌++◌, ◌&&◌, not, true, None, codes, map, IfOk};
+ghost use Rattle.co_sheet.specs.Accepted.{first_fault};
+ghost use Rattle.co_sheet_changes.specs.Pieces.{piece_view};
+ghost use Rattle.conode_adapt.specs.Written.{
+  by_line,
+  changes_in,
+  changes_of,
+  orders_view,
+  sheet_of,
+};
+
+use crate::line_ends::{push_line_ends, push_mark};
+use crate::listing::push_changes;
+use crate::orders::Orders;
+use crate::remaining::remaining;
+use co_sheet_adapt::{Adapted, adapt};
+use co_sheet_changes::{AdaptFault, Piece};
+use co_sheet_requested::on_request;
+use std::alloc::{AllocError, Global};
+
+/// What becomes of a text.
+#[derive(Drop)]
+pub(crate) struct Outcome {
+    /// The sheet.
+    pub(crate) sheet: Vec<u8>,
+    /// A line for each change.
+    pub(crate) changes: Vec<u8>,
+    /// Whether the sheet is accepted.
+    pub(crate) is_accepted: bool,
+    /// What no rule mends, as `lint` prints it; empty where the sheet is accepted.
+    pub(crate) remaining: String,
+}
+
+// who adapts it, and what it is made from
+fn by_line(alloc: Global, version: &str, name: &str) -> Result<Vec<u8>, AllocError>
+    ensures { IfOk result (λ made. made.items ≡ by_line version.now name.now) }
+{
+    let mut made = Vec::new(alloc);
+    made.extend_from_slice(b"conode ")?;
+    made.extend_from_slice(version.as_bytes())?;
+    made.extend_from_slice(b" from ")?;
+    made.extend_from_slice(name.as_bytes())?;
+    Ok(made)
+}
+
+// the pieces of a text in their order: those with leading zeros, those that are forced, and those of the rules
+#[derive(Clone, Copy)]
+struct Steps<'p, 'a, 'b, 'c> {
+    read: &'p [Piece<'a>],
+    forced: &'p [Piece<'b>],
+    adapted: &'p [Piece<'c>],
+    stays: bool,
+}
+
+// a line for each change of a text
+#[tactic(auto, unfolding(crate::specs::Written::changes_in))]
+fn listed(
+    alloc: Global,
+    text: &[u8],
+    name: &str,
+    steps: &Steps<'_, '_, '_, '_>,
+) -> Result<Vec<u8>, AllocError>
+    ensures { IfOk result (λ made. made.items ≡ changes_in name.now text.now steps.now.stays
+        (map piece_view steps.now.read.now) (map piece_view steps.now.forced.now)
+        (map piece_view steps.now.adapted.now)) }
+{
+    let name = name.as_bytes();
+    let mut changes = Vec::new(alloc);
+    push_mark(alloc, &mut changes, name, text)?;
+    push_line_ends(alloc, &mut changes, name, text, steps.stays)?;
+    push_changes(alloc, &mut changes, name, steps.read)?;
+    push_changes(alloc, &mut changes, name, steps.forced)?;
+    push_changes(alloc, &mut changes, name, steps.adapted)?;
+    Ok(changes)
+}
+
+// what remains of a text that isn't accepted, as `lint` prints it
+fn remaining_of(
+    alloc: Global,
+    text: &[u8],
+    name: &str,
+    adapted: &Adapted<'_>,
+) -> Result<String, AllocError> {
+    if adapted.is_accepted {
+        return Ok(String::new(alloc));
+    }
+    let sheet = adapted.text.as_slice();
+    remaining(alloc, name, text, sheet, adapted.pieces.as_slice())
+}
+
+// whether a text stays, which is accepted or not, and changed on request or not
+fn stays_with(is_accepted: bool, is_read_anew: bool, is_forced: bool) -> bool
+    ensures { result ≡ (is_accepted && not is_read_anew && not is_forced) }
+{
+    is_accepted && !is_read_anew && !is_forced
+}
+
+/// What becomes of a text. `TooLarge` where it has more than 1,048,576 bytes, or what is added to it has; `Memory` where
+/// memory ran out.
+pub(crate) fn outcome_of(
+    alloc: Global,
+    text: &[u8],
+    name: &str,
+    version: &str,
+    orders: Orders<'_>,
+) -> Result<Outcome, AdaptFault>
+    ensures sheet { IfOk result (λ made.
+        made.sheet.items ≡ sheet_of version.now name.now (orders_view orders.entry) text.now) }
+    ensures changes { IfOk result (λ made.
+        made.changes.items ≡ changes_of name.now (orders_view orders.entry) text.now) }
+    ensures accepted { IfOk result (λ made. made.is_accepted ≡ true →
+        first_fault (sheet_of version.now name.now (orders_view orders.entry) text.now) ≡ None) }
+{
+    let read = on_request(alloc, text, orders.zeros_request())?;
+    let forced = on_request(alloc, read.text.as_slice(), orders.force_request())?;
+    let by = by_line(alloc, version, name)?;
+    let adapted = adapt(alloc, forced.text.as_slice(), by.as_slice())?;
+    let steps = Steps {
+        read: read.pieces.as_slice(),
+        forced: forced.pieces.as_slice(),
+        adapted: adapted.pieces.as_slice(),
+        stays: stays_with(adapted.stays, read.has_changes, forced.has_changes),
+    };
+    let changes = listed(alloc, text, name, &steps)?;
+    let remaining = remaining_of(alloc, text, name, &adapted)?;
+    Ok(Outcome {
+        sheet: adapted.text,
+        changes,
+        is_accepted: adapted.is_accepted,
+        remaining,
+    })
+}
