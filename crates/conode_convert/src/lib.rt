@@ -6,6 +6,6 @@ mod log_file;
 mod step;
 mod text;
 
-pub use conode_logs::{AscForm, Base, Columns, Form};
+pub use conode_logs::Form;
 pub use converted::convert;
 pub use log_file::convert_file;

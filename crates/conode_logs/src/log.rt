@@ -15,6 +15,8 @@ ghost use Rattle.conode_logs.specs.Logs.{
   says,
 };
 ghost use Rattle.conode_logs.specs.Screen.{screen_line};
+ghost use Rattle.conode_logs.specs.Trc.{version_1_1};
+ghost use Rattle.conode_logs.specs.declared.log.Form.TheVariants.{Trc, Asc};
 
 use crate::asc::{AscForm, asc_line};
 use crate::screen::screen_line;
@@ -85,6 +87,20 @@ fn begins_asc(line: &[u8]) -> bool
 }
 
 impl Form {
+    /// A `.trc`, of version 1.1 until a line says which version it has.
+    pub fn trc() -> Form
+        ensures { result ≡ Trc version_1_1 }
+    {
+        Form::Trc(Columns::version_1_1())
+    }
+
+    /// A `.asc` with hexadecimal digits and absolute stamps, until its header says otherwise.
+    pub fn asc() -> Form
+        ensures { result ≡ Asc asc_of_old }
+    {
+        Form::Asc(AscForm::of_old())
+    }
+
     // the form of a log that has this line
     #[tactic(auto, unfolding(crate::specs::Logs::form_of))]
     fn of_line(line: &[u8]) -> Form
