@@ -16,8 +16,8 @@ use conode_loop::loop_files;
 use conode_replay::{replay_files, replay_stored};
 use conode_show::{Form as ShownForm, Format as ShownFormat, show_file};
 use conode_words::{
-    Colours, DeviceWords, DictionaryWords, Format, LeadingZeros, LintWords, LogForm, ShownAs, Stamps, Task,
-    VERSION, task,
+    Colours, DeviceWords, DictionaryWords, Format, LeadingZeros, LintWords, LogForm, ShownAs,
+    Stamps, Task, VERSION, task,
 };
 use std::io::{BufWriter, IsTerminal, Write};
 use std::process::ExitCode;

@@ -119,130 +119,129 @@ faults_long log line many = let long : ltb 512 (length line) ≡ true = grind (a
 
 -- ---- what bytes give
 
-module _ where
-  gives_none : (known : Option (List ℕ)) (log : Log) → Gives known known log log [] 0
-  gives_none None log = tt
-  gives_none (Some text) log = (refl, omega arith)
+gives_none : (known : Option (List ℕ)) (log : Log) → Gives known known log log [] 0
+gives_none None log = tt
+gives_none (Some text) log = (refl, omega arith)
 
-  gives_then : (a b c : Option (List ℕ)) (first mid last : Log) (lines more : List (List ℕ)) (bad also : ℕ) → Gives a b first mid lines bad → Gives b c mid last more also
-      → Gives a c first last (lines ++ more) (bad + also)
-  gives_then None b c first mid last lines more bad also h k = tt
-  gives_then (Some xs) None c first mid last lines more bad also h k = absurd h
-  gives_then (Some xs) (Some ys) None first mid last lines more bad also h k = absurd k
-  gives_then (Some xs) (Some ys) (Some zs) first mid last ls more bad also h k = (
-    h.0 ∙ ap (λ (all : List (List ℕ)). ls ++ all) k.0 ∙ sym (append_assoc ls more (converted_from last (lines zs))),
-    omega (arith, h.1, k.1),
+gives_then : (a b c : Option (List ℕ)) (first mid last : Log) (lines more : List (List ℕ)) (bad also : ℕ) → Gives a b first mid lines bad → Gives b c mid last more also
+    → Gives a c first last (lines ++ more) (bad + also)
+gives_then None b c first mid last lines more bad also h k = tt
+gives_then (Some xs) None c first mid last lines more bad also h k = absurd h
+gives_then (Some xs) (Some ys) None first mid last lines more bad also h k = absurd k
+gives_then (Some xs) (Some ys) (Some zs) first mid last ls more bad also h k = (
+  h.0 ∙ ap (λ (all : List (List ℕ)). ls ++ all) k.0 ∙ sym (append_assoc ls more (converted_from last (lines zs))),
+  omega (arith, h.1, k.1),
+)
+
+module _ (log : Log) (line : List ℕ) where
+  -- a line with its line feed
+  gives_line : (old new : Option (List ℕ)) → GivesLine old new line → length line ≤ 512 → ClosesAlike old new
+      → Gives old new log (says log line).0 (written_of line (says log line).1) (faults_in (says log line).1)
+  gives_line None new gives few alike = tt
+  gives_line (Some xs) None gives few alike = absurd gives
+  gives_line (Some xs) (Some ys) gives few alike = (
+    ap (converted_from log) gives ∙ one_line log line (lines ys) few,
+    counted log xs ys line gives alike ∙ ap₂ (λ (n : ℕ) (l : Log). n + bad_count l ys) (faults_short log line few) (after_short log line few),
   )
 
-  module _ (log : Log) (line : List ℕ) where
-    -- a line with its line feed
-    gives_line : (old new : Option (List ℕ)) → GivesLine old new line → length line ≤ 512 → ClosesAlike old new
-        → Gives old new log (says log line).0 (written_of line (says log line).1) (faults_in (says log line).1)
-    gives_line None new gives few alike = tt
-    gives_line (Some xs) None gives few alike = absurd gives
-    gives_line (Some xs) (Some ys) gives few alike = (
-      ap (converted_from log) gives ∙ one_line log line (lines ys) few,
-      counted log xs ys line gives alike ∙ ap₂ (λ (n : ℕ) (l : Log). n + bad_count l ys) (faults_short log line few) (after_short log line few),
-    )
-
-    -- the last one, without it
-    gives_last : (old new : Option (List ℕ)) → GivesLine old new line → length line ≤ 512 → IfSome old (λ bytes. has_line_feed bytes ≡ false)
-        → Gives old new log (says log line).0 (written_of line (says log line).1) 0
-    gives_last None new gives few none = tt
-    gives_last (Some xs) None gives few none = absurd gives
-    gives_last (Some xs) (Some ys) gives few none = (
-      ap (converted_from log) gives ∙ one_line log line (lines ys) few,
-      counted_last log (says log line).0 xs ys line gives none few ∙ omega arith,
-    )
-
-    -- one that is too long
-    gives_long : (old new : Option (List ℕ)) → GivesLine old new line → 512 < length line → IsAtEnd new ⊎ ClosesAlike old new → Gives old new log log [] 1
-    gives_long None new gives many ends = tt
-    gives_long (Some xs) None gives many ends = absurd gives
-    gives_long (Some xs) (Some ys) gives many (inl empty) = (
-      ap (converted_from log) gives ∙ long_line log line (lines ys) many,
-      counted_at_end log xs ys line gives empty many ∙ ap (λ (n : ℕ). n + bad_count log ys) (faults_long log line many),
-    )
-    gives_long (Some xs) (Some ys) gives many (inr alike) = (
-      ap (converted_from log) gives ∙ long_line log line (lines ys) many,
-      counted log xs ys line gives alike ∙ ap₂ (λ (n : ℕ) (l : Log). n + bad_count l ys) (faults_long log line many) (after_long log line many),
-    )
-
-  -- the end
-  gives_all : (form : Form) (known left : Option (List ℕ)) (log : Log) (written : List (List ℕ)) (bad : ℕ) → Gives known left (at_start form) log written bad → IsAtEnd left
-      → IfSome known (λ text. (converted form text ≡ written) × (bad_count (at_start form) text ≡ bad))
-  gives_all form None left log written bad h end = tt
-  gives_all form (Some text) None log written bad h end = absurd h
-  gives_all form (Some text) (Some rest) log written bad h end = (
-    h.0 ∙ ap (λ (bytes : List ℕ). written ++ converted_from log (lines bytes)) end
-        ∙ ap (λ (ls : List (List ℕ)). written ++ ls) (no_line log) ∙ append-nil written,
-    h.1 ∙ ap (λ (bytes : List ℕ). bad + bad_count log bytes) end ∙ ap (λ (n : ℕ). bad + n) (no_bad log) ∙ omega arith,
+  -- the last one, without it
+  gives_last : (old new : Option (List ℕ)) → GivesLine old new line → length line ≤ 512 → IfSome old (λ bytes. has_line_feed bytes ≡ false)
+      → Gives old new log (says log line).0 (written_of line (says log line).1) 0
+  gives_last None new gives few none = tt
+  gives_last (Some xs) None gives few none = absurd gives
+  gives_last (Some xs) (Some ys) gives few none = (
+    ap (converted_from log) gives ∙ one_line log line (lines ys) few,
+    counted_last log (says log line).0 xs ys line gives none few ∙ omega arith,
   )
 
-  -- ---- lines taken
+  -- one that is too long
+  gives_long : (old new : Option (List ℕ)) → GivesLine old new line → 512 < length line → IsAtEnd new ⊎ ClosesAlike old new → Gives old new log log [] 1
+  gives_long None new gives many ends = tt
+  gives_long (Some xs) None gives many ends = absurd gives
+  gives_long (Some xs) (Some ys) gives many (inl empty) = (
+    ap (converted_from log) gives ∙ long_line log line (lines ys) many,
+    counted_at_end log xs ys line gives empty many ∙ ap (λ (n : ℕ). n + bad_count log ys) (faults_long log line many),
+  )
+  gives_long (Some xs) (Some ys) gives many (inr alike) = (
+    ap (converted_from log) gives ∙ long_line log line (lines ys) many,
+    counted log xs ys line gives alike ∙ ap₂ (λ (n : ℕ) (l : Log). n + bad_count l ys) (faults_long log line many) (after_long log line many),
+  )
 
-  pub takes_none : (held : Held) (known : Option (List ℕ)) (log : Log) (has : Option (List ℕ)) → Takes held held known known log log has has 0
-  takes_none held known log has = record {
+-- the end
+gives_all : (form : Form) (known left : Option (List ℕ)) (log : Log) (written : List (List ℕ)) (bad : ℕ) → Gives known left (at_start form) log written bad → IsAtEnd left
+    → IfSome known (λ text. (converted form text ≡ written) × (bad_count (at_start form) text ≡ bad))
+gives_all form None left log written bad h end = tt
+gives_all form (Some text) None log written bad h end = absurd h
+gives_all form (Some text) (Some rest) log written bad h end = (
+  h.0 ∙ ap (λ (bytes : List ℕ). written ++ converted_from log (lines bytes)) end
+      ∙ ap (λ (ls : List (List ℕ)). written ++ ls) (no_line log) ∙ append-nil written,
+  h.1 ∙ ap (λ (bytes : List ℕ). bad + bad_count log bytes) end ∙ ap (λ (n : ℕ). bad + n) (no_bad log) ∙ omega arith,
+)
+
+-- ---- lines taken
+
+pub takes_none : (held : Held) (known : Option (List ℕ)) (log : Log) (has : Option (List ℕ)) → Takes held held known known log log has has 0
+takes_none held known log has = record {
+  written = [];
+  appended = Appends-nil has;
+  gives = gave_nothing held.ended known known _ refl (λ bytes. gives_none (to_come held bytes) log);
+}
+
+-- what is found next
+module _ (held holds : Held) (before after : Option (List ℕ)) (log : Log) (old new : Option (List ℕ)) where
+  module _ (line : List ℕ) (next : Log) (is : next ≡ (says log line).0) (written : WritesLines old new (written_of line (says log line).1)) where
+    whole_line : Gave held.ended holds.ended before after (λ had has. Finds (to_come held had) (to_come holds has) line Line)
+        → Takes held holds before after log (says log line).0 old new (faults_in (says log line).1)
+    whole_line found = record {
+      written = written_of line (says log line).1;
+      appended = written;
+      gives = gave_so held.ended holds.ended before after _ _ found (λ had has f. gives_line log line (to_come held had) (to_come holds has) f.0 f.1 f.2);
+    }
+
+    pub takes_line : (bad : ℕ) → bad ≡ faults_in (says log line).1 → Gave held.ended holds.ended before after (λ had has. Finds (to_come held had) (to_come holds has) line Line)
+        → Takes held holds before after log next old new bad
+    takes_line bad counts found =
+        subst (λ (n : Log). Takes held holds before after log n old new bad) (sym is)
+        (subst (λ (b : ℕ). Takes held holds before after log (says log line).0 old new b) (sym counts) (whole_line found))
+
+    last_line : Gave held.ended holds.ended before after (λ had has. Finds (to_come held had) (to_come holds has) line Last)
+        → Takes held holds before after log (says log line).0 old new 0
+    last_line found = record {
+      written = written_of line (says log line).1;
+      appended = written;
+      gives = gave_so held.ended holds.ended before after _ _ found (λ had has f. gives_last log line (to_come held had) (to_come holds has) f.0 f.1 f.2);
+    }
+
+    pub takes_last : Gave held.ended holds.ended before after (λ had has. Finds (to_come held had) (to_come holds has) line Last)
+        → Takes held holds before after log next old new 0
+    takes_last found = subst (λ (n : Log). Takes held holds before after log n old new 0) (sym is) (last_line found)
+
+  pub takes_long : (line : List ℕ) → Gave held.ended holds.ended before after (λ had has. Finds (to_come held had) (to_come holds has) line TooLong)
+      → old ≡ new → Takes held holds before after log log old new 1
+  takes_long line found same = record {
     written = [];
-    appended = Appends-nil has;
-    gives = gave_nothing held.ended known known _ refl (λ bytes. gives_none (to_come held bytes) log);
+    appended = subst (λ (held : Option (List ℕ)). WritesLines old held []) same (Appends-nil old);
+    gives = gave_so held.ended holds.ended before after _ _ found (λ had has f. gives_long log f.0 (to_come held had) (to_come holds has) f.1 f.2 f.3);
   }
 
-  -- what is found next
-  module _ (held holds : Held) (before after : Option (List ℕ)) (log : Log) (old new : Option (List ℕ)) where
-    module _ (line : List ℕ) (next : Log) (is : next ≡ (says log line).0) (written : WritesLines old new (written_of line (says log line).1)) where
-      whole_line : Gave held.ended holds.ended before after (λ had has. Finds (to_come held had) (to_come holds has) line Line)
-          → Takes held holds before after log (says log line).0 old new (faults_in (says log line).1)
-      whole_line found = record {
-        written = written_of line (says log line).1;
-        appended = written;
-        gives = gave_so held.ended holds.ended before after _ _ found (λ had has f. gives_line log line (to_come held had) (to_come holds has) f.0 f.1 f.2);
-      }
+module _ (held mid : Held) (before between : Option (List ℕ)) (first next : Log) (old has : Option (List ℕ)) (bad : ℕ) (h : Takes held mid before between first next old has bad) where
+  -- a flush
+  pub takes_flushed : (new : Option (List ℕ)) → Keeps has new → Takes held mid before between first next old new bad
+  takes_flushed new kept = record {
+    written = h.written;
+    appended = Appends-kept old has new (flat_map (λ line. line) h.written) h.appended kept;
+    gives = h.gives;
+  }
 
-      pub takes_line : (bad : ℕ) → bad ≡ faults_in (says log line).1 → Gave held.ended holds.ended before after (λ had has. Finds (to_come held had) (to_come holds has) line Line)
-          → Takes held holds before after log next old new bad
-      takes_line bad counts found =
-          subst (λ (n : Log). Takes held holds before after log n old new bad) (sym is)
-          (subst (λ (b : ℕ). Takes held holds before after log (says log line).0 old new b) (sym counts) (whole_line found))
-
-      last_line : Gave held.ended holds.ended before after (λ had has. Finds (to_come held had) (to_come holds has) line Last)
-          → Takes held holds before after log (says log line).0 old new 0
-      last_line found = record {
-        written = written_of line (says log line).1;
-        appended = written;
-        gives = gave_so held.ended holds.ended before after _ _ found (λ had has f. gives_last log line (to_come held had) (to_come holds has) f.0 f.1 f.2);
-      }
-
-      pub takes_last : Gave held.ended holds.ended before after (λ had has. Finds (to_come held had) (to_come holds has) line Last)
-          → Takes held holds before after log next old new 0
-      takes_last found = subst (λ (n : Log). Takes held holds before after log n old new 0) (sym is) (last_line found)
-
-    pub takes_long : (line : List ℕ) → Gave held.ended holds.ended before after (λ had has. Finds (to_come held had) (to_come holds has) line TooLong)
-        → old ≡ new → Takes held holds before after log log old new 1
-    takes_long line found same = record {
-      written = [];
-      appended = subst (λ (held : Option (List ℕ)). WritesLines old held []) same (Appends-nil old);
-      gives = gave_so held.ended holds.ended before after _ _ found (λ had has f. gives_long log f.0 (to_come held had) (to_come holds has) f.1 f.2 f.3);
-    }
-
-  module _ (held mid : Held) (before between : Option (List ℕ)) (first next : Log) (old has : Option (List ℕ)) (bad : ℕ) (h : Takes held mid before between first next old has bad) where
-    -- a flush
-    pub takes_flushed : (new : Option (List ℕ)) → Keeps has new → Takes held mid before between first next old new bad
-    takes_flushed new kept = record {
-      written = h.written;
-      appended = Appends-kept old has new (flat_map (λ line. line) h.written) h.appended kept;
-      gives = h.gives;
-    }
-
-    -- more lines
-    pub takes_more : (holds : Held) (after : Option (List ℕ)) (last : Log) (new : Option (List ℕ)) (also : ℕ) → Takes mid holds between after next last has new also
-        → Takes held holds before after first last old new (bad + also)
-    takes_more holds after last new also k = record {
-      written = h.written ++ k.written;
-      appended = lines_after old has new h.written k.written h.appended k.appended;
-      gives = gave_then held.ended mid.ended holds.ended before between after _ _ _ h.gives k.gives
-          (λ had middle left p q. gives_then (to_come held had) (to_come mid middle) (to_come holds left) first next last h.written k.written bad also p q);
-    }
+  -- more lines
+  pub takes_more : (holds : Held) (after : Option (List ℕ)) (last : Log) (new : Option (List ℕ)) (also : ℕ) → Takes mid holds between after next last has new also
+      → Takes held holds before after first last old new (bad + also)
+  takes_more holds after last new also k = record {
+    written = h.written ++ k.written;
+    appended = lines_after old has new h.written k.written h.appended k.appended;
+    gives = gave_then held.ended mid.ended holds.ended before between after _ _ _ h.gives k.gives
+        (λ had middle left p q. gives_then (to_come held had) (to_come mid middle) (to_come holds left) first next last h.written k.written bad also p q);
+  }
 
 -- ---- the whole
 

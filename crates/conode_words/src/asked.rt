@@ -39,7 +39,8 @@ ghost use Rattle.conode_words.specs.Tasks.{
 };
 
 use crate::tasks::{
-    Colours, DeviceWords, DictionaryWords, Format, LeadingZeros, LintWords, LogForm, ShownAs, Stamps, Task,
+    Colours, DeviceWords, DictionaryWords, Format, LeadingZeros, LintWords, LogForm, ShownAs,
+    Stamps, Task,
 };
 use clap::ArgMatches;
 use co_sdo_client::Mode;

@@ -13,7 +13,9 @@ ghost use Rattle.conode_words.specs.Tasks.{
   word_fault,
 };
 
-use crate::asked::{asked_in, colours_for, format_for, is, log_form_for, mode_for, shown_for, stamps_for, zeros_for};
+use crate::asked::{
+    asked_in, colours_for, format_for, is, log_form_for, mode_for, shown_for, stamps_for, zeros_for,
+};
 use crate::commands::conode_command;
 use crate::help;
 use crate::tasks::Task;
