@@ -5,6 +5,7 @@ use Rattle.std.specs.List.{flat_map}
 use Rattle.co_sheet_text.specs.Text.{lines_of, without_mark}
 use Rattle.co_sheet_text.specs.Sections.{Property, TextSection}
 use Rattle.co_sheet.specs.Accepted.{first_fault}
+use Rattle.co_sheet.specs.Content.{ObjectRow, Row}
 use Rattle.co_sheet_changes.specs.Pieces.{Piece, written}
 use Rattle.co_sheet_adapt.specs.Pieces.{all_pieces}
 
@@ -46,3 +47,10 @@ property_later k = record k { line = k.line + 1 }
 
 abbrev pub one_later : TextSection → TextSection
 one_later s = record s { line = s.line + 1; properties = map property_later s.properties }
+
+-- an entry and an object, one line later
+abbrev pub row_later : Row → Row
+row_later r = record r { line = r.line + 1 }
+
+abbrev pub object_later : ObjectRow → ObjectRow
+object_later o = record o { line = o.line + 1 }

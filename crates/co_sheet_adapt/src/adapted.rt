@@ -3,6 +3,8 @@
 ghost use Rattle.std.specs.Prelude.{◌≡◌, ◌++◌, ◌≤◌, ℕ, List, length, map, take, is_none, None, IfOk, OnOk};
 ghost use Rattle.co_sheet_text.specs.Text.{lines_of};
 ghost use Rattle.co_sheet.specs.Accepted.{first_fault, sections_in};
+ghost use Rattle.co_sheet.specs.Commissioning.{node_id_in};
+ghost use Rattle.co_sheet.specs.Content.{objects_of, rows_of};
 ghost use Rattle.co_sheet_adapt.specs.Pieces.{all_pieces};
 ghost use Rattle.co_sheet_adapt.specs.Adapted.{
   shown_byte,
@@ -13,7 +15,9 @@ ghost use Rattle.co_sheet_adapt.specs.Adapted.{
   body_in,
   adapted_text,
   commented,
+  object_later,
   one_later,
+  row_later,
 };
 ghost use Rattle.co_sheet_changes.specs.Pieces.{piece_view};
 
@@ -146,11 +150,17 @@ pub fn adapt<'a>(alloc: Global, text: &'a [u8], by: &[u8]) -> Result<Adapted<'a>
 }
 
 /// A text that is accepted stays as it is, after the first line that says who adapted it and but for a byte order mark: it
-/// has the same sections with the same properties, each one line later, so the same objects, entries and values. This is a
-/// law: a call of it changes nothing.
+/// has the same sections with the same properties, the same objects and the same entries with their values, each one line
+/// later, and the same node-ID. This is a law: a call of it changes nothing.
 pub fn accepted_text_stays()
     ensures text { (by text : List ℕ) → first_fault text ≡ None →
         adapted_text by text ≡ commented by text }
     ensures sections { (by text : List ℕ) → first_fault text ≡ None →
         sections_in (adapted_text by text) ≡ map one_later (sections_in text) }
+    ensures objects { (by text : List ℕ) → first_fault text ≡ None →
+        objects_of (adapted_text by text) ≡ map object_later (objects_of text) }
+    ensures entries { (by text : List ℕ) → first_fault text ≡ None →
+        rows_of (adapted_text by text) ≡ map row_later (rows_of text) }
+    ensures node_id { (by text : List ℕ) → first_fault text ≡ None →
+        node_id_in (sections_in (adapted_text by text)) ≡ node_id_in (sections_in text) }
 {}

@@ -1,5 +1,5 @@
 -- The changes of a text, a line each: `NAME:LINE: what changed: old -> new`.
-use Rattle.std.specs.Prelude.{ℕ, ◌+◌, ◌-◌, Bool, false, length, take, slice_index, ◌==◌, ◌||◌, nat_eq, nat_lt, if◌then◌else◌, List, [], ◌∷◌, ◌++◌, map, codes, decimal}
+use Rattle.std.specs.Prelude.{ℕ, ◌+◌, ◌-◌, Bool, true, false, Option, Some, None, length, take, slice_index, ◌==◌, ◌||◌, nat_eq, nat_lt, if◌then◌else◌, List, [], ◌∷◌, ◌++◌, map, codes, decimal}
 use Rattle.std.specs.List.{flat_map, starts_with}
 use Rattle.co_text.specs.Printed.{digits_text}
 use Rattle.co_sheet_text.specs.Text.{trim, is_empty}
@@ -92,3 +92,17 @@ ends_text name (line ∷ lines) =
 -- none of a text that stays
 abbrev pub ends_line : Bool → List ℕ → List ℕ → List ℕ
 ends_line stays name text = if stays then [] else ends_text name (returns_from 1 false text)
+
+-- the last line, where it has no end; `is_begun` says whether a byte of it is before these
+abbrev pub open_line : ℕ → Bool → List ℕ → Option ℕ
+open_line line is_begun [] = if is_begun then Some line else None
+open_line line is_begun (b ∷ bs) =
+    if b == 10 then open_line (line + 1) false bs else open_line line true bs
+
+unfoldable pub last_text : List ℕ → Option ℕ → List ℕ
+last_text name None = []
+last_text name (Some line) = place_text name line ++ codes "end of the last line: none -> LF\n"
+
+-- none of a text that stays
+abbrev pub last_line : Bool → List ℕ → List ℕ → List ℕ
+last_line stays name text = if stays then [] else last_text name (open_line 1 false text)

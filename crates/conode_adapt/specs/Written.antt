@@ -8,7 +8,7 @@ use Rattle.co_sheet_requested.specs.declared.request.LeadingZeros.{LeadingZeros}
 use Rattle.co_sheet_requested.specs.Requested.{Request, read_zeros, force_with, has_changes, requested_pieces, requested_text}
 use Rattle.co_sheet_adapt.specs.Adapted.{adapted_text, pieces_in}
 use Rattle.conode_adapt.specs.declared.orders.Orders.{Orders as CodeOrders}
-use Rattle.conode_adapt.specs.Listing.{mark_line, ends_line, piece_line}
+use Rattle.conode_adapt.specs.Listing.{mark_line, ends_line, last_line, piece_line}
 
 -- what is asked for beside the rules: how a leading zero is read, and the mappings at fault where the rest is forced
 pub record Orders : Type 0 where
@@ -48,8 +48,8 @@ sheet_of version name orders text = adapted_text (by_line version name) (forced_
 -- the lines of what was changed for it
 unfoldable pub changes_in : List ℕ → List ℕ → Bool → List Piece → List Piece → List Piece → List ℕ
 changes_in name text stays read forced pieces =
-    mark_line name text ++ ends_line stays name text ++ flat_map (piece_line name) read
-    ++ flat_map (piece_line name) forced ++ flat_map (piece_line name) pieces
+    mark_line name text ++ ends_line stays name text ++ last_line stays name text
+    ++ flat_map (piece_line name) read ++ flat_map (piece_line name) forced ++ flat_map (piece_line name) pieces
 
 -- a text stays where it is accepted, and nothing was changed on request
 abbrev pub stays_in : Bool → List Piece → List Piece → Bool

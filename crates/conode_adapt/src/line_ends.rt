@@ -1,7 +1,15 @@
-//! What is dropped of a text that no line has: its byte order mark, and CR before LF.
+//! What a text loses and gets that no line has: its byte order mark, CR before LF, and LF after the last line.
 
 ghost use Rattle.std.specs.Prelude.{◌≡◌, ◌++◌, false, OnOk, IfOk};
-ghost use Rattle.conode_adapt.specs.Listing.{ends_line, ends_text, mark_line, returns_from};
+ghost use Rattle.conode_adapt.specs.Listing.{
+  ends_line,
+  ends_text,
+  last_line,
+  last_text,
+  mark_line,
+  open_line,
+  returns_from,
+};
 
 use crate::listing::push_place;
 use co_text::push_decimal;
@@ -81,4 +89,54 @@ pub(crate) fn push_line_ends(
     }
     let lines = returns_in(alloc, source)?;
     push_ends(alloc, text, name, lines.as_slice())
+}
+
+// the number of the last line, where it has no end
+fn open_line(source: &[u8]) -> Option<usize>
+    ensures { result ≡ open_line 1 false source.now }
+{
+    let mut line = 1;
+    let mut is_begun = false;
+    for byte in source {
+        if *byte == b'\n' {
+            line += 1;
+            is_begun = false;
+        } else {
+            is_begun = true;
+        }
+    }
+    if is_begun { Some(line) } else { None }
+}
+
+#[tactic(auto, unfolding(crate::specs::Listing::last_text))]
+fn push_last(
+    alloc: Global,
+    text: &mut Vec<u8>,
+    name: &[u8],
+    line: Option<usize>,
+) -> Result<(), AllocError>
+    ensures { OnOk result (text.new.items ≡ text.old.items ++ last_text name.now line) }
+{
+    let Some(line) = line else {
+        return Ok(());
+    };
+    push_place(alloc, text, name, line)?;
+    text.extend_from_slice(b"end of the last line: none -> LF\n")
+}
+
+/// Appends the line of the last line's end, where it has none, and the text doesn't stay.
+pub(crate) fn push_last_line(
+    alloc: Global,
+    text: &mut Vec<u8>,
+    name: &[u8],
+    source: &[u8],
+    stays: bool,
+) -> Result<(), AllocError>
+    ensures { OnOk result
+        (text.new.items ≡ text.old.items ++ last_line stays name.now source.now) }
+{
+    if stays {
+        return Ok(());
+    }
+    push_last(alloc, text, name, open_line(source))
 }

@@ -11,7 +11,7 @@ ghost use Rattle.conode_adapt.specs.Written.{
   sheet_of,
 };
 
-use crate::line_ends::{push_line_ends, push_mark};
+use crate::line_ends::{push_last_line, push_line_ends, push_mark};
 use crate::listing::push_changes;
 use crate::orders::Orders;
 use crate::remaining::remaining;
@@ -70,6 +70,7 @@ fn listed(
     let mut changes = Vec::new(alloc);
     push_mark(alloc, &mut changes, name, text)?;
     push_line_ends(alloc, &mut changes, name, text, steps.stays)?;
+    push_last_line(alloc, &mut changes, name, text, steps.stays)?;
     push_changes(alloc, &mut changes, name, steps.read)?;
     push_changes(alloc, &mut changes, name, steps.forced)?;
     push_changes(alloc, &mut changes, name, steps.adapted)?;
