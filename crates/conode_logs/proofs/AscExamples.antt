@@ -235,7 +235,7 @@ fd_with_a_name : reads (codes "  21.671796 CANFD   1 Tx         11  msgCanFdFr1 
 unfolding logs_on_lines
 fd_with_a_name = refl
 
-fd_of_64 : reads (codes " 1.5 CANFD 1 Rx 123 1 0 f 64" ++ flat_map (λ _. codes " 00") (replicate 64 0) ++ codes " 0 0 3000") ≡ on 1 1500000 (Short 0x123) (Fd 1 (replicate 64 0)) Received
+fd_of_64 : reads (codes " 1.5 CANFD 1 Rx 123 1 0 f 64" ++ flat_map (λ (n : ℕ). codes " 00") (replicate 64 0) ++ codes " 0 0 3000") ≡ on 1 1500000 (Short 0x123) (Fd 1 (replicate 64 0)) Received
 unfolding logs_on_lines
 fd_of_64 = refl
 

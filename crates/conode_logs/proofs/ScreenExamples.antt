@@ -155,7 +155,7 @@ nine_bytes : shows (codes "  can0  605   [9]  00 00 00 00 00 00 00 00 00") ≡ E
 unfolding logs_on_lines
 nine_bytes = refl
 
-fd_of_64 : shows (codes "  can0  123  [64] " ++ flat_map (λ _. codes " 00") (replicate 64 0)) ≡ frame 0 (Short 0x123) (Fd 0 (replicate 64 0)) None
+fd_of_64 : shows (codes "  can0  123  [64] " ++ flat_map (λ (n : ℕ). codes " 00") (replicate 64 0)) ≡ frame 0 (Short 0x123) (Fd 0 (replicate 64 0)) None
 unfolding logs_on_lines
 fd_of_64 = refl
 

@@ -103,7 +103,7 @@ request_with_data : reads version_2_0 (codes "      7        61.000 RR     018F 
 unfolding logs_on_lines
 request_with_data = refl
 
-fd_of_48 : reads version_2_0 (codes " 8 1334.416 FD 0500 Tx 48" ++ flat_map (λ _. codes " 00") (replicate 48 0)) ≡ on 1 1334416 (Short 0x500) (Fd 0 (replicate 48 0)) Sent
+fd_of_48 : reads version_2_0 (codes " 8 1334.416 FD 0500 Tx 48" ++ flat_map (λ (n : ℕ). codes " 00") (replicate 48 0)) ≡ on 1 1334416 (Short 0x500) (Fd 0 (replicate 48 0)) Sent
 unfolding logs_on_lines
 fd_of_48 = refl
 
@@ -149,7 +149,7 @@ fd_with_both : reads version_2_1 (codes "      4      1334.416 BI 1      0500 Rx
 unfolding logs_on_lines
 fd_with_both = refl
 
-fd_of_code_15 : reads version_2_1 (codes " 4 1334.416 FD 1 0500 Rx - 15" ++ flat_map (λ _. codes " 00") (replicate 64 0)) ≡ on 1 1334416 (Short 0x500) (Fd 0 (replicate 64 0)) Received
+fd_of_code_15 : reads version_2_1 (codes " 4 1334.416 FD 1 0500 Rx - 15" ++ flat_map (λ (n : ℕ). codes " 00") (replicate 64 0)) ≡ on 1 1334416 (Short 0x500) (Fd 0 (replicate 64 0)) Received
 unfolding logs_on_lines
 fd_of_code_15 = refl
 
