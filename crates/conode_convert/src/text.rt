@@ -15,7 +15,7 @@ ghost use Rattle.conode_convert.specs.Printed.{
   line_text,
 };
 
-use co_text::{byte_digits, decimal_digits};
+use co_text::{byte_digits, decimal_digits, word_digits};
 use conode_logs::{LogContent, LogFrame, Place};
 use conode_record::{Direction, Identifier};
 use std::alloc::AllocError;
@@ -152,14 +152,17 @@ fn add_short(line: &mut Vec<u8>, id: u16) -> Result<(), AllocError>
     line.extend_from_slice(&digits)
 }
 
-#[tactic(auto, unfolding(co_text::specs::Printed::digits_text))]
+fn add_four(line: &mut Vec<u8>, number: u16) -> Result<(), AllocError>
+    ensures { OnOk result (line.new.items ≡ line.old.items ++ digits_text 16 4 number) }
+{
+    line.extend_from_slice(word_digits(number).as_str().as_bytes())
+}
+
 fn add_eight(line: &mut Vec<u8>, id: u32) -> Result<(), AllocError>
     ensures { OnOk result (line.new.items ≡ line.old.items ++ digits_text 16 8 id) }
 {
-    add_byte(line, (id / 0x0100_0000) as u8)?;
-    add_byte(line, (id / 0x0001_0000 % 256) as u8)?;
-    add_byte(line, (id / 256 % 256) as u8)?;
-    add_byte(line, (id % 256) as u8)
+    add_four(line, (id / 65536) as u16)?;
+    add_four(line, (id % 65536) as u16)
 }
 
 fn add_id(line: &mut Vec<u8>, id: Identifier) -> Result<(), AllocError>

@@ -7,6 +7,6 @@ use Rattle.conode_convert.proofs.converted.convert.Given as goal
 abbrev pub invariant-loop-number : goal.invariant-loop-number
 invariant-loop-number g l =
     record {
-      taken : Takes nothing_held l.converting.lines (g.R.Read.remaining l.fn.reader) (g.R.Read.remaining l.reader) (at_start l.form) l.converting.log (g.W.Write.contents l.fn.out) (g.W.Write.contents l.out) l.bad;
+      taken : Takes nothing_held l.converting.lines (g.R.Read.remaining l.fn.reader) (g.R.Read.remaining l.reader) (at_start l.fn.form) l.converting.log (g.W.Write.contents l.fn.out) (g.W.Write.contents l.out) l.bad;
       few : l.bad + 1 ≤ l.number;
     }
