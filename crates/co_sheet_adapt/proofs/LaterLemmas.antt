@@ -1,8 +1,9 @@
 -- Sections one line later hold the same objects and entries, one line later.
 use Rattle.std.proofs.Common.{◌≡◌, ℕ, ◌+◌, Bool, true, false, cond, List, [], ◌∷◌, ◌++◌, map, refl, sym, ◌∙◌, ap, codes}
-use Rattle.std.specs.Prelude.{Option, Some, None, flat_map, filter, find, option_map, option_and_then, filter_map, nat_le, nat_lt, ◌==◌, ◌&&◌}
+use Rattle.std.specs.Prelude.{Option, Some, None, flat_map, filter, find, option_map, option_and_then, filter_map, nat_le, nat_lt, ◌==◌, ◌&&◌, ℤ}
 use Rattle.std.specs.List.{cons_option}
 use Rattle.std.specs.Option.{option_map_or, option_or}
+use Rattle.std.specs.Result.{result_ok}
 use Rattle.std.proofs.lemmas.List.{map-append}
 use Rattle.co_value.specs.declared.key.Key.{Key}
 use Rattle.co_value.specs.declared.data_type.DataType.{DataType}
@@ -12,7 +13,6 @@ use Rattle.co_value.specs.declared.data_type.DataType.TheVariants.{Domain as Dom
 use Rattle.co_profile.specs.declared.access.Access.{Access}
 use Rattle.co_profile.specs.declared.access.Access.TheVariants.{Rw}
 use Rattle.co_sheet_rows.specs.declared.object.ObjectType.{ObjectType}
-use Rattle.co_sheet_rows.specs.declared.fault.SheetFault.{SheetFault}
 use Rattle.co_sheet_text.specs.declared.section_kind.SectionKind.{SectionKind}
 use Rattle.co_sheet_text.specs.declared.section_kind.SectionKind.TheVariants.{MandatoryObjects, OptionalObjects, ManufacturerObjects, DummyUsage, DeviceInfo, DeviceCommissioning, Object, SubIndex, PassedOver}
 use Rattle.co_sheet_text.specs.Names.{is_list, is_position, number_in, same_kind}
@@ -217,7 +217,7 @@ entries-in : (sections : List TextSection) (o : ListedObject) → entries_in (ma
 entries-in sections o =
     ap (entries_by (map one_later sections) (one_later o.section) o.index) (code-same o.section)
     ∙ entries-cond (is_one_of single_codes (object_code o.section)) (is_one_of compound_codes (object_code o.section))
-    (entry_with (record { index = o.index; sub = 0 }) o.section) _ _ (subs-same sections o.index)
+    (entry_with (record { index = o.index; sub = 0 }) o.section) (sub_indices (map one_later sections) o.index) (sub_indices sections o.index) (subs-same sections o.index)
 
 entries-same : (sections : List TextSection) → entries_of (map one_later sections) ≡ map entry_later (entries_of sections)
 entries-same sections =
@@ -250,13 +250,13 @@ access-same e =
     ∙ ap (access_by (is_domain e)) (property-same (codes "AccessType") e.section)
     ∙ or-same access_given (cond (is_domain e) (Some Rw) None) (λ k. refl) (property_at (codes "AccessType") e.section)
 
-abbrev number_given : DataType → Property → Option Rattle.std.specs.Prelude.ℤ
-number_given t k = Rattle.std.specs.Result.result_ok (number_at_type t k.value)
+abbrev number_given : DataType → Property → Option ℤ
+number_given t k = result_ok (number_at_type t k.value)
 
 limit-same : (name : List ℕ) (t : DataType) (e : Entry) → limit_at name t (entry_later e) ≡ limit_at name t e
 limit-same name t e =
     ap (λ (o : Option Property). cond (is_numeric t) (option_and_then (number_given t) o) None) (property-same name e.section)
-    ∙ ap (λ (o : Option Rattle.std.specs.Prelude.ℤ). cond (is_numeric t) o None) (then-same (number_given t) (λ k. refl) (property_at name e.section))
+    ∙ ap (λ (o : Option ℤ). cond (is_numeric t) o None) (then-same (number_given t) (λ k. refl) (property_at name e.section))
 
 or-later : (a b : Option Property) → option_or (option_map property_later a) (option_map property_later b) ≡ option_map property_later (option_or a b)
 or-later None b = refl
@@ -272,7 +272,7 @@ default-same t e =
 mappable-same : (e : Entry) → is_mappable (entry_later e) ≡ is_mappable e
 mappable-same e = ap is_other_than_zero (number-same (codes "PDOMapping") e.section)
 
-abbrev row_by : Entry → DataType → Access → Option Rattle.std.specs.Prelude.ℤ → Option Rattle.std.specs.Prelude.ℤ → Default → Bool → Option (List ℕ) → Row
+abbrev row_by : Entry → DataType → Access → Option ℤ → Option ℤ → Default → Bool → Option (List ℕ) → Row
 row_by e t access low high default mappable name = record {
   key = e.key;
   data_type = t;
@@ -289,8 +289,8 @@ row-with : (e : Entry) (t : DataType) (access : Access) → row_with (entry_late
 row-with e t access =
     let later = entry_later e in
     let at = row_by e t access in
-    ap (λ (low : Option Rattle.std.specs.Prelude.ℤ). at low (high_limit t later) (default_of t later) (is_mappable later) (name_of later.section)) (limit-same (codes "LowLimit") t e)
-    ∙ ap (λ (high : Option Rattle.std.specs.Prelude.ℤ). at (low_limit t e) high (default_of t later) (is_mappable later) (name_of later.section)) (limit-same (codes "HighLimit") t e)
+    ap (λ (low : Option ℤ). at low (high_limit t later) (default_of t later) (is_mappable later) (name_of later.section)) (limit-same (codes "LowLimit") t e)
+    ∙ ap (λ (high : Option ℤ). at (low_limit t e) high (default_of t later) (is_mappable later) (name_of later.section)) (limit-same (codes "HighLimit") t e)
     ∙ ap (λ (d : Default). at (low_limit t e) (high_limit t e) d (is_mappable later) (name_of later.section)) (default-same t e)
     ∙ ap (λ (b : Bool). at (low_limit t e) (high_limit t e) (default_of t e) b (name_of later.section)) (mappable-same e)
     ∙ ap (λ (n : Option (List ℕ)). at (low_limit t e) (high_limit t e) (default_of t e) (is_mappable e) n) (name-same e.section)
