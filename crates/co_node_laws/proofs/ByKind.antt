@@ -161,12 +161,6 @@ with_queue o queue = record o { device = record o.device { queue = queue } }
 abbrev with_kept : Outcome → (ℕ → Option FrameContent) → Outcome
 with_kept o kept = record o { device = record o.device { kept = kept } }
 
-abbrev with_schedule : Outcome → Schedule → Outcome
-with_schedule o schedule = record o { device = record o.device { schedule = schedule } }
-
-abbrev with_last : Outcome → List FrameContent → Outcome
-with_last o last = record o { last = last }
-
 abbrev with_responses : Outcome → List FrameContent → Outcome
 with_responses o responses = record o { responses = responses }
 
