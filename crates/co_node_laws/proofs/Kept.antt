@@ -31,6 +31,7 @@ use Rattle.co_node_model.specs.Sdo.{channel_logs}
 use Rattle.co_node_model.specs.Device.{with_frame, moment, moments, contents_of, state_of}
 use Rattle.co_node_model.specs.Addresses.{address_at}
 use Rattle.co_node_model.specs.Marks.{marked_heartbeat, marked_key, marked_rpdo, marked_sync, marked_tick}
+use Rattle.co_node_laws.proofs.MarkLemmas.{written_rpdo, written_sync, written_tick}
 
 -- ---- no heartbeat is lost
 
@@ -137,7 +138,8 @@ silent_either false x y p q = q
 silent_request : (k : Constants) (history : History) (address : Address) (j : ℕ) (frame : FrameContent) (input : InputView) (c : Contents) → address ≡ Channel j → IsSilent (with_frame k history address frame (nothing_of input c))
 silent_request k history address j frame input c is =
     subst (λ (a : Address). IsSilent (with_frame k history a frame (nothing_of input c))) (sym is)
-    (silent_either (is_state Stopped (state_at history)) _ _ (record { ticked = refl; sync = refl; rpdo = refl }) (record { ticked = refl; sync = refl; rpdo = refl }))
+    (silent_either (is_state Stopped (state_at history)) _ _ (record { ticked = refl; sync = refl; rpdo = refl })
+    (record { ticked = written_tick _; sync = written_sync _; rpdo = written_rpdo _ }))
 
 after_request : (k : Constants) (inputs : Inputs) (frame : FrameContent) (j : ℕ) → address_at k (moments k inputs) frame.id ≡ Channel j
     → contents_of k (Framed frame ∷ inputs) ≡ (with_frame k (moments k inputs) (Channel j) frame (nothing_of (Framed frame) (contents_of k inputs))).received
