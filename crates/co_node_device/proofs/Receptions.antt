@@ -16,11 +16,12 @@ use Rattle.co_node_parts.specs.NmtStates.{is_state}
 use Rattle.co_node_parts.specs.EmergencyQueues.{Pending, EmergencyLog, EmergenciesStand, with_queued}
 use Rattle.co_node_model.specs.AppEvents.{event_refusal, with_app_event}
 use Rattle.co_node_model.specs.Inputs.{AppView, Framed, Applied, Written, EventOn, ChangedAt, Raised, Cleared}
-use Rattle.co_node_model.specs.Moments.{quiet, Constants, Moment, History, channels, contents_at, nothing_of}
+use Rattle.co_node_model.specs.Moments.{Constants, Moment, History, channels, contents_at, nothing_of}
 use Rattle.co_node_model.specs.declared.address.Address.{Address}
-use Rattle.co_node_model.specs.declared.marks.Marks.{Marks}
+use Rattle.co_node_model.specs.declared.mark.Mark.{Mark}
 use Rattle.co_node_model.specs.Sdo.{channel_logs, with_request, with_channel_frame}
 use Rattle.co_node_model.specs.Device.{received_at}
+use Rattle.co_node_model.specs.Marks.{written_mark}
 use Rattle.co_node_device.specs.Befores.{IsBefore, logs_received}
 use Rattle.co_node_device.specs.Receiving.{IsFrameReceived, frame_moment}
 
@@ -30,7 +31,7 @@ is_some_number None = refl
 is_some_number (Some e) = refl
 
 -- received at one address, and so at its equal
-pub at_address : {d : Description} {k : Constants} {history : History} {marked : Marks}
+pub at_address : {d : Description} {k : Constants} {history : History} {marked : Mark}
     {entries : Contents} {before after : List FrameContent} {bank : List NumberedChannel}
     (frame : FrameContent) (a b : Address) → a ≡ b
     → IsFrameReceived d k history (frame_moment k history a frame) marked entries before after bank
@@ -57,22 +58,22 @@ module _ (k : Constants) (history : History) (d : Description) (entries : Conten
   abbrev set_with : Description → Contents → Option Download
   set_with e n = set_of (channels k) e n (channel_logs history) frame
 
-  pub request_received : (none : Marks) (set : Option Key) (after : Contents) (old new : List FrameContent)
-      (next : List NumberedChannel) → is_state Stopped now ≡ false → none ≡ quiet
+  pub request_received : (mark : Mark) (set : Option Key) (after : Contents) (old new : List FrameContent)
+      (next : List NumberedChannel) → is_state Stopped now ≡ false → mark ≡ written_mark set
       → new ≡ old ++ frames_at (exchange d entries)
       → set ≡ key_set (set_with d entries)
       → after ≡ contents_with entries (set_with d entries)
       → BankStands d (channels k) next (logs_after (exchange d entries) (channel_logs history))
-      → IsFrameReceived d k history (with_channel_frame k history frame nothing) (record none { set = set })
+      → IsFrameReceived d k history (with_channel_frame k history frame nothing) mark
       after old new next
-  request_received none set after old new next runs empty frames key contents stands = subst
+  request_received mark set after old new next runs empty frames key contents stands = subst
       (λ (b : Bool). IsFrameReceived d k history
-      (cond b nothing (with_request k (channel_logs history) frame nothing)) (record none { set = set })
+      (cond b nothing (with_request k (channel_logs history) frame nothing)) mark
       after old new next)
       (sym (ap (λ s. is_state Stopped s) (sym is.state) ∙ runs))
       (record {
-        marks = ap (λ (m : Marks). record m { set = set }) empty
-            ∙ ap (λ (s : Option Key). record quiet { set = s })
+        mark = empty
+            ∙ ap (λ (s : Option Key). written_mark s)
             (key ∙ by_both (λ e n. key_set (set_with e n)) is.description is.contents);
         contents = contents ∙ by_both (λ e n. contents_with n (set_with e n)) is.description is.contents;
         frames = frames ∙ ap (λ (x : List FrameContent). old ++ x)

@@ -16,13 +16,13 @@ use Rattle.co_node_device.proofs.rpdos.take_pdos.Goals as goal
 
 module _ (g : given.Over) (c : goal.After-mappings_stay g)
     (table : IsMappingTable Rpdo (g.S.ObjectStore.description c.args.store.now) (g.S.ObjectStore.contents c.args.store.now) c.args.mappings.now) where
-  mapped : IsMappedLength (g.S.ObjectStore.description c.args.store.now) (g.S.ObjectStore.contents c.args.store.now) c.args.marks.now.rpdo c.mapped_length-mapped.result
+  mapped : IsMappedLength (g.S.ObjectStore.description c.args.store.now) (g.S.ObjectStore.contents c.args.store.now) (marked_rpdo c.args.mark.now) c.mapped_length-mapped.result
   mapped = c.mapped_length-mapped.ensures (g.S.ObjectStore.description c.args.store.now) (g.S.ObjectStore.contents c.args.store.now) table
 
-  event : c.slot_event.result ≡ slot_event (g.S.ObjectStore.description c.args.store.now) (g.S.ObjectStore.contents c.args.store.now) c.args.marks.now c.args.transition
+  event : c.slot_event.result ≡ slot_event (g.S.ObjectStore.description c.args.store.now) (g.S.ObjectStore.contents c.args.store.now) c.args.mark.now c.args.transition
   event = c.slot_event.ensures (g.S.ObjectStore.description c.args.store.now) (g.S.ObjectStore.contents c.args.store.now) c.type_of-kind.ensures mapped
 
-  lengths : g.S.ObjectStore.contents c.raise_lengths.new.store ≡ after_lengths (g.S.ObjectStore.description c.args.store.now) (g.S.ObjectStore.contents c.args.store.now) c.args.marks.now
+  lengths : g.S.ObjectStore.contents c.raise_lengths.new.store ≡ after_lengths (g.S.ObjectStore.description c.args.store.now) (g.S.ObjectStore.contents c.args.store.now) c.args.mark.now
   lengths = c.raise_lengths.ensures.contents mapped
 
   -- errors of length change no mapping
@@ -32,7 +32,7 @@ module _ (g : given.Over) (c : goal.After-mappings_stay g)
       (subst (λ (e : Contents). IsMappingTable Rpdo (g.S.ObjectStore.description c.args.store.now) e c.args.mappings.now) (sym lengths)
       (c.mappings_stay.ensures Rpdo (g.S.ObjectStore.description c.args.store.now) (g.S.ObjectStore.contents c.args.store.now) _ c.args.mappings.now
       (c.settings_kept.ensures.mappings _ _ (c.settings_kept.ensures.raised (g.S.ObjectStore.description c.args.store.now).rows
-      (length_errors_of (g.S.ObjectStore.description c.args.store.now) (g.S.ObjectStore.contents c.args.store.now) c.args.marks.now) (g.S.ObjectStore.contents c.args.store.now))) table))
+      (length_errors_of (g.S.ObjectStore.description c.args.store.now) (g.S.ObjectStore.contents c.args.store.now) c.args.mark.now) (g.S.ObjectStore.contents c.args.store.now))) table))
 
   -- nor do the data of those that waited
   at_once : IsMappingTable Rpdo (g.S.ObjectStore.description c.take_all_data.new.store) (g.S.ObjectStore.contents c.take_all_data.new.store) c.args.mappings.now
@@ -47,7 +47,7 @@ module _ (g : given.Over) (c : goal.After-mappings_stay g)
 
   gave : AreEffects (g.S.ObjectStore.description c.args.store.now) (g.S.ObjectStore.description c.raise_lengths.new.store) (g.S.ObjectStore.description c.take_all_data.new.store)
       (g.S.ObjectStore.contents c.args.store.now) (g.S.ObjectStore.contents c.raise_lengths.new.store) (g.S.ObjectStore.contents c.take_all_data.new.store) (g.S.ObjectStore.contents c.take_at_once.new.store)
-      c.args.marks.now c.args.transition log c.taken.result.now (if c.is_immediate-at_once.result then cons_option c.args.marks.now.rpdo [] else [])
+      c.args.mark.now c.args.transition log c.taken.result.now (if c.is_immediate-at_once.result then cons_option (marked_rpdo c.args.mark.now) [] else [])
   gave = record {
     lengths = lengths g c table;
     same = c.raise_lengths.ensures.description;
