@@ -15,8 +15,8 @@
  *
  * What holds of every call:
  * - No pointer is NULL, also where the count beside it is 0. An array has as many elements as its count says.
- * - What a call writes (node, frames, bytes, length, fault, abort_code, elapsed, text) is apart from all else that the call is
- *   given.
+ * - What a call writes (node, frames, bytes, length, fault, abort_code, elapsed, entry, number, text) is apart from all else that
+ *   the call is given.
  * - A node is in one call at a time, and no call comes from a signal handler.
  * - A node begins as BAFOKUN_EMPTY and only the calls below write it. It may be moved, not copied. While it is empty, calls
  *   do nothing and give 0.
@@ -83,6 +83,24 @@ typedef struct bafokun_fault {
 /* The number of the fault "out of memory", of an EDS and of a device. */
 #define BAFOKUN_SHEET_MEMORY 20
 #define BAFOKUN_DEVICE_MEMORY 7
+
+/* An entry of the object dictionary. 16 bytes on a machine of 64 bits, no padding. */
+typedef struct bafokun_entry_info {
+    uint16_t index;
+    uint8_t sub_index;
+    uint8_t access;    /* of SDO clients and PDOs: BAFOKUN_RO to BAFOKUN_CONST */
+    uint16_t type;     /* the code of its data type (CiA 301, 7.4.7.1): 5 UNSIGNED8, 9 VISIBLE_STRING, and so on */
+    uint16_t capacity; /* bytes that it has room for */
+    size_t length;     /* bytes that it has now */
+} bafokun_entry_info;
+
+/* The access of an entry, AccessType (CiA 306): ro, wo, rw, rwr, rww, const. */
+#define BAFOKUN_RO 1
+#define BAFOKUN_WO 2
+#define BAFOKUN_RW 3
+#define BAFOKUN_RWR 4
+#define BAFOKUN_RWW 5
+#define BAFOKUN_CONST 6
 
 /* NMT states, as the byte of a heartbeat (CiA 301, 7.2.8.3.2). */
 #define BAFOKUN_STOPPED 4
@@ -160,6 +178,26 @@ size_t bafokun_sent(bafokun_node *node, size_t from, bafokun_frame *frames, size
  * are. If not, nothing is written.
  */
 bool bafokun_value(bafokun_node *node, uint16_t index, uint8_t sub_index, uint8_t *bytes, size_t room, size_t *length);
+
+/*
+ * Entries by their number: from 0 on, by increasing index and sub-index. A number stays that of its entry until the device is given
+ * back.
+ *
+ *     for (number = 0; bafokun_entry(&node, number, &entry); number++)
+ *         ...
+ */
+
+/* Whether there is an entry with this number. If so it is put into entry. If not, nothing is written. */
+bool bafokun_entry(bafokun_node *node, size_t number, bafokun_entry_info *entry);
+
+/*
+ * The name of an entry, its ParameterName: put into text with a 0 after it, and cut where there is less room; with room 0 nothing is
+ * written. The result is how long the whole name is, without the 0: 0 where it has none, or where there is no such entry.
+ */
+size_t bafokun_entry_name(bafokun_node *node, size_t number, char *text, size_t room);
+
+/* Whether there is an entry of this index and sub-index. If so its number is put into number. If not, nothing is written. */
+bool bafokun_find(bafokun_node *node, uint16_t index, uint8_t sub_index, size_t *number);
 
 /* The node-ID, 1 to 127. */
 uint8_t bafokun_node_id(bafokun_node *node);

@@ -404,6 +404,56 @@ static void test_ticks(void)
     check(bafokun_ticks(&node, 7, &elapsed, frames, 3) == 0 && elapsed == 7, "ticks", "of an empty place");
 }
 
+static bool is_entry(bafokun_node *node, size_t number, unsigned index, unsigned sub, int type, int access, size_t capacity, size_t length)
+{
+    bafokun_entry_info entry;
+    return bafokun_entry(node, number, &entry) && entry.index == index && entry.sub_index == sub && entry.type == type
+        && entry.access == access && entry.capacity == capacity && entry.length == length;
+}
+
+/* All entries of the sheet, by their numbers, and what the sheet says of them. */
+static void test_entries(void)
+{
+    static char text[65536];
+    bafokun_node node = BAFOKUN_EMPTY;
+    bafokun_fault fault;
+    bafokun_entry_info entry, before;
+    bafokun_frame frame;
+    const char *at = strstr(sheet, "[2001]\n");
+    char name[16];
+    size_t number, found = 77, length, unlike = 0;
+    sprintf(text, "%.*s[2001]\nParameterName = Device name\n%s", (int)(at - sheet), sheet, at + strlen("[2001]\n"));
+    check(bafokun_build(&node, text, strlen(text), 5, &config, &fault), "entries", "build");
+    memset(&before, 0, sizeof before);
+    for (number = 0; bafokun_entry(&node, number, &entry); number++) {
+        uint8_t byte;
+        unlike += number > 0 && (before.index << 8 | before.sub_index) >= (entry.index << 8 | entry.sub_index);
+        unlike += !bafokun_find(&node, entry.index, entry.sub_index, &found) || found != number;
+        unlike += !bafokun_value(&node, entry.index, entry.sub_index, &byte, 0, &length) || length != entry.length;
+        before = entry;
+    }
+    check(number == 46, "entries", "all 46");
+    check(unlike == 0, "entries", "by increasing key, each is found, and has the length of its value");
+    check(entry.index == 0x2100, "entries", "past the last nothing is written");
+    check(is_entry(&node, 0, 0x1000, 0, 0x07, BAFOKUN_RO, 4, 4), "entries", "1000:00");
+    check(is_entry(&node, 41, 0x2001, 0, 0x09, BAFOKUN_RW, 16, 0), "entries", "2001:00, a VISIBLE_STRING");
+    check(is_entry(&node, 43, 0x2003, 0, 0x06, BAFOKUN_RW, 2, 2), "entries", "2003:00, an UNSIGNED16");
+    check(is_entry(&node, 44, 0x2004, 0, 0x06, BAFOKUN_WO, 2, 2), "entries", "2004:00, write only");
+    check(is_entry(&node, 45, 0x2100, 0, 0x0F, BAFOKUN_RW, 889, 0), "entries", "2100:00, a DOMAIN");
+    check(bafokun_write(&node, 0x2001, 0, (const uint8_t *)"ten", 3, &frame, 1) == 0, "entries", "write");
+    check(is_entry(&node, 41, 0x2001, 0, 0x09, BAFOKUN_RW, 16, 3), "entries", "2001:00 has three bytes");
+    check(!bafokun_find(&node, 0x2001, 1, &found) && found == 45, "entries", "no 2001:01");
+    memset(name, '#', sizeof name);
+    check(bafokun_entry_name(&node, 41, name, sizeof name) == 11 && memcmp(name, "Device name\0#", 13) == 0, "entries", "its name");
+    check(bafokun_entry_name(&node, 41, name, 4) == 11 && memcmp(name, "Dev\0ce", 6) == 0, "entries", "room for three");
+    check(bafokun_entry_name(&node, 42, name, 4) == 0 && name[0] == 0, "entries", "no name");
+    check(bafokun_entry_name(&node, SIZE_MAX, name + 1, 0) == 0 && name[1] == 'e', "entries", "no such entry");
+    bafokun_free(&node);
+    check(!bafokun_entry(&node, 0, &entry) && entry.index == 0x2100, "entries", "none of an empty place");
+    check(!bafokun_find(&node, 0x1000, 0, &found) && found == 45, "entries", "which has none to find");
+    check(bafokun_entry_name(&node, 41, name, 4) == 0 && name[0] == 0, "entries", "nor a name");
+}
+
 /* The words of the faults and abort codes: none is too long for the array, and an array with less room has a 0 at its end. */
 static void test_texts(void)
 {
@@ -492,6 +542,7 @@ int main(int argc, char **argv)
     check(sizeof(bafokun_frame) == 12, "layout", "frame");
     check(sizeof(bafokun_config) == 6, "layout", "config");
     check(sizeof(bafokun_fault) == 16, "layout", "fault");
+    check(sizeof(bafokun_entry_info) == 8 + sizeof(size_t), "layout", "entry");
     run("boot-up", "", boot_up);
     run("expedited upload", "", expedited_upload);
     run("segmented download", "", segmented_download);
@@ -505,6 +556,7 @@ int main(int argc, char **argv)
     test_reset();
     test_small_arrays();
     test_ticks();
+    test_entries();
     test_texts();
     test_empty_place();
     test_refused_memory();

@@ -14,8 +14,8 @@ from . import library as c
 from .entry import Entry
 from .faults import BuildFault, Refused, SheetFault
 from .frame import AnyFrame, Frame, frame_of
-from .sheet import descriptions, node_id_of
-from .values import Value
+from .sheet import Description, Sheet, node_id_of
+from .values import DataType, Value
 
 Key = Union[str, int, Tuple[int, int]]
 """An entry's name, "Object.Entry", an index, or an index and a sub-index."""
@@ -88,7 +88,7 @@ class Node:
             raise BuildFault(fault.number, fault.index, fault.sub_index, path)
         # also where nobody closes it
         self._free = weakref.finalize(self, self._library.bafokun_free, self._handle)
-        self._entries = {(it.index, it.sub_index): Entry(self, it) for it in descriptions(sheet, self._has)}
+        self._entries = {(it.index, it.sub_index): Entry(self, it) for it in self._descriptions(Sheet(sheet))}
         self._names = self._named()
 
     @classmethod
@@ -115,6 +115,22 @@ class Node:
 
     def __exit__(self, *_: object) -> None:
         self.close()
+
+    def _descriptions(self, sheet: Sheet) -> Iterator[Description]:
+        """What the sheet says of all entries, by key."""
+        entry, name, number = c.CEntry(), ctypes.create_string_buffer(c.MOST_NAME + 1), 0
+        while self._call("entry", number, entry):
+            length = self._call("entry_name", number, name, len(name))
+            yield Description(
+                entry.index,
+                entry.sub_index,
+                name.raw[:length].decode(sheet.encoding),
+                sheet.object_name(entry.index),
+                sheet.type(entry.index, entry.sub_index, DataType(entry.type)),
+                c.ACCESS[entry.access],
+                entry.capacity,
+            )
+            number += 1
 
     def _named(self) -> Dict[str, List[Entry]]:
         names: Dict[str, List[Entry]] = {}
@@ -148,9 +164,6 @@ class Node:
             if self._call("answer", code) == c.REFUSED:
                 raise Refused(code.value)
 
-    def _has(self, index: int, sub_index: int) -> bool:
-        return bool(self._call("value", index, sub_index, (ctypes.c_uint8 * 1)(), 0, ctypes.c_size_t()))
-
     # ---- the bus and the clock
 
     def frames(self) -> List[Frame]:
@@ -176,9 +189,12 @@ class Node:
 
     def tick(self, ms: int = 1) -> List[Frame]:
         """So many ms elapsed, at most a day."""
+        left, elapsed = _checked("ms", ms, _DAY), ctypes.c_uint32()
         with self._lock:
-            for _ in range(_checked("ms", ms, _DAY)):
-                self._input("tick")
+            while left:
+                # these end with the first one that sends frames
+                self._input("ticks", left, elapsed)
+                left -= elapsed.value
             return self.frames()
 
     # ---- the application

@@ -1,3 +1,6 @@
+pub mod Appended
 pub mod AsBox
+pub mod Faultless
+pub mod Nothing
 pub mod Terminated
 pub mod Ticks

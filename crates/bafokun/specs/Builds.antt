@@ -11,16 +11,21 @@ use Rattle.co_dict_build.specs.declared.build_fault.BuildFault.TheVariants.{Node
 use Rattle.co_dict_build.specs.BuildFaultTexts.{fault_number}
 use Rattle.co_dict_build.specs.BuildFaults.{IsBuildFault, build_fault}
 use Rattle.co_dict_build.specs.Built.{Plan, plan_of, built_description}
+use Rattle.co_dict_build.specs.Capacities.{Limits}
 use Rattle.co_node.specs.Nodes.{Stands, node_constants}
 use Rattle.bafokun.specs.declared.build.Settings.{Settings}
 use Rattle.bafokun.specs.declared.build.Fault.{Fault}
 use Rattle.bafokun.specs.declared.held.Held.{Held}
 use Rattle.bafokun.specs.declared.handle.Handle.{Handle}
+use Rattle.bafokun.specs.Entries.{contents_of_rows}
 
--- what a data sheet, a node-ID and settings say of a dictionary: no entry has a limit of its own
+-- the room of strings and of domains: no entry has a limit of its own
+abbrev pub limits_for : Settings → Limits
+limits_for settings = record { strings = settings.strings; domains = settings.domains; own = [] }
+
+-- what a data sheet, a node-ID and settings say of a dictionary
 abbrev pub plan_for : ℕ → Settings → SheetContent → Plan
-plan_for node settings sheet =
-    plan_of node (record { strings = settings.strings; domains = settings.domains; own = [] }) sheet
+plan_for node settings sheet = plan_of node (limits_for settings) sheet
 
 -- ---- faults as C has them
 
@@ -53,12 +58,13 @@ device_fault f = record {
 
 -- ---- both outcomes
 
--- this device was built of this sheet, and nothing has come to it
+-- this device was built of this sheet, and nothing has come to it; it has what the sheet says of the entries
 pub record IsBuiltOf (node : ℕ) (settings : Settings) (sheet : SheetContent) (held : Held) : Type 0 where
   pub accepted : build_fault (plan_for node settings sheet) ≡ None
   pub stands : (greatest : ℕ)
       → IsGreatestCapacity (built_description (plan_for node settings sheet)).rows greatest
       → Stands (node_constants (plan_for node settings sheet) greatest settings.time) held.node []
+  pub entries : held.entries ≡ contents_of_rows (limits_for settings) sheet.rows
 
 -- and of a text
 pub record IsBuilt (text : List ℕ) (node : ℕ) (settings : Settings) (held : Held) : Type 0 where

@@ -1,7 +1,9 @@
 pub mod Answers
 pub mod Builds
 pub mod Devices
+pub mod Entries
 pub mod Frames
 pub mod Seals
+pub mod Tables
 pub mod Texts
 pub mod Ticks

@@ -4,6 +4,7 @@ ghost use Rattle.std.specs.Prelude.{◌≡◌, true, false, IfErr, IfOk};
 ghost use Rattle.bafokun.specs.Builds.{IsBuilt, IsPlaced, IsRefused, device_fault, no_fault, sheet_fault};
 ghost use Rattle.bafokun.specs.Devices.{IsEmpty};
 
+use crate::entries::EntryTable;
 use crate::handle::Handle;
 use crate::held::Held;
 use co_dict_build::{BuildFault, Limits};
@@ -96,21 +97,27 @@ fn build(alloc: Global, text: &[u8], node_id: u8, settings: &Settings) -> Result
         Ok(sheet) => sheet,
         Err(fault) => return Err(Fault::of_sheet(fault)),
     };
+    let limits = Limits {
+        strings: settings.strings,
+        domains: settings.domains,
+        own: &[],
+    };
     let config = Config {
-        limits: Limits {
-            strings: settings.strings,
-            domains: settings.domains,
-            own: &[],
-        },
+        limits,
         time: settings.time,
     };
     let node = match Node::build(alloc, &sheet, node_id, &config) {
         Ok(node) => node,
         Err(fault) => return Err(Fault::of_build(fault)),
     };
+    let entries = match EntryTable::of(alloc, node_id, &limits, sheet.entries()) {
+        Ok(entries) => entries,
+        Err(_) => return Err(Fault::of_build(BuildFault::Memory)),
+    };
     let held = Held {
         node,
         sent: Outbox::new(),
+        entries,
     };
     match Box::new(alloc, held) {
         Ok(held) => Ok(held),

@@ -60,7 +60,9 @@ fn packed(bytes: &[u8]) -> PackedBytes
     packed
 }
 
-/// Puts frames into an array, as many as it has room for.
+/// Puts frames into an array, as many as it has room for. It isn't compiled into its callers, as most inputs give no frame: so these
+/// keep less across the call of the device.
+#[inline(never)]
 pub(crate) fn put(frames: &[Frame], places: &mut [CanFrame])
     ensures { ArePut frames.now places.old places.new }
 {

@@ -25,7 +25,7 @@ pub struct Handle {
 impl Handle {
     ghost use Rattle.co_node_model.specs.Inputs.{Inputs, Framed, Ticked, Applied, app_view};
     ghost use Rattle.co_node_model.specs.Moments.{Constants};
-    ghost use Rattle.bafokun.specs.Devices.{Gives, IsDevice, IsEmpty, IsQuiet};
+    ghost use Rattle.bafokun.specs.Devices.{Gives, IsDevice, IsEmpty, IsQuiet, entries_of};
     ghost use Rattle.bafokun.specs.Frames.{ArePut};
 
     fn empty(alloc: Global) -> Handle
@@ -65,6 +65,7 @@ impl Handle {
         replace(self, Handle::empty(alloc)).into_box(alloc)
     }
 
+    #[tactic(auto, using(crate::proofs::Nothing::nothing_put))]
     /// A device again after an input, whose frames go into the array, as many as it has room for. It gives how many there are.
     #[inline(always)]
     pub(crate) fn give(&mut self, held: Box<Held>, frames: &mut [CanFrame]) -> usize
@@ -72,8 +73,10 @@ impl Handle {
         ensures put { ArePut held.value.sent.items frames.old frames.new }
         ensures count { result ≡ length held.value.sent.items }
     {
-        put(&held.sent, frames);
         let count = held.sent.len();
+        if count > 0 {
+            put(&held.sent, frames);
+        }
         *self = Handle::of(held);
         count
     }
@@ -89,6 +92,7 @@ impl Handle {
         ensures gives { (k : Constants) (before : Inputs) → IsDevice k self.old before →
             Gives k before (Framed frame.now) self.new frames.old frames.new result }
         ensures empty { IsEmpty self.old → IsQuiet self.new frames.old frames.new result }
+        ensures entries { entries_of self.new ≡ entries_of self.old }
     {
         match self.take(alloc) {
             Some(mut held) => {
@@ -105,6 +109,7 @@ impl Handle {
         ensures gives { (k : Constants) (before : Inputs) → IsDevice k self.old before →
             Gives k before Ticked self.new frames.old frames.new result }
         ensures empty { IsEmpty self.old → IsQuiet self.new frames.old frames.new result }
+        ensures entries { entries_of self.new ≡ entries_of self.old }
     {
         match self.take(alloc) {
             Some(mut held) => {
@@ -125,6 +130,7 @@ impl Handle {
         ensures gives { (k : Constants) (before : Inputs) → IsDevice k self.old before →
             Gives k before (Applied (app_view event.entry)) self.new frames.old frames.new result }
         ensures empty { IsEmpty self.old → IsQuiet self.new frames.old frames.new result }
+        ensures entries { entries_of self.new ≡ entries_of self.old }
     {
         match self.take(alloc) {
             Some(mut held) => {

@@ -2,6 +2,8 @@
 #![tactic(auto)]
 
 mod build;
+mod dictionary;
+mod entries;
 mod frames;
 mod handle;
 mod held;
@@ -12,6 +14,8 @@ mod seal;
 mod texts;
 
 pub use build::{Fault, Settings, bafokun_build};
+pub use dictionary::{bafokun_entry, bafokun_entry_name, bafokun_find};
+pub use entries::{Entry, EntryTable};
 pub use frames::CanFrame;
 pub use handle::Handle;
 pub use inputs::{

@@ -9,6 +9,7 @@ use Rattle.bafokun.proofs.held.Held.ticks.Given as goal
 abbrev pub invariant-loop-i : goal.invariant-loop-i
 invariant-loop-i l = record {
   empty : l.self.sent.items ≡ [];
+  entries : l.self.entries ≡ l.fn.self.entries;
   stands : (k : Constants) (before : Inputs) → Stands k l.fn.self.node before →
       Stands k l.self.node (after_ticks l.i before);
   quiet : (k : Constants) (before : Inputs) → Stands k l.fn.self.node before →
