@@ -23,6 +23,10 @@ if_utf8 text = if is_utf8 text then Some text else None
 abbrev pub row_at : List Row → Key → Option Row
 row_at rows key = find (λ row. same_key row.key key) rows
 
+-- the name of an entry, where it is UTF-8
+abbrev pub shown_name : Row → Option (List ℕ)
+shown_name row = option_and_then if_utf8 row.name
+
 -- the name of the entry of a key, where it is UTF-8
 abbrev pub name_at : List Row → Key → Option (List ℕ)
 name_at rows key = option_and_then if_utf8 (option_and_then (λ row. row.name) (row_at rows key))
@@ -30,6 +34,11 @@ name_at rows key = option_and_then if_utf8 (option_and_then (λ row. row.name) (
 -- whether names are for a node
 abbrev pub are_for : Option ℕ → ℕ → Bool
 are_for only node = option_map_or (λ one. one == node) only true
+
+-- a node's entry
+unfoldable pub entry_of : Names → ℕ → Key → Option Row
+entry_of names node key =
+    if are_for names.only node then option_and_then (λ sheet. row_at sheet.rows key) names.sheet else None
 
 -- the name of a node's entry
 unfoldable pub name_of : Names → ℕ → Key → Option (List ℕ)

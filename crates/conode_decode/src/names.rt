@@ -4,7 +4,7 @@ ghost use Rattle.std.specs.Prelude.{◌≡◌, ◌++◌, OnOk, Option, Some, map
 ghost use Rattle.std.specs.Option.{option_copied};
 ghost use Rattle.co_value.specs.Keys.{is_key_before};
 ghost use Rattle.co_sheet.specs.SheetViews.{row_view};
-ghost use Rattle.conode_decode.specs.Names.{names_view, if_utf8, row_at, name_at, name_of, name_text};
+ghost use Rattle.conode_decode.specs.Names.{names_view, entry_of, if_utf8, row_at, name_at, name_of, name_text, shown_name};
 
 use crate::numbers::push_words;
 use co_sheet::{EntryRow, Sheet};
@@ -21,8 +21,8 @@ pub struct Names<'s, 'a> {
     pub only: Option<u8>,
 }
 
-// the row of a key among rows in increasing key
-fn row_at<'r, 'a>(rows: &'r [EntryRow<'a>], key: Key) -> Option<&'r EntryRow<'a>>
+/// The row of a key among rows in increasing key.
+pub fn row_at<'r, 'a>(rows: &'r [EntryRow<'a>], key: Key) -> Option<&'r EntryRow<'a>>
     requires { AllPairs (λ e f. is_key_before e.key f.key ≡ true) rows.now }
     ensures { option_map row_view (option_copied result) ≡ row_at (map row_view rows.now) key }
 {
@@ -41,6 +41,13 @@ fn if_utf8(text: &[u8]) -> Option<&str>
     }
 }
 
+/// The name of an entry, where it is UTF-8.
+pub fn shown_name<'a>(row: &EntryRow<'a>) -> Option<&'a str>
+    ensures { option_copied result ≡ shown_name (row_view row.now) }
+{
+    if_utf8(row.name?)
+}
+
 // the name of the entry of a key, where it is UTF-8
 fn name_at<'a>(rows: &[EntryRow<'a>], key: Key) -> Option<&'a str>
     requires { AllPairs (λ e f. is_key_before e.key f.key ≡ true) rows.now }
@@ -50,6 +57,18 @@ fn name_at<'a>(rows: &[EntryRow<'a>], key: Key) -> Option<&'a str>
 }
 
 impl<'s, 'a> Names<'s, 'a> {
+    /// A node's entry, where the data sheet is that of the node and has it.
+    #[tactic(auto, unfolding(crate::specs::Names::entry_of))]
+    pub fn entry(self, node: u8, key: Key) -> Option<&'s EntryRow<'a>>
+        ensures { option_map row_view (option_copied result)
+            ≡ entry_of (names_view self.entry) node key }
+    {
+        if self.only.is_some_and(|one| one != node) {
+            return None;
+        }
+        row_at(self.sheet?.entries(), key)
+    }
+
     // the name of a node's entry
     #[tactic(auto, unfolding(crate::specs::Names::name_of))]
     fn of(self, node: u8, key: Key) -> Option<&'a str>

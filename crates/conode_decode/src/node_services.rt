@@ -210,13 +210,10 @@ fn push_service(
     }
 }
 
-/// Appends the text of a frame, by its identifier and its service (CiA 301, 7.3.3, pre-defined connection set).
+/// Appends the text of a frame, by its identifier and its service (CiA 301, 7.3.3, pre-defined connection set), with the
+/// names of entries. On an `Err` memory ran out, and a part of it may be there.
 #[tactic(auto, unfolding(crate::specs::Texts::text_of_frame))]
-pub(crate) fn push_text(
-    text: &mut String,
-    names: Names<'_, '_>,
-    frame: &Frame,
-) -> Result<(), AllocError>
+pub fn push_text(text: &mut String, names: Names<'_, '_>, frame: &Frame) -> Result<(), AllocError>
     ensures { OnOk result (string_bytes text.new
         ≡ string_bytes text.old ++ text_of_frame (names_view names.entry) frame.now) }
 {

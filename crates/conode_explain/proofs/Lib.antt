@@ -1,3 +1,2 @@
 pub mod AbortLemmas
-pub mod DecodedLemmas
 pub mod Explaining

@@ -3,3 +3,4 @@ pub mod BadWords
 pub mod Explained
 pub mod FrameWords
 pub mod Taking
+pub mod Transfers

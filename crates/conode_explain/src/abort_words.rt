@@ -1,6 +1,6 @@
 //! What an SDO abort says, in words.
 
-ghost use Rattle.std.specs.Prelude.{◌≡◌, ◌++◌, OnOk};
+ghost use Rattle.std.specs.Prelude.{◌≡◌, ◌++◌, OnOk, string_bytes};
 ghost use Rattle.conode_explain.specs.AbortWords.{words_of, is_sdo, abort_code_of, abort_words};
 
 use co_frame::Frame;
@@ -38,8 +38,9 @@ fn words_of(code: u32) -> &'static str
 /// Appends what the code of an abort means, in brackets; nothing for another frame, and for a code that the standard
 /// doesn't have. On an `Err` memory ran out, and a part of it may be there.
 #[tactic(auto, unfolding(crate::specs::AbortWords::abort_words))]
-pub(crate) fn add_abort_words(said: &mut Vec<u8>, frame: &Frame) -> Result<(), AllocError>
-    ensures { OnOk result (said.new.items ≡ said.old.items ++ abort_words frame.now) }
+pub(crate) fn push_abort_words(said: &mut String, frame: &Frame) -> Result<(), AllocError>
+    ensures { OnOk result
+        (string_bytes said.new ≡ string_bytes said.old ++ abort_words frame.now) }
 {
     let Some(code) = abort_code_of(frame) else {
         return Ok(());
@@ -48,7 +49,7 @@ pub(crate) fn add_abort_words(said: &mut Vec<u8>, frame: &Frame) -> Result<(), A
     if words.is_empty() {
         return Ok(());
     }
-    said.extend_from_slice(b" (")?;
-    said.extend_from_slice(words.as_bytes())?;
-    said.extend_from_slice(b")")
+    said.push_str(" (")?;
+    said.push_str(words)?;
+    said.push_str(")")
 }

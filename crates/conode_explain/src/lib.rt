@@ -8,6 +8,7 @@ mod explain_file;
 mod explained;
 mod frame_words;
 mod step;
+mod transfer;
 
 pub use conode_explain_text::StampForm;
 pub use explain_file::explain_files;

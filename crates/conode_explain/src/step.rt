@@ -34,8 +34,7 @@ pub struct Settings<'s, 'a> {
 /// Room for the work on a line, which is used again for each.
 #[derive(Drop)]
 pub(crate) struct Room {
-    decoded: String,
-    said: Vec<u8>,
+    said: String,
     text: String,
     line: Vec<u8>,
 }
@@ -43,8 +42,7 @@ pub(crate) struct Room {
 impl Room {
     fn new(alloc: Global) -> Room {
         Room {
-            decoded: String::new(alloc),
-            said: Vec::new(alloc),
+            said: String::new(alloc),
             text: String::new(alloc),
             line: Vec::new(alloc),
         }
@@ -88,20 +86,14 @@ fn write_frame<W: Write>(
         (seen.new ≡ seen_with seen.old frame.now.micros frame.now.interface) }
     ensures err { IfErr result (λ fault. (fault ≡ CmdFault.Write) ⊎ (fault ≡ CmdFault.Memory)) }
 {
-    set_words(
-        &mut room.said,
-        &mut room.decoded,
-        settings.names,
-        frame.id,
-        &frame.content,
-    )?;
+    set_words(&mut room.said, settings.names, frame.id, &frame.content)?;
     set_line(
         &mut room.line,
         &mut room.text,
         settings.form,
         seen,
         frame,
-        room.said.as_slice(),
+        room.said.as_bytes(),
     )?;
     seen.add(frame);
     hand_over(room.line.as_slice(), out)

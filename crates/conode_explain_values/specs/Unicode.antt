@@ -1,0 +1,43 @@
+-- The text of a UNICODE_STRING: UTF-16, the low byte of each unit first (CiA 301, 7.1.6).
+use Rattle.std.specs.Prelude.{ℕ, ◌+◌, ◌-◌, ◌*◌, ◌==◌, nat_le, nat_lt, Bool, ◌&&◌, ◌||◌, if◌then◌else◌, List, [], ◌∷◌, ◌++◌, codes, encode_utf8}
+use Rattle.co_text.specs.Printed.{digits_text}
+
+-- a unit, of its two bytes
+abbrev pub unit_of : ℕ → ℕ → ℕ
+unit_of low high = low + 256 * high
+
+-- the first and the second unit of a pair that is one character
+abbrev pub is_first : ℕ → Bool
+is_first unit = nat_le 0xD800 unit && nat_lt unit 0xDC00
+
+abbrev pub is_second : ℕ → Bool
+is_second unit = nat_le 0xDC00 unit && nat_lt unit 0xE000
+
+-- a control character, the quote and the backslash; a unit of a pair alone is no character
+abbrev pub is_escaped : ℕ → Bool
+is_escaped unit =
+    (nat_lt unit 0x20 || (nat_le 0x7F unit && nat_lt unit 0xA0))
+    || ((unit == 0x22 || unit == 0x5C) || (nat_le 0xD800 unit && nat_lt unit 0xE000))
+
+-- a unit alone
+abbrev pub unit_text : ℕ → List ℕ
+unit_text unit = if is_escaped unit then codes "\\u" ++ digits_text 16 4 unit else encode_utf8 unit
+
+-- two units that are one character
+abbrev pub pair_text : ℕ → ℕ → List ℕ
+pair_text first second = encode_utf8 (0x10000 + 0x400 * (first - 0xD800) + (second - 0xDC00))
+
+-- the characters; a byte that is left over is none
+unfoldable pub characters_text : List ℕ → List ℕ
+characters_text [] = []
+characters_text (low ∷ []) = []
+characters_text (low ∷ high ∷ []) = unit_text (unit_of low high)
+characters_text (low ∷ high ∷ left ∷ []) = unit_text (unit_of low high)
+characters_text (low ∷ high ∷ next ∷ after ∷ more) =
+    if is_first (unit_of low high) && is_second (unit_of next after)
+    then pair_text (unit_of low high) (unit_of next after) ++ characters_text more
+    else unit_text (unit_of low high) ++ characters_text (next ∷ after ∷ more)
+
+-- in double quotes
+abbrev pub unicode_text : List ℕ → List ℕ
+unicode_text bytes = 0x22 ∷ [] ++ characters_text bytes ++ 0x22 ∷ []

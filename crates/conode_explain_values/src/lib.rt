@@ -1,0 +1,15 @@
+//! The text of a value, by its data type and its bits.
+#![tactic(auto)]
+
+mod bytes;
+mod entry;
+mod numbers;
+mod reals;
+mod times;
+mod unicode;
+mod value;
+mod value_type;
+
+pub use entry::{push_entry, push_named_key};
+pub use value::push_value;
+pub use value_type::ValueType;

@@ -1,0 +1,71 @@
+//! The text of TIME_OF_DAY and TIME_DIFFERENCE. Each function appends a text; on an `Err` memory ran out, and a part of it
+//! may be there.
+
+ghost use Rattle.std.specs.Prelude.{◌≡◌, ◌++◌, ◌<◌, ◌^◌, OnOk, length, string_bytes};
+ghost use Rattle.conode_explain_values.specs.Times.{
+  days_in,
+  difference_text,
+  moment_text,
+  ms_in,
+  ms_text,
+};
+
+use co_text::{push_decimal, push_digit};
+use co_value::unsigned_of;
+use conode_explain_text::{push_day, push_time_of_day};
+use std::alloc::AllocError;
+
+/// 1 January 1984, counted in days from 1 January 1970.
+const FIRST_DAY: u64 = 5113;
+
+fn ms_in(bytes: &[u8]) -> u64
+    requires { length bytes.now ≡ 6 }
+    ensures ms { result ≡ ms_in bytes.now }
+    ensures few { result < 2 ^ 28 }
+{
+    unsigned_of(&bytes[..4]) % 0x1000_0000
+}
+
+fn days_in(bytes: &[u8]) -> u64
+    requires { length bytes.now ≡ 6 }
+    ensures days { result ≡ days_in bytes.now }
+    ensures few { result < 65536 }
+{
+    unsigned_of(&bytes[4..])
+}
+
+#[tactic(auto, unfolding(co_text::specs::Printed::digits_text, crate::specs::Times::ms_text))]
+fn push_ms(text: &mut String, ms: u64) -> Result<(), AllocError>
+    ensures { OnOk result (string_bytes text.new ≡ string_bytes text.old ++ ms_text ms) }
+{
+    push_time_of_day(text, ms / 1000)?;
+    text.push_str(".")?;
+    let rest = (ms % 1000) as u16;
+    push_digit(text, (rest / 10 / 10 % 10) as u8)?;
+    push_digit(text, (rest / 10 % 10) as u8)?;
+    push_digit(text, (rest % 10) as u8)
+}
+
+/// Appends a TIME_OF_DAY as its date and time.
+#[tactic(auto, unfolding(crate::specs::Times::moment_text))]
+pub(crate) fn push_moment(text: &mut String, bytes: &[u8]) -> Result<(), AllocError>
+    requires { length bytes.now ≡ 6 }
+    ensures { OnOk result
+        (string_bytes text.new ≡ string_bytes text.old ++ moment_text bytes.now) }
+{
+    push_day(text, days_in(bytes) + FIRST_DAY)?;
+    text.push_str(" ")?;
+    push_ms(text, ms_in(bytes))
+}
+
+/// Appends a TIME_DIFFERENCE as its days and time.
+#[tactic(auto, unfolding(crate::specs::Times::difference_text))]
+pub(crate) fn push_difference(text: &mut String, bytes: &[u8]) -> Result<(), AllocError>
+    requires { length bytes.now ≡ 6 }
+    ensures { OnOk result
+        (string_bytes text.new ≡ string_bytes text.old ++ difference_text bytes.now) }
+{
+    push_decimal(text, days_in(bytes))?;
+    text.push_str(" d ")?;
+    push_ms(text, ms_in(bytes))
+}

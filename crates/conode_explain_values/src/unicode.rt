@@ -1,0 +1,105 @@
+//! The text of a UNICODE_STRING. Each function appends a text; on an `Err` memory ran out, and a part of it may be there.
+
+ghost use Rattle.std.specs.Prelude.{◌≡◌, ◌++◌, ◌<◌, ◌≤◌, ◌&&◌, OnOk, IfOk, true, length, string_bytes};
+ghost use Rattle.std.specs.Char.{InScalarRange};
+ghost use Rattle.conode_explain_values.specs.Unicode.{
+  characters_text,
+  is_escaped,
+  is_first,
+  is_second,
+  pair_text,
+  unicode_text,
+  unit_of,
+  unit_text,
+};
+
+use co_text::push_u16;
+use std::alloc::AllocError;
+
+fn unit_of(low: u8, high: u8) -> u16
+    ensures { result ≡ unit_of low high }
+{
+    u16::from(low) + 256 * u16::from(high)
+}
+
+fn is_pair(first: u16, second: u16) -> bool
+    ensures { result ≡ (is_first first && is_second second) }
+{
+    (0xD800 <= first && first < 0xDC00) && (0xDC00 <= second && second < 0xE000)
+}
+
+fn is_escaped(unit: u16) -> bool
+    ensures { result ≡ is_escaped unit }
+{
+    (unit < 0x20 || (0x7F <= unit && unit < 0xA0))
+        || ((unit == 0x22 || unit == 0x5C) || (0xD800 <= unit && unit < 0xE000))
+}
+
+fn scalar(code: u32) -> char
+    requires { InScalarRange code }
+    ensures { result ≡ code }
+{
+    char::from_u32(code).unwrap()
+}
+
+fn push_unit(text: &mut String, unit: u16) -> Result<(), AllocError>
+    ensures { OnOk result (string_bytes text.new ≡ string_bytes text.old ++ unit_text unit) }
+{
+    if is_escaped(unit) {
+        text.push_str("\\u")?;
+        return push_u16(text, unit);
+    }
+    text.push(scalar(u32::from(unit)))
+}
+
+fn push_pair(text: &mut String, first: u16, second: u16) -> Result<(), AllocError>
+    requires { (is_first first && is_second second) ≡ true }
+    ensures { OnOk result
+        (string_bytes text.new ≡ string_bytes text.old ++ pair_text first second) }
+{
+    let high = 0x400 * u32::from(first - 0xD800);
+    text.push(scalar(0x1_0000 + high + u32::from(second - 0xDC00)))
+}
+
+// appends the first character, and gives the bytes after it
+#[tactic(auto, unfolding(crate::specs::Unicode::characters_text))]
+fn push_character<'a>(text: &mut String, bytes: &'a [u8]) -> Result<&'a [u8], AllocError>
+    requires { 2 ≤ length bytes.now }
+    ensures shorter { IfOk result (λ rest. length rest.now < length bytes.now) }
+    ensures text { IfOk result (λ rest. string_bytes text.new ++ characters_text rest.now
+        ≡ string_bytes text.old ++ characters_text bytes.now) }
+{
+    let unit = unit_of(bytes[0], bytes[1]);
+    let rest = &bytes[2..];
+    if let [low, high, later @ ..] = rest {
+        let next = unit_of(*low, *high);
+        if is_pair(unit, next) {
+            push_pair(text, unit, next)?;
+            return Ok(later);
+        }
+    }
+    push_unit(text, unit)?;
+    Ok(rest)
+}
+
+#[tactic(auto, unfolding(crate::specs::Unicode::characters_text))]
+fn push_characters(text: &mut String, bytes: &[u8]) -> Result<(), AllocError>
+    ensures { OnOk result
+        (string_bytes text.new ≡ string_bytes text.old ++ characters_text bytes.now) }
+{
+    let mut rest = bytes;
+    while rest.len() >= 2 {
+        rest = push_character(text, rest)?;
+    }
+    Ok(())
+}
+
+/// Appends a UNICODE_STRING in double quotes, its control characters as `\u0007`.
+pub(crate) fn push_unicode(text: &mut String, bytes: &[u8]) -> Result<(), AllocError>
+    ensures { OnOk result
+        (string_bytes text.new ≡ string_bytes text.old ++ unicode_text bytes.now) }
+{
+    text.push_str("\"")?;
+    push_characters(text, bytes)?;
+    text.push_str("\"")
+}

@@ -1,0 +1,68 @@
+//! The data types of values.
+
+ghost use Rattle.std.specs.Prelude.{◌≡◌};
+ghost use Rattle.conode_explain_values.specs.Types.{is_boolean_type, type_bits, is_whole};
+
+use co_value::DataType;
+
+/// The code of BOOLEAN (CiA 301, 7.4.7.1).
+pub(crate) const BOOLEAN: u16 = 0x01;
+
+/// The data type of a value (CiA 301, 7.4.7.1).
+#[derive(Clone, Copy, Debug, PartialEq, Eq)]
+pub enum ValueType {
+    /// A type that an entry of our dictionaries may have: BOOLEAN, integers, VISIBLE_STRING, OCTET_STRING, DOMAIN.
+    Plain(DataType),
+    /// REAL32, as IEEE 754 has it.
+    Real32,
+    /// REAL64.
+    Real64,
+    /// UNICODE_STRING: UTF-16, the low byte of each unit first.
+    UnicodeString,
+    /// TIME_OF_DAY: ms after midnight, and days since 1 January 1984.
+    TimeOfDay,
+    /// TIME_DIFFERENCE: ms and days.
+    TimeDifference,
+}
+
+impl ValueType {
+    /// How many bits a value of the type has; `None` where it may have any number of bytes.
+    pub(crate) fn bits(self) -> Option<usize>
+        ensures { result ≡ type_bits self }
+    {
+        match self {
+            ValueType::Plain(data_type) => match data_type.width() {
+                Some(width) => Some(8 * width),
+                None => None,
+            },
+            ValueType::Real32 => Some(32),
+            ValueType::Real64 => Some(64),
+            ValueType::UnicodeString => None,
+            ValueType::TimeOfDay | ValueType::TimeDifference => Some(48),
+        }
+    }
+
+    fn is_boolean(self) -> bool
+        ensures { result ≡ is_boolean_type self }
+    {
+        match self {
+            ValueType::Plain(data_type) => data_type.code() == BOOLEAN,
+            ValueType::Real32
+            | ValueType::Real64
+            | ValueType::UnicodeString
+            | ValueType::TimeOfDay
+            | ValueType::TimeDifference => false,
+        }
+    }
+
+    /// Whether so many bits are a whole value: as many as the type has, or one of BOOLEAN, or whole bytes of a string or
+    /// a domain.
+    pub(crate) fn is_whole(self, bits: usize) -> bool
+        ensures { result ≡ is_whole self bits }
+    {
+        match self.bits() {
+            Some(size) => bits == size || (bits == 1 && self.is_boolean()),
+            None => bits % 8 == 0,
+        }
+    }
+}
