@@ -154,10 +154,11 @@ fn carry_out_task<O: Write, E: Write>(
             trace,
             sheet,
             stamps,
+            transfers,
         } => {
             let form = Layout {
                 stamps: stamp_form(stamps),
-                transfers: false,
+                transfers,
             };
             explain_files(rt, trace, sheet, form, out, err)
         }
