@@ -2,13 +2,14 @@
 """explain_random.py [COUNT] [SEED] [PROGRAM]: random SDO transfers between two ends of its own, recorded and explained.
 
 Each session has up to three nodes on up to two interfaces, whose transfers run side by side: expedited, segmented and in blocks, both
-directions, sub-blocks of any size, segments that the receiver misses, aborts, requests without an answer, transfers that are left. The
-ends are written from CiA 301, 7.2.4.3, apart from the program.
+directions, sub-blocks of any size, segments that the receiver misses, aborts, requests without an answer, requests that are repeated,
+transfers that are left, boot-ups. The ends are written from CiA 301, 7.2.4.3, apart from the program.
 
 1. As it was, the lines of transfers that `explain` prints are exactly those that follow from what the ends did.
 2. Cut at both ends, with frames lost or repeated: each `done` is of a transfer that was done, by its last frame, with its bytes. No two
    frames in a row of one channel are lost: of more than that nothing need show, as of a segment, its confirmation, and both again.
 """
+import copy
 import random
 import re
 import subprocess
@@ -59,7 +60,8 @@ class Transfer:
         self.way = self.r.choice(["download", "upload"])
         self.protocol = self.r.choice(["expedited", "segmented", "block"])
         few = self.protocol == "expedited"
-        self.data = bytes(self.r.randrange(256) for _ in range(self.r.randint(1, 4) if few else self.r.choice([0, 1, 6, 7, 8, 14, 30, 100, 400])))
+        length = self.r.randint(1, 4) if few else self.r.choice([0, 1, 6, 7, 8, 14, 30, 100, 400])
+        self.data = bytes(self.r.randrange(256) for _ in range(length))
         self.size = self.r.choice([None, len(self.data), len(self.data)])
         if self.size is not None and self.r.random() < 0.05 and not few:
             self.size += 1
@@ -155,6 +157,12 @@ class Transfer:
         self.say(CLIENT, bytes([0xA3]) + bytes(7))
         self.blocks(SERVER, CLIENT, block_size, UPLOAD_SIZES)
 
+    def request(self):
+        """Its first frame alone, without an answer."""
+        alone = copy.copy(self)
+        alone.frames, alone.ending = self.frames[:1], None
+        return alone
+
     def stop_somewhere(self):
         """Now and then an end aborts, or nothing more comes: what comes next ends it."""
         chance = self.r.random()
@@ -188,6 +196,14 @@ def line_of(interface, node, transfer, stamps, end, ending):
             f"{seconds(end - stamps[0])}: {ending}")
 
 
+def left_ending(before, stamps, transfer, now):
+    """How a transfer ends where the client begins another one."""
+    waited = seconds(now - stamps[-1])
+    if [frame for _, frame, _ in before.frames] == [transfer.frames[0][1]]:
+        return f"requested again after {waited}"
+    return "interrupted" if before.frames[-1][0] == SERVER else f"no answer in {waited}"
+
+
 class Session:
     """Transfers of a few channels side by side, in one recording."""
 
@@ -198,7 +214,10 @@ class Session:
         channels = {(self.r.choice(interfaces), self.r.randint(1, 127)): [] for _ in range(self.r.randint(1, 3))}
         for todo in channels.values():
             for i in range(self.r.randint(1, 6)):
-                todo.append(Transfer(self.r, (0x2000 + 16 * i + self.r.randrange(16), self.r.randrange(3))))
+                transfer = Transfer(self.r, (0x2000 + 16 * i + self.r.randrange(16), self.r.randrange(3)))
+                if self.r.random() < 0.1:
+                    todo.append(transfer.request())
+                todo.append(transfer)
         self.run(channels)
 
     def run(self, channels):
@@ -214,16 +233,19 @@ class Session:
             several = several or (seen is not None and seen != interface)
             seen = seen or interface
             shown = f"{interface}  " if several else ""
+            if place[1] == 0 and place[3] and self.r.random() < 0.2:
+                self.wanted.append(line_of(shown, node, *place[3], now, "interrupted"))
+                self.frames.append((channel, now, self.line(now, interface, 0x700 + node, b"\0")))
+                place[3] = None
+                continue
             if place[1] == 0 and place[3]:
-                before, stamps = place[3]
-                waited = now - stamps[-1]
-                ending = "interrupted" if before.frames[-1][0] == SERVER else f"no answer in {seconds(waited)}"
-                self.wanted.append(line_of(shown, node, before, stamps, now, ending))
+                self.wanted.append(line_of(shown, node, *place[3], now, left_ending(*place[3], transfer, now)))
+                place[3] = None
             side, frame, _ = transfer.frames[place[1]]
             place[2] = place[2] if place[1] else []
             place[2].append(now)
             place[1] += 1
-            self.frames.append((channel, now, f"({now // 1000000}.{now % 1000000:06}) {interface} {side + node:03X}#{frame.hex().upper()}"))
+            self.frames.append((channel, now, self.line(now, interface, side + node, frame)))
             if place[1] == len(transfer.frames):
                 if transfer.ending:
                     line = line_of(shown, node, transfer, place[2], now, transfer.ending)
@@ -236,6 +258,10 @@ class Session:
                     del channels[channel]
         self.open = [(channel, place[3]) for channel, place in at.items() if place[3]]
         self.last, self.several = now, several
+
+    @staticmethod
+    def line(now, interface, identifier, data):
+        return f"({now // 1000000}.{now % 1000000:06}) {interface} {identifier:03X}#{data.hex().upper()}"
 
     def unfinished(self):
         """The transfers that are open at the end, in the order in which their channels were heard first."""
