@@ -1,5 +1,5 @@
 -- What a frame says.
-use Rattle.std.specs.Prelude.{ℕ, List, ◌++◌, codes, unwrap_or}
+use Rattle.std.specs.Prelude.{ℕ, false, if◌then◌else◌, List, ◌++◌, codes, unwrap_or}
 use Rattle.conode_decode.specs.Names.{Names}
 use Rattle.conode_decode.specs.Texts.{text_of_frame}
 use Rattle.conode_record.specs.declared.content.Content.{Content}
@@ -9,16 +9,24 @@ use Rattle.conode_record.specs.declared.fields.Identifier.TheVariants.{Base, Ext
 use Rattle.co_frame.specs.FrameContent.{FrameContent}
 use Rattle.conode_explain.specs.AbortWords.{abort_words}
 use Rattle.conode_explain.specs.Transfers.{transfer_words}
+use Rattle.conode_explain_pdo.specs.Pdos.{is_pdo, pdos_text}
+use Rattle.conode_explain_pdo.specs.Sheets.{sheet_pdos}
 
 -- the text of a frame, and what an abort's code means
 abbrev pub plain_words : Names → FrameContent → List ℕ
 plain_words names frame = text_of_frame names frame ++ abort_words frame
 
+-- as the PDOs of the sheet that have its identifier, else by its text
+unfoldable pub other_words : Names → FrameContent → List ℕ
+other_words names frame =
+    if is_pdo names.only (sheet_pdos names) frame.id then pdos_text names frame false (sheet_pdos names)
+    else plain_words names frame
+
 -- what a frame with an identifier of 11 bits says: the entry of an expedited transfer with its value, where the sheet has the
--- entry; else its text
+-- entry; else the entries of PDOs with theirs, or its text
 unfoldable pub frame_words : Names → FrameContent → List ℕ
 frame_words names frame =
-    unwrap_or (transfer_words names frame) (plain_words names frame)
+    unwrap_or (transfer_words names frame) (other_words names frame)
 
 -- what data say, by the identifier
 abbrev pub data_words : Names → Identifier → List ℕ → List ℕ

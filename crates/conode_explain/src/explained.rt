@@ -7,6 +7,7 @@ ghost use Rattle.conode_explain.specs.Taking.{Explains};
 
 use crate::step::Explaining;
 use crate::writes::Settings;
+use conode_explain_pdo::sheet_pdos;
 use conode_io::CmdFault;
 use std::alloc::Global;
 use std::io::{Read, Write};
@@ -38,11 +39,12 @@ pub fn explain<R: Read, W: Write, E: Write>(
         (Explains settings.now.form (names_view settings.now.names)
         (W.contents out.old) (W.contents out.new) bad)) }
 {
+    let pdos = sheet_pdos(alloc, settings.names)?;
     let mut explaining = Explaining::new(alloc);
     let mut bad: u64 = 0;
     for number in 1..u64::MAX {
         explaining.let_out(out)?;
-        match explaining.take_line(reader, settings, number, out, err)? {
+        match explaining.take_line(reader, settings, pdos.as_slice(), number, out, err)? {
             Some(more) => bad += more,
             None => {
                 explaining.finish(settings, out)?;

@@ -5,6 +5,7 @@ ghost use Rattle.std.specs.Io.KnownBytes.{Keeps, IsAtEnd};
 ghost use Rattle.co_bounded_lines.specs.Held.{nothing_held, to_come};
 ghost use Rattle.co_stream.specs.Readings.{Gave};
 ghost use Rattle.conode_decode.specs.Names.{names_view};
+ghost use Rattle.conode_explain_pdo.specs.Sheets.{sheet_pdos};
 ghost use Rattle.conode_io.specs.Written.{WritesLines};
 ghost use Rattle.conode_record.specs.Lines.{line_in};
 ghost use Rattle.conode_explain.specs.Explained.{
@@ -20,6 +21,7 @@ use crate::bad_words::{TOO_LONG, bad_words};
 use crate::progress::Progress;
 use crate::writes::{Room, Settings, write_frame, write_unfinished};
 use co_bounded_lines::{BoundedLines, Found, ReadFault};
+use conode_explain_pdo::SheetPdo;
 use conode_io::{CmdFault, flush};
 use conode_record::RecordLine;
 use std::alloc::Global;
@@ -51,11 +53,13 @@ fn explain_line<W: Write, E: Write>(
     room: &mut Room,
     progress: &mut Progress,
     settings: &Settings<'_, '_>,
+    pdos: &[SheetPdo],
     number: u64,
     line: &[u8],
     out: &mut W,
     err: &mut E,
 ) -> Result<u64, CmdFault>
+    requires { pdos.now ≡ sheet_pdos (names_view settings.now.names) }
     ensures lines { OnOk result (WritesLines (W.contents out.old) (W.contents out.new)
         (said_lines settings.now.form (names_view settings.now.names) progress.old
         (line_in line.now))) }
@@ -67,7 +71,7 @@ fn explain_line<W: Write, E: Write>(
     match RecordLine::read(line) {
         Ok(RecordLine::Skipped) => Ok(0),
         Ok(RecordLine::Frame(frame)) => {
-            write_frame(room, progress, settings, &frame, out)?;
+            write_frame(room, progress, settings, pdos, &frame, out)?;
             Ok(0)
         }
         Err(bad) => {
@@ -106,10 +110,12 @@ impl Explaining {
         &mut self,
         reader: &mut R,
         settings: &Settings<'_, '_>,
+        pdos: &[SheetPdo],
         number: u64,
         out: &mut W,
         err: &mut E,
     ) -> Result<Option<u64>, CmdFault>
+        requires { pdos.now ≡ sheet_pdos (names_view settings.now.names) }
         ensures line { IfOk result (λ next. IfSome next (λ bad.
             Takes settings.now.form (names_view settings.now.names)
             self.old.lines self.new.lines (R.remaining reader.old) (R.remaining reader.new)
@@ -134,6 +140,7 @@ impl Explaining {
                     &mut self.room,
                     &mut self.progress,
                     settings,
+                    pdos,
                     number,
                     line,
                     out,
@@ -147,6 +154,7 @@ impl Explaining {
                     &mut self.room,
                     &mut self.progress,
                     settings,
+                    pdos,
                     number,
                     line,
                     out,

@@ -2,6 +2,7 @@
 
 ghost use Rattle.std.specs.Prelude.{◌≡◌, ◌⊎◌, [], ◌∷◌, OnOk, IfErr};
 ghost use Rattle.conode_decode.specs.Names.{names_view};
+ghost use Rattle.conode_explain_pdo.specs.Sheets.{sheet_pdos};
 ghost use Rattle.conode_io.specs.Written.{WritesLines};
 ghost use Rattle.conode_record.specs.Grammar.{IsIdentifier};
 ghost use Rattle.conode_explain.specs.Explained.{
@@ -18,6 +19,7 @@ use crate::progress::{Layout, Progress};
 use crate::told_words::{set_ended_words, set_told_words};
 use conode_decode::Names;
 use conode_explain_channels::Told;
+use conode_explain_pdo::SheetPdo;
 use conode_explain_text::{Seen, set_line, set_own_line};
 use conode_explain_transfers::Ended;
 use conode_io::{CmdFault, hand_over};
@@ -58,17 +60,19 @@ fn write_frame_line<W: Write>(
     room: &mut Room,
     seen: &Seen,
     settings: &Settings<'_, '_>,
+    pdos: &[SheetPdo],
     frame: &Record<'_>,
     told: &Option<Told>,
     out: &mut W,
 ) -> Result<(), CmdFault>
-    requires { IsIdentifier frame.now.id }
+    requires id { IsIdentifier frame.now.id }
+    requires pdos { pdos.now ≡ sheet_pdos (names_view settings.now.names) }
     ensures lines { OnOk result (WritesLines (W.contents out.old) (W.contents out.new)
         (frame_line settings.now.form.stamps (names_view settings.now.names) seen.now frame.now
         told.now ∷ [])) }
     ensures err { IfErr result (λ fault. (fault ≡ CmdFault.Write) ⊎ (fault ≡ CmdFault.Memory)) }
 {
-    set_told_words(&mut room.said, settings.names, frame, told)?;
+    set_told_words(&mut room.said, settings.names, pdos, frame, told)?;
     set_line(
         &mut room.line,
         &mut room.text,
@@ -148,18 +152,20 @@ fn write_told<W: Write>(
     room: &mut Room,
     seen: &Seen,
     settings: &Settings<'_, '_>,
+    pdos: &[SheetPdo],
     frame: &Record<'_>,
     told: &Option<Told>,
     out: &mut W,
 ) -> Result<(), CmdFault>
-    requires { IsIdentifier frame.now.id }
+    requires id { IsIdentifier frame.now.id }
+    requires pdos { pdos.now ≡ sheet_pdos (names_view settings.now.names) }
     ensures lines { OnOk result (WritesLines (W.contents out.old) (W.contents out.new)
         (lines_told settings.now.form (names_view settings.now.names) seen.now frame.now
         told.now)) }
     ensures err { IfErr result (λ fault. (fault ≡ CmdFault.Write) ⊎ (fault ≡ CmdFault.Memory)) }
 {
     if !settings.form.transfers {
-        write_frame_line(room, seen, settings, frame, told, out)?;
+        write_frame_line(room, seen, settings, pdos, frame, told, out)?;
     }
     write_told_end(room, seen, settings, frame, told, out)
 }
@@ -170,17 +176,19 @@ pub(crate) fn write_frame<W: Write>(
     room: &mut Room,
     progress: &mut Progress,
     settings: &Settings<'_, '_>,
+    pdos: &[SheetPdo],
     frame: &Record<'_>,
     out: &mut W,
 ) -> Result<(), CmdFault>
-    requires { IsIdentifier frame.now.id }
+    requires id { IsIdentifier frame.now.id }
+    requires pdos { pdos.now ≡ sheet_pdos (names_view settings.now.names) }
     ensures lines { OnOk result (WritesLines (W.contents out.old) (W.contents out.new)
         (frame_lines settings.now.form (names_view settings.now.names) progress.old frame.now)) }
     ensures progress { OnOk result (progress.new ≡ progress_with progress.old frame.now) }
     ensures err { IfErr result (λ fault. (fault ≡ CmdFault.Write) ⊎ (fault ≡ CmdFault.Memory)) }
 {
     let told = progress.tell(frame)?;
-    write_told(room, &progress.seen, settings, frame, &told, out)?;
+    write_told(room, &progress.seen, settings, pdos, frame, &told, out)?;
     progress.seen.add(frame);
     Ok(())
 }

@@ -1,0 +1,235 @@
+-- The data of PDOs, evaluated on both sides of each edge.
+use Rattle.std.proofs.Common.{◌≡◌, ℕ, true, false, [], ◌∷◌, ◌++◌, List, Some, None, refl, pos}
+use Rattle.std.specs.Prelude.{codes, replicate}
+use Rattle.std.specs.Fmt.{digits}
+use Rattle.std.specs.Str.{is_utf8, chars}
+use lib.Utf8.{encode}
+use Rattle.co_value.specs.declared.data_type.DataType.{DataType}
+use Rattle.co_value.specs.declared.data_type.DataType.TheVariants.{Boolean, Integer16, Unsigned8, Unsigned16, Unsigned32}
+use Rattle.co_frame.specs.FrameContent.{FrameContent}
+use Rattle.co_profile.specs.declared.access.Access.TheVariants.{Rw}
+use Rattle.co_sheet.specs.Limits.{Default, absent, number, node_id}
+use Rattle.co_sheet.specs.Content.{Row, SheetContent}
+use Rattle.co_text.specs.Printed.{digits_text}
+use Rattle.conode_decode.specs.Names.{Names, entry_of}
+use Rattle.conode_explain_values.specs.Numbers.{number_text}
+use Rattle.conode_explain_values.specs.Values.{entry_text, value_text}
+use Rattle.conode_explain_pdo.specs.declared.cob_id.SheetCobId.{SheetCobId}
+use Rattle.conode_explain_pdo.specs.Content.{Mapping}
+use Rattle.conode_explain_pdo.specs.Mappings.{addressing_word, bits_at, bytes_words, data_text, mapped_text, more_parts, more_text, multiplexed_data, multiplexed_text, part_bytes, part_text, parts_text, short_text}
+use Rattle.conode_explain_pdo.specs.CobIds.{has_identifier, is_of, may_be_pdo, node_with}
+use Rattle.conode_explain_pdo.specs.Pdos.{is_pdo, pdo_front, pdo_text, pdos_text}
+use Rattle.conode_explain_pdo.specs.Sheets.{mapping_at, number_at, pdo_of, pdos_in, sheet_pdos, words_at}
+
+-- ---- the bits at an offset
+
+-- 5 is 101b: bits 0 and 2
+first_bit : bits_at (5 ∷ []) 0 1 ≡ 1
+first_bit = refl
+
+second_bit : bits_at (5 ∷ []) 1 1 ≡ 0
+second_bit = refl
+
+third_bit : bits_at (5 ∷ []) 2 1 ≡ 1
+third_bit = refl
+
+-- eight bits of 03E8h from bit 4 on, over the bound of the bytes
+over_a_bound : bits_at (0xE8 ∷ 0x03 ∷ []) 4 8 ≡ 0x3E
+over_a_bound = refl
+
+last_byte : bits_at (1 ∷ 2 ∷ 3 ∷ 4 ∷ 5 ∷ 6 ∷ 7 ∷ 8 ∷ []) 56 8 ≡ 8
+last_byte = refl
+
+all_bits : bits_at (0xFF ∷ 0xFF ∷ 0xFF ∷ 0xFF ∷ 0xFF ∷ 0xFF ∷ 0xFF ∷ 0xFF ∷ []) 0 64 ≡ 18446744073709551615
+all_bits = refl
+
+-- ---- a sheet
+
+abbrev row : ℕ → ℕ → DataType → Default → List ℕ → Row
+row index sub t begins name = record {
+  key = record { index = index; sub = sub };
+  data_type = t;
+  access = Rw;
+  low = None;
+  high = None;
+  default = begins;
+  mappable = true;
+  name = Some name;
+  line = 1;
+}
+
+abbrev names_with : List Row → Names
+names_with rows = record {
+  sheet = Some (record { objects = []; rows = rows; sections = []; notes = []; dummies = []; node_id = None });
+  only = None;
+}
+
+abbrev names : Names
+names = names_with (
+    row 0x2001 1 Integer16 absent (codes "T") ∷ row 0x2001 2 Unsigned16 absent (codes "H") ∷ row 0x2002 0 Boolean absent (codes "B") ∷ []
+    )
+
+abbrev data_of : List ℕ → List ℕ → List ℕ
+data_of words bytes = mapped_text names 5 words bytes
+
+two_values : data_of (0x20010110 ∷ 0x20010210 ∷ []) (0xE8 ∷ 0x03 ∷ 0x10 ∷ 0x27 ∷ []) ≡ codes "T 2001:01 = 1000; H 2001:02 = 10000"
+unfolding mapped_text parts_text more_parts part_text part_bytes short_text more_text bytes_words entry_of entry_text value_text number_text digits digits_text is_utf8 chars encode
+two_values = refl
+
+-- a bit, a gap of seven, and a number over the bounds of bytes
+bits_and_gap : data_of (0x20020001 ∷ 0x00050007 ∷ 0x20010108 ∷ []) (0x01 ∷ 0xFF ∷ []) ≡ codes "B 2002:00 = true; -; T 2001:01 = FF (8 of 16 bits)"
+unfolding mapped_text parts_text more_parts part_text part_bytes short_text more_text bytes_words entry_of entry_text value_text number_text digits digits_text is_utf8 chars encode
+bits_and_gap = refl
+
+not_there : data_of (0x23450108 ∷ 0x20020008 ∷ []) (0x01 ∷ 0x00 ∷ []) ≡ codes "2345:01 (not in sheet); B 2002:00 = false"
+unfolding mapped_text parts_text more_parts part_text part_bytes short_text more_text bytes_words entry_of entry_text value_text number_text digits digits_text is_utf8 chars encode
+not_there = refl
+
+-- the first index that is no gap, and a gap with a sub-index
+no_gaps : data_of (0x00200008 ∷ 0x00050108 ∷ []) (0x01 ∷ 0x00 ∷ []) ≡ codes "0020:00 (not in sheet); 0005:01 (not in sheet)"
+unfolding mapped_text parts_text more_parts part_text part_bytes short_text more_text bytes_words entry_of entry_text value_text number_text digits digits_text is_utf8 chars encode
+no_gaps = refl
+
+too_short : data_of (0x20010110 ∷ 0x20010220 ∷ []) (1 ∷ 2 ∷ 3 ∷ 4 ∷ []) ≡ codes "4 bytes, mapping has 6"
+unfolding mapped_text parts_text more_parts part_text part_bytes short_text more_text bytes_words entry_of entry_text value_text number_text digits digits_text is_utf8 chars encode
+too_short = refl
+
+one_byte : data_of (0x20010110 ∷ []) (1 ∷ []) ≡ codes "1 byte, mapping has 2"
+unfolding mapped_text parts_text more_parts part_text part_bytes short_text more_text bytes_words entry_of entry_text value_text number_text digits digits_text is_utf8 chars encode
+one_byte = refl
+
+-- nine bits need two bytes
+nine_bits : data_of (0x20020009 ∷ []) (1 ∷ []) ≡ codes "1 byte, mapping has 2"
+unfolding mapped_text parts_text more_parts part_text part_bytes short_text more_text bytes_words entry_of entry_text value_text number_text digits digits_text is_utf8 chars encode
+nine_bits = refl
+
+more_bytes : data_of (0x20020008 ∷ []) (1 ∷ 2 ∷ 3 ∷ []) ≡ codes "B 2002:00 = true; +2 bytes"
+unfolding mapped_text parts_text more_parts part_text part_bytes short_text more_text bytes_words entry_of entry_text value_text number_text digits digits_text is_utf8 chars encode
+more_bytes = refl
+
+one_more : data_of (0x20020008 ∷ []) (1 ∷ 2 ∷ []) ≡ codes "B 2002:00 = true; +1 byte"
+unfolding mapped_text parts_text more_parts part_text part_bytes short_text more_text bytes_words entry_of entry_text value_text number_text digits digits_text is_utf8 chars encode
+one_more = refl
+
+-- ---- counts
+
+abbrev counted : ℕ → List ℕ → List ℕ
+counted count bytes = data_text names 5 (record { count = count; words = 0x20020008 ∷ 0x20020008 ∷ [] }) bytes
+
+nothing_mapped : counted 0 (1 ∷ []) ≡ []
+unfolding data_text
+nothing_mapped = refl
+
+one_mapped : counted 1 (1 ∷ []) ≡ codes ": B 2002:00 = true"
+unfolding data_text mapped_text parts_text more_parts part_text part_bytes short_text more_text bytes_words entry_of entry_text value_text number_text digits digits_text is_utf8 chars encode
+one_mapped = refl
+
+above_64 : counted 65 (1 ∷ []) ≡ []
+unfolding data_text
+above_64 = refl
+
+below_multiplexed : counted 0xFD (1 ∷ []) ≡ []
+unfolding data_text
+below_multiplexed = refl
+
+destination : counted 0xFE (0x85 ∷ 0x01 ∷ 0x20 ∷ 0x02 ∷ 0xE8 ∷ 0x03 ∷ 0 ∷ 0 ∷ []) ≡ codes ": destination node 5 2001:02 E8030000"
+unfolding data_text multiplexed_data multiplexed_text addressing_word digits digits_text
+destination = refl
+
+source : counted 0xFF (0x7F ∷ 0x01 ∷ 0x20 ∷ 0x02 ∷ 0xE8 ∷ 0x03 ∷ 0 ∷ 0 ∷ []) ≡ codes ": source node 127 2001:02 E8030000"
+unfolding data_text multiplexed_data multiplexed_text addressing_word digits digits_text
+source = refl
+
+short_multiplexed : counted 0xFF (0x85 ∷ 0x01 ∷ []) ≡ codes ": 2 bytes, mapping has 8"
+unfolding data_text multiplexed_data short_text bytes_words digits
+short_multiplexed = refl
+
+-- ---- whose an identifier is
+
+abbrev sum : ℕ → SheetCobId
+sum word = record { word = word; with_node = true }
+
+abbrev fixed : ℕ → SheetCobId
+fixed word = record { word = word; with_node = false }
+
+of_this_node : node_with (Some 5) (sum 0x40000180) 0x185 ≡ Some 5
+unfolding node_with is_of
+of_this_node = refl
+
+of_another_node : node_with (Some 5) (sum 0x40000180) 0x186 ≡ None
+unfolding node_with is_of
+of_another_node = refl
+
+of_any_node : node_with None (sum 0x180) 0x1FF ≡ Some 127
+unfolding node_with is_of
+of_any_node = refl
+
+above_127 : node_with None (sum 0x180) 0x200 ≡ None
+unfolding node_with is_of
+above_127 = refl
+
+of_no_node : node_with None (sum 0x180) 0x180 ≡ None
+unfolding node_with is_of
+of_no_node = refl
+
+fixed_one : node_with None (fixed 0x185) 0x185 ≡ Some 5
+unfolding node_with is_of
+fixed_one = refl
+
+fixed_for_another : node_with (Some 6) (fixed 0x185) 0x185 ≡ Some 6
+unfolding node_with is_of
+fixed_for_another = refl
+
+not_there_bit : has_identifier 0x80000185 0x185 ≡ false
+not_there_bit = refl
+
+twenty_nine_bits : has_identifier 0x20000185 0x185 ≡ false
+twenty_nine_bits = refl
+
+no_sync : may_be_pdo 0x7F ≡ false
+no_sync = refl
+
+first_free : may_be_pdo 0x181 ≡ true
+first_free = refl
+
+sdo_answer : may_be_pdo 0x581 ≡ false
+sdo_answer = refl
+
+between_sdo : may_be_pdo 0x600 ≡ true
+between_sdo = refl
+
+last_free : may_be_pdo 0x6DF ≡ true
+last_free = refl
+
+-- ---- the PDOs of a sheet
+
+abbrev rows_of_pdos : List Row
+rows_of_pdos =
+    row 0x1400 1 Unsigned32 (number (pos 0x185)) [] ∷ row 0x1600 0 Unsigned8 (number (pos 0)) []
+    ∷ row 0x1800 1 Unsigned32 (node_id 0x180) [] ∷ row 0x1A00 0 Unsigned8 (number (pos 1)) [] ∷ row 0x1A00 1 Unsigned32 (number (pos 0x20020008)) []
+    ∷ row 0x2002 0 Boolean absent (codes "B") ∷ []
+
+-- what a frame with one byte says
+abbrev said : ℕ → List ℕ
+said id = pdos_text (names_with rows_of_pdos) (record { id = id; bytes = 1 ∷ [] }) false (sheet_pdos (names_with rows_of_pdos))
+
+-- the PDO that the node sends, and after it the one that it receives
+two_pdos : said 0x185 ≡ codes "TPDO1 node 5: B 2002:00 = true | RPDO1 node 5"
+unfolding pdos_text pdo_text pdo_front node_with is_of sheet_pdos pdos_in pdo_of mapping_at words_at number_at data_text mapped_text parts_text more_parts part_text part_bytes short_text more_text bytes_words entry_of entry_text value_text number_text digits digits_text is_utf8 chars encode
+two_pdos = refl
+
+one_pdo : said 0x186 ≡ codes "TPDO1 node 6: B 2002:00 = true"
+unfolding pdos_text pdo_text pdo_front node_with is_of sheet_pdos pdos_in pdo_of mapping_at words_at number_at data_text mapped_text parts_text more_parts part_text part_bytes short_text more_text bytes_words entry_of entry_text value_text number_text digits digits_text is_utf8 chars encode
+one_pdo = refl
+
+no_pdo : said 0x205 ≡ []
+unfolding pdos_text node_with is_of sheet_pdos pdos_in pdo_of mapping_at words_at number_at
+no_pdo = refl
+
+is_one : is_pdo None (sheet_pdos (names_with rows_of_pdos)) 0x186 ≡ true
+unfolding is_pdo node_with is_of sheet_pdos pdos_in pdo_of mapping_at words_at number_at
+is_one = refl
+
+is_none : is_pdo None (sheet_pdos (names_with rows_of_pdos)) 0x205 ≡ false
+unfolding is_pdo node_with is_of sheet_pdos pdos_in pdo_of mapping_at words_at number_at
+is_none = refl

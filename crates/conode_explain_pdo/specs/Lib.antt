@@ -1,0 +1,5 @@
+pub mod CobIds
+pub mod Content
+pub mod Mappings
+pub mod Pdos
+pub mod Sheets

@@ -1,0 +1,110 @@
+-- What a mapping says of data: each part is the bits at its offset (CiA 301, 7.2.2.1 and 7.5.2.36).
+use Rattle.std.specs.Prelude.{ℕ, ◌+◌, ◌-◌, ◌*◌, ◌/◌, ◌%◌, ◌^◌, ◌==◌, nat_lt, nat_le, Bool, ◌&&◌, if◌then◌else◌, List, [], ◌∷◌, ◌++◌, length, take, drop, slice_index, codes, decimal, Option, None}
+use Rattle.std.specs.List.{flat_map}
+use Rattle.std.specs.Option.{option_map_or}
+use Rattle.co_text.specs.Printed.{byte_text}
+use Rattle.co_value.specs.declared.key.Key.{Key}
+use Rattle.co_value.specs.KeyTexts.{key_text}
+use Rattle.co_value.specs.Numbers.{low_bytes, unsigned_of}
+use Rattle.co_sheet.specs.Content.{Row}
+use Rattle.conode_decode.specs.Names.{Names, entry_of, shown_name}
+use Rattle.conode_explain_values.specs.declared.value_type.ValueType.TheVariants.{Plain}
+use Rattle.conode_explain_values.specs.Values.{entry_text}
+use Rattle.conode_explain_pdo.specs.Content.{Mapping}
+
+-- ---- a word of a mapping: index, sub-index and length in bits
+
+abbrev pub word_key : ℕ → Key
+word_key word = record { index = word / 65536; sub = word / 256 % 256 }
+
+abbrev pub word_bits : ℕ → ℕ
+word_bits word = word % 256
+
+-- the bits of all words
+abbrev pub total_bits : List ℕ → ℕ
+total_bits [] = 0
+total_bits (word ∷ words) = word_bits word + total_bits words
+
+-- the bytes that so many bits need
+abbrev pub bytes_for : ℕ → ℕ
+bytes_for bits = (bits + 7) / 8
+
+-- ---- a part of data
+
+-- the bits of data from an offset on, as a number
+abbrev pub bits_at : List ℕ → ℕ → ℕ → ℕ
+bits_at bytes offset bits = unsigned_of bytes / 2 ^ offset % 2 ^ bits
+
+-- the same in as few bytes as they need
+unfoldable pub part_bytes : List ℕ → ℕ → ℕ → List ℕ
+part_bytes bytes offset bits = low_bytes (bytes_for bits) (bits_at bytes offset bits)
+
+-- a data type in place of an entry: a gap, 0001h to 001Fh (CiA 301, 7.4.7)
+abbrev pub is_gap : Key → Bool
+is_gap key = (nat_lt 0 key.index && nat_lt key.index 0x20) && (key.sub == 0)
+
+-- an entry of the sheet with the bits at the offset
+abbrev pub value_part : Key → List ℕ → ℕ → ℕ → Row → List ℕ
+value_part key bytes offset bits row =
+    entry_text (shown_name row) key (Plain row.data_type) bits (part_bytes bytes offset bits)
+
+-- what a word says of the data from an offset on
+unfoldable pub part_text : Names → ℕ → List ℕ → ℕ → ℕ → List ℕ
+part_text names node bytes offset word =
+    if is_gap (word_key word) then codes "-"
+    else option_map_or (value_part (word_key word) bytes offset (word_bits word))
+    (entry_of names node (word_key word)) (key_text (word_key word) ++ codes " (not in sheet)")
+
+-- the parts one after another from an offset on, each after a semicolon
+unfoldable pub more_parts : Names → ℕ → List ℕ → ℕ → List ℕ → List ℕ
+more_parts names node bytes offset [] = []
+more_parts names node bytes offset (word ∷ words) =
+    codes "; " ++ part_text names node bytes offset word ++ more_parts names node bytes (offset + word_bits word) words
+
+-- all parts
+unfoldable pub parts_text : Names → ℕ → List ℕ → List ℕ → List ℕ
+parts_text names node bytes [] = []
+parts_text names node bytes (word ∷ words) =
+    part_text names node bytes 0 word ++ more_parts names node bytes (word_bits word) words
+
+-- ---- all data
+
+unfoldable pub bytes_words : ℕ → List ℕ
+bytes_words count = decimal count ++ (if count == 1 then codes " byte" else codes " bytes")
+
+-- data that are shorter than what is mapped have no values
+unfoldable pub short_text : ℕ → ℕ → List ℕ
+short_text count mapped = bytes_words count ++ codes ", mapping has " ++ decimal mapped
+
+-- bytes after what is mapped
+unfoldable pub more_text : ℕ → ℕ → List ℕ
+more_text count mapped = if nat_lt mapped count then codes "; +" ++ bytes_words (count - mapped) else []
+
+unfoldable pub mapped_text : Names → ℕ → List ℕ → List ℕ → List ℕ
+mapped_text names node words bytes =
+    if nat_lt (length bytes) (bytes_for (total_bits words)) then short_text (length bytes) (bytes_for (total_bits words))
+    else parts_text names node bytes words ++ more_text (length bytes) (bytes_for (total_bits words))
+
+-- a multiplexed PDO: its destination or source, the node, the key, four bytes (CiA 301, 7.2.2.5)
+abbrev pub multiplexed_key : List ℕ → Key
+multiplexed_key bytes = record { index = unsigned_of (take 2 (drop 1 bytes)); sub = slice_index bytes 3 }
+
+-- bit 7 of the first byte
+unfoldable pub addressing_word : ℕ → List ℕ
+addressing_word byte = if nat_lt byte 128 then codes "source" else codes "destination"
+
+unfoldable pub multiplexed_text : List ℕ → List ℕ
+multiplexed_text bytes =
+    addressing_word (slice_index bytes 0) ++ codes " node " ++ decimal (slice_index bytes 0 % 128) ++ codes " "
+    ++ key_text (multiplexed_key bytes) ++ codes " " ++ flat_map byte_text (drop 4 bytes)
+
+-- the data of one
+unfoldable pub multiplexed_data : List ℕ → List ℕ
+multiplexed_data bytes = if length bytes == 8 then multiplexed_text bytes else short_text (length bytes) 8
+
+-- data by the mapping in force: by its count 1 to 64 entries, FEh or FFh multiplexed, else nothing is known of them
+unfoldable pub data_text : Names → ℕ → Mapping → List ℕ → List ℕ
+data_text names node mapping bytes =
+    if mapping.count == 0 then []
+    else (if nat_le mapping.count 64 then codes ": " ++ mapped_text names node (take mapping.count mapping.words) bytes
+    else (if nat_le 0xFE mapping.count then codes ": " ++ multiplexed_data bytes else []))

@@ -1,0 +1,12 @@
+//! What the data of a PDO say, by its mapping.
+#![tactic(auto)]
+
+mod cob_id;
+mod mapping;
+mod pdo;
+mod sheet;
+
+pub use cob_id::SheetCobId;
+pub use mapping::{Mapping, push_data};
+pub use pdo::{is_pdo, push_pdos};
+pub use sheet::{SheetPdo, sheet_pdos};

@@ -1,0 +1,357 @@
+//! What a mapping says of data. Each function appends a text; on an `Err` memory ran out, and a part of it may be there.
+
+ghost use Rattle.std.specs.Prelude.{◌≡◌, ◌+◌, ◌*◌, ◌/◌, ◌%◌, ◌^◌, ◌++◌, ◌≤◌, [], OnOk, length, string_bytes, take};
+ghost use Rattle.co_value.specs.Numbers.{low_bytes, unsigned_of};
+ghost use Rattle.co_sheet.specs.SheetViews.{row_view};
+ghost use Rattle.conode_decode.specs.Names.{names_view};
+ghost use Rattle.conode_explain_values.specs.Values.{HasBits};
+ghost use Rattle.conode_explain_pdo.specs.Mappings.{
+  addressing_word,
+  bytes_words,
+  data_text,
+  is_gap,
+  mapped_text,
+  more_parts,
+  more_text,
+  multiplexed_data,
+  multiplexed_key,
+  multiplexed_text,
+  part_bytes,
+  part_text,
+  parts_text,
+  short_text,
+  total_bits,
+  value_part,
+  word_bits,
+  word_key,
+};
+
+use arrayvec::ArrayVec;
+use co_sheet::EntryRow;
+use co_text::{push_bytes, push_decimal};
+use co_value::{Key, read_u16, unsigned_of};
+use conode_decode::{Names, shown_name};
+use conode_explain_values::{ValueType, push_entry};
+use std::alloc::AllocError;
+use std::marker::Model;
+
+/// A mapping parameter of a PDO (CiA 301, 7.5.2.36 and 7.5.2.38).
+/// Contracts see its sub-index 0, and its sub-indices from 1 on.
+#[derive(Drop)]
+pub struct Mapping {
+    // how many entries are mapped, 0 to 64; FEh or FFh for a multiplexed PDO
+    pub(crate) count: u8,
+    // index, sub-index and length in bits of each entry
+    pub(crate) words: ArrayVec<u32, 64>,
+}
+
+impl Model for Mapping {
+    ghost use Rattle.conode_explain_pdo.specs.Content.{Mapping as MappingContent};
+
+    ghost Value = { MappingContent };
+
+    ghost view = { λ mapping. record { count = mapping.count; words = mapping.words.items } };
+}
+
+fn word_key(word: u32) -> Key
+    ensures { result ≡ word_key word }
+{
+    Key {
+        index: (word / 65536) as u16,
+        sub: (word / 256 % 256) as u8,
+    }
+}
+
+fn word_bits(word: u32) -> usize
+    ensures { result ≡ word_bits word }
+{
+    (word % 256) as usize
+}
+
+fn total_bits(words: &[u32]) -> usize
+    requires { length words.now ≤ 64 }
+    ensures bits { result ≡ total_bits words.now }
+    ensures few { result ≤ 255 * length words.now }
+{
+    let mut total = 0;
+    for word in words {
+        total += word_bits(*word);
+    }
+    total
+}
+
+fn is_gap(key: Key) -> bool
+    ensures { result ≡ is_gap key }
+{
+    (0 < key.index && key.index < 0x20) && key.sub == 0
+}
+
+// the bits from an offset on
+fn bits_from(number: u64, offset: usize, bits: usize) -> u64
+    requires { offset + bits ≤ 64 }
+    ensures { result ≡ number / 2 ^ offset % 2 ^ bits }
+{
+    if bits == 0 {
+        return 0;
+    }
+    let rest = number >> offset;
+    if bits == 64 {
+        return rest;
+    }
+    rest % (1u64 << bits)
+}
+
+// the first bytes of a number
+fn low_bytes(number: u64, count: usize) -> ArrayVec<u8, 8>
+    requires { count ≤ 8 }
+    ensures { result.items ≡ low_bytes count number }
+{
+    let mut bytes = ArrayVec::from(number.to_le_bytes());
+    bytes.truncate(count);
+    bytes
+}
+
+// the bits of data from an offset on
+#[tactic(auto, unfolding(crate::specs::Mappings::part_bytes))]
+fn part_bytes(bytes: &[u8], offset: usize, bits: usize) -> ArrayVec<u8, 8>
+    requires few { length bytes.now ≤ 8 }
+    requires within { offset + bits ≤ 64 }
+    ensures bits { result.items ≡ part_bytes bytes.now offset bits }
+    ensures count { HasBits bits result.items }
+{
+    low_bytes(bits_from(unsigned_of(bytes), offset, bits), (bits + 7) / 8)
+}
+
+fn push_value_part(
+    text: &mut String,
+    row: &EntryRow<'_>,
+    key: Key,
+    bytes: &[u8],
+    offset: usize,
+    bits: usize,
+) -> Result<(), AllocError>
+    requires few { length bytes.now ≤ 8 }
+    requires within { offset + bits ≤ 64 }
+    ensures { OnOk result (string_bytes text.new
+        ≡ string_bytes text.old ++ value_part key bytes.now offset bits (row_view row.now)) }
+{
+    let part = part_bytes(bytes, offset, bits);
+    let value_type = ValueType::Plain(row.data_type);
+    push_entry(
+        text,
+        shown_name(row),
+        key,
+        value_type,
+        bits,
+        part.as_slice(),
+    )
+}
+
+// what a word says of the data from an offset on
+#[tactic(auto, unfolding(crate::specs::Mappings::part_text))]
+fn push_part(
+    text: &mut String,
+    names: Names<'_, '_>,
+    node: u8,
+    bytes: &[u8],
+    offset: usize,
+    word: u32,
+) -> Result<(), AllocError>
+    requires few { length bytes.now ≤ 8 }
+    requires within { offset + word_bits word ≤ 64 }
+    ensures { OnOk result (string_bytes text.new ≡ string_bytes text.old
+        ++ part_text (names_view names.entry) node bytes.now offset word) }
+{
+    let key = word_key(word);
+    if is_gap(key) {
+        return text.push_str("-");
+    }
+    match names.entry(node, key) {
+        Some(row) => push_value_part(text, row, key, bytes, offset, word_bits(word)),
+        None => {
+            text.push_str(key.text().as_str())?;
+            text.push_str(" (not in sheet)")
+        }
+    }
+}
+
+// the parts from an offset on, each after a semicolon
+#[tactic(auto, unfolding(crate::specs::Mappings::more_parts))]
+fn push_more_parts(
+    text: &mut String,
+    names: Names<'_, '_>,
+    node: u8,
+    bytes: &[u8],
+    start: usize,
+    words: &[u32],
+) -> Result<(), AllocError>
+    requires few { length bytes.now ≤ 8 }
+    requires within { start + total_bits words.now ≤ 64 }
+    ensures { OnOk result (string_bytes text.new ≡ string_bytes text.old
+        ++ more_parts (names_view names.entry) node bytes.now start words.now) }
+{
+    let mut offset = start;
+    for word in words {
+        text.push_str("; ")?;
+        push_part(text, names, node, bytes, offset, *word)?;
+        offset += word_bits(*word);
+    }
+    Ok(())
+}
+
+// the parts one after another
+#[tactic(auto, unfolding(crate::specs::Mappings::parts_text))]
+fn push_parts(
+    text: &mut String,
+    names: Names<'_, '_>,
+    node: u8,
+    bytes: &[u8],
+    words: &[u32],
+) -> Result<(), AllocError>
+    requires few { length bytes.now ≤ 8 }
+    requires within { total_bits words.now ≤ 64 }
+    ensures { OnOk result (string_bytes text.new ≡ string_bytes text.old
+        ++ parts_text (names_view names.entry) node bytes.now words.now) }
+{
+    match words {
+        [] => Ok(()),
+        [word, more @ ..] => {
+            push_part(text, names, node, bytes, 0, *word)?;
+            push_more_parts(text, names, node, bytes, word_bits(*word), more)
+        }
+    }
+}
+
+#[tactic(auto, unfolding(crate::specs::Mappings::bytes_words))]
+fn push_bytes_words(text: &mut String, count: usize) -> Result<(), AllocError>
+    ensures { OnOk result
+        (string_bytes text.new ≡ string_bytes text.old ++ bytes_words count) }
+{
+    push_decimal(text, count as u64)?;
+    if count == 1 {
+        text.push_str(" byte")
+    } else {
+        text.push_str(" bytes")
+    }
+}
+
+#[tactic(auto, unfolding(crate::specs::Mappings::short_text))]
+fn push_short(text: &mut String, count: usize, mapped: usize) -> Result<(), AllocError>
+    ensures { OnOk result
+        (string_bytes text.new ≡ string_bytes text.old ++ short_text count mapped) }
+{
+    push_bytes_words(text, count)?;
+    text.push_str(", mapping has ")?;
+    push_decimal(text, mapped as u64)
+}
+
+#[tactic(auto, unfolding(crate::specs::Mappings::more_text))]
+fn push_more(text: &mut String, count: usize, mapped: usize) -> Result<(), AllocError>
+    ensures { OnOk result
+        (string_bytes text.new ≡ string_bytes text.old ++ more_text count mapped) }
+{
+    if mapped < count {
+        text.push_str("; +")?;
+        return push_bytes_words(text, count - mapped);
+    }
+    Ok(())
+}
+
+#[tactic(auto, unfolding(crate::specs::Mappings::mapped_text))]
+fn push_mapped(
+    text: &mut String,
+    names: Names<'_, '_>,
+    node: u8,
+    words: &[u32],
+    bytes: &[u8],
+) -> Result<(), AllocError>
+    requires words { length words.now ≤ 64 }
+    requires few { length bytes.now ≤ 8 }
+    ensures { OnOk result (string_bytes text.new ≡ string_bytes text.old
+        ++ mapped_text (names_view names.entry) node words.now bytes.now) }
+{
+    let mapped = (total_bits(words) + 7) / 8;
+    if bytes.len() < mapped {
+        return push_short(text, bytes.len(), mapped);
+    }
+    push_parts(text, names, node, bytes, words)?;
+    push_more(text, bytes.len(), mapped)
+}
+
+fn multiplexed_key(bytes: &[u8]) -> Key
+    requires { length bytes.now ≡ 8 }
+    ensures { result ≡ multiplexed_key bytes.now }
+{
+    Key {
+        index: read_u16(&bytes[1..3]),
+        sub: bytes[3],
+    }
+}
+
+#[tactic(auto, unfolding(crate::specs::Mappings::addressing_word))]
+fn push_addressing(text: &mut String, byte: u8) -> Result<(), AllocError>
+    ensures { OnOk result
+        (string_bytes text.new ≡ string_bytes text.old ++ addressing_word byte) }
+{
+    if byte < 128 {
+        text.push_str("source")
+    } else {
+        text.push_str("destination")
+    }
+}
+
+#[tactic(auto, unfolding(crate::specs::Mappings::multiplexed_text))]
+fn push_multiplexed(text: &mut String, bytes: &[u8]) -> Result<(), AllocError>
+    requires { length bytes.now ≡ 8 }
+    ensures { OnOk result
+        (string_bytes text.new ≡ string_bytes text.old ++ multiplexed_text bytes.now) }
+{
+    push_addressing(text, bytes[0])?;
+    text.push_str(" node ")?;
+    push_decimal(text, u64::from(bytes[0] % 128))?;
+    text.push_str(" ")?;
+    text.push_str(multiplexed_key(bytes).text().as_str())?;
+    text.push_str(" ")?;
+    push_bytes(text, &bytes[4..])
+}
+
+#[tactic(auto, unfolding(crate::specs::Mappings::multiplexed_data))]
+fn push_multiplexed_data(text: &mut String, bytes: &[u8]) -> Result<(), AllocError>
+    ensures { OnOk result
+        (string_bytes text.new ≡ string_bytes text.old ++ multiplexed_data bytes.now) }
+{
+    if bytes.len() == 8 {
+        push_multiplexed(text, bytes)
+    } else {
+        push_short(text, bytes.len(), 8)
+    }
+}
+
+/// Appends what the data of a PDO of a node say by a mapping: each mapped entry with its value, as
+/// `: Temperature 2001:01 = 1000; Humidity 2001:02 = 10000`; `-` for a gap, `2345:01 (not in sheet)` for an entry that the
+/// sheet lacks; `: 4 bytes, mapping has 6` where the data are shorter; of a multiplexed PDO `: destination node 5 2001:01
+/// E8030000`. Nothing where nothing is mapped. On an `Err` memory ran out, and a part of it may be there.
+#[tactic(auto, unfolding(crate::specs::Mappings::data_text))]
+pub fn push_data(
+    text: &mut String,
+    names: Names<'_, '_>,
+    node: u8,
+    mapping: &Mapping,
+    bytes: &[u8],
+) -> Result<(), AllocError>
+    requires { length bytes.now ≤ 8 }
+    // Of an entry the bits are shown that are at its offset by this mapping.
+    ensures { OnOk result (string_bytes text.new ≡ string_bytes text.old
+        ++ data_text (names_view names.entry) node mapping.now bytes.now) }
+{
+    let count = usize::from(mapping.count);
+    if count == 0 || (count > 64 && count < 0xFE) {
+        return Ok(());
+    }
+    text.push_str(": ")?;
+    if count > 64 {
+        return push_multiplexed_data(text, bytes);
+    }
+    let words = mapping.words.as_slice();
+    push_mapped(text, names, node, &words[..count.min(words.len())], bytes)
+}
