@@ -167,9 +167,9 @@ DCF with a node-ID, `$NODEID+600h` has its value beside it.
 
   conode show sensor.eds > new.txt; diff old.txt new.txt
 
-A sheet with a fault is shown too, a value that can't be read as it is written:
-`check` finds faults. Where a line by itself is at fault, as `fault 2 BadLine
-line 7`, that is all that is printed. --format json prints one document.
+A sheet with a fault is shown too, as far as it can be read, and a value that
+can't be read as it is written: `check` and `lint` find faults. --format json
+prints one document.
 
 Status: 0 if the dictionary is shown, 1 if not, 2 if the words are wrong.";
 
@@ -230,12 +230,13 @@ abort in words:
      0.000400  +0.000012  581  [8] 80 00 20 00 11 00 09 06  SDO answer node 1
      abort 2000:00 06090011 (no such sub-index)        (this is one line)
 
-With --sheet the entry's name follows in quotes; `--sheet 5=sensor.eds` is for
-node-ID 5 alone. Empty lines, comments (`;`) and event lines (`!`) print
-nothing. A bad line is named on standard error, with its number and what is
-wrong, and the rest goes on. `-` as TRACE is standard input; each line is out
-before the next read that could wait. Values of PDOs and whole transfers are not
-explained yet. The stamps' forms have the letters z, a, d and A too, those of
+With --sheet entries have their names, and their values in expedited SDO
+transfers and in PDOs, which are taken apart by the sheet's mapping; whole
+transfers are not explained yet. `--sheet 5=sensor.eds` is for node-ID 5 alone.
+Empty lines, comments (`;`) and event lines (`!`) print nothing. A bad line is
+named on standard error, with its number and what is wrong, and the rest goes
+on. `-` as TRACE is standard input; each line is out before the next read that
+could wait. The stamps' forms have the letters z, a, d and A too, those of
 candump.
 
   candump -L can0 | conode explain - --sheet 5=sensor.eds
