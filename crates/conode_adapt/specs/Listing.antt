@@ -1,5 +1,5 @@
 -- The changes of a text, a line each: `NAME:LINE: what changed: old -> new`.
-use Rattle.std.specs.Prelude.{ℕ, ◌+◌, ◌-◌, Bool, true, false, Option, Some, None, length, take, slice_index, ◌==◌, ◌||◌, nat_eq, nat_lt, if◌then◌else◌, List, [], ◌∷◌, ◌++◌, map, codes, decimal}
+use Rattle.std.specs.Prelude.{ℕ, ◌+◌, ◌-◌, ◌/◌, ◌%◌, Bool, true, false, Option, Some, None, length, take, slice_index, ◌==◌, ◌||◌, nat_eq, nat_lt, if◌then◌else◌, List, [], ◌∷◌, ◌++◌, map, codes, decimal}
 use Rattle.std.specs.List.{flat_map, starts_with}
 use Rattle.co_text.specs.Printed.{digits_text}
 use Rattle.co_sheet_text.specs.Text.{trim, is_empty}
