@@ -7,7 +7,7 @@ use co_node::Config;
 use conode_adapt::{AdaptWords, LeadingZeros as ZerosRead, adapt_file};
 use conode_check::check_file;
 use conode_decode::decode_files;
-use conode_explain::{StampForm, explain_files};
+use conode_explain::{Layout, StampForm, explain_files};
 use conode_io::{CmdFault, stopped};
 use conode_lint::{Checks, Form, LintOptions, lint_files};
 use conode_loop::loop_files;
@@ -175,7 +175,14 @@ fn carry_out_task<O: Write, E: Write>(
             trace,
             sheet,
             stamps,
-        } => explain_files(rt, trace, sheet, stamp_form(stamps), out, err),
+            transfers,
+        } => {
+            let form = Layout {
+                stamps: stamp_form(stamps),
+                transfers,
+            };
+            explain_files(rt, trace, sheet, form, out, err)
+        }
     }
 }
 

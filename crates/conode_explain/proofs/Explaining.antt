@@ -19,26 +19,26 @@ use Rattle.conode_io.specs.Written.{WritesLines}
 use Rattle.conode_io.proofs.WriteLemmas.{lines_after}
 use Rattle.conode_lines.specs.TraceTexts.{GaveText}
 use Rattle.conode_record.specs.Lines.{line_in}
-use Rattle.conode_explain_text.specs.declared.stamps.StampForm.{StampForm}
-use Rattle.conode_explain_text.specs.SoFar.{SoFar, nothing_seen}
-use Rattle.conode_explain.specs.Explained.{bad_count, bad_from, explained, explained_from, faults_in, faults_of, said_lines, seen_after}
+use Rattle.conode_explain.specs.declared.progress.Layout.{Layout}
+use Rattle.conode_explain.specs.declared.progress.Progress.{Progress}
+use Rattle.conode_explain.specs.Explained.{bad_count, bad_from, explained, explained_from, faults_in, faults_of, nothing_known, progress_after, said_lines, unfinished_lines}
 use Rattle.conode_explain.specs.Taking.{Explains, Gives, Takes}
 
 -- ---- the lines of frames
 
 -- a line of at most 512 bytes
-one_line : (form : StampForm) (names : Names) (so_far : SoFar) (line : List ℕ) (more : List (List ℕ)) → length line ≤ 512
-    → explained_from form names so_far (line ∷ more) ≡ said_lines form names so_far (line_in line) ++ explained_from form names (seen_after so_far (line_in line)) more
+one_line : (form : Layout) (names : Names) (so_far : Progress) (line : List ℕ) (more : List (List ℕ)) → length line ≤ 512
+    → explained_from form names so_far (line ∷ more) ≡ said_lines form names so_far (line_in line) ++ explained_from form names (progress_after so_far (line_in line)) more
 unfolding explained_from
 one_line form names so_far line more few = let short : ltb 512 (length line) ≡ false = grind (arith, nat_tests) in rw short refl
 
 -- a longer one
-long_line : (form : StampForm) (names : Names) (so_far : SoFar) (line : List ℕ) (more : List (List ℕ)) → 512 < length line
+long_line : (form : Layout) (names : Names) (so_far : Progress) (line : List ℕ) (more : List (List ℕ)) → 512 < length line
     → explained_from form names so_far (line ∷ more) ≡ explained_from form names so_far more
 unfolding explained_from
 long_line form names so_far line more many = let long : ltb 512 (length line) ≡ true = grind (arith, nat_tests) in rw long refl
 
-no_line : (form : StampForm) (names : Names) (so_far : SoFar) → explained_from form names so_far (lines []) ≡ []
+no_line : (form : Layout) (names : Names) (so_far : Progress) → explained_from form names so_far (lines []) ≡ unfinished_lines form names so_far
 unfolding explained_from
 no_line form names so_far = refl
 
@@ -113,12 +113,12 @@ faults_long line many = let long : ltb 512 (length line) ≡ true = grind (arith
 
 -- ---- what bytes give
 
-module _ (form : StampForm) (names : Names) where
-  gives_none : (known : Option (List ℕ)) (so_far : SoFar) → Gives form names known known so_far so_far [] 0
+module _ (form : Layout) (names : Names) where
+  gives_none : (known : Option (List ℕ)) (so_far : Progress) → Gives form names known known so_far so_far [] 0
   gives_none None so_far = tt
   gives_none (Some text) so_far = (refl, omega arith)
 
-  gives_then : (a b c : Option (List ℕ)) (first mid last : SoFar) (lines more : List (List ℕ)) (bad also : ℕ) → Gives form names a b first mid lines bad → Gives form names b c mid last more also
+  gives_then : (a b c : Option (List ℕ)) (first mid last : Progress) (lines more : List (List ℕ)) (bad also : ℕ) → Gives form names a b first mid lines bad → Gives form names b c mid last more also
       → Gives form names a c first last (lines ++ more) (bad + also)
   gives_then None b c first mid last lines more bad also h k = tt
   gives_then (Some xs) None c first mid last lines more bad also h k = absurd h
@@ -128,10 +128,10 @@ module _ (form : StampForm) (names : Names) where
     omega (arith, h.1, k.1),
   )
 
-  module _ (so_far : SoFar) (line : List ℕ) where
+  module _ (so_far : Progress) (line : List ℕ) where
     -- a line with its line feed
     gives_line : (old new : Option (List ℕ)) → GivesLine old new line → length line ≤ 512 → ClosesAlike old new
-        → Gives form names old new so_far (seen_after so_far (line_in line)) (said_lines form names so_far (line_in line)) (faults_in (line_in line))
+        → Gives form names old new so_far (progress_after so_far (line_in line)) (said_lines form names so_far (line_in line)) (faults_in (line_in line))
     gives_line None new gives few alike = tt
     gives_line (Some xs) None gives few alike = absurd gives
     gives_line (Some xs) (Some ys) gives few alike = (
@@ -141,7 +141,7 @@ module _ (form : StampForm) (names : Names) where
 
     -- the last one, without it
     gives_last : (old new : Option (List ℕ)) → GivesLine old new line → length line ≤ 512 → IfSome old (λ bytes. has_line_feed bytes ≡ false)
-        → Gives form names old new so_far (seen_after so_far (line_in line)) (said_lines form names so_far (line_in line)) 0
+        → Gives form names old new so_far (progress_after so_far (line_in line)) (said_lines form names so_far (line_in line)) 0
     gives_last None new gives few none = tt
     gives_last (Some xs) None gives few none = absurd gives
     gives_last (Some xs) (Some ys) gives few none = (
@@ -163,19 +163,19 @@ module _ (form : StampForm) (names : Names) where
     )
 
   -- the end
-  gives_all : (known left : Option (List ℕ)) (so_far : SoFar) (written : List (List ℕ)) (bad : ℕ) → Gives form names known left nothing_seen so_far written bad → IsAtEnd left
-      → IfSome known (λ text. (explained form names text ≡ written) × (bad_count text ≡ bad))
+  gives_all : (known left : Option (List ℕ)) (so_far : Progress) (written : List (List ℕ)) (bad : ℕ) → Gives form names known left nothing_known so_far written bad → IsAtEnd left
+      → IfSome known (λ text. (explained form names text ≡ written ++ unfinished_lines form names so_far) × (bad_count text ≡ bad))
   gives_all None left so_far written bad h end = tt
   gives_all (Some text) None so_far written bad h end = absurd h
   gives_all (Some text) (Some rest) so_far written bad h end = (
     h.0 ∙ ap (λ (bytes : List ℕ). written ++ explained_from form names so_far (lines bytes)) end
-        ∙ ap (λ (ls : List (List ℕ)). written ++ ls) (no_line form names so_far) ∙ append-nil written,
+        ∙ ap (λ (ls : List (List ℕ)). written ++ ls) (no_line form names so_far),
     h.1 ∙ ap (λ (bytes : List ℕ). bad + bad_count bytes) end ∙ ap (λ (n : ℕ). bad + n) no_bad ∙ omega arith,
   )
 
   -- ---- lines taken
 
-  pub takes_none : (held : Held) (known : Option (List ℕ)) (so_far : SoFar) (has : Option (List ℕ)) → Takes form names held held known known so_far so_far has has 0
+  pub takes_none : (held : Held) (known : Option (List ℕ)) (so_far : Progress) (has : Option (List ℕ)) → Takes form names held held known known so_far so_far has has 0
   takes_none held known so_far has = record {
     written = [];
     appended = Appends-nil has;
@@ -183,10 +183,10 @@ module _ (form : StampForm) (names : Names) where
   }
 
   -- what is found next
-  module _ (held holds : Held) (before after : Option (List ℕ)) (so_far : SoFar) (old new : Option (List ℕ)) where
-    module _ (line : List ℕ) (next : SoFar) (is : next ≡ seen_after so_far (line_in line)) (written : WritesLines old new (said_lines form names so_far (line_in line))) where
+  module _ (held holds : Held) (before after : Option (List ℕ)) (so_far : Progress) (old new : Option (List ℕ)) where
+    module _ (line : List ℕ) (next : Progress) (is : next ≡ progress_after so_far (line_in line)) (written : WritesLines old new (said_lines form names so_far (line_in line))) where
       whole_line : Gave held.ended holds.ended before after (λ had has. Finds (to_come held had) (to_come holds has) line Line)
-          → Takes form names held holds before after so_far (seen_after so_far (line_in line)) old new (faults_in (line_in line))
+          → Takes form names held holds before after so_far (progress_after so_far (line_in line)) old new (faults_in (line_in line))
       whole_line found = record {
         written = said_lines form names so_far (line_in line);
         appended = written;
@@ -196,11 +196,11 @@ module _ (form : StampForm) (names : Names) where
       pub takes_line : (bad : ℕ) → bad ≡ faults_in (line_in line) → Gave held.ended holds.ended before after (λ had has. Finds (to_come held had) (to_come holds has) line Line)
           → Takes form names held holds before after so_far next old new bad
       takes_line bad counts found =
-          subst (λ (n : SoFar). Takes form names held holds before after so_far n old new bad) (sym is)
-          (subst (λ (b : ℕ). Takes form names held holds before after so_far (seen_after so_far (line_in line)) old new b) (sym counts) (whole_line found))
+          subst (λ (n : Progress). Takes form names held holds before after so_far n old new bad) (sym is)
+          (subst (λ (b : ℕ). Takes form names held holds before after so_far (progress_after so_far (line_in line)) old new b) (sym counts) (whole_line found))
 
       last_line : Gave held.ended holds.ended before after (λ had has. Finds (to_come held had) (to_come holds has) line Last)
-          → Takes form names held holds before after so_far (seen_after so_far (line_in line)) old new 0
+          → Takes form names held holds before after so_far (progress_after so_far (line_in line)) old new 0
       last_line found = record {
         written = said_lines form names so_far (line_in line);
         appended = written;
@@ -209,7 +209,7 @@ module _ (form : StampForm) (names : Names) where
 
       pub takes_last : Gave held.ended holds.ended before after (λ had has. Finds (to_come held had) (to_come holds has) line Last)
           → Takes form names held holds before after so_far next old new 0
-      takes_last found = subst (λ (n : SoFar). Takes form names held holds before after so_far n old new 0) (sym is) (last_line found)
+      takes_last found = subst (λ (n : Progress). Takes form names held holds before after so_far n old new 0) (sym is) (last_line found)
 
     pub takes_long : (line : List ℕ) → Gave held.ended holds.ended before after (λ had has. Finds (to_come held had) (to_come holds has) line TooLong)
         → old ≡ new → Takes form names held holds before after so_far so_far old new 1
@@ -219,7 +219,7 @@ module _ (form : StampForm) (names : Names) where
       gives = gave_so held.ended holds.ended before after _ _ found (λ had has f. gives_long so_far f.0 (to_come held had) (to_come holds has) f.1 f.2 f.3);
     }
 
-  module _ (held mid : Held) (before between : Option (List ℕ)) (first next : SoFar) (old has : Option (List ℕ)) (bad : ℕ) (h : Takes form names held mid before between first next old has bad) where
+  module _ (held mid : Held) (before between : Option (List ℕ)) (first next : Progress) (old has : Option (List ℕ)) (bad : ℕ) (h : Takes form names held mid before between first next old has bad) where
     -- a flush
     pub takes_flushed : (new : Option (List ℕ)) → Keeps has new → Takes form names held mid before between first next old new bad
     takes_flushed new kept = record {
@@ -229,7 +229,7 @@ module _ (form : StampForm) (names : Names) where
     }
 
     -- more lines
-    pub takes_more : (holds : Held) (after : Option (List ℕ)) (last : SoFar) (new : Option (List ℕ)) (also : ℕ) → Takes form names mid holds between after next last has new also
+    pub takes_more : (holds : Held) (after : Option (List ℕ)) (last : Progress) (new : Option (List ℕ)) (also : ℕ) → Takes form names mid holds between after next last has new also
         → Takes form names held holds before after first last old new (bad + also)
     takes_more holds after last new also k = record {
       written = h.written ++ k.written;
@@ -244,18 +244,20 @@ all_to_come : (known : Option (List ℕ)) → to_come nothing_held known ≡ kno
 all_to_come None = refl
 all_to_come (Some bytes) = refl
 
-explained_if : (form : StampForm) (names : Names) (written : List (List ℕ)) (bad : ℕ) (old new : Option (List ℕ)) (known : Option (List ℕ)) → WritesLines old new written
+explained_if : (form : Layout) (names : Names) (written : List (List ℕ)) (bad : ℕ) (old new : Option (List ℕ)) (known : Option (List ℕ)) → WritesLines old new written
     → IfSome known (λ text. (explained form names text ≡ written) × (bad_count text ≡ bad)) → IfSome known (Explains form names old new bad)
 explained_if form names written bad old new None appended h = tt
 explained_if form names written bad old new (Some text) appended h = (subst (WritesLines old new) (sym h.0) appended, sym h.1)
 
-module _ (form : StampForm) (names : Names) (mid holds : Held) (before between after : Option (List ℕ)) (so_far : SoFar) (old new : Option (List ℕ)) (bad : ℕ)
-    (h : Takes form names nothing_held mid before between nothing_seen so_far old new bad)
+module _ (form : Layout) (names : Names) (mid holds : Held) (before between after : Option (List ℕ)) (so_far : Progress) (old out new : Option (List ℕ)) (bad : ℕ)
+    (h : Takes form names nothing_held mid before between nothing_known so_far old out bad)
+    (rest : WritesLines out new (unfinished_lines form names so_far))
     (end : Gave mid.ended holds.ended between after (λ had has. IsAtEnd (to_come mid had))) where
   all : Gave false holds.ended before after (λ had has. IfSome had (Explains form names old new bad))
   all = gave_then false mid.ended holds.ended before between after _ _ _ h.gives end
-      (λ had middle left p q. explained_if form names h.written bad old new had h.appended
-      (subst (λ (known : Option (List ℕ)). IfSome known (λ text. (explained form names text ≡ h.written) × (bad_count text ≡ bad))) (all_to_come had)
+      (λ had middle left p q. explained_if form names (h.written ++ unfinished_lines form names so_far) bad old new had
+      (lines_after old out new h.written (unfinished_lines form names so_far) h.appended rest)
+      (subst (λ (known : Option (List ℕ)). IfSome known (λ text. (explained form names text ≡ h.written ++ unfinished_lines form names so_far) × (bad_count text ≡ bad))) (all_to_come had)
       (gives_all form names (to_come nothing_held had) (to_come mid middle) so_far h.written bad p q)))
 
   pub explained_known : IfSome before (Explains form names old new bad)

@@ -1,2 +1,3 @@
 pub mod AbortLemmas
 pub mod Explaining
+pub mod WriteLemmas

@@ -28,8 +28,8 @@ fn abort_code_of(frame: &Frame) -> Option<u32>
     }
 }
 
-// what a code means
-fn words_of(code: u32) -> &'static str
+/// What a code means; nothing for one that the standard doesn't have.
+pub(crate) fn words_of(code: u32) -> &'static str
     ensures { result.now ≡ words_of code }
 {
     abort_text(code)

@@ -4,11 +4,11 @@ ghost use Rattle.std.specs.Prelude.{◌≡◌, ◌⊎◌};
 ghost use Rattle.std.specs.Process.{exit_status};
 
 use crate::explained::explain;
-use crate::step::Settings;
+use crate::progress::Layout;
+use crate::writes::Settings;
 use co_sheet::read;
 use co_text::decimal_in;
 use conode_decode::Names;
-use conode_explain_text::StampForm;
 use conode_io::{cannot_read, faulty_sheet, file_text, flushed, no_text, stopped};
 use std::alloc::Global;
 use std::fs;
@@ -65,7 +65,7 @@ fn explain_named<R: Files + AllocGlobal + Input, O: Write, E: Write>(
     path: &str,
     text: &[u8],
     node: Option<u8>,
-    form: StampForm,
+    form: Layout,
     out: &mut O,
     err: &mut E,
 ) -> ExitCode
@@ -103,7 +103,7 @@ pub fn explain_files<R: Files + AllocGlobal + Input, O: Write, E: Write>(
     rt: &R,
     recording: &str,
     sheet: Option<&str>,
-    form: StampForm,
+    form: Layout,
     out: &mut O,
     err: &mut E,
 ) -> ExitCode

@@ -5,14 +5,16 @@ ghost use Rattle.conode_decode.specs.Names.{names_view};
 ghost use Rattle.conode_lines.specs.TraceTexts.{GaveText};
 ghost use Rattle.conode_explain.specs.Taking.{Explains};
 
-use crate::step::{Explaining, Settings};
+use crate::step::Explaining;
+use crate::writes::Settings;
 use conode_explain_pdo::sheet_pdos;
 use conode_io::CmdFault;
 use std::alloc::Global;
 use std::io::{Read, Write};
 
 /// Explains a recording as `candump -L` writes it, line by line and in constant memory: for each frame a line is
-/// written on `out`, with its times and what it says. A bad line, or one of more than 512 bytes, is named on `err` with
+/// written on `out`, with its times and what it says, and after it one for the SDO transfer that ended with it; at the end one
+/// for each that is open. A bad line, or one of more than 512 bytes, is named on `err` with
 /// its number and what is wrong with it, and the rest goes on. Gives the number of bad lines; a last line that no line
 /// feed ends is counted only where it is too long, since whoever stops a recording cuts it off there.
 ///
@@ -27,7 +29,7 @@ pub fn explain<R: Read, W: Write, E: Write>(
     out: &mut W,
     err: &mut E,
 ) -> Result<u64, CmdFault>
-    // The lines of all frames are written, and so many lines are bad.
+    // The lines of all frames are written, and those of transfers, and so many lines are bad.
     ensures known { IfOk result (λ bad. IfSome (R.remaining reader.old)
         (Explains settings.now.form (names_view settings.now.names)
         (W.contents out.old) (W.contents out.new) bad)) }
@@ -44,7 +46,10 @@ pub fn explain<R: Read, W: Write, E: Write>(
         explaining.let_out(out)?;
         match explaining.take_line(reader, settings, pdos.as_slice(), number, out, err)? {
             Some(more) => bad += more,
-            None => return Ok(bad),
+            None => {
+                explaining.finish(settings, out)?;
+                return Ok(bad);
+            }
         }
     }
     Err(CmdFault::NeverEnds)

@@ -7,10 +7,14 @@ mod bad_words;
 mod explain_file;
 mod explained;
 mod frame_words;
+mod progress;
 mod step;
+mod told_words;
 mod transfer;
+mod writes;
 
 pub use conode_explain_text::StampForm;
 pub use explain_file::explain_files;
 pub use explained::explain;
-pub use step::Settings;
+pub use progress::Layout;
+pub use writes::Settings;

@@ -1,61 +1,37 @@
 //! One line of a recording after another.
 
-ghost use Rattle.std.specs.Prelude.{◌≡◌, ◌⊎◌, ◌≤◌, [], ◌∷◌, OnOk, IfOk, IfErr, IfSome, IfNone};
+ghost use Rattle.std.specs.Prelude.{◌≡◌, ◌⊎◌, ◌≤◌, OnOk, IfOk, IfErr, IfSome, IfNone};
 ghost use Rattle.std.specs.Io.KnownBytes.{Keeps, IsAtEnd};
 ghost use Rattle.co_bounded_lines.specs.Held.{nothing_held, to_come};
 ghost use Rattle.co_stream.specs.Readings.{Gave};
 ghost use Rattle.conode_decode.specs.Names.{names_view};
-ghost use Rattle.conode_io.specs.Written.{WritesLines};
-ghost use Rattle.conode_record.specs.Grammar.{IsIdentifier};
-ghost use Rattle.conode_record.specs.Lines.{line_in};
-ghost use Rattle.conode_explain_text.specs.SoFar.{nothing_seen, seen_with};
 ghost use Rattle.conode_explain_pdo.specs.Sheets.{sheet_pdos};
-ghost use Rattle.conode_explain.specs.Explained.{explained_line, said_lines, seen_after, faults_in};
+ghost use Rattle.conode_io.specs.Written.{WritesLines};
+ghost use Rattle.conode_record.specs.Lines.{line_in};
+ghost use Rattle.conode_explain.specs.Explained.{
+  faults_in,
+  nothing_known,
+  progress_after,
+  said_lines,
+  unfinished_lines,
+};
 ghost use Rattle.conode_explain.specs.Taking.{Takes};
 
 use crate::bad_words::{TOO_LONG, bad_words};
-use crate::frame_words::set_words;
+use crate::progress::Progress;
+use crate::writes::{Room, Settings, write_frame, write_unfinished};
 use co_bounded_lines::{BoundedLines, Found, ReadFault};
-use conode_decode::Names;
 use conode_explain_pdo::SheetPdo;
-use conode_explain_text::{Seen, StampForm, set_line};
-use conode_io::{CmdFault, flush, hand_over};
-use conode_record::{Record, RecordLine};
+use conode_io::{CmdFault, flush};
+use conode_record::RecordLine;
 use std::alloc::Global;
 use std::io::{Read, Write};
-
-/// How a recording is explained.
-#[derive(Clone, Copy)]
-pub struct Settings<'s, 'a> {
-    /// In which form stamps are written.
-    pub form: StampForm,
-    /// Where the names of entries come from.
-    pub names: Names<'s, 'a>,
-}
-
-/// Room for the work on a line, which is used again for each.
-#[derive(Drop)]
-pub(crate) struct Room {
-    said: String,
-    text: String,
-    line: Vec<u8>,
-}
-
-impl Room {
-    fn new(alloc: Global) -> Room {
-        Room {
-            said: String::new(alloc),
-            text: String::new(alloc),
-            line: Vec::new(alloc),
-        }
-    }
-}
 
 /// How far a recording is explained.
 #[derive(Drop)]
 pub(crate) struct Explaining {
     lines: BoundedLines,
-    seen: Seen,
+    progress: Progress,
     room: Room,
 }
 
@@ -72,47 +48,10 @@ fn read_fault(fault: ReadFault) -> CmdFault {
     }
 }
 
-// Writes the line of a frame, and takes the frame in.
-#[tactic(auto, using(conode_io::proofs::WriteLemmas::line_alone))]
-fn write_frame<W: Write>(
-    room: &mut Room,
-    seen: &mut Seen,
-    settings: &Settings<'_, '_>,
-    pdos: &[SheetPdo],
-    frame: &Record<'_>,
-    out: &mut W,
-) -> Result<(), CmdFault>
-    requires id { IsIdentifier frame.now.id }
-    requires pdos { pdos.now ≡ sheet_pdos (names_view settings.now.names) }
-    ensures lines { OnOk result (WritesLines (W.contents out.old) (W.contents out.new)
-        (explained_line settings.now.form (names_view settings.now.names) seen.old frame.now ∷ [])) }
-    ensures seen { OnOk result
-        (seen.new ≡ seen_with seen.old frame.now.micros frame.now.interface) }
-    ensures err { IfErr result (λ fault. (fault ≡ CmdFault.Write) ⊎ (fault ≡ CmdFault.Memory)) }
-{
-    set_words(
-        &mut room.said,
-        settings.names,
-        pdos,
-        frame.id,
-        &frame.content,
-    )?;
-    set_line(
-        &mut room.line,
-        &mut room.text,
-        settings.form,
-        seen,
-        frame,
-        room.said.as_bytes(),
-    )?;
-    seen.add(frame);
-    hand_over(room.line.as_slice(), out)
-}
-
 // Writes the line of a line's frame, if it has one, and takes the frame in. 1 where the line is bad: then it is named.
 fn explain_line<W: Write, E: Write>(
     room: &mut Room,
-    seen: &mut Seen,
+    progress: &mut Progress,
     settings: &Settings<'_, '_>,
     pdos: &[SheetPdo],
     number: u64,
@@ -122,15 +61,17 @@ fn explain_line<W: Write, E: Write>(
 ) -> Result<u64, CmdFault>
     requires { pdos.now ≡ sheet_pdos (names_view settings.now.names) }
     ensures lines { OnOk result (WritesLines (W.contents out.old) (W.contents out.new)
-        (said_lines settings.now.form (names_view settings.now.names) seen.old (line_in line.now))) }
-    ensures seen { OnOk result (seen.new ≡ seen_after seen.old (line_in line.now)) }
+        (said_lines settings.now.form (names_view settings.now.names) progress.old
+        (line_in line.now))) }
+    ensures progress { OnOk result
+        (progress.new ≡ progress_after progress.old (line_in line.now)) }
     ensures bad { IfOk result (λ bad. bad ≡ faults_in (line_in line.now)) }
     ensures err { IfErr result (λ fault. (fault ≡ CmdFault.Write) ⊎ (fault ≡ CmdFault.Memory)) }
 {
     match RecordLine::read(line) {
         Ok(RecordLine::Skipped) => Ok(0),
         Ok(RecordLine::Frame(frame)) => {
-            write_frame(room, seen, settings, pdos, &frame, out)?;
+            write_frame(room, progress, settings, pdos, &frame, out)?;
             Ok(0)
         }
         Err(bad) => {
@@ -144,11 +85,11 @@ impl Explaining {
     /// No line was taken.
     pub(crate) fn new(alloc: Global) -> Explaining
         ensures lines { result.lines ≡ nothing_held }
-        ensures seen { result.seen ≡ nothing_seen }
+        ensures progress { result.progress ≡ nothing_known }
     {
         Explaining {
             lines: BoundedLines::new(),
-            seen: Seen::new(),
+            progress: Progress::new(alloc),
             room: Room::new(alloc),
         }
     }
@@ -178,12 +119,14 @@ impl Explaining {
         ensures line { IfOk result (λ next. IfSome next (λ bad.
             Takes settings.now.form (names_view settings.now.names)
             self.old.lines self.new.lines (R.remaining reader.old) (R.remaining reader.new)
-            self.old.seen self.new.seen (W.contents out.old) (W.contents out.new) bad)) }
+            self.old.progress self.new.progress (W.contents out.old) (W.contents out.new) bad)) }
         ensures few { IfOk result (λ next. IfSome next (λ bad. bad ≤ 1)) }
         ensures end { IfOk result (λ next. IfNone next ((out.new ≡ out.old)
             × Gave self.old.lines.ended self.new.lines.ended
             (R.remaining reader.old) (R.remaining reader.new)
             (λ had has. IsAtEnd (to_come self.old.lines had)))) }
+        ensures progress_kept { IfOk result
+            (λ next. IfNone next (self.new.progress ≡ self.old.progress)) }
     {
         match self.lines.advance(reader) {
             Ok(Found::End) => Ok(None),
@@ -195,7 +138,7 @@ impl Explaining {
                 let line = self.lines.line();
                 let bad = explain_line(
                     &mut self.room,
-                    &mut self.seen,
+                    &mut self.progress,
                     settings,
                     pdos,
                     number,
@@ -209,7 +152,7 @@ impl Explaining {
                 let line = self.lines.line();
                 explain_line(
                     &mut self.room,
-                    &mut self.seen,
+                    &mut self.progress,
                     settings,
                     pdos,
                     number,
@@ -221,5 +164,20 @@ impl Explaining {
             }
             Err(fault) => Err(read_fault(fault)),
         }
+    }
+
+    /// Writes the lines of the transfers that are open where the recording ends.
+    pub(crate) fn finish<W: Write>(
+        &mut self,
+        settings: &Settings<'_, '_>,
+        out: &mut W,
+    ) -> Result<(), CmdFault>
+        ensures lines { OnOk result (WritesLines (W.contents out.old) (W.contents out.new)
+            (unfinished_lines settings.now.form (names_view settings.now.names)
+            self.old.progress)) }
+        ensures err { IfErr result
+            (λ fault. (fault ≡ CmdFault.Write) ⊎ (fault ≡ CmdFault.Memory)) }
+    {
+        write_unfinished(&mut self.room, &self.progress, settings, out)
     }
 }

@@ -2,7 +2,7 @@
 
 use co_fixtures::Pieces;
 use conode_decode::Names;
-use conode_explain::{Settings, StampForm, explain};
+use conode_explain::{Layout, Settings, StampForm, explain};
 use std::process::Abort;
 use std::str;
 use std::test::Fail;
@@ -20,7 +20,7 @@ no frame
 
 const RELATIVE: &str = "     0.000000  +0.000000  000  [2] 01 05                    NMT start 5
      0.000412  +0.000412  185  [4] E8 03 10 27              TPDO1 node 5
-     0.000400  -0.000012  581  [8] 80 00 20 00 11 00 09 06  SDO answer node 1 abort 2000:00 06090011 (no such sub-index)  note: the stamp steps back
+     0.000400  -0.000012  581  [8] 80 00 20 00 11 00 09 06  SDO answer node 1 abort 2000:00 06090011 (no such sub-index) (begun before the recording)  note: the stamp steps back
      0.750000  +0.749600  can1  00000185  [8] 01 02 03 04 05 06 07 08  frame with an identifier of 29 bits
     12.750000  +12.000000  can0  20000004  [8] 00 00 00 00 00 00 00 00  error frame
     12.750001  +0.000001  can0  705  [0]                          remote frame
@@ -35,7 +35,10 @@ fn each_cut_gives_the_same(rt: HostRuntime) -> Result<(), Fail> {
         let mut out = Vec::new(rt.alloc());
         let mut err = Vec::new(rt.alloc());
         let settings = Settings {
-            form: StampForm::Relative,
+            form: Layout {
+                stamps: StampForm::Relative,
+                transfers: false,
+            },
             names: Names {
                 sheet: None,
                 only: None,
@@ -50,6 +53,32 @@ fn each_cut_gives_the_same(rt: HostRuntime) -> Result<(), Fail> {
             "line 6: it doesn't begin with a stamp, as (1700000000.250000): seconds, and microseconds in six digits\nline 10: the data are no pairs of hexadecimal digits\n"
         );
     }
+    Ok(())
+}
+
+/// With `transfers` only the ends of SDO transfers have lines, at the end also those that are open.
+#[test]
+fn transfers_alone(rt: HostRuntime) -> Result<(), Fail> {
+    let mut out = Vec::new(rt.alloc());
+    let mut err = Vec::new(rt.alloc());
+    let settings = Settings {
+        form: Layout {
+            stamps: StampForm::Relative,
+            transfers: true,
+        },
+        names: Names {
+            sheet: None,
+            only: None,
+        },
+    };
+    let mut reader: &[u8] =
+        b"(1.000000) c 605#4000210000000000\n(1.002500) c 585#4F002100AA000000\n(1.003000) c 605#4001210000000000\n";
+    let outcome = explain(rt.alloc(), &mut reader, &settings, &mut out, &mut err);
+    assert_eq!(rt; outcome, Ok(0));
+    assert_eq!(rt;
+        str::from_utf8(out.as_slice())?,
+        "     0.002500  node 5  SDO upload 2100:00 1 byte in 2 frames, 0.002 s: done\n     0.003000  node 5  SDO upload 2101:00 0 bytes in 1 frame, 0.000 s: unfinished where the recording ends, 0.000 s after its last frame\n"
+    );
     Ok(())
 }
 
@@ -77,7 +106,10 @@ fn forms_of_stamps(rt: HostRuntime) -> Result<(), Fail> {
         let mut out = Vec::new(rt.alloc());
         let mut err = Vec::new(rt.alloc());
         let settings = Settings {
-            form,
+            form: Layout {
+                stamps: form,
+                transfers: false,
+            },
             names: Names {
                 sheet: None,
                 only: None,

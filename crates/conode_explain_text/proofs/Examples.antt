@@ -11,7 +11,7 @@ use Rattle.conode_explain_text.specs.declared.so_far.Times.{Times}
 use Rattle.conode_explain_text.specs.declared.stamps.StampForm.TheVariants.{Relative, Absolute, Delta, Date as AsDate}
 use Rattle.conode_explain_text.specs.Columns.{bytes_text, content_text, escaped_name, id_text}
 use Rattle.conode_explain_text.specs.Dates.{date_in_year, date_of, day_of_year, year_of_cycle}
-use Rattle.conode_explain_text.specs.Lines.{line_parts, line_text}
+use Rattle.conode_explain_text.specs.Lines.{line_parts, line_text, own_parts}
 use Rattle.conode_explain_text.specs.Said.{shown}
 use Rattle.conode_explain_text.specs.SoFar.{SoFar, nothing_seen, seen_with, shows_interface, times_at}
 use Rattle.conode_explain_text.specs.Stamps.{date_text, difference_text, gap_text, moment_text, stamp_text, time_of_day_text, time_text}
@@ -207,3 +207,13 @@ line_back = refl
 line_at_once : line_of started (sync 5 (codes "can0")) ≡ codes "     0.000000  +0.000000  080  [0]                          SYNC\n"
 unfolding line_of started sync line_text line_parts stamp_text gap_text difference_text time_text bytes_text digits_text digits
 line_at_once = refl
+
+-- ---- lines of their own
+
+own_line : line_text (own_parts Relative (times 5 5 6) false (codes "can0") (codes "node 5  SDO")) ≡ codes "     0.000001  node 5  SDO\n"
+unfolding times line_text own_parts stamp_text difference_text time_text digits_text digits
+own_line = refl
+
+own_line_of_other : line_text (own_parts Relative (times 5 5 6) true (codes "can1") (codes "node 5  SDO")) ≡ codes "     0.000001  can1  node 5  SDO\n"
+unfolding times line_text own_parts stamp_text difference_text time_text digits_text digits
+own_line_of_other = refl

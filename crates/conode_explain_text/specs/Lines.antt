@@ -38,6 +38,10 @@ line_parts form so_far frame words =
     ∷ (interface_parts (shows_interface so_far frame.interface) frame.interface
     ++ identifier frame.id ∷ content frame.content ∷ said words ∷ notes times)
 
+-- the parts of a line of its own, which is no frame's
+unfoldable pub own_parts : StampForm → Times → Bool → List ℕ → List ℕ → List Part
+own_parts form times shows name words = stamp form times ∷ (interface_parts shows name ++ said words ∷ [])
+
 -- ---- their text
 
 abbrev pub part_text : Part → List ℕ
@@ -62,3 +66,7 @@ unfoldable pub front_text : StampForm → Times → Bool → Record → List ℕ
 front_text form times shows frame =
     part_text (stamp form times) ++ after_blanks (gap times) ++ flat_map after_blanks (interface_parts shows frame.interface)
     ++ after_blanks (identifier frame.id) ++ after_blanks (content frame.content)
+
+-- of a line of its own
+unfoldable pub own_front : StampForm → Times → Bool → List ℕ → List ℕ
+own_front form times shows name = part_text (stamp form times) ++ flat_map after_blanks (interface_parts shows name)

@@ -4,10 +4,12 @@
 mod columns;
 mod dates;
 mod line;
+mod own_line;
 mod said;
 mod so_far;
 mod stamps;
 
 pub use line::set_line;
+pub use own_line::set_own_line;
 pub use so_far::{Seen, Times};
 pub use stamps::{StampForm, push_day, push_time_of_day};

@@ -35,7 +35,7 @@ fn push_times(text: &mut String, form: StampForm, times: Times) -> Result<(), Al
     push_gap(text, times)
 }
 
-fn push_interface(text: &mut String, shows: bool, name: &[u8]) -> Result<(), AllocError>
+pub(crate) fn push_interface(text: &mut String, shows: bool, name: &[u8]) -> Result<(), AllocError>
     ensures { OnOk result (string_bytes text.new
         ≡ string_bytes text.old ++ flat_map after_blanks (interface_parts shows name.now)) }
 {
@@ -58,7 +58,7 @@ fn push_frame(text: &mut String, id: Identifier, has: &Content) -> Result<(), Al
     push_content(text, has)
 }
 
-fn add_said(line: &mut Vec<u8>, words: &[u8]) -> Result<(), AllocError>
+pub(crate) fn add_said(line: &mut Vec<u8>, words: &[u8]) -> Result<(), AllocError>
     ensures { OnOk result (line.new.items ≡ line.old.items ++ after_blanks (said words.now)) }
 {
     line.extend_from_slice(b"  ")?;

@@ -76,6 +76,13 @@ impl Seen {
         }
     }
 
+    /// The stamp of the last frame, in microseconds; 0 where none came.
+    pub fn last(&self) -> u64
+        ensures { result ≡ self.now.last }
+    {
+        self.last
+    }
+
     /// Whether the line of a frame of this interface names it: there are several.
     pub fn shows_interface(&self, name: &[u8]) -> bool
         ensures { result ≡ shows_interface self.now name.now }

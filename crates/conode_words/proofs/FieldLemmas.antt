@@ -140,7 +140,7 @@ unfolding asked_explain stamps_for
 explain_fields rows a e =
     option_and_then_some _ (first_of (codes "TRACE") rows) a e (λ trace e0 f0.
     mapped _ (stamps_for rows) a f0 (λ stamps e1 is.
-    subst (AsksFor (codes "explain") rows) is (refl, e0, refl, chosen stamps_of (first_of (codes "stamps") rows) stamps e1)))
+    subst (AsksFor (codes "explain") rows) is (refl, e0, refl, chosen stamps_of (first_of (codes "stamps") rows) stamps e1, refl)))
 
 at_name : (name known : Text) (rows : List Row) (a : Asked) → bytes_eq name known ≡ true → AsksFor known rows a → AsksFor name rows a
 at_name name known rows a same h = subst (λ (n : Text). AsksFor n rows a) (sym (named name known same)) h
@@ -274,9 +274,9 @@ adapt_is rows a (name_is, sheet, z, force) =
 
 explain_is : (rows : List Row) (a : AskedExplain) → AsksFor (codes "explain") rows (explain a) → asked_explain rows ≡ Some (explain a)
 unfolding asked_explain stamps_for
-explain_is rows a (name_is, trace, sheet, s) =
+explain_is rows a (name_is, trace, sheet, s, transfers) =
     let stamps = choice_is stamps_of (first_of (codes "stamps") rows) a.stamps s in
-    rw (trace, stamps, ← sheet) refl
+    rw (trace, stamps, ← sheet, ← transfers) refl
 
 pub only_asked : (name : Text) (rows : List Row) (a : Asked) → AsksFor name rows a → asked_in name rows ≡ Some a
 only_asked name rows (check a) h = ap (λ (n : Text). asked_in n rows) h.0 ∙ named_check rows ∙ check_is rows a (subst (λ (n : Text). AsksFor n rows (check a)) h.0 h)

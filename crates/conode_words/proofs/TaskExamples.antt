@@ -211,12 +211,12 @@ adapt_without_sheet : fault_after adapt_command (codes "adapt") [] ≡ kind.Miss
 unfolding words_on_literals
 adapt_without_sheet = refl
 
-explain_of_a_trace : asked_after explain_command (codes "explain") (codes "t" ∷ []) ≡ Some (explain (record { trace = codes "t"; sheet = None; stamps = Relative }))
+explain_of_a_trace : asked_after explain_command (codes "explain") (codes "t" ∷ []) ≡ Some (explain (record { trace = codes "t"; sheet = None; stamps = Relative; transfers = false }))
 unfolding words_on_literals
 explain_of_a_trace = refl
 
-explain_with_options : asked_after explain_command (codes "explain") (codes "-t" ∷ codes "A" ∷ codes "-" ∷ codes "--sheet" ∷ codes "5=s" ∷ [])
-    ≡ Some (explain (record { trace = codes "-"; sheet = Some (codes "5=s"); stamps = Date }))
+explain_with_options : asked_after explain_command (codes "explain") (codes "-t" ∷ codes "A" ∷ codes "-" ∷ codes "--transfers" ∷ codes "--sheet" ∷ codes "5=s" ∷ [])
+    ≡ Some (explain (record { trace = codes "-"; sheet = Some (codes "5=s"); stamps = Date; transfers = true }))
 unfolding words_on_literals
 explain_with_options = refl
 

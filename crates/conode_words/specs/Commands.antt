@@ -112,14 +112,14 @@ adapt_command =
     with_rule (with_rule (with_rule (new_app (codes "adapt")) (wanted (codes "SHEET")))
     (valued (codes "leading-zeros"))) (flag (codes "force"))
 
--- `explain TRACE [--sheet SHEET] [--stamps FORM|-t FORM]`
+-- `explain TRACE [--sheet SHEET] [--stamps FORM|-t FORM] [--transfers]`
 abbrev pub stamps_option : Rule
 stamps_option = record (worded (codes "stamps") (codes "relative")) { short = Some 116 }
 
 unfoldable pub explain_command : App
 explain_command =
-    with_rule (with_rule (with_rule (new_app (codes "explain")) (wanted (codes "TRACE")))
-    (valued (codes "sheet"))) stamps_option
+    with_rule (with_rule (with_rule (with_rule (new_app (codes "explain")) (wanted (codes "TRACE")))
+    (valued (codes "sheet"))) stamps_option) (flag (codes "transfers"))
 
 -- a command with `--version`
 abbrev pub versioned : App → App

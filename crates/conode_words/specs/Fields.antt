@@ -66,3 +66,4 @@ AsksFor name rows (adapt a) =
 AsksFor name rows (explain a) =
     (name ≡ codes "explain") × IsWord (codes "TRACE") rows a.trace
     × (a.sheet ≡ first_of (codes "sheet") rows) × IsChoice stamps_of (codes "stamps") rows a.stamps
+    × (a.transfers ≡ is_used (codes "transfers") rows)

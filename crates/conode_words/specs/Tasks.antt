@@ -78,6 +78,7 @@ pub record AskedExplain : Type 0 where
   pub trace : Text
   pub sheet : Option Text
   pub stamps : Stamps
+  pub transfers : Bool
 
 -- what the words ask for
 pub data Asked : Type 0 where
@@ -112,8 +113,8 @@ asked_by (LoopBack sheet key bytes mode device) =
 asked_by (Show sheet node form) = show (record { sheet = sheet.now; node = node; shown_as = form })
 asked_by (Adapt sheet zeros force) =
     adapt (record { sheet = sheet.now; leading_zeros = zeros; force = force })
-asked_by (Explain trace sheet stamps) =
-    explain (record { trace = trace.now; sheet = option_copied sheet; stamps = stamps })
+asked_by (Explain trace sheet stamps transfers) =
+    explain (record { trace = trace.now; sheet = option_copied sheet; stamps = stamps; transfers = transfers })
 
 -- the number that a word is, of so many bits: decimal digits, perhaps after a plus
 unfoldable pub number_of_bits : ℕ → Text → Option ℕ
@@ -279,7 +280,12 @@ stamps_for rows = option_and_then stamps_of (first_of (codes "stamps") rows)
 unfoldable pub asked_explain : List Row → Option Asked
 asked_explain rows =
     option_and_then (λ trace. option_map (λ stamps.
-    explain (record { trace = trace; sheet = first_of (codes "sheet") rows; stamps = stamps }))
+    explain (record {
+      trace = trace;
+      sheet = first_of (codes "sheet") rows;
+      stamps = stamps;
+      transfers = is_used (codes "transfers") rows;
+    }))
     (stamps_for rows)) (first_of (codes "TRACE") rows)
 
 -- what the matches of a subcommand other than `lint` ask for

@@ -398,6 +398,7 @@ fn asked_explain<'a>(found: &ArgMatches<'a>) -> Option<Task<'a>>
         trace,
         sheet: word_for(found, "sheet"),
         stamps,
+        transfers: is_used(found, "transfers"),
     })
 }
 

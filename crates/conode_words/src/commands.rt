@@ -267,8 +267,13 @@ fn explain_command<'a>(alloc: Global) -> Result<Command<'a>, AllocError>
         "A data sheet with names of entries; 5=SHEET: of node 5",
     );
     let command = with_arg(command, sheet)?;
-    let stamps = stamps_arg(alloc);
-    with_arg(command, stamps)
+    let command = with_arg(command, stamps_arg(alloc))?;
+    let transfers = flag(
+        alloc,
+        "transfers",
+        "Only a line for each SDO transfer that ended",
+    );
+    with_arg(command, transfers)
 }
 
 // the command without the commands below it

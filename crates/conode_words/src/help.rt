@@ -230,14 +230,19 @@ abort in words:
      0.000400  +0.000012  581  [8] 80 00 20 00 11 00 09 06  SDO answer node 1
      abort 2000:00 06090011 (no such sub-index)        (this is one line)
 
+After the last frame of an SDO transfer a line says how it went:
+
+     0.012780  node 5  SDO upload 1008:00 9 bytes in 6 frames, 0.009 s: done
+
+With --transfers there are these lines alone.
+
 With --sheet entries have their names, and their values in expedited SDO
-transfers and in PDOs, which are taken apart by the sheet's mapping; whole
-transfers are not explained yet. `--sheet 5=sensor.eds` is for node-ID 5 alone.
-Empty lines, comments (`;`) and event lines (`!`) print nothing. A bad line is
-named on standard error, with its number and what is wrong, and the rest goes
-on. `-` as TRACE is standard input; each line is out before the next read that
-could wait. The stamps' forms have the letters z, a, d and A too, those of
-candump.
+transfers and in PDOs, which are taken apart by the sheet's mapping.
+`--sheet 5=sensor.eds` is for node-ID 5 alone. Empty lines, comments (`;`) and
+event lines (`!`) print nothing. A bad line is named on standard error, with its
+number and what is wrong, and the rest goes on. `-` as TRACE is standard input;
+each line is out before the next read that could wait. The stamps' forms have
+the letters z, a, d and A too, those of candump.
 
   candump -L can0 | conode explain - --sheet 5=sensor.eds
 

@@ -160,5 +160,7 @@ pub enum Task<'a> {
         sheet: Option<&'a str>,
         /// In which form stamps are written.
         stamps: Stamps,
+        /// Whether only the SDO transfers that ended have lines.
+        transfers: bool,
     },
 }

@@ -1,0 +1,54 @@
+-- What is said of SDO transfers: of their frames, and of those that ended.
+use Rattle.std.specs.Prelude.{ℕ, Bool, List, [], ◌++◌, codes, decimal, Option, Some, None, option_and_then, unwrap_or}
+use Rattle.co_value.specs.declared.key.Key.{Key}
+use Rattle.conode_decode.specs.Names.{Names, entry_of, shown_name}
+use Rattle.conode_record.specs.declared.line.Record.{Record}
+use Rattle.conode_explain_channels.specs.declared.told.Part.{Part}
+use Rattle.conode_explain_channels.specs.declared.told.Told.{Told}
+use Rattle.conode_explain_transfers.specs.declared.ended.Ended.{Ended}
+use Rattle.conode_explain_transfers.specs.declared.ended.Ending.{Ending}
+use Rattle.conode_explain_transfers.specs.declared.ended.Ending.TheVariants.{Aborted}
+use Rattle.conode_explain_transfers.specs.declared.kinds.Side.{Side}
+use Rattle.conode_explain_transfer_text.specs.Ends.{end_text}
+use Rattle.conode_explain_transfer_text.specs.Frames.{after_text, segment_number, segment_text}
+use Rattle.conode_explain.specs.AbortWords.{words_of}
+use Rattle.conode_explain.specs.FrameWords.{words_of_content}
+
+-- what a node's entry is called; nothing where it has no name
+unfoldable pub name_bytes : Names → ℕ → Key → List ℕ
+name_bytes names node key = unwrap_or (option_and_then shown_name (entry_of names node key)) []
+
+-- ---- frames
+
+abbrev pub name_in : Names → ℕ → Option Key → List ℕ
+name_in names node None = []
+name_in names node (Some key) = name_bytes names node key
+
+-- a segment of a sub-block has its number, every other frame its own text
+abbrev pub part_front : Names → Record → ℕ → Side → Option ℕ → List ℕ
+part_front names frame node side None = words_of_content names frame.id frame.content
+part_front names frame node side (Some number) = segment_text side node number
+
+unfoldable pub part_words : Names → Record → ℕ → Part → List ℕ
+part_words names frame node part =
+    part_front names frame node part.side (segment_number part.what) ++ after_text part.what part.of (name_in names node part.of)
+
+abbrev pub words_in : Names → Record → ℕ → Option Part → List ℕ
+words_in names frame node None = words_of_content names frame.id frame.content
+words_in names frame node (Some part) = part_words names frame node part
+
+-- what a frame says, with what is told of it
+abbrev pub told_words : Names → Record → Option Told → List ℕ
+told_words names frame None = words_of_content names frame.id frame.content
+told_words names frame (Some told) = words_in names frame told.node told.part
+
+-- ---- transfers that ended
+
+-- what the code of an abort means
+abbrev pub ending_words : Ending → List ℕ
+ending_words (Aborted by code) = words_of code.0
+ending_words _ = []
+
+unfoldable pub ended_words : Names → ℕ → Ended → List ℕ
+ended_words names node e =
+    codes "node " ++ decimal node ++ codes "  " ++ end_text e (name_bytes names node e.key) (ending_words e.ending)

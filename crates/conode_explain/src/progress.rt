@@ -1,0 +1,61 @@
+//! How far a recording is, and how it is explained.
+
+ghost use Rattle.std.specs.Prelude.{◌≡◌, IfOk, OnOk};
+ghost use Rattle.conode_record.specs.Grammar.{IsIdentifier};
+ghost use Rattle.conode_explain.specs.Explained.{nothing_known, telling_of};
+
+use co_frame::Frame;
+use conode_explain_channels::{Channels, Told};
+use conode_explain_text::{Seen, StampForm};
+use conode_record::{Content, Identifier, Record};
+use std::alloc::{AllocError, Global};
+
+/// In which form a recording is explained.
+#[derive(Clone, Copy, Debug, PartialEq, Eq)]
+pub struct Layout {
+    /// In which form stamps are written.
+    pub stamps: StampForm,
+    /// Whether only the SDO transfers that ended have lines.
+    pub transfers: bool,
+}
+
+/// What a recording showed so far: its stamps and interfaces, and the SDO channels.
+#[derive(Drop)]
+pub(crate) struct Progress {
+    pub(crate) seen: Seen,
+    pub(crate) channels: Channels,
+}
+
+impl Progress {
+    /// Nothing came.
+    pub(crate) fn new(alloc: Global) -> Progress
+        ensures { result ≡ nothing_known }
+    {
+        Progress {
+            seen: Seen::new(),
+            channels: Channels::new(alloc),
+        }
+    }
+
+    /// Takes a frame into its channel, if it is one of data with an identifier of 11 bits: what is told of it. On an `Err`
+    /// memory ran out.
+    #[tactic(auto, unfolding(crate::specs::Explained::telling_of))]
+    pub(crate) fn tell(&mut self, frame: &Record<'_>) -> Result<Option<Told>, AllocError>
+        requires { IsIdentifier frame.now.id }
+        ensures told { IfOk result
+            (λ told. told ≡ (telling_of self.old.channels frame.now).told) }
+        ensures channels { OnOk result
+            (self.new.channels ≡ (telling_of self.old.channels frame.now).tracks) }
+        ensures seen { self.new.seen ≡ self.old.seen }
+    {
+        let Identifier::Base(id) = frame.id else {
+            return Ok(None);
+        };
+        let Content::Data(bytes) = &frame.content else {
+            return Ok(None);
+        };
+        let name = frame.interface.bytes();
+        self.channels
+            .take(name, frame.micros, &Frame::packed(id, bytes))
+    }
+}

@@ -1,0 +1,145 @@
+//! What is said of SDO transfers: of their frames, and of those that ended.
+
+ghost use Rattle.std.specs.Prelude.{◌≡◌, ◌++◌, OnOk, string_bytes};
+ghost use Rattle.conode_decode.specs.Names.{names_view};
+ghost use Rattle.conode_explain_pdo.specs.Sheets.{sheet_pdos};
+ghost use Rattle.conode_record.specs.Grammar.{IsIdentifier};
+ghost use Rattle.conode_explain.specs.ToldWords.{
+  ended_words,
+  ending_words,
+  name_bytes,
+  part_front,
+  part_words,
+  name_in,
+  told_words,
+};
+
+use crate::abort_words::words_of;
+use crate::frame_words::set_words;
+use co_text::push_decimal;
+use co_value::Key;
+use conode_decode::{Names, shown_name};
+use conode_explain_channels::{Part, Told};
+use conode_explain_pdo::SheetPdo;
+use conode_explain_transfer_text::{push_after, push_end, push_segment, segment_number};
+use conode_explain_transfers::{Ended, Ending, Side};
+use conode_record::Record;
+use std::alloc::AllocError;
+
+// what a node's entry is called; nothing where it has no name
+#[tactic(auto, unfolding(crate::specs::ToldWords::name_bytes))]
+fn name_of<'s>(names: Names<'s, '_>, node: u8, key: Key) -> &'s str
+    ensures { result.now ≡ name_bytes (names_view names.entry) node key }
+{
+    match names.entry(node, key) {
+        Some(row) => match shown_name(row) {
+            Some(name) => name,
+            None => "",
+        },
+        None => "",
+    }
+}
+
+fn name_in<'s>(names: Names<'s, '_>, node: u8, of: Option<Key>) -> &'s str
+    ensures { result.now ≡ name_in (names_view names.entry) node of }
+{
+    match of {
+        Some(key) => name_of(names, node, key),
+        None => "",
+    }
+}
+
+fn set_part_front(
+    said: &mut String,
+    names: Names<'_, '_>,
+    pdos: &[SheetPdo],
+    frame: &Record<'_>,
+    node: u8,
+    side: Side,
+    number: Option<u8>,
+) -> Result<(), AllocError>
+    requires id { IsIdentifier frame.now.id }
+    requires pdos { pdos.now ≡ sheet_pdos (names_view names) }
+    ensures { OnOk result (string_bytes said.new
+        ≡ part_front (names_view names.entry) frame.now node side number) }
+{
+    let Some(number) = number else {
+        return set_words(said, names, pdos, frame.id, &frame.content);
+    };
+    said.clear();
+    push_segment(said, side, node, number)
+}
+
+#[tactic(auto, unfolding(crate::specs::ToldWords::part_words))]
+fn set_part_words(
+    said: &mut String,
+    names: Names<'_, '_>,
+    pdos: &[SheetPdo],
+    frame: &Record<'_>,
+    node: u8,
+    part: Part,
+) -> Result<(), AllocError>
+    requires id { IsIdentifier frame.now.id }
+    requires pdos { pdos.now ≡ sheet_pdos (names_view names) }
+    ensures { OnOk result (string_bytes said.new
+        ≡ part_words (names_view names.entry) frame.now node part) }
+{
+    let number = segment_number(part.what);
+    set_part_front(said, names, pdos, frame, node, part.side, number)?;
+    push_after(said, part.what, part.of, name_in(names, node, part.of))
+}
+
+/// Makes `said` what a frame says, with what is told of it. On an `Err` memory ran out, and it is any part of it.
+pub(crate) fn set_told_words(
+    said: &mut String,
+    names: Names<'_, '_>,
+    pdos: &[SheetPdo],
+    frame: &Record<'_>,
+    told: &Option<Told>,
+) -> Result<(), AllocError>
+    requires id { IsIdentifier frame.now.id }
+    requires pdos { pdos.now ≡ sheet_pdos (names_view names) }
+    ensures { OnOk result (string_bytes said.new
+        ≡ told_words (names_view names.entry) frame.now told.now) }
+{
+    let Some(told) = told else {
+        return set_words(said, names, pdos, frame.id, &frame.content);
+    };
+    let Some(part) = told.part else {
+        return set_words(said, names, pdos, frame.id, &frame.content);
+    };
+    set_part_words(said, names, pdos, frame, told.node, part)
+}
+
+// what the code of an abort means
+fn ending_words(ending: Ending) -> &'static str
+    ensures { result.now ≡ ending_words ending }
+{
+    match ending {
+        Ending::Aborted { by: _, code } => words_of(code.0),
+        _ => "",
+    }
+}
+
+/// Makes `said` what is said of a transfer of a node that ended. On an `Err` memory ran out, and it is any part of it.
+#[tactic(auto, unfolding(crate::specs::ToldWords::ended_words))]
+pub(crate) fn set_ended_words(
+    said: &mut String,
+    names: Names<'_, '_>,
+    node: u8,
+    ended: &Ended,
+) -> Result<(), AllocError>
+    ensures { OnOk result (string_bytes said.new
+        ≡ ended_words (names_view names.entry) node ended.now) }
+{
+    said.clear();
+    said.push_str("node ")?;
+    push_decimal(said, u64::from(node))?;
+    said.push_str("  ")?;
+    push_end(
+        said,
+        ended,
+        name_of(names, node, ended.key),
+        ending_words(ended.ending),
+    )
+}

@@ -1,0 +1,23 @@
+//! What is told of a frame.
+
+use co_value::Key;
+use conode_explain_transfers::{Ended, Side, What};
+
+/// What a frame is in the transfers of its channel.
+#[derive(Clone, Copy, Debug, PartialEq, Eq)]
+pub struct Part {
+    /// The end that sent it.
+    pub side: Side,
+    pub what: What,
+    /// The entry of the open transfer, where the frame goes on with it and has no key of its own.
+    pub of: Option<Key>,
+}
+
+/// What is told of a frame: of which node it is, what it is in the transfers of the node's channel, and the transfer that
+/// ended with it.
+#[derive(Drop)]
+pub struct Told {
+    pub node: u8,
+    pub part: Option<Part>,
+    pub ended: Option<Ended>,
+}

@@ -1,0 +1,69 @@
+//! A line of its own, between those of frames.
+
+ghost use Rattle.std.specs.Prelude.{◌≡◌, ◌++◌, ◌∷◌, [], OnOk, string_bytes};
+ghost use Rattle.conode_explain_text.specs.Lines.{
+  said,
+  after_blanks,
+  own_front,
+  own_parts,
+  line_text,
+};
+
+use crate::line::{add_said, push_interface};
+use crate::so_far::Times;
+use crate::stamps::{StampForm, push_stamp};
+use std::alloc::AllocError;
+
+// makes the text what comes before the words
+#[tactic(auto, unfolding(crate::specs::Lines::own_front))]
+fn set_front(
+    text: &mut String,
+    form: StampForm,
+    times: Times,
+    shows: bool,
+    name: &[u8],
+) -> Result<(), AllocError>
+    ensures { OnOk result (string_bytes text.new ≡ own_front form times shows name.now) }
+{
+    text.clear();
+    push_stamp(text, form, times)?;
+    push_interface(text, shows, name)
+}
+
+fn write_line(
+    line: &mut Vec<u8>,
+    text: &mut String,
+    form: StampForm,
+    times: Times,
+    shows: bool,
+    name: &[u8],
+    words: &[u8],
+) -> Result<(), AllocError>
+    ensures { OnOk result (line.new.items
+        ≡ own_front form times shows name.now ++ after_blanks (said words.now) ++ 10 ∷ []) }
+{
+    set_front(text, form, times, shows, name)?;
+    line.clear();
+    line.extend_from_slice(text.as_bytes())?;
+    add_said(line, words)?;
+    line.extend_from_slice(b"\n")
+}
+
+/// Makes `line` a line of its own with these words, as `    12.345678  node 5  SDO upload ..`: the stamp of a frame, its
+/// interface, where it `shows`, the words, and a line feed. `text` is room for the work. On an `Err` memory ran out, and
+/// the line is any part of it.
+#[tactic(auto, using(crate::proofs::LineLemmas::own_written))]
+pub fn set_own_line(
+    line: &mut Vec<u8>,
+    text: &mut String,
+    form: StampForm,
+    times: Times,
+    shows: bool,
+    name: &[u8],
+    words: &[u8],
+) -> Result<(), AllocError>
+    ensures { OnOk result
+        (line.new.items ≡ line_text (own_parts form times shows name.now words.now)) }
+{
+    write_line(line, text, form, times, shows, name, words)
+}

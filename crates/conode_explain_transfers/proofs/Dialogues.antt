@@ -1,0 +1,64 @@
+-- How worked dialogues are written: frames as hexadecimal digits, the first one first, and what is said of them.
+use Rattle.std.proofs.Common.{ℕ, List, [], ◌∷◌}
+use Rattle.std.specs.Prelude.{◌+◌, ◌-◌, ◌*◌, nat_lt, if◌then◌else◌, Option, Some, None}
+use Rattle.conode_explain_transfers.specs.declared.channel.Heard.{Heard}
+use Rattle.conode_explain_transfers.specs.declared.ended.Ended.{Ended}
+use Rattle.conode_explain_transfers.specs.declared.ended.Ending.{Ending}
+use Rattle.conode_explain_transfers.specs.declared.kinds.Protocol.{Protocol}
+use Rattle.conode_explain_transfers.specs.declared.kinds.Side.{Side}
+use Rattle.conode_explain_transfers.specs.declared.kinds.Side.TheVariants.{Client, Server}
+use Rattle.conode_explain_transfers.specs.declared.kinds.What.{What}
+use Rattle.conode_explain_transfers.specs.Followed.{Following, nothing_heard, followed}
+
+-- the digits of a frame
+abbrev pub digit : ℕ → ℕ
+digit code = if nat_lt code 65 then code - 48 else code - 55
+
+abbrev pub hex : List ℕ → List ℕ
+hex [] = []
+hex (high ∷ []) = []
+hex (high ∷ low ∷ digits) = (16 * digit high + digit low) ∷ hex digits
+
+-- a frame of an end
+pub record Sent : Type 0 where
+  pub side : Side
+  pub bytes : List ℕ
+
+-- of the client, and of the server
+abbrev pub c : List ℕ → Sent
+c digits = record { side = Client; bytes = hex digits }
+
+abbrev pub s : List ℕ → Sent
+s digits = record { side = Server; bytes = hex digits }
+
+-- a transfer that ended: the protocol, the bytes that came, how many frames there were, and how it ended
+pub record End : Type 0 where
+  pub protocol : Protocol
+  pub bytes : ℕ
+  pub first : List ℕ
+  pub frames : ℕ
+  pub ending : Ending
+
+abbrev pub end_of : Ended → End
+end_of e = record { protocol = e.protocol; bytes = e.bytes; first = e.first.items; frames = e.frames; ending = e.ending }
+
+abbrev pub ends_with : Option Ended → List End → List End
+ends_with None ends = ends
+ends_with (Some e) ends = end_of e ∷ ends
+
+-- what is said of frames
+pub record Told : Type 0 where
+  pub whats : List What
+  pub ends : List End
+
+abbrev pub told_with : Heard → Told → Told
+told_with heard told = record { whats = heard.what ∷ told.whats; ends = ends_with heard.ended told.ends }
+
+abbrev pub told_from : Following → List Sent → Told
+told_from following [] = record { whats = []; ends = [] }
+told_from following (sent ∷ later) =
+    let step = followed following 0 sent.side sent.bytes in
+    told_with step.says (told_from step.next later)
+
+abbrev pub told : List Sent → Told
+told frames = told_from nothing_heard frames

@@ -1,0 +1,7 @@
+mod BlockExamples
+pub mod Confirmations
+pub mod DataLemmas
+pub mod Dialogues
+pub mod DoneLemmas
+pub mod Kept
+mod SegmentedExamples

@@ -1,0 +1,12 @@
+pub mod BlockTurns
+pub mod Crc
+pub mod Data
+pub mod Digests
+pub mod Endings
+pub mod Followed
+pub mod Initiates
+pub mod Readings
+pub mod SegmentedTurns
+pub mod Stages
+pub mod Transfers
+pub mod Turns

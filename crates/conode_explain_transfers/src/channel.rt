@@ -1,0 +1,288 @@
+//! A channel that is followed through a recording.
+
+ghost use Rattle.std.specs.Prelude.{◌≡◌, ◌+◌, [], ◌∷◌, List, IsSome, IfSome};
+ghost use Rattle.conode_explain_transfers.specs.declared.ended.Ending.TheVariants.{Interrupted, Unfinished};
+ghost use Rattle.conode_explain_transfers.specs.Followed.{
+  nothing_heard,
+  closed,
+  left_ending,
+  one_more,
+  begins,
+  stray,
+  passes,
+  aborts,
+  with_frame,
+  key_for,
+  turns,
+  followed_by,
+  followed,
+  after_boot,
+  following_after,
+  said,
+  Event,
+  Framed,
+  BootedUp,
+};
+ghost use Rattle.conode_explain_transfers.specs.Readings.{IsReading};
+ghost use Rattle.conode_explain_transfers.specs.Transfers.{after};
+ghost use Rattle.conode_explain_transfers.specs.Turns.{turn_of};
+
+use crate::ended::{Ended, Ending};
+use crate::initiate::Initiate;
+use crate::kinds::{Side, What};
+use crate::reading::{Reading, reading_of};
+use crate::transfer::Transfer;
+use co_frame::Frame;
+use co_value::Key;
+use std::marker::Model;
+
+/// What a frame is, and the transfer that ended with it.
+#[derive(Drop)]
+pub struct Heard {
+    pub what: What,
+    /// The entry of the open transfer, where the frame goes on with it and has no key of its own.
+    pub of: Option<Key>,
+    pub ended: Option<Ended>,
+}
+
+/// The SDO transfers of one channel, followed frame by frame in constant memory. Any frames may come, in any order.
+#[derive(Drop)]
+pub struct Channel {
+    heard: bool,
+    transfer: Option<Transfer>,
+}
+
+impl Model for Channel {
+    ghost use Rattle.conode_explain_transfers.specs.Followed.{Following};
+
+    ghost Value = { Following };
+
+    ghost view = { λ channel. record { heard = channel.heard; transfer = channel.transfer } };
+}
+
+impl Transfer {
+    // How it ends where the client begins another one with this request.
+    fn left_ending(&self, frame: &Frame) -> Ending
+        ensures { result ≡ left_ending self.now frame.now.bytes }
+    {
+        if self.is_same_request(frame) {
+            return Ending::Repeated;
+        }
+        match self.by {
+            Side::Client => Ending::Unanswered,
+            Side::Server => Ending::Interrupted,
+        }
+    }
+
+    // A frame that is neither an initiate request nor an abort.
+    fn take_reading(&mut self, reading: &Reading, frame: &Frame) -> What
+        requires { IsReading reading.now }
+        ensures transfer { self.new ≡ after self.old (turn_of self.old reading.now frame.now.bytes) }
+        ensures what { result ≡ (turn_of self.old reading.now frame.now.bytes).what }
+    {
+        match reading {
+            Reading::Segment(segment) => self.take_block_segment(segment),
+            Reading::Request(request) => self.take_request(request, frame),
+            Reading::Response(response) => self.take_response(response, frame),
+            _ => self.unexpected(),
+        }
+    }
+
+    // One frame more.
+    fn count_frame(&mut self)
+        ensures { self.new ≡ one_more self.old }
+    {
+        self.frames = self.frames.saturating_add(1);
+    }
+
+    // Takes note of a frame with which it goes on; one of another transfer doesn't count.
+    fn note_frame(&mut self, what: What, micros: u64, side: Side)
+        ensures { self.new ≡ with_frame what self.old micros side }
+    {
+        match what {
+            What::Overtaken => {}
+            _ => {
+                self.count_frame();
+                self.newest = micros;
+                self.by = side;
+            }
+        }
+    }
+}
+
+impl Channel {
+    /// Before the first frame of the recording.
+    pub fn new() -> Channel
+        ensures { result ≡ nothing_heard }
+    {
+        Channel {
+            heard: false,
+            transfer: None,
+        }
+    }
+
+    // An initiate request.
+    fn begin(&mut self, initiate: &Initiate, micros: u64, frame: &Frame) -> Heard
+        ensures says { result ≡ (begins self.old.transfer initiate.now micros frame.now.bytes).says }
+        ensures next { self.new ≡ (begins self.old.transfer initiate.now micros frame.now.bytes).next }
+    {
+        let ended = match &self.transfer {
+            Some(transfer) => Some(transfer.ended(micros, transfer.left_ending(frame))),
+            None => None,
+        };
+        self.heard = true;
+        self.transfer = Some(Transfer::begin(initiate, micros, frame));
+        Heard {
+            what: What::Initiate,
+            of: None,
+            ended,
+        }
+    }
+
+    // The open transfer's entry, for a frame without a key of its own.
+    fn key_for(&self, reading: &Reading) -> Option<Key>
+        ensures { result ≡ key_for self.now.transfer reading.now }
+    {
+        match &self.transfer {
+            Some(transfer) if !reading.has_key() => Some(transfer.key),
+            _ => None,
+        }
+    }
+
+    // A frame without an open transfer.
+    fn stray(&self) -> Heard
+        ensures { result ≡ (passes self.now.heard).says }
+    {
+        let what = if self.heard {
+            What::Stray
+        } else {
+            What::BegunBefore
+        };
+        Heard {
+            what,
+            of: None,
+            ended: None,
+        }
+    }
+
+    // The open transfer ends.
+    fn close(&mut self, micros: u64, ending: Ending) -> Option<Ended>
+        ensures ended { result ≡ closed self.old.transfer micros ending }
+        ensures next { self.new ≡ after_boot self.old }
+    {
+        let ended = match &self.transfer {
+            Some(transfer) => Some(transfer.ended(micros, ending)),
+            None => None,
+        };
+        self.transfer = None;
+        ended
+    }
+
+    // A frame that goes on with the open transfer.
+    fn go_on(&mut self, reading: &Reading, micros: u64, side: Side, frame: &Frame) -> Heard
+        requires reading { IsReading reading.now }
+        requires transfer { IsSome self.old.transfer }
+        ensures says { IfSome self.old.transfer (λ before. result
+            ≡ (turns self.old.heard before (turn_of before reading.now frame.now.bytes) micros side).says) }
+        ensures next { IfSome self.old.transfer (λ before. self.new
+            ≡ (turns self.old.heard before (turn_of before reading.now frame.now.bytes) micros side).next) }
+    {
+        let Some(transfer) = &mut self.transfer else {
+            unreachable!();
+        };
+        let what = transfer.take_reading(reading, frame);
+        match transfer.stage.confirmed() {
+            Some(crc) => {
+                let ending = transfer.verdict(crc);
+                transfer.count_frame();
+                let ended = self.close(micros, ending);
+                Heard {
+                    what,
+                    of: None,
+                    ended,
+                }
+            }
+            None => {
+                transfer.note_frame(what, micros, side);
+                Heard {
+                    what,
+                    of: None,
+                    ended: None,
+                }
+            }
+        }
+    }
+
+    // What a frame is read as.
+    fn follow(&mut self, reading: &Reading, micros: u64, side: Side, frame: &Frame) -> Heard
+        requires { IsReading reading.now }
+        ensures says { result ≡ (followed_by self.old.heard self.old.transfer reading.now micros side
+            frame.now.bytes).says }
+        ensures next { self.new ≡ (followed_by self.old.heard self.old.transfer reading.now micros
+            side frame.now.bytes).next }
+    {
+        if let Reading::Begin(initiate) = reading {
+            return self.begin(initiate, micros, frame);
+        }
+        let Some(transfer) = &mut self.transfer else {
+            return self.stray();
+        };
+        match reading {
+            Reading::Abort(code) => {
+                transfer.count_frame();
+                let ending = Ending::Aborted {
+                    by: side,
+                    code: *code,
+                };
+                let ended = self.close(micros, ending);
+                Heard {
+                    what: What::Part,
+                    of: None,
+                    ended,
+                }
+            }
+            _ => self.go_on(reading, micros, side, frame),
+        }
+    }
+
+    /// Takes a frame of the channel, with its stamp in microseconds and the end that sent it. Gives what it is, and the
+    /// transfer that ends with it: that whose last frame it is, or that which was open when it begins another one.
+    pub fn take(&mut self, micros: u64, side: Side, frame: &Frame) -> Heard
+        ensures heard { result ≡ (followed self.old micros side frame.now.bytes).says }
+        ensures next { self.new ≡ (followed self.old micros side frame.now.bytes).next }
+        // So it is after every log of the channel.
+        ensures said { (log : List Event) → self.old ≡ following_after log →
+            result ≡ said log micros side frame.now.bytes }
+        ensures stands { (log : List Event) → self.old ≡ following_after log →
+            self.new ≡ following_after (Framed micros side frame.now.bytes ∷ log) }
+    {
+        let reading = reading_of(&self.transfer, side, frame);
+        let of = self.key_for(&reading);
+        let heard = self.follow(&reading, micros, side, frame);
+        Heard {
+            what: heard.what,
+            of,
+            ended: heard.ended,
+        }
+    }
+
+    /// The server booted up, at this stamp: an open transfer is interrupted.
+    pub fn boot_up(&mut self, micros: u64) -> Option<Ended>
+        ensures ended { result ≡ closed self.old.transfer micros Interrupted }
+        ensures next { self.new ≡ after_boot self.old }
+        ensures stands { (log : List Event) → self.old ≡ following_after log →
+            self.new ≡ following_after (BootedUp micros ∷ log) }
+    {
+        self.close(micros, Ending::Interrupted)
+    }
+
+    /// The transfer that is open where the recording ends, at the stamp of its last frame: it is unfinished.
+    pub fn unfinished(&self, micros: u64) -> Option<Ended>
+        ensures { result ≡ closed self.now.transfer micros Unfinished }
+    {
+        match &self.transfer {
+            Some(transfer) => Some(transfer.ended(micros, Ending::Unfinished)),
+            None => None,
+        }
+    }
+}

@@ -1,0 +1,112 @@
+//! How transfers end.
+
+ghost use Rattle.std.specs.Prelude.{◌≡◌, take};
+ghost use Rattle.conode_explain_transfers.specs.Endings.{verdict, size_fault, ended};
+
+use crate::kinds::{Direction, Protocol, Side};
+use crate::transfer::Transfer;
+use arrayvec::ArrayVec;
+use co_frame::AbortCode;
+use co_value::Key;
+
+/// How a transfer ended.
+#[derive(Clone, Copy, Debug, PartialEq, Eq)]
+pub enum Ending {
+    /// The server confirmed a download, or the client has an upload whole: all frames are there, as many bytes came as
+    /// were indicated, and the CRC is right where both ends support it (`crc`).
+    Done { crc: bool },
+    /// An end aborted it.
+    Aborted { by: Side, code: AbortCode },
+    /// The client began another transfer while it awaited an answer.
+    Unanswered,
+    /// The client sent the same initiate request again while it awaited the response.
+    Repeated,
+    /// The client began another transfer, though it was its turn in this one; or the server booted up.
+    Interrupted,
+    /// The recording ended.
+    Unfinished,
+    /// It was confirmed, but frames are lost in the recording, or stand in it twice.
+    Irregular,
+    /// It was confirmed, but another number of bytes came than was indicated.
+    SizeDiffers { indicated: u32 },
+    /// It was confirmed, but the CRC that came isn't that of the bytes.
+    CrcDiffers { came: u16, computed: u16 },
+}
+
+/// A transfer that ended.
+#[derive(Drop)]
+pub struct Ended {
+    /// The multiplexor: index and sub-index of the entry.
+    pub key: Key,
+    /// Which way the data went.
+    pub direction: Direction,
+    /// By which protocol it went.
+    pub protocol: Protocol,
+    /// How many bytes of data the receiver has.
+    pub bytes: u64,
+    /// The first 64 of them; of an expedited transfer without a size all four.
+    pub first: ArrayVec<u8, 64>,
+    /// How many frames it had, the one that ended it included if it is one of them.
+    pub frames: u64,
+    /// The stamp of its initiate request, in microseconds.
+    pub begun: u64,
+    /// The stamp of its newest frame before the end.
+    pub newest: u64,
+    /// The stamp of the end.
+    pub end: u64,
+    pub ending: Ending,
+}
+
+// whether another number of bytes came than was indicated
+fn size_fault(size: Option<u32>, count: u64) -> Option<u32>
+    ensures { result ≡ size_fault size count }
+{
+    match size {
+        Some(size) if u64::from(size) != count => Some(size),
+        _ => None,
+    }
+}
+
+impl Transfer {
+    /// How a transfer ends that was confirmed, with the CRC to compare.
+    pub(crate) fn verdict(&self, crc: Option<u16>) -> Ending
+        ensures { result ≡ verdict self.now crc }
+    {
+        if self.irregular {
+            return Ending::Irregular;
+        }
+        if let Some(indicated) = size_fault(self.size, self.taken.count) {
+            return Ending::SizeDiffers { indicated };
+        }
+        match crc {
+            Some(came) if came != self.taken.crc => Ending::CrcDiffers {
+                came,
+                computed: self.taken.crc,
+            },
+            Some(_) => Ending::Done { crc: true },
+            None => Ending::Done { crc: false },
+        }
+    }
+
+    /// It ended.
+    pub(crate) fn ended(&self, end: u64, ending: Ending) -> Ended
+        ensures { result ≡ ended self.now end ending }
+    {
+        let mut first = ArrayVec::new();
+        first
+            .try_extend_from_slice(self.taken.first.as_slice())
+            .unwrap();
+        Ended {
+            key: self.key,
+            direction: self.direction,
+            protocol: self.protocol,
+            bytes: self.taken.count,
+            first,
+            frames: self.frames,
+            begun: self.begun,
+            newest: self.newest,
+            end,
+            ending,
+        }
+    }
+}

@@ -1,0 +1,23 @@
+//! Laws of every log of a channel.
+
+ghost use Rattle.std.specs.Prelude.{◌≡◌, ℕ, List, IfSome};
+ghost use Rattle.conode_explain_transfers.specs.declared.kinds.Side.{Side as End};
+ghost use Rattle.conode_explain_transfers.specs.Data.{data_after, IfDone, IsDoneAfter};
+ghost use Rattle.conode_explain_transfers.specs.Digests.{digest_of};
+ghost use Rattle.conode_explain_transfers.specs.Followed.{Event, following_after, said};
+
+/// What is kept of the open transfer is the digest of all the data that its frames took. This is a law: a call of it
+/// changes nothing.
+pub fn kept_data()
+    ensures { (log : List Event) → IfSome (following_after log).transfer
+        (λ transfer. transfer.taken ≡ digest_of (data_after log)) }
+{}
+
+/// There is no false `Done`: the frame is the last confirmation of the transfer's protocol, its frames go on with one
+/// another, as many bytes came as were indicated, and the CRC, where both ends support it, is that of these bytes.
+/// This is a law: a call of it changes nothing.
+pub fn done_is_confirmed()
+    ensures { (log : List Event) (micros : ℕ) (side : End) (frame : List ℕ)
+        → IfSome (said log micros side frame).ended
+        (λ ended. IfDone ended.ending (IsDoneAfter log micros side frame)) }
+{}

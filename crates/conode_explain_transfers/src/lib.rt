@@ -1,0 +1,23 @@
+//! The SDO transfers of one channel in a recording, between any two ends: what each frame is, and how each transfer
+//! ended (CiA 301, 7.2.4.3).
+#![tactic(auto)]
+
+mod block;
+mod channel;
+mod crc;
+mod digest;
+mod ended;
+mod initiate;
+mod kinds;
+mod laws;
+mod reading;
+mod requests;
+mod responses;
+mod segments;
+mod stage;
+mod transfer;
+
+pub use channel::{Channel, Heard};
+pub use ended::{Ended, Ending};
+pub use kinds::{Direction, Protocol, Side, What};
+pub use laws::{done_is_confirmed, kept_data};
