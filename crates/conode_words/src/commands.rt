@@ -267,7 +267,8 @@ fn explain_command<'a>(alloc: Global) -> Result<Command<'a>, AllocError>
         "A data sheet with names of entries; 5=SHEET: of node 5",
     );
     let command = with_arg(command, sheet)?;
-    let command = with_arg(command, stamps_arg(alloc))?;
+    let stamps = stamps_arg(alloc);
+    let command = with_arg(command, stamps)?;
     let transfers = flag(
         alloc,
         "transfers",

@@ -7,4 +7,5 @@ unfolding explain_command
 returns c =
     let one = c.in_ok-command.ensures _ _ c.new_command-command.ensures c.wanted-trace.ensures.rule c.wanted-trace.ensures.local in
     let two = c.in_ok-command-2.ensures _ _ one c.valued-sheet.ensures.rule c.valued-sheet.ensures.local in
-    IfOk-weaker c.with_arg-3.result _ _ (λ r h. h _ _ two c.stamps_arg-stamps.ensures.rule c.stamps_arg-stamps.ensures.local) c.with_arg-3.ensures
+    let three = c.in_ok-command-3.ensures _ _ two c.stamps_arg-stamps.ensures.rule c.stamps_arg-stamps.ensures.local in
+    IfOk-weaker c.with_arg-4.result _ _ (λ r h. h _ _ three c.flag-transfers.ensures.rule c.flag-transfers.ensures.local) c.with_arg-4.ensures
