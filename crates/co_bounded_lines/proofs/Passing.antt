@@ -12,7 +12,7 @@ use Rattle.co_stream.proofs.LineLemmas.{no_feed-append}
 use Rattle.co_stream.proofs.ReadingLemmas.{known-taken, line_ended, last_given, nothing_came, part_lost}
 use Rattle.co_bounded_lines.specs.declared.bounded_lines.Found.{Found}
 use Rattle.co_bounded_lines.specs.declared.bounded_lines.Found.TheVariants.{Line, Last, TooLong, End}
-use Rattle.co_stream.proofs.Readers.{gave_kept, gave_nothing, gave_so, gave_then}
+use Rattle.co_stream.proofs.Readers.{gave_kept, gave_so, gave_then}
 use Rattle.co_bounded_lines.specs.Founds.{is_closed, ClosesAlike, Finds}
 
 -- A part of a line was passed over, which makes it longer than 512 bytes; or nothing was.
@@ -208,9 +208,6 @@ fails old passing rest before after h none kept = part_lost old false h.part res
 abbrev pub PassedAny : Bool → Bool → List ℕ → List ℕ → Option (List ℕ) → Option (List ℕ) → Bool → Type 0
 PassedAny was is begun rest before after passing =
     Gave was is before after (λ had has. Passed (known_bytes was begun had) (known_bytes is rest has) passing)
-
-pub nothing_passed_any : (ended : Bool) (rest : List ℕ) (known : Option (List ℕ)) → PassedAny ended ended rest rest known known false
-nothing_passed_any ended rest known = gave_nothing ended known known _ refl (λ had. nothing_passed (known_bytes ended rest had))
 
 module _ (was is : Bool) (begun rest : List ℕ) (before after : Option (List ℕ)) (passing : Bool) (h : PassedAny was is begun rest before after passing) where
   pub passed_over_any : (over : Bool) (left : List ℕ) → has_line_feed rest ≡ false → (over ≡ true → (length left ≡ 0) × (passing ≡ false → 513 < length rest))

@@ -5,7 +5,6 @@ use Rattle.co_value.specs.declared.data_type.DataType.TheVariants.{VisibleString
 use Rattle.co_value.specs.Types.{width_of}
 use Rattle.co_value.specs.Numbers.{bytes_of}
 use Rattle.co_sheet.specs.Content.{Row as SheetRow}
-use Rattle.co_dict_build.specs.Capacities.{Limits, capacity_at}
 use Rattle.co_dict_build.specs.InitialBytes.{initial_number, initial_at}
 
 -- a type with a width begins with the bytes of its number
@@ -14,10 +13,3 @@ initial_at-numeric node row VisibleString width h = absurd (cc)
 initial_at-numeric node row OctetString width h = absurd (cc)
 initial_at-numeric node row Domain width h = absurd (cc)
 initial_at-numeric node row t width h = refl
-
--- and has as much room
-pub capacity_at-numeric : (limits : Limits) (row : SheetRow) (t : DataType) (width : ℕ) → width_of t ≡ Some width → capacity_at limits row t ≡ width
-capacity_at-numeric limits row VisibleString width h = absurd (cc)
-capacity_at-numeric limits row OctetString width h = absurd (cc)
-capacity_at-numeric limits row Domain width h = absurd (cc)
-capacity_at-numeric limits row t width h = cc

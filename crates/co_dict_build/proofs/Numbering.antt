@@ -1,6 +1,6 @@
 -- The places of a dictionary that is a list of entries in increasing key: the positions in the list.
 use Rattle.std.proofs.Common.{◌≡◌, ◌+◌, ◌*◌, ◌<◌, ◌≤◌, ℕ, zero, suc, Bool, true, false, cond, List, [], ◌∷◌, length, get_or, Some, None, refl, sym, ap, ◌∙◌, arith, eqb, ltb, ◌||◌, ◌&&◌}
-use Rattle.std.specs.Prelude.{position, slice_get, nat_lt}
+use Rattle.std.specs.Prelude.{slice_get, nat_lt}
 use Rattle.std.specs.Option.{option_map, option_map_or, option_and_then}
 use Rattle.std.specs.List.{AllByRecursion}
 use Rattle.std.proofs.lemmas.Bool.{false≢true}
@@ -44,9 +44,6 @@ module _ (entries : List ListedEntry) (increasing : are_increasing (keys_in entr
   part_by_place part at d within =
       part_at-place part entries (get_or entries at d).key at d (own_place at d within)
       ∙ sym (ap (option_and_then (λ key. option_map part (entry_at entries key))) (key_here entries at d within))
-
-  pub no_part_by_place : {A : Type 0} (part : ListedEntry → A) (at : ℕ) → length entries ≤ at → None ≡ option_and_then (λ key. option_map part (entry_at entries key)) (slice_get (keys_in entries) at)
-  no_part_by_place part at past = sym (ap (option_and_then (λ key. option_map part (entry_at entries key))) (no_key entries at past))
 
   -- bytes that fit at a place fit the entry there
   pub fits_by_place : (node : ℕ) (dummies : List Bool) (at : ℕ) (d : ListedEntry) (size : ℕ) → at < length entries → takes_at (description_in node dummies entries) at size ≡ true → fits (get_or entries at d).row size ≡ true

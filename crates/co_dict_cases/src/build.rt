@@ -19,8 +19,8 @@ const LIMITS: Limits<'static> = Limits {
     own: &[],
 };
 
-// Each line is a node-ID, all faults, each with `;` after it, and changed defaults; `-1A01` is for a TPDO whose mapping isn't
-// listed.
+// Each line is a node-ID, all faults, each with `;` after it, and changed defaults; `-1A01` is for a TPDO whose
+// mapping isn't listed.
 const BUILDS: &str = "\
 1||2003=$NODEID+999
 127||
@@ -130,8 +130,8 @@ fn small_with(alloc: Global, count: u16, data_type: u8) -> Result<String, Fail> 
     Ok(text)
 }
 
-// Four entries are built, and so are 16,384 entries and 16,777,216 bytes of room; more is answered with TooMany, and that
-// without the room.
+// Four entries are built, and so are 16,384 entries and 16,777,216 bytes of room; more is answered with TooMany, and
+// that without the room.
 #[test]
 fn greatest_dictionaries(rt: HostRuntime) -> Result<(), Fail> {
     let alloc = rt.alloc();

@@ -1,6 +1,6 @@
 -- The lists that are found are those of the definitions.
-use Rattle.std.proofs.Common.{◌≡◌, ℕ, Bool, true, false, cond, List, [], ◌∷◌, ◌++◌, length, None, refl, sym, ap, ◌∙◌, subst, map, append_assoc}
-use Rattle.std.specs.Prelude.{not, sum_by}
+use Rattle.std.proofs.Common.{◌≡◌, Bool, true, false, cond, List, [], ◌∷◌, ◌++◌, sym, ap, ◌∙◌, map}
+use Rattle.std.specs.Prelude.{not}
 use Rattle.co_value.specs.declared.key.Key.{Key}
 use Rattle.co_dict.specs.Rows.{Contents}
 use Rattle.co_dict.specs.Stores.{Description}
@@ -9,24 +9,8 @@ use Rattle.co_dict_build.specs.declared.build_fault.BuildFault.TheVariants.{Node
 use Rattle.co_dict_build.specs.Built.{Plan, built_description, built_contents}
 use Rattle.co_dict_build.specs.BuildFaults.{is_node}
 use Rattle.co_dict_faults.specs.declared.mapping_fault.MappingFault.{MappingFault}
-use Rattle.co_dict_faults.specs.AllBuildFaults.{bad_words, unpaired_past, bad_mappings, words_at_fault, parameter_faults, room_faults, build_faults_of, mapping_faults_of}
+use Rattle.co_dict_faults.specs.AllBuildFaults.{words_at_fault, parameter_faults, room_faults, build_faults_of, mapping_faults_of}
 use Rattle.co_dict_faults.specs.SoundPlans.{sums_outside, sound_plan}
-
--- the parameters, of which the keys are known
-pub parameters_found : (outside : List Key) (d : Description) (contents : Contents) (keys : List Key) (before words lone all : List BuildFault) → d.keys ≡ keys
-    → words ≡ before ++ bad_words outside d contents keys
-    → lone ≡ words ++ unpaired_past d.rows None keys
-    → all ≡ lone ++ bad_mappings outside d contents keys
-    → all ≡ before ++ parameter_faults outside d contents
-parameters_found outside d contents keys before words lone all k a b c =
-    let w = bad_words outside d contents d.keys in
-    let l = unpaired_past d.rows None d.keys in
-    let m = bad_mappings outside d contents d.keys in
-    let third : all ≡ lone ++ m = c ∙ ap (λ (ks : List Key). lone ++ bad_mappings outside d contents ks) (sym k) in
-    let second : lone ≡ words ++ l = b ∙ ap (λ (ks : List Key). words ++ unpaired_past d.rows None ks) (sym k) in
-    let first : words ≡ before ++ w = a ∙ ap (λ (ks : List Key). before ++ bad_words outside d contents ks) (sym k) in
-    third ∙ ap (λ (fs : List BuildFault). fs ++ m) second ∙ ap (λ (fs : List BuildFault). (fs ++ l) ++ m) first
-    ∙ ap (λ (fs : List BuildFault). fs ++ m) (append_assoc before w l) ∙ append_assoc before (w ++ l) m
 
 -- all of them
 pub all_found : (plan : Plan) (outside : List Key) (d : Description) (contents : Contents) (none sums found all : List BuildFault) → is_node plan.node ≡ true

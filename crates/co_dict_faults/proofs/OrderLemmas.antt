@@ -1,5 +1,5 @@
 -- All faults of the rows of a sheet are in increasing order: by the number of the kind, and then by key.
-use Rattle.std.proofs.Common.{◌≡◌, ℕ, suc, ◌+◌, ◌==◌, ◌<◌, ◌≤◌, Bool, true, false, cond, List, [], ◌∷◌, ◌++◌, length, Option, Some, None, refl, sym, ap, ◌∙◌, subst, map, get_or, ltb, arith}
+use Rattle.std.proofs.Common.{◌≡◌, ℕ, suc, ◌+◌, ◌==◌, ◌<◌, ◌≤◌, Bool, true, false, cond, List, [], ◌∷◌, ◌++◌, length, Option, Some, None, refl, sym, ap, subst, map, get_or, ltb, arith}
 use Rattle.std.proofs.lemmas.Bool.{true≢false}
 use Rattle.std.proofs.lemmas.Bool.Decides.{nat_tests}
 use Rattle.std.specs.Prelude.{flat_map, not, ◌&&◌, sum_by, AllPairs}
@@ -24,8 +24,8 @@ use Rattle.co_dict_build.specs.ListedEntries.{keys_in}
 use Rattle.co_dict_build.proofs.Search.{before_compares}
 use Rattle.co_dict_faults.specs.AllBuildFaults.{list_if, is_index, is_word_found, is_mapping_found, unpaired_past, bad_words, bad_mappings, parameter_faults, room_faults, build_faults_of}
 use Rattle.co_dict_faults.specs.BuildFaultLaws.{place_of, build_cmp}
-use Rattle.co_dict_faults.specs.SoundPlans.{sum_outside, sums_outside, sound_row, sound_plan}
-use Rattle.co_dict_faults.proofs.EachLemmas.{each_append, each_map, each_flat, each_if}
+use Rattle.co_dict_faults.specs.SoundPlans.{sums_outside, sound_row, sound_plan}
+use Rattle.co_dict_faults.proofs.EachLemmas.{each_append, each_flat, each_if}
 
 abbrev IsSorted : List BuildFault → Type 0
 IsSorted faults = IsStrictlySortedBy build_cmp faults
@@ -59,10 +59,6 @@ unfolding IsStrictlySortedBy
 sorted_append n [] ys s low t high = t
 sorted_append n (x ∷ xs) ys s low t high =
     (each_append (λ f. build_cmp x f ≡ Less) xs ys s.0 (above_all n x low.0 ys high), sorted_append n xs ys s.1 low.1 t high)
-
-sorted_nil : IsSorted []
-unfolding IsStrictlySortedBy
-sorted_nil = tt
 
 -- ---- by key
 

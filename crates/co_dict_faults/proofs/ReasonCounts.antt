@@ -1,12 +1,11 @@
 -- A mapping has faults exactly where its count is refused.
-use Rattle.std.proofs.Common.{◌≡◌, ℕ, zero, suc, ◌+◌, ◌-◌, ◌*◌, ◌==◌, ◌<◌, ◌≤◌, Bool, true, false, cond, List, [], ◌∷◌, ◌++◌, length, min, Option, Some, None, refl, sym, ap, ◌∙◌, subst, arith, inl, inr, map}
+use Rattle.std.proofs.Common.{◌≡◌, ℕ, zero, suc, ◌+◌, ◌-◌, ◌*◌, ◌==◌, ◌<◌, ◌≤◌, Bool, true, false, cond, List, [], ◌∷◌, ◌++◌, min, Option, Some, None, refl, sym, ap, ◌∙◌, subst, arith, inl, inr, map}
 use Rattle.std.proofs.lemmas.Bool.Decides.{nat_tests}
 use Rattle.std.proofs.lemmas.Bool.{true≢false}
 use Rattle.std.proofs.Math.Nat.{eq-or-lt_of_le}
-use Rattle.std.specs.Prelude.{is_some, is_none, not, ◌&&◌, ◌||◌, nat_lt, flat_map, if◌then◌else◌}
+use Rattle.std.specs.Prelude.{is_some, is_none, not, ◌&&◌, ◌||◌, nat_lt, flat_map}
 use Rattle.std.specs.List.{list_any, range_with_len, prefix_len}
 use Rattle.std.proofs.lemmas.List.Folds.{length-prefix_len}
-use Rattle.co_value.specs.declared.key.Key.{Key}
 use Rattle.co_frame.specs.AbortCodes.{invalid_value, not_mappable, mapping_too_long}
 use Rattle.co_dict.specs.declared.side.Side.{Side}
 use Rattle.co_dict.specs.Rows.{Rows, Contents, number_at}
@@ -97,10 +96,6 @@ unfolding subs_present
 present_is rows index = length-prefix_len (has_sub rows index) (range_with_len 1 64)
 
 -- ---- lists of faults
-
-empty_nil : (xs : List MappingFault) → is_empty xs ≡ true → xs ≡ []
-empty_nil [] h = refl
-empty_nil (x ∷ xs) h = absurd (true≢false (sym h))
 
 empty_parts : (xs ys : List MappingFault) → is_empty (xs ++ ys) ≡ (is_empty xs && is_empty ys)
 empty_parts [] ys = refl

@@ -1,4 +1,5 @@
-//! All faults of the dictionary that a data sheet makes for a node-ID and limits, where `co_dict_build` answers the first.
+//! All faults of the dictionary that a data sheet makes for a node-ID and limits, where `co_dict_build` answers the
+//! first.
 #![tactic(auto)]
 
 mod find;

@@ -144,9 +144,10 @@ fn is_empty(faults: &[MappingFault]) -> bool
     }
 }
 
-/// Why the mapping of a PDO of a side can't be as it begins (CiA 301, 7.5.2.36, 7.5.2.38): each counted word that can't be
-/// mapped, in increasing sub-index, up to 64; then the count, if it is more than the words that are there, or if they
-/// can be mapped and map more than 64 bits in all. None where nothing is counted. On an `Err` memory ran out.
+/// Why the mapping of a PDO of a side can't be as it begins (CiA 301, 7.5.2.36, 7.5.2.38): each counted word that
+/// can't be mapped, in increasing sub-index, up to 64; then the count, if it is more than the words that are there,
+/// or if they can be mapped and map more than 64 bits in all. None where nothing is counted. On an `Err` memory ran
+/// out.
 pub fn mapping_faults<S: ObjectStore>(
     alloc: Global,
     store: &S,

@@ -1,5 +1,5 @@
-//! What the tests of several crates are made of: data sheets out of tables, and readers and writers that give or take little
-//! at once, fail, or never end.
+//! What the tests of several crates are made of: data sheets out of tables, and readers and writers that give or take
+//! little at once, fail, or never end.
 #![tactic(auto)]
 
 mod sheet;

@@ -1,5 +1,6 @@
-//! Data sheets out of tables with a line for each section: `1018 9` is an object with sub-indices, of object type 9, and
-//! `1018sub0 5 ro 1` an entry of data type 5, access ro and default 1. A word with `=` is a further line of the section.
+//! Data sheets out of tables with a line for each section: `1018 9` is an object with sub-indices, of object type 9,
+//! and `1018sub0 5 ro 1` an entry of data type 5, access ro and default 1. A word with `=` is a further line of the
+//! section.
 
 use std::alloc::{AllocError, Global};
 use std::string::String;
@@ -160,8 +161,8 @@ fn push_objects(
     write!(text, "SupportedObjects={count}\n")
 }
 
-/// A data sheet: the mandatory objects, and those of tables of optional and of manufacturer objects, with changed defaults,
-/// as `1017=10 1800sub2=3`.
+/// A data sheet: the mandatory objects, and those of tables of optional and of manufacturer objects, with changed
+/// defaults, as `1017=10 1800sub2=3`.
 pub fn sheet_of(
     alloc: Global,
     optional: &[&str],

@@ -4,8 +4,8 @@ use std::alloc::Global;
 use std::io;
 use std::io::{Read, Write};
 
-/// A reader that is interrupted by a signal so many times, and then gives a text, so many bytes at a time at most. Asked more
-/// often than so many times it fails.
+/// A reader that is interrupted by a signal so many times, and then gives a text, so many bytes at a time at most.
+/// Asked more often than so many times it fails.
 #[derive(Drop)]
 pub struct Pieces<'a> {
     /// What is left of the text.
@@ -65,8 +65,8 @@ impl Read for Endless {
     }
 }
 
-/// A writer that takes so many bytes, at most ten at a time, and lets so many flushes pass; then it fails. Its first write is
-/// interrupted by a signal.
+/// A writer that takes so many bytes, at most ten at a time, and lets so many flushes pass; then it fails. Its first
+/// write is interrupted by a signal.
 #[derive(Drop)]
 pub struct Narrow {
     /// What it has taken.

@@ -1,6 +1,28 @@
 //! A device made from a data sheet.
 
-ghost use Rattle.std.specs.Prelude.{◌≡◌, ℕ, Some, ◌≤◌, ◌<◌, ◌+◌, ◌*◌, ◌++◌, ◌&&◌, [], ◌∷◌, None, IfOk, IfErr, IfSome, is_some, length, map, nat_lt, take, option_map};
+ghost use Rattle.std.specs.Prelude.{
+  ◌≡◌,
+  ℕ,
+  Some,
+  ◌≤◌,
+  ◌<◌,
+  ◌+◌,
+  ◌*◌,
+  ◌++◌,
+  ◌&&◌,
+  [],
+  ◌∷◌,
+  None,
+  IfOk,
+  IfErr,
+  IfSome,
+  is_some,
+  length,
+  map,
+  nat_lt,
+  take,
+  option_map,
+};
 ghost use Rattle.co_value.specs.declared.key.Key.{Key};
 ghost use Rattle.co_dict.specs.Stores.{IsGreatestCapacity};
 ghost use Rattle.co_dict_build.specs.Built.{built_contents, built_description};
@@ -11,7 +33,17 @@ ghost use Rattle.co_node_model.specs.AppEvents.{event_refusal};
 ghost use Rattle.co_node_model.specs.Inputs.{Applied, Framed, Inputs, Ticked, app_view, input_view};
 ghost use Rattle.co_node_model.specs.Moments.{Constants};
 ghost use Rattle.co_node_model.specs.Heartbeats.{boot_up};
-ghost use Rattle.co_node_model.specs.Device.{after_all, all_frames, app_after, contents_of, frame_bound, held_of, prescribed, room_of, state_of};
+ghost use Rattle.co_node_model.specs.Device.{
+  after_all,
+  all_frames,
+  app_after,
+  contents_of,
+  frame_bound,
+  held_of,
+  prescribed,
+  room_of,
+  state_of,
+};
 ghost use Rattle.co_node.specs.Built.{IsBuilt};
 ghost use Rattle.co_node.specs.Held.{HoldsWithin};
 ghost use Rattle.co_node.specs.Memory.{memory_of};

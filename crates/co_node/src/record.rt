@@ -8,8 +8,8 @@ use std::alloc::{AllocError, Global};
 use std::boxed::BoxedSlice;
 use std::marker::Model;
 
-/// The frames that many inputs gave, and after how many of them those of each input end. All memory is asked for by `new`:
-/// contracts see how many frames and inputs it has room for, which no call changes.
+/// The frames that many inputs gave, and after how many of them those of each input end. All memory is asked for by
+/// `new`: contracts see how many frames and inputs it has room for, which no call changes.
 #[derive(Drop)]
 pub struct Record {
     // as many as there is room for; the first `frame_count` are recorded

@@ -16,8 +16,8 @@ const REMAPPING: &str = "\
 605#2300140105020000 = 585#6000140100000000
 ";
 
-// The index of the first entry that a PDO maps, and how many bytes it maps in all; `None` where there is no such PDO or no
-// entry is mapped.
+// The index of the first entry that a PDO maps, and how many bytes it maps in all; `None` where there is no such PDO
+// or no entry is mapped.
 fn first_of(node: &Node, side: Side, number: u16) -> Option<(u16, usize)> {
     let compiled = node.compiled(side, number)?;
     match compiled.mapped().first() {

@@ -15,9 +15,10 @@ use Rattle.co_node_parts.specs.declared.nmt_state.Transition.{Transition}
 use Rattle.co_node_parts.specs.declared.emergencies.EmergencyEvent.TheVariants as emergencies
 use Rattle.co_node_parts.specs.RpdoSlots.{SlotLog, kept_of, numbered, taken_at}
 use Rattle.co_node_parts.specs.EmergencyQueues.{EmergencyLog, Noted, Pending, EmergenciesStand, with_queued}
-use Rattle.co_node_model.specs.declared.marks.Marks.{Marks}
+use Rattle.co_node_model.specs.declared.mark.Mark.{Mark}
 use Rattle.co_node_model.specs.Rpdos.{slot_event, immediate, after_data, data_emergencies, after_all_data, all_data_emergencies}
 use Rattle.co_node_model.specs.Emergencies.{emergencies_of}
+use Rattle.co_node_model.specs.Marks.{marked_rpdo}
 use Rattle.co_node_device.specs.Effects.{length_errors_of, taken_now, after_lengths, after_effects, effect_emergencies}
 
 -- ---- numbers of frames that are taken
@@ -91,41 +92,41 @@ module _ (d here : Description) (xs : List KeptFrame) (i : ℕ) (x : KeptFrame) 
 -- ---- all of an input
 
 -- what the calls gave
-pub record AreEffects (d d1 d2 : Description) (c0 c1 c2 c3 : Contents) (marks : Marks) (t : Transition) (log : SlotLog) (waiting once : List KeptFrame) : Type 0 where
-  pub lengths : c1 ≡ after_lengths d c0 marks
+pub record AreEffects (d d1 d2 : Description) (c0 c1 c2 c3 : Contents) (mark : Mark) (t : Transition) (log : SlotLog) (waiting once : List KeptFrame) : Type 0 where
+  pub lengths : c1 ≡ after_lengths d c0 mark
   pub same : d1 ≡ d
-  pub taken : waiting ≡ taken_at 512 (slot_event d c0 marks t) log
+  pub taken : waiting ≡ taken_at 512 (slot_event d c0 mark t) log
   pub data_taken : c2 ≡ after_all_data d1 c1 waiting
   pub same_then : d2 ≡ d
-  pub at_once : once ≡ immediate d c0 marks.rpdo
+  pub at_once : once ≡ immediate d c0 (marked_rpdo mark)
   pub data_at_once : c3 ≡ after_all_data d2 c2 once
 
-module _ (d d1 d2 : Description) (c0 c1 c2 c3 : Contents) (marks : Marks) (t : Transition) (log : SlotLog) (waiting once : List KeptFrame) (e : AreEffects d d1 d2 c0 c1 c2 c3 marks t log waiting once) where
-  waited : c2 ≡ after_all_data d (after_lengths d c0 marks) (taken_at 512 (slot_event d c0 marks t) log)
+module _ (d d1 d2 : Description) (c0 c1 c2 c3 : Contents) (mark : Mark) (t : Transition) (log : SlotLog) (waiting once : List KeptFrame) (e : AreEffects d d1 d2 c0 c1 c2 c3 mark t log waiting once) where
+  waited : c2 ≡ after_all_data d (after_lengths d c0 mark) (taken_at 512 (slot_event d c0 mark t) log)
   waited =
       e.data_taken ∙ ap (λ (k : Description). after_all_data k c1 waiting) e.same ∙ ap (λ (k : Contents). after_all_data d k waiting) e.lengths
-      ∙ ap (after_all_data d (after_lengths d c0 marks)) e.taken
+      ∙ ap (after_all_data d (after_lengths d c0 mark)) e.taken
 
-  pub effects_are : c3 ≡ after_effects d c0 marks t log
+  pub effects_are : c3 ≡ after_effects d c0 mark t log
   effects_are =
       e.data_at_once ∙ ap (λ (k : Description). after_all_data k c2 once) e.same_then ∙ ap (λ (k : Contents). after_all_data d k once) waited
-      ∙ ap (after_all_data d (after_all_data d (after_lengths d c0 marks) (taken_at 512 (slot_event d c0 marks t) log))) e.at_once
-      ∙ sym (data_all d (after_lengths d c0 marks) (taken_at 512 (slot_event d c0 marks t) log) (immediate d c0 marks.rpdo))
+      ∙ ap (after_all_data d (after_all_data d (after_lengths d c0 mark) (taken_at 512 (slot_event d c0 mark t) log))) e.at_once
+      ∙ sym (data_all d (after_lengths d c0 mark) (taken_at 512 (slot_event d c0 mark t) log) (immediate d c0 (marked_rpdo mark)))
 
-  pub effects_queued : (queued : EmergencyLog) → with_queued (all_data_emergencies d2 c2 once) (with_queued (all_data_emergencies d1 c1 waiting) (with_queued (emergencies_of d.rows (length_errors_of d c0 marks) c0) queued))
-      ≡ with_queued (effect_emergencies d c0 marks t log) queued
+  pub effects_queued : (queued : EmergencyLog) → with_queued (all_data_emergencies d2 c2 once) (with_queued (all_data_emergencies d1 c1 waiting) (with_queued (emergencies_of d.rows (length_errors_of d c0 mark) c0) queued))
+      ≡ with_queued (effect_emergencies d c0 mark t log) queued
   effects_queued queued =
-      let first : EmergencyLog = with_queued (emergencies_of d.rows (length_errors_of d c0 marks) c0) queued in
-      let due : List KeptFrame = taken_at 512 (slot_event d c0 marks t) log in
-      let middle : with_queued (all_data_emergencies d1 c1 waiting) first ≡ with_queued (all_data_emergencies d (after_lengths d c0 marks) due) first =
+      let first : EmergencyLog = with_queued (emergencies_of d.rows (length_errors_of d c0 mark) c0) queued in
+      let due : List KeptFrame = taken_at 512 (slot_event d c0 mark t) log in
+      let middle : with_queued (all_data_emergencies d1 c1 waiting) first ≡ with_queued (all_data_emergencies d (after_lengths d c0 mark) due) first =
       ap (λ (k : Description). with_queued (all_data_emergencies k c1 waiting) first) e.same
       ∙ ap (λ (k : Contents). with_queued (all_data_emergencies d k waiting) first) e.lengths
-      ∙ ap (λ (xs : List KeptFrame). with_queued (all_data_emergencies d (after_lengths d c0 marks) xs) first) e.taken in
-      let last : all_data_emergencies d2 c2 once ≡ all_data_emergencies d (after_all_data d (after_lengths d c0 marks) due) (immediate d c0 marks.rpdo) =
+      ∙ ap (λ (xs : List KeptFrame). with_queued (all_data_emergencies d (after_lengths d c0 mark) xs) first) e.taken in
+      let last : all_data_emergencies d2 c2 once ≡ all_data_emergencies d (after_all_data d (after_lengths d c0 mark) due) (immediate d c0 (marked_rpdo mark)) =
       ap (λ (k : Description). all_data_emergencies k c2 once) e.same_then
       ∙ ap (λ (k : Contents). all_data_emergencies d k once) waited
-      ∙ ap (all_data_emergencies d (after_all_data d (after_lengths d c0 marks) due)) e.at_once in
+      ∙ ap (all_data_emergencies d (after_all_data d (after_lengths d c0 mark) due)) e.at_once in
       ap (λ (es : List Emergency). with_queued es (with_queued (all_data_emergencies d1 c1 waiting) first)) last
-      ∙ ap (with_queued (all_data_emergencies d (after_all_data d (after_lengths d c0 marks) due) (immediate d c0 marks.rpdo))) middle
-      ∙ sym (data_queued_all d (after_lengths d c0 marks) due (immediate d c0 marks.rpdo) first)
-      ∙ sym (queued_all (emergencies_of d.rows (length_errors_of d c0 marks) c0) (all_data_emergencies d (after_lengths d c0 marks) (taken_now d c0 marks t log)) queued)
+      ∙ ap (with_queued (all_data_emergencies d (after_all_data d (after_lengths d c0 mark) due) (immediate d c0 (marked_rpdo mark)))) middle
+      ∙ sym (data_queued_all d (after_lengths d c0 mark) due (immediate d c0 (marked_rpdo mark)) first)
+      ∙ sym (queued_all (emergencies_of d.rows (length_errors_of d c0 mark) c0) (all_data_emergencies d (after_lengths d c0 mark) (taken_now d c0 mark t log)) queued)

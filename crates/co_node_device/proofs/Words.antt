@@ -7,7 +7,7 @@ use Rattle.co_dict.specs.Rows.{Contents, number_at}
 use Rattle.co_dict.specs.ConsumerHeartbeats.{consumer_key}
 use Rattle.co_node_parts.specs.declared.heartbeat_consumers.ConsumersEvent.{ConsumersEvent}
 use Rattle.co_node_parts.specs.ConsumerTables.{Noted, AllBegun}
-use Rattle.co_node_model.specs.declared.marks.Marks.{Marks}
+use Rattle.co_node_model.specs.declared.mark.Mark.{Mark}
 use Rattle.co_node_model.specs.Nmt.{is_reset}
 use Rattle.co_node_model.specs.Heartbeats.{consumer_words, consumers_event, consumers_call}
 
@@ -25,9 +25,9 @@ unfolding consumer_words
 words_all contents n words e h = h ∙ ap (λ (k : ℕ). map (λ sub. number_at contents (consumer_key sub)) (range_with_len 1 k)) e
 
 -- at a reset all begin
-pub call_at_reset : (marks : Marks) (contents : Contents) (words : List ℕ) → is_reset marks ≡ true → words ≡ consumer_words contents → AllBegun words ≡ consumers_call marks contents
-call_at_reset marks contents words reset e = rw reset (ap AllBegun e)
+pub call_at_reset : (mark : Mark) (contents : Contents) (words : List ℕ) → is_reset mark ≡ true → words ≡ consumer_words contents → AllBegun words ≡ consumers_call mark contents
+call_at_reset mark contents words reset e = rw reset (ap AllBegun e)
 
 -- otherwise an event is noted
-pub call_else : (marks : Marks) (contents : Contents) (event : ConsumersEvent) → is_reset marks ≡ false → event ≡ consumers_event marks contents → Noted event ≡ consumers_call marks contents
-call_else marks contents event reset e = rw reset (ap Noted e)
+pub call_else : (mark : Mark) (contents : Contents) (event : ConsumersEvent) → is_reset mark ≡ false → event ≡ consumers_event mark contents → Noted event ≡ consumers_call mark contents
+call_else mark contents event reset e = rw reset (ap Noted e)

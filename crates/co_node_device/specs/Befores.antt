@@ -13,6 +13,7 @@ use Rattle.co_node_model.specs.Nmt.{state_at}
 use Rattle.co_node_model.specs.Sdo.{channel_logs, with_channel_ticks}
 use Rattle.co_node_model.specs.declared.address.Address.{Address}
 use Rattle.co_node_model.specs.Addresses.{address_at}
+use Rattle.co_node_model.specs.Marks.{marked_tick}
 use Rattle.co_node_device.specs.declared.given.Given.{Given}
 use Rattle.co_node_device.specs.declared.given.Given.TheVariants.{Frame, Tick, Write, Event, Changed, Raise, Clear}
 
@@ -37,4 +38,4 @@ IsAddressed k history (Clear bits) address frame = Unit {0}
 -- the log of each SDO channel as an input was received, before transfers are dropped
 abbrev pub logs_received : Moment → History → ℕ → Log
 logs_received m history =
-    logs_after m.timed_out (with_channel_ticks m.marks.ticked (logs_after m.exchange (channel_logs history)))
+    logs_after m.timed_out (with_channel_ticks (marked_tick m.mark) (logs_after m.exchange (channel_logs history)))

@@ -18,17 +18,17 @@ use Rattle.co_node_model.specs.Heartbeats.{consumers_log, life_frames, producer_
 use Rattle.co_node_model.specs.Emergencies.{emergency_frames, emergency_log}
 use Rattle.co_node_model.specs.Rpdos.{slot_log}
 use Rattle.co_node_model.specs.Tpdos.{schedule_log, tpdo_frame}
-use Rattle.co_node_model.specs.declared.marks.Marks.{Marks}
+use Rattle.co_node_model.specs.declared.mark.Mark.{Mark}
 use Rattle.co_node_device.specs.AddressTables.{IsTableOf}
 use Rattle.co_node_device.specs.MappingTables.{AreMappings}
 use Rattle.co_node_device.specs.Befores.{logs_received}
 use Rattle.co_node_device.specs.declared.parts.Parts.{Parts}
 
 -- the input was received: entries, SDO channels and emergencies are as it left them, all else as the history did
-pub record IsReceived (k : Constants) (h : History) (m : Moment) (d : Description) (entries : Contents) (parts : Parts) (marked : Marks) : Type 0 where
+pub record IsReceived (k : Constants) (h : History) (m : Moment) (d : Description) (entries : Contents) (parts : Parts) (marked : Mark) : Type 0 where
   pub description : d ≡ k.description
   pub contents : entries ≡ m.received
-  pub marks : marked ≡ m.marks
+  pub mark : marked ≡ m.mark
   pub state : parts.state ≡ state_at h
   pub channels : BankStands d (channels k) parts.bank (logs_received m h)
   pub addresses : IsTableOf (contents_at k h) parts.addresses
@@ -41,10 +41,10 @@ pub record IsReceived (k : Constants) (h : History) (m : Moment) (d : Descriptio
   pub app : parts.last_app ≡ m.app
 
 -- it took effect: entries and parts are those at its end, but for what is sent by emergencies, heartbeats and TPDOs
-pub record TookEffect (k : Constants) (h : History) (m : Moment) (d : Description) (entries : Contents) (parts : Parts) (marked : Marks) (t : Transition) : Type 0 where
+pub record TookEffect (k : Constants) (h : History) (m : Moment) (d : Description) (entries : Contents) (parts : Parts) (marked : Mark) (t : Transition) : Type 0 where
   pub description : d ≡ k.description
   pub contents : entries ≡ m.contents
-  pub marks : marked ≡ m.marks
+  pub mark : marked ≡ m.mark
   pub transition : t ≡ transition_of m h
   pub state : parts.state ≡ state_at (m ∷ h)
   pub channels : BankStands d (channels k) parts.bank (channel_logs (m ∷ h))

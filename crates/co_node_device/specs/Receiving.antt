@@ -1,7 +1,6 @@
 -- What receiving a frame, a tick and an application event comes to, as far as each goes.
-use Rattle.std.specs.Prelude.{◌≡◌, Bool, is_some, true, List, [], ◌++◌, ◌||◌, Option}
+use Rattle.std.specs.Prelude.{◌≡◌, Bool, is_some, List, [], ◌++◌, ◌||◌, Option}
 use Rattle.co_frame.specs.FrameContent.{FrameContent}
-use Rattle.co_frame.specs.declared.nmt.NmtService.{NmtService}
 use Rattle.co_dict.specs.Rows.{Contents}
 use Rattle.co_dict.specs.Stores.{Description}
 use Rattle.co_sdo_bank.specs.declared.channels.NumberedChannel.{NumberedChannel}
@@ -9,17 +8,19 @@ use Rattle.co_sdo_bank.specs.Banks.{BankStands}
 use Rattle.co_sdo_bank.specs.Events.{ChannelEvent, frames_at}
 use Rattle.co_node_model.specs.Inputs.{AppView, Framed, Applied}
 use Rattle.co_node_model.specs.AppEvents.{event_refusal, with_app_event}
-use Rattle.co_node_model.specs.Moments.{quiet, Constants, Moment, History, channels, contents_at, nothing_of}
+use Rattle.co_node_model.specs.Moments.{Constants, Moment, History, channels, contents_at, nothing_of}
 use Rattle.co_node_model.specs.declared.address.Address.{Address}
 use Rattle.co_node_model.specs.declared.app_answer.AppAnswer.TheVariants as answer
-use Rattle.co_node_model.specs.declared.marks.Marks.{Marks}
+use Rattle.co_node_model.specs.declared.mark.Mark.{Mark}
 use Rattle.co_node_model.specs.Device.{with_frame}
+use Rattle.co_node_model.specs.declared.mark.Mark.TheVariants as was
+use Rattle.co_node_model.specs.Marks.{marked_event, marked_sync, marked_tick}
 use Rattle.co_node_device.specs.Befores.{logs_received}
 
--- marks, entries, frames in the outbox and SDO channels are those of a moment, at which nothing came of the application
+-- the mark, the entries, frames in the outbox and SDO channels are those of a moment, at which nothing came of the application
 pub record IsFrameReceived (d : Description) (k : Constants) (history : History) (m : Moment)
-    (marked : Marks) (entries : Contents) (before after : List FrameContent) (bank : List NumberedChannel) : Type 0 where
-  pub marks : marked ≡ m.marks
+    (marked : Mark) (entries : Contents) (before after : List FrameContent) (bank : List NumberedChannel) : Type 0 where
+  pub mark : marked ≡ m.mark
   pub contents : entries ≡ m.received
   pub frames : after ≡ before ++ (frames_at m.exchange ++ frames_at m.timed_out)
   pub channels : BankStands d (channels k) bank (logs_received m history)
@@ -31,17 +32,13 @@ abbrev pub frame_moment : Constants → History → Address → FrameContent →
 frame_moment k history address frame =
     with_frame k history address frame (nothing_of (Framed frame) (contents_at k history))
 
--- the marks of an NMT service
-abbrev pub command_marks : Option NmtService → Marks
-command_marks service = record quiet { command = service }
+-- a tick, at which this SDO channel was aborted, if one was
+abbrev pub tick_mark : Option ChannelEvent → Mark
+tick_mark timed_out = was.Tick (is_some timed_out)
 
--- the marks of a tick, at which this SDO channel was aborted, if one was
-abbrev pub tick_marks : Option ChannelEvent → Marks
-tick_marks timed_out = record quiet { ticked = true; timed_out = is_some timed_out }
-
--- TPDOs may be due at an input with these marks: a tick, a SYNC, or an event of the application on TPDOs
-abbrev pub may_be_due : Marks → Bool
-may_be_due marks = marks.ticked || (is_some marks.sync || is_some marks.asked)
+-- TPDOs may be due at an input with this mark: a tick, a SYNC, or an event of the application on TPDOs
+abbrev pub may_be_due : Mark → Bool
+may_be_due mark = marked_tick mark || (is_some (marked_sync mark) || is_some (marked_event mark))
 
 -- an application event, with these entries
 abbrev pub app_moment : Description → Contents → AppView → Moment

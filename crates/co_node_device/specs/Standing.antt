@@ -3,7 +3,7 @@ use Rattle.co_dict.specs.declared.store.ObjectStore.{Ghosts as StoreOf}
 use Rattle.co_node_parts.specs.declared.nmt_state.Transition.{Transition}
 use Rattle.co_node_model.specs.Inputs.{Inputs, InputView}
 use Rattle.co_node_model.specs.Moments.{Constants}
-use Rattle.co_node_model.specs.declared.marks.Marks.{Marks}
+use Rattle.co_node_model.specs.declared.mark.Mark.{Mark}
 use Rattle.co_node_model.specs.Device.{moment, moments}
 use Rattle.co_node_device.specs.declared.device.Device.{Device}
 use Rattle.co_node_device.specs.NodeStanding.{NodeStands}
@@ -15,13 +15,13 @@ Stands {S} {store} k device inputs =
     NodeStands k (store.description device.store) (store.contents device.store) device.parts inputs
 
 -- after these inputs it received one more, which was this to it
-abbrev pub HasReceived : {S : Type 0} {store : StoreOf S} → Constants → Device S store → Inputs → InputView → Marks → Type 0
-HasReceived {S} {store} k device inputs input marks =
+abbrev pub HasReceived : {S : Type 0} {store : StoreOf S} → Constants → Device S store → Inputs → InputView → Mark → Type 0
+HasReceived {S} {store} k device inputs input mark =
     IsReceived k (moments k inputs) (moment k (moments k inputs) input)
-    (store.description device.store) (store.contents device.store) device.parts marks
+    (store.description device.store) (store.contents device.store) device.parts mark
 
 -- and the input took effect, with this transition of the NMT state
-abbrev pub HasTakenEffect : {S : Type 0} {store : StoreOf S} → Constants → Device S store → Inputs → InputView → Marks → Transition → Type 0
-HasTakenEffect {S} {store} k device inputs input marks transition =
+abbrev pub HasTakenEffect : {S : Type 0} {store : StoreOf S} → Constants → Device S store → Inputs → InputView → Mark → Transition → Type 0
+HasTakenEffect {S} {store} k device inputs input mark transition =
     TookEffect k (moments k inputs) (moment k (moments k inputs) input)
-    (store.description device.store) (store.contents device.store) device.parts marks transition
+    (store.description device.store) (store.contents device.store) device.parts mark transition

@@ -23,7 +23,7 @@ ghost use Rattle.co_node_model.specs.Sdo.{channel_logs};
 
 use co_dict::{CobId, ObjectStore, Side, number_u32};
 use co_frame::Frame;
-use co_node_model::{Address, Marks};
+use co_node_model::{Address, Mark};
 use co_pdo::{PdoNumber, cob_id, is_active};
 use co_profile::{IndexRange, keys};
 use co_sdo_bank::Bank;
@@ -60,10 +60,10 @@ fn is_address_set(set: Option<Key>) -> bool
 /// Whether the input may have changed the identifier of SYNC, or which RPDO has an identifier: it was a reset, or
 /// the COB-ID of SYNC or a parameter of an RPDO was written.
 #[inline(always)]
-fn may_change_addresses(marks: &Marks) -> bool
-    ensures { result ≡ may_change_addresses marks.now }
+fn may_change_addresses(mark: &Mark) -> bool
+    ensures { result ≡ may_change_addresses mark.now }
 {
-    marks.is_reset() || is_address_set(marks.set)
+    mark.is_reset() || is_address_set(mark.written())
 }
 
 /// How many identifiers there are, 0 to 7FFh.
@@ -145,12 +145,12 @@ impl AddressTable {
     /// Follows the dictionary over an input: the table is filled anew where that may have changed the identifier of
     /// SYNC or which RPDO has an identifier, at a reset and where 1005h or a parameter of an RPDO was written.
     #[inline(always)]
-    pub fn note<S: ObjectStore>(&mut self, marks: &Marks, store: &S)
+    pub fn note<S: ObjectStore>(&mut self, mark: &Mark, store: &S)
         ensures { (before : Contents) → IsTableOf before self.old →
-            (may_change_addresses marks.now ≡ false → AgreeOnAddresses before (S.contents store.now)) →
+            (may_change_addresses mark.now ≡ false → AgreeOnAddresses before (S.contents store.now)) →
             IsTableOf (S.contents store.now) self.new }
     {
-        if may_change_addresses(marks) {
+        if may_change_addresses(mark) {
             self.sync = number_u32(store, keys::SYNC_COB_ID);
             fill(&mut self.numbers, store);
         } else {

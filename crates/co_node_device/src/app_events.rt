@@ -5,58 +5,56 @@ ghost use Rattle.co_frame.specs.declared.abort_code.AbortCode.{AbortCode};
 ghost use Rattle.co_node_parts.specs.EmergencyQueues.{EmergencyLog, EmergenciesStand, with_queued};
 ghost use Rattle.co_node_model.specs.AppEvents.{is_tpdo};
 ghost use Rattle.co_node_model.specs.Inputs.{Written, EventOn, ChangedAt, Raised, Cleared};
-ghost use Rattle.co_node_model.specs.Moments.{quiet};
+ghost use Rattle.co_node_model.specs.declared.mark.Mark.TheVariants as was;
 ghost use Rattle.co_node_device.specs.Receiving.{app_moment};
+ghost use Rattle.co_node_model.specs.Marks.{marked_rpdo};
 
 use crate::emergencies::{clear, raise_and_queue};
 use crate::receiving::Received;
 use co_dict::{ObjectStore, Side, app_store, entry_row};
 use co_frame::AbortCode;
-use co_node_model::{AppAnswer, Asked, DeviceError, Marks};
+use co_node_model::{AppAnswer, Asked, DeviceError, Mark};
 use co_node_parts::{Emergencies, EmergencyEvent};
 use co_pdo::{PdoNumber, has_pdo};
 use co_value::Key;
 
 /// A refused event changes nothing.
 fn refused(code: AbortCode) -> Received
-    ensures marks { result.marks ≡ quiet }
+    ensures mark { result.mark ≡ was.Quiet }
     ensures app { result.app ≡ AppAnswer.Refused code }
 {
     Received {
-        marks: Marks::quiet(),
+        mark: Mark::Quiet,
         app: AppAnswer::Refused(code),
     }
 }
 
 /// An event that was done.
-fn done(marks: Marks) -> Received
-    ensures marks { result.marks ≡ marks }
+fn done(mark: Mark) -> Received
+    ensures mark { result.mark ≡ mark }
     ensures app { result.app ≡ AppAnswer.Done }
 {
     Received {
-        marks,
+        mark,
         app: AppAnswer::Done,
     }
 }
 
 /// The application writes bytes into an entry.
 pub(crate) fn write<S: ObjectStore>(store: &mut S, key: Key, bytes: &[u8]) -> Received
-    ensures marks { result.marks ≡ (app_moment (S.description store.old) (S.contents store.old)
-        (Written key bytes.now)).marks }
+    ensures mark { result.mark ≡ (app_moment (S.description store.old) (S.contents store.old)
+        (Written key bytes.now)).mark }
     ensures app { result.app ≡ (app_moment (S.description store.old) (S.contents store.old)
         (Written key bytes.now)).app }
     ensures contents { S.contents store.new ≡ (app_moment (S.description store.old)
         (S.contents store.old) (Written key bytes.now)).received }
     ensures description { S.description store.new ≡ S.description store.old }
-    ensures rpdo { result.marks.rpdo ≡ None }
+    ensures rpdo { marked_rpdo result.mark ≡ None }
 {
     match app_store(store, key, bytes) {
         Ok(()) => {
             store.set(key, bytes);
-            done(Marks {
-                set: Some(key),
-                ..Marks::quiet()
-            })
+            done(Mark::Written(key))
         }
         Err(code) => refused(code),
     }
@@ -74,8 +72,8 @@ fn is_tpdo<S: ObjectStore>(store: &S, number: u16) -> bool
 
 /// The application gave an event on a TPDO.
 pub(crate) fn event<S: ObjectStore>(store: &S, number: u16) -> Received
-    ensures marks { result.marks ≡ (app_moment (S.description store.now) (S.contents store.now)
-        (EventOn number)).marks }
+    ensures mark { result.mark ≡ (app_moment (S.description store.now) (S.contents store.now)
+        (EventOn number)).mark }
     ensures app { result.app ≡ (app_moment (S.description store.now) (S.contents store.now)
         (EventOn number)).app }
     ensures contents { S.contents store.now ≡ (app_moment (S.description store.now)
@@ -84,26 +82,20 @@ pub(crate) fn event<S: ObjectStore>(store: &S, number: u16) -> Received
     if !is_tpdo(store, number) {
         return refused(AbortCode::OBJECT_MISSING);
     }
-    done(Marks {
-        asked: Some(Asked::Event(number)),
-        ..Marks::quiet()
-    })
+    done(Mark::Asked(Asked::Event(number)))
 }
 
 /// The application says that the value of an entry changed.
 pub(crate) fn change<S: ObjectStore>(store: &S, key: Key) -> Received
-    ensures marks { result.marks ≡ (app_moment (S.description store.now) (S.contents store.now)
-        (ChangedAt key)).marks }
+    ensures mark { result.mark ≡ (app_moment (S.description store.now) (S.contents store.now)
+        (ChangedAt key)).mark }
     ensures app { result.app ≡ (app_moment (S.description store.now) (S.contents store.now)
         (ChangedAt key)).app }
     ensures contents { S.contents store.now ≡ (app_moment (S.description store.now)
         (S.contents store.now) (ChangedAt key)).received }
 {
     match entry_row(store, key) {
-        Ok(_) => done(Marks {
-            asked: Some(Asked::Changed(key)),
-            ..Marks::quiet()
-        }),
+        Ok(_) => done(Mark::Asked(Asked::Changed(key))),
         Err(code) => refused(code),
     }
 }
@@ -116,8 +108,8 @@ pub(crate) fn raise<S: ObjectStore>(
     bits: u8,
     manufacturer: [u8; 5],
 ) -> Received
-    ensures marks { result.marks ≡ (app_moment (S.description store.old) (S.contents store.old)
-        (Raised code bits manufacturer)).marks }
+    ensures mark { result.mark ≡ (app_moment (S.description store.old) (S.contents store.old)
+        (Raised code bits manufacturer)).mark }
     ensures app { result.app ≡ (app_moment (S.description store.old) (S.contents store.old)
         (Raised code bits manufacturer)).app }
     ensures contents { S.contents store.new ≡ (app_moment (S.description store.old)
@@ -136,7 +128,7 @@ pub(crate) fn raise<S: ObjectStore>(
         manufacturer,
     };
     raise_and_queue(error, store, emergencies);
-    done(Marks::quiet())
+    done(Mark::Quiet)
 }
 
 /// The application clears bits of the error register.
@@ -145,8 +137,8 @@ pub(crate) fn clear_errors<S: ObjectStore>(
     emergencies: &mut Emergencies,
     bits: u8,
 ) -> Received
-    ensures marks { result.marks ≡ (app_moment (S.description store.old) (S.contents store.old)
-        (Cleared bits)).marks }
+    ensures mark { result.mark ≡ (app_moment (S.description store.old) (S.contents store.old)
+        (Cleared bits)).mark }
     ensures app { result.app ≡ (app_moment (S.description store.old) (S.contents store.old)
         (Cleared bits)).app }
     ensures contents { S.contents store.new ≡ (app_moment (S.description store.old)
@@ -158,5 +150,5 @@ pub(crate) fn clear_errors<S: ObjectStore>(
 {
     let emergency = clear(store, bits);
     emergencies.note(EmergencyEvent::Queue(emergency));
-    done(Marks::quiet())
+    done(Mark::Quiet)
 }

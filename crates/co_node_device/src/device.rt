@@ -10,6 +10,7 @@ ghost use Rattle.co_node_model.specs.Inputs.{Applied, Framed, Inputs, InputView,
 ghost use Rattle.co_node_model.specs.Moments.{Constants};
 ghost use Rattle.co_node_model.specs.Device.{prescribed, frame_bound, moment, moments};
 ghost use Rattle.co_node_device.specs.MappingTables.{HaveParts};
+ghost use Rattle.co_node_model.specs.Marks.{marked_rpdo, marked_time_out};
 
 use crate::addresses::find_address;
 use crate::emergencies::{emergency_event, send_emergency, take_emergency};
@@ -25,7 +26,7 @@ use crate::tpdos::{send_tpdos, take_turn, turn_of};
 use co_dict::{ObjectStore, store_laws};
 use co_frame::{Frame, Outbox};
 use co_node_laws::{addresses_kept, few, mappings_kept, schedule_ready};
-use co_node_model::{Address, AppEvent, Marks};
+use co_node_model::{Address, AppEvent, Mark};
 use co_node_parts::Transition;
 
 /// A device over a dictionary: each SDO channel has room for every entry.
@@ -104,7 +105,7 @@ impl<S: ObjectStore> Device<S> {
     }
 
     // One input, whose frame and the address of who takes this go beside it. It is compiled anew for each call of it,
-    // for which most marks are known.
+    // for which the kind of the mark is mostly known.
     #[inline(always)]
     fn take(&mut self, given: Given<'_>, address: Address, frame: &Frame, outbox: &mut Outbox)
         ensures frames { (k : Constants) (inputs : Inputs) → Stands k self.old inputs →
@@ -130,8 +131,8 @@ impl<S: ObjectStore> Device<S> {
             outbox,
         );
         self.parts.last_app = received.app;
-        let transition = self.take_effect(&received.marks);
-        self.send(&received.marks, transition, outbox);
+        let transition = self.take_effect(&received.mark);
+        self.send(&received.mark, transition, outbox);
         // what follows holds of every device, and does nothing
         few();
         store_laws(&self.store);
@@ -139,35 +140,35 @@ impl<S: ObjectStore> Device<S> {
 
     // What was received takes effect: lost heartbeats, the NMT state, SDO transfers that are dropped, SYNC and RPDOs.
     #[inline(always)]
-    fn take_effect(&mut self, marks: &Marks) -> Transition
-        requires { IfSome marks.now.rpdo (λ rpdo. rpdo.number < 512) }
+    fn take_effect(&mut self, mark: &Mark) -> Transition
+        requires { IfSome (marked_rpdo mark.now) (λ rpdo. rpdo.number < 512) }
         ensures { (k : Constants) (inputs : Inputs) (input : InputView) →
-            HasReceived k self.old inputs input marks.now →
-            HasTakenEffect k self.new inputs input marks.now result }
+            HasReceived k self.old inputs input mark.now →
+            HasTakenEffect k self.new inputs input mark.now result }
     {
         let before = self.parts.state.get();
         let loss = watch(
             &mut self.store,
             &mut self.parts.consumers,
             &mut self.parts.emergencies,
-            marks,
+            mark,
             &mut self.parts.lost,
         );
-        self.parts.state.note(state_event(marks));
+        self.parts.state.note(state_event(mark));
         let changed = self.parts.state.note(loss);
         let after = changed.after;
         let transition = Transition { before, after };
-        drop_if(&mut self.parts.bank, drops(marks, transition));
-        self.parts.mappings.note(marks, &self.store);
+        drop_if(&mut self.parts.bank, drops(mark, transition));
+        self.parts.mappings.note(mark, &self.store);
         take_pdos(
             &mut self.store,
             &self.parts.mappings.rpdos,
             &mut self.parts.slots,
             &mut self.parts.emergencies,
-            marks,
+            mark,
             transition,
         );
-        self.parts.addresses.note(marks, &self.store);
+        self.parts.addresses.note(mark, &self.store);
         // these laws do nothing
         addresses_kept();
         mappings_kept();
@@ -177,26 +178,26 @@ impl<S: ObjectStore> Device<S> {
 
     // Puts what is sent besides SDO into the outbox: an emergency, the boot-up or a heartbeat, and TPDOs.
     #[inline(always)]
-    fn send(&mut self, marks: &Marks, transition: Transition, outbox: &mut Outbox)
+    fn send(&mut self, mark: &Mark, transition: Transition, outbox: &mut Outbox)
         requires room { length outbox.old.items ≤ segments_per_sub_block }
-        requires alone { may_be_due marks.now ≡ true →
-            length outbox.old.items ≤ (if marks.now.timed_out then 1 else 0) }
+        requires alone { may_be_due mark.now ≡ true →
+            length outbox.old.items ≤ (if marked_time_out mark.now then 1 else 0) }
         ensures frames { (k : Constants) (inputs : Inputs) (input : InputView) →
-            HasTakenEffect k self.old inputs input marks.now transition →
+            HasTakenEffect k self.old inputs input mark.now transition →
             outbox.new.items ≡ with_sent k (moment k (moments k inputs) input) outbox.old.items }
         ensures stands { (k : Constants) (inputs : Inputs) (input : InputView) →
-            HasTakenEffect k self.old inputs input marks.now transition →
+            HasTakenEffect k self.old inputs input mark.now transition →
             Stands k self.new (input ∷ inputs) }
     {
         let store = &self.store;
         let after = transition.after;
-        self.parts.emergencies.note(emergency_event(marks));
-        let emergency = take_emergency(store, &mut self.parts.emergencies, marks, after);
+        self.parts.emergencies.note(emergency_event(mark));
+        let emergency = take_emergency(store, &mut self.parts.emergencies, mark, after);
         send_emergency(store, emergency, outbox);
-        let is_due = self.parts.producer.note(producer_event(marks, store));
-        let life = life_of(marks, after, is_due);
+        let is_due = self.parts.producer.note(producer_event(mark, store));
+        let life = life_of(mark, after, is_due);
         send_life(store, life, outbox);
-        let turn = turn_of(marks, transition);
+        let turn = turn_of(mark, transition);
         take_turn(&mut self.parts.schedule, store, turn, &mut self.parts.due);
         send_tpdos(
             store,

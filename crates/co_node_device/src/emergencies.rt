@@ -27,10 +27,11 @@ ghost use Rattle.arrayvec.specs.ArrayVec.{array_vec_len};
 ghost use Rattle.co_frame.specs.Outboxes.{HasRoomFor};
 ghost use Rattle.co_dict.specs.Rows.{number_at};
 ghost use Rattle.co_profile.specs.Keys.{emergency_inhibit_key};
+ghost use Rattle.co_node_model.specs.Marks.{marked_time_out};
 
 use co_dict::{CobId, ObjectStore, number_u8, number_u16, number_u32, push_error, set_u8};
 use co_frame::{Emergency, Outbox};
-use co_node_model::{DeviceError, Marks};
+use co_node_model::{DeviceError, Mark};
 use co_node_parts::{Emergencies, EmergencyEvent, NodeState};
 use co_profile::keys;
 
@@ -124,12 +125,12 @@ pub(crate) fn clear<S: ObjectStore>(store: &mut S, bits: u8) -> Emergency
 
 /// What the input was to the emergencies, besides those that it raised.
 #[inline(always)]
-pub(crate) fn emergency_event(marks: &Marks) -> EmergencyEvent
-    ensures { result ≡ emergency_event marks.now }
+pub(crate) fn emergency_event(mark: &Mark) -> EmergencyEvent
+    ensures { result ≡ emergency_event mark.now }
 {
-    if marks.is_reset() {
+    if mark.is_reset() {
         EmergencyEvent::Empty
-    } else if marks.ticked {
+    } else if mark.is_tick() {
         EmergencyEvent::Tick
     } else {
         EmergencyEvent::Quiet
@@ -138,12 +139,12 @@ pub(crate) fn emergency_event(marks: &Marks) -> EmergencyEvent
 
 /// Whether an emergency may be sent at the end of the input, in the state after it.
 #[inline(always)]
-fn may_send<S: ObjectStore>(marks: &Marks, store: &S, after: NodeState) -> bool
-    ensures { result ≡ may_send marks.now after (S.contents store.now) }
+fn may_send<S: ObjectStore>(mark: &Mark, store: &S, after: NodeState) -> bool
+    ensures { result ≡ may_send mark.now after (S.contents store.now) }
 {
     after != NodeState::Stopped
         && CobId(number_u32(store, keys::EMERGENCY_COB_ID)).is_valid()
-        && !marks.timed_out
+        && !mark.is_time_out()
 }
 
 /// Takes the emergency that is sent at the end of an input, if one is, by the NMT state after it. The dictionary is
@@ -152,12 +153,12 @@ fn may_send<S: ObjectStore>(marks: &Marks, store: &S, after: NodeState) -> bool
 pub(crate) fn take_emergency<S: ObjectStore>(
     store: &S,
     emergencies: &mut Emergencies,
-    marks: &Marks,
+    mark: &Mark,
     after: NodeState,
 ) -> Option<Emergency>
     ensures due { (log : EmergencyLog) → EmergenciesStand emergencies.old log →
-        result ≡ emergency_due (may_send marks.now after (S.contents store.now)) log }
-    ensures alone { marks.now.timed_out ≡ true → result ≡ None }
+        result ≡ emergency_due (may_send mark.now after (S.contents store.now)) log }
+    ensures alone { marked_time_out mark.now ≡ true → result ≡ None }
     ensures stands { (log : EmergencyLog) → EmergenciesStand emergencies.old log →
         EmergenciesStand emergencies.new
         (with_sending result (number_at (S.contents store.now) emergency_inhibit_key) log) }
@@ -165,7 +166,7 @@ pub(crate) fn take_emergency<S: ObjectStore>(
     if !emergencies.is_ready() {
         return None;
     }
-    let may = may_send(marks, store, after);
+    let may = may_send(mark, store, after);
     let inhibit = number_u16(store, keys::EMERGENCY_INHIBIT_TIME);
     emergencies.send(may, inhibit)
 }

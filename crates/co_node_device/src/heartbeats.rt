@@ -14,7 +14,7 @@ ghost use Rattle.co_node_model.specs.Heartbeats.{
   loss_event,
   life_frames,
 };
-ghost use Rattle.co_node_model.specs.Moments.{nothing_of, quiet};
+ghost use Rattle.co_node_model.specs.Moments.{nothing_of};
 ghost use Rattle.co_node_model.specs.Keys.{is_set};
 ghost use Rattle.co_profile.specs.Keys.{producer_key};
 ghost use Rattle.co_node_parts.specs.ConsumerTables.{AllBegun, ConsumersLog, ConsumersStand};
@@ -25,12 +25,13 @@ ghost use Rattle.co_value.specs.declared.key.Key.{Key};
 ghost use Rattle.co_node_parts.specs.Producers.{ProducerStands};
 ghost use Rattle.arrayvec.specs.ArrayVec.{array_vec_len};
 ghost use Rattle.co_frame.specs.Outboxes.{HasRoomFor};
+ghost use Rattle.co_node_model.specs.Marks.{marked_key, marked_rpdo};
 
 use crate::emergencies::raise_and_queue;
 use arrayvec::ArrayVec;
 use co_dict::{ObjectStore, number_u8, number_u16, number_u32};
 use co_frame::{Frame, Heartbeat, Outbox};
-use co_node_model::{DeviceError, Marks};
+use co_node_model::{DeviceError, Mark};
 use co_node_parts::{
     ConsumersEvent, Emergencies, HeartbeatConsumers, HeartbeatProducer, LossReaction,
     LostHeartbeats, NodeState, ProducerEvent, StateEvent,
@@ -40,33 +41,32 @@ use co_value::Key;
 
 /// A heartbeat of another node, which a boot-up isn't, is heard (CiA 301, 7.2.8.3.2).
 #[inline(always)]
-pub(crate) fn take_error_control(node: u8, frame: &Frame) -> Marks
-    ensures marks { (input : InputView) (contents : Contents) → result
-        ≡ (with_error_control node frame.now (nothing_of input contents)).marks }
-    ensures rpdo { result.rpdo ≡ None }
+pub(crate) fn take_error_control(node: u8, frame: &Frame) -> Mark
+    ensures mark { (input : InputView) (contents : Contents) → result
+        ≡ (with_error_control node frame.now (nothing_of input contents)).mark }
+    ensures rpdo { marked_rpdo result ≡ None }
 {
     match Heartbeat::read(frame) {
-        None | Some(Heartbeat::BootUp) => Marks::quiet(),
-        Some(Heartbeat::Stopped | Heartbeat::Operational | Heartbeat::PreOperational) => Marks {
-            heard: Some(node),
-            ..Marks::quiet()
-        },
+        None | Some(Heartbeat::BootUp) => Mark::Quiet,
+        Some(Heartbeat::Stopped | Heartbeat::Operational | Heartbeat::PreOperational) => {
+            Mark::Heard(node)
+        }
     }
 }
 
 /// What the input was to the consumers of heartbeats, where it was no reset: at a reset all of
 /// them begin.
 #[inline(always)]
-fn consumers_event<S: ObjectStore>(marks: &Marks, store: &S) -> ConsumersEvent
-    ensures { result ≡ consumers_event marks.now (S.contents store.now) }
+fn consumers_event<S: ObjectStore>(mark: &Mark, store: &S) -> ConsumersEvent
+    ensures { result ≡ consumers_event mark.now (S.contents store.now) }
 {
-    if marks.ticked {
+    if mark.is_tick() {
         return ConsumersEvent::Tick;
     }
-    if let Some(node) = marks.heard {
+    if let Some(node) = mark.heard() {
         return ConsumersEvent::Heard(node);
     }
-    match marks.set {
+    match mark.written() {
         Some(key) if key.index == CONSUMER_HEARTBEAT && 1 <= key.sub && key.sub <= 127 => {
             ConsumersEvent::Begin(key.sub, number_u32(store, key))
         }
@@ -132,28 +132,28 @@ pub(crate) fn watch<S: ObjectStore>(
     store: &mut S,
     consumers: &mut HeartbeatConsumers,
     emergencies: &mut Emergencies,
-    marks: &Marks,
+    mark: &Mark,
     lost: &mut LostHeartbeats,
 ) -> StateEvent
     ensures description { S.description store.new ≡ S.description store.old }
     ensures loss { (log : ConsumersLog) → ConsumersStand consumers.old log → result ≡
-        loss_event (lost_now marks.now (S.contents store.old) log) (S.contents store.old) }
+        loss_event (lost_now mark.now (S.contents store.old) log) (S.contents store.old) }
     ensures contents { (log : ConsumersLog) → ConsumersStand consumers.old log →
         S.contents store.new ≡ all_raised (S.description store.old).rows
-        (loss_errors (lost_now marks.now (S.contents store.old) log)) (S.contents store.old) }
+        (loss_errors (lost_now mark.now (S.contents store.old) log)) (S.contents store.old) }
     ensures consumers { (log : ConsumersLog) → ConsumersStand consumers.old log →
-        ConsumersStand consumers.new (consumers_call marks.now (S.contents store.old) ∷ log) }
+        ConsumersStand consumers.new (consumers_call mark.now (S.contents store.old) ∷ log) }
     ensures emergencies { (log : ConsumersLog) (queued : EmergencyLog) →
         ConsumersStand consumers.old log → EmergenciesStand emergencies.old queued →
         EmergenciesStand emergencies.new (with_queued (emergencies_of
-        (S.description store.old).rows (loss_errors (lost_now marks.now (S.contents store.old)
+        (S.description store.old).rows (loss_errors (lost_now mark.now (S.contents store.old)
         log)) (S.contents store.old)) queued) }
 {
-    if marks.is_reset() {
+    if mark.is_reset() {
         begin_anew(store, consumers);
         return StateEvent::Quiet;
     }
-    consumers.note(consumers_event(marks, store), lost);
+    consumers.note(consumers_event(mark, store), lost);
     if lost.is_empty() {
         return StateEvent::Quiet;
     }
@@ -164,10 +164,10 @@ pub(crate) fn watch<S: ObjectStore>(
 
 /// Whether this key was written.
 #[inline(always)]
-fn is_set(marks: &Marks, key: Key) -> bool
-    ensures { result ≡ is_set marks.now.set key }
+fn is_set(mark: &Mark, key: Key) -> bool
+    ensures { result ≡ is_set (marked_key mark.now) key }
 {
-    match marks.set {
+    match mark.written() {
         Some(set) => set == key,
         None => false,
     }
@@ -175,12 +175,12 @@ fn is_set(marks: &Marks, key: Key) -> bool
 
 /// What the input was to the heartbeat producer.
 #[inline(always)]
-pub(crate) fn producer_event<S: ObjectStore>(marks: &Marks, store: &S) -> ProducerEvent
-    ensures { result ≡ producer_event marks.now (S.contents store.now) }
+pub(crate) fn producer_event<S: ObjectStore>(mark: &Mark, store: &S) -> ProducerEvent
+    ensures { result ≡ producer_event mark.now (S.contents store.now) }
 {
-    if marks.is_reset() || is_set(marks, keys::PRODUCER_HEARTBEAT) {
+    if mark.is_reset() || is_set(mark, keys::PRODUCER_HEARTBEAT) {
         ProducerEvent::Begin(number_u16(store, keys::PRODUCER_HEARTBEAT))
-    } else if marks.ticked {
+    } else if mark.is_tick() {
         ProducerEvent::Tick
     } else {
         ProducerEvent::Quiet
@@ -189,10 +189,10 @@ pub(crate) fn producer_event<S: ObjectStore>(marks: &Marks, store: &S) -> Produc
 
 /// The boot-up at a reset; else the heartbeat of the state after the input, where one is due.
 #[inline(always)]
-pub(crate) fn life_of(marks: &Marks, after: NodeState, is_due: bool) -> Option<Heartbeat>
-    ensures { result ≡ life_of marks.now after is_due }
+pub(crate) fn life_of(mark: &Mark, after: NodeState, is_due: bool) -> Option<Heartbeat>
+    ensures { result ≡ life_of mark.now after is_due }
 {
-    if marks.is_reset() {
+    if mark.is_reset() {
         Some(Heartbeat::BootUp)
     } else if is_due {
         Some(after.heartbeat())

@@ -12,7 +12,7 @@ ghost use Rattle.co_pdo.specs.Images.{answered, contents_after, fault_of, image_
 ghost use Rattle.co_pdo.specs.Mappings.{mapping_of, total_of};
 
 use co_dict::{ObjectStore, Side};
-use co_node_model::Marks;
+use co_node_model::Mark;
 use co_pdo::{PdoFault, PdoNumber, has_pdo};
 use co_pdo_compiled::{Compiled, apply_at, image_at, mapping_by_words};
 use co_profile::IndexRange;
@@ -47,10 +47,10 @@ fn is_mapping_set(set: Option<Key>) -> bool
 
 /// Whether an input may have changed what a PDO maps: it was a reset, or a mapping parameter was written.
 #[inline(always)]
-fn may_change_mappings(marks: &Marks) -> bool
-    ensures { result ≡ may_change_mappings marks.now }
+fn may_change_mappings(mark: &Mark) -> bool
+    ensures { result ≡ may_change_mappings mark.now }
 {
-    marks.is_reset() || is_mapping_set(marks.set)
+    mark.is_reset() || is_mapping_set(mark.written())
 }
 
 /// How many PDOs of a side there are up to the last one that the dictionary has.
@@ -125,15 +125,15 @@ impl MappingTable {
     /// Follows the dictionary over an input: the mappings are compiled anew where that may have changed what a PDO
     /// maps, at a reset and where a mapping parameter was written.
     #[inline(always)]
-    pub fn note<S: ObjectStore>(&mut self, marks: &Marks, store: &S, side: Side)
+    pub fn note<S: ObjectStore>(&mut self, mark: &Mark, store: &S, side: Side)
         ensures table { (before : Contents) →
             IsMappingTable side (S.description store.now) before self.old →
-            (may_change_mappings marks.now ≡ false → AgreeOnMappings before (S.contents store.now)) →
+            (may_change_mappings mark.now ≡ false → AgreeOnMappings before (S.contents store.now)) →
             IsMappingTable side (S.description store.now) (S.contents store.now) self.new }
         ensures parts { HaveParts (S.description store.now) self.old →
             HaveParts (S.description store.now) self.new }
     {
-        if may_change_mappings(marks) {
+        if may_change_mappings(mark) {
             compile_all(&mut self.pdos, store, side);
         } else {
             mapping_by_words();

@@ -10,7 +10,7 @@ ghost use Rattle.co_node_device.specs.MappingTables.{AreMappings, HaveParts};
 
 use crate::mapping_table::MappingTable;
 use co_dict::{ObjectStore, Side};
-use co_node_model::Marks;
+use co_node_model::Mark;
 use co_pdo::PdoNumber;
 use co_pdo_compiled::Compiled;
 use std::alloc::{AllocError, Global};
@@ -40,17 +40,17 @@ impl CompiledMappings {
     /// Follows the dictionary over an input: the mappings are compiled anew at a reset and where a mapping parameter
     /// was written.
     #[inline(always)]
-    pub fn note<S: ObjectStore>(&mut self, marks: &Marks, store: &S)
+    pub fn note<S: ObjectStore>(&mut self, mark: &Mark, store: &S)
         ensures mappings { (before : Contents) → AreMappings (S.description store.now) before self.old →
-            (may_change_mappings marks.now ≡ false → AgreeOnMappings before (S.contents store.now)) →
+            (may_change_mappings mark.now ≡ false → AgreeOnMappings before (S.contents store.now)) →
             AreMappings (S.description store.now) (S.contents store.now) self.new }
         ensures rpdos { HaveParts (S.description store.now) self.old.rpdos →
             HaveParts (S.description store.now) self.new.rpdos }
         ensures tpdos { HaveParts (S.description store.now) self.old.tpdos →
             HaveParts (S.description store.now) self.new.tpdos }
     {
-        self.rpdos.note(marks, store, Side::Rpdo);
-        self.tpdos.note(marks, store, Side::Tpdo);
+        self.rpdos.note(mark, store, Side::Rpdo);
+        self.tpdos.note(mark, store, Side::Tpdo);
     }
 
     /// The compiled mapping of PDO k of a side. Each PDO that the dictionary has is there.

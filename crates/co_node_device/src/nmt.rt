@@ -3,12 +3,11 @@
 ghost use Rattle.std.specs.Prelude.{◌≡◌, None};
 ghost use Rattle.co_frame.specs.Nmt.{nmt_command_in};
 ghost use Rattle.co_node_model.specs.Nmt.{after_service, service_for, state_event};
-ghost use Rattle.co_node_device.specs.Receiving.{command_marks};
-ghost use Rattle.co_node_model.specs.Moments.{quiet};
+ghost use Rattle.co_node_model.specs.Marks.{command_mark};
 
 use co_dict::{Area, ObjectStore};
 use co_frame::{Frame, NmtCommand, NmtService};
-use co_node_model::Marks;
+use co_node_model::Mark;
 use co_node_parts::StateEvent;
 
 /// The service of a command for this node or for all nodes (CiA 301, 7.2.8.3.1).
@@ -25,8 +24,8 @@ fn service_for<S: ObjectStore>(store: &S, frame: &Frame) -> Option<NmtService>
 }
 
 /// A command for this node or for all nodes restores the area that it resets (CiA 301, 7.2.8.3.1).
-pub(crate) fn take_command<S: ObjectStore>(store: &mut S, frame: &Frame) -> Marks
-    ensures marks { result ≡ command_marks (service_for
+pub(crate) fn take_command<S: ObjectStore>(store: &mut S, frame: &Frame) -> Mark
+    ensures mark { result ≡ command_mark (service_for
         (S.description store.old).node (nmt_command_in frame.now)) }
     ensures contents { S.contents store.new ≡ after_service
         (S.description store.old).initial (service_for (S.description store.old).node
@@ -39,18 +38,15 @@ pub(crate) fn take_command<S: ObjectStore>(store: &mut S, frame: &Frame) -> Mark
         Some(NmtService::ResetCommunication) => store.reset(Area::Communication),
         Some(NmtService::Start | NmtService::Stop | NmtService::EnterPreOperational) | None => {}
     }
-    Marks {
-        command: service,
-        ..Marks::quiet()
-    }
+    Mark::of_command(service)
 }
 
 /// What the input was to the NMT state, besides heartbeats that are lost at it.
 #[inline(always)]
-pub(crate) fn state_event(marks: &Marks) -> StateEvent
-    ensures { result ≡ state_event marks.now }
+pub(crate) fn state_event(mark: &Mark) -> StateEvent
+    ensures { result ≡ state_event mark.now }
 {
-    match marks.command {
+    match mark.command() {
         Some(service) => StateEvent::Command(service),
         None => StateEvent::Quiet,
     }

@@ -14,6 +14,7 @@ ghost use Rattle.co_node_device.specs.Receiving.{IsFrameReceived, frame_moment, 
 ghost use Rattle.co_node_parts.specs.EmergencyQueues.{EmergencyLog, EmergenciesStand, with_queued};
 ghost use Rattle.co_node_model.specs.Device.{received_at};
 ghost use Rattle.co_node_device.specs.Given.{given_view};
+ghost use Rattle.co_node_model.specs.Marks.{marked_rpdo, marked_time_out};
 
 use crate::app_events::{change, clear_errors, event, raise, write};
 use crate::given::Given;
@@ -24,7 +25,7 @@ use crate::sdo::{take_request, take_tick};
 use crate::sync::take_sync;
 use co_dict::ObjectStore;
 use co_frame::{Frame, Outbox};
-use co_node_model::{Address, AppAnswer, Marks};
+use co_node_model::{Address, AppAnswer, Mark};
 use co_node_parts::{Emergencies, NodeState};
 use co_sdo_bank::Bank;
 
@@ -37,12 +38,12 @@ fn take_frame<S: ObjectStore>(
     address: Address,
     frame: &Frame,
     outbox: &mut Outbox,
-) -> Marks
+) -> Mark
     requires outbox { HasRoomFor segments_per_sub_block outbox.old }
     requires room { HaveRoom (S.description store.old).rows (all_settings bank.old) }
     ensures few { array_vec_len outbox.new ≤ array_vec_len outbox.old + segments_per_sub_block }
     ensures alone { may_be_due result ≡ true → array_vec_len outbox.new ≡ array_vec_len outbox.old }
-    ensures number { IfSome result.rpdo (λ rpdo. rpdo.number < 512) }
+    ensures number { IfSome (marked_rpdo result) (λ rpdo. rpdo.number < 512) }
     ensures settings { all_settings bank.new ≡ all_settings bank.old }
     ensures description { S.description store.new ≡ S.description store.old }
     ensures received { (k : Constants) (history : History) →
@@ -57,7 +58,7 @@ fn take_frame<S: ObjectStore>(
         Address::Channel(_) => take_request(store, bank, state, frame, outbox),
         Address::Rpdo(number) => take_rpdo(state, number, frame),
         Address::ErrorControl(node) => take_error_control(node, frame),
-        Address::Nobody => Marks::quiet(),
+        Address::Nobody => Mark::Quiet,
     }
 }
 
@@ -65,7 +66,7 @@ fn take_frame<S: ObjectStore>(
 #[derive(Clone, Copy, Debug)]
 pub(crate) struct Received {
     /// What it was to the parts of the device.
-    pub(crate) marks: Marks,
+    pub(crate) mark: Mark,
     /// The answer to an application event.
     pub(crate) app: AppAnswer,
 }
@@ -88,15 +89,15 @@ pub(crate) fn receive<S: ObjectStore>(
     requires outbox { HasRoomFor segments_per_sub_block outbox.old }
     requires room { HaveRoom (S.description store.old).rows (all_settings bank.old) }
     ensures few { array_vec_len outbox.new ≤ array_vec_len outbox.old + segments_per_sub_block }
-    ensures alone { may_be_due result.marks ≡ true → array_vec_len outbox.new ≤
-        array_vec_len outbox.old + (if result.marks.timed_out then 1 else 0) }
-    ensures number { IfSome result.marks.rpdo (λ rpdo. rpdo.number < 512) }
+    ensures alone { may_be_due result.mark ≡ true → array_vec_len outbox.new ≤
+        array_vec_len outbox.old + (if marked_time_out result.mark then 1 else 0) }
+    ensures number { IfSome (marked_rpdo result.mark) (λ rpdo. rpdo.number < 512) }
     ensures settings { all_settings bank.new ≡ all_settings bank.old }
     ensures description { S.description store.new ≡ S.description store.old }
-    ensures marks { (k : Constants) (history : History) →
+    ensures mark { (k : Constants) (history : History) →
         IsBefore k history (S.description store.old) (S.contents store.old) bank.old state →
         IsAddressed k history given.entry address frame.now →
-        result.marks ≡ (received_at k history (given_view given.entry frame.now)).marks }
+        result.mark ≡ (received_at k history (given_view given.entry frame.now)).mark }
     ensures app { (k : Constants) (history : History) →
         IsBefore k history (S.description store.old) (S.contents store.old) bank.old state →
         IsAddressed k history given.entry address frame.now →
@@ -124,11 +125,11 @@ pub(crate) fn receive<S: ObjectStore>(
 {
     match given {
         Given::Frame => Received {
-            marks: take_frame(store, bank, state, address, frame, outbox),
+            mark: take_frame(store, bank, state, address, frame, outbox),
             app: AppAnswer::None,
         },
         Given::Tick => Received {
-            marks: take_tick(bank, outbox),
+            mark: take_tick(bank, outbox),
             app: AppAnswer::None,
         },
         Given::Write(key, bytes) => write(store, key, bytes),

@@ -31,6 +31,7 @@ ghost use Rattle.co_pdo.specs.Images.{answered};
 ghost use Rattle.co_node_model.specs.Emergencies.{all_raised, emergencies_of};
 ghost use Rattle.co_node_parts.specs.RpdoSlots.{SlotLog, SlotsStand};
 ghost use Rattle.co_node_device.specs.Effects.{length_errors_of, after_lengths, after_effects, effect_emergencies};
+ghost use Rattle.co_node_model.specs.Marks.{marked_rpdo};
 
 use crate::emergencies::{raise_and_queue, raise_some};
 use crate::mapping_table::{MappingTable, mappings_stay};
@@ -38,7 +39,7 @@ use crate::sync::sync_error;
 use co_dict::{ObjectStore, number_u8};
 use co_frame::Frame;
 use co_node_laws::settings_kept;
-use co_node_model::{DeviceError, Marks};
+use co_node_model::{DeviceError, Mark};
 use co_node_parts::{Emergencies, KeptFrame, NodeState, RpdoSlots, SlotEvent, Transition};
 use co_pdo::{PdoFault, PdoNumber};
 use co_profile::{IndexRange, PDO_COB_ID, TRANSMISSION_TYPE, TransmissionType};
@@ -46,21 +47,18 @@ use co_value::Key;
 
 /// An RPDO's frame counts in operational (CiA 301, 7.2.2).
 #[inline(always)]
-pub(crate) fn take_rpdo(state: NodeState, number: PdoNumber, frame: &Frame) -> Marks
-    ensures marks { (input : InputView) (contents : Contents) → result
-        ≡ (with_rpdo number state frame.now (nothing_of input contents)).marks }
-    ensures number { IfSome result.rpdo (λ rpdo. rpdo.number < 512) }
+pub(crate) fn take_rpdo(state: NodeState, number: PdoNumber, frame: &Frame) -> Mark
+    ensures mark { (input : InputView) (contents : Contents) → result
+        ≡ (with_rpdo number state frame.now (nothing_of input contents)).mark }
+    ensures number { IfSome (marked_rpdo result) (λ rpdo. rpdo.number < 512) }
 {
     if state != NodeState::Operational {
-        return Marks::quiet();
+        return Mark::Quiet;
     }
-    Marks {
-        rpdo: Some(KeptFrame {
-            number: number.get(),
-            frame: *frame,
-        }),
-        ..Marks::quiet()
-    }
+    Mark::Rpdo(KeptFrame {
+        number: number.get(),
+        frame: *frame,
+    })
 }
 
 /// The transmission type of RPDO k, 0 to 511; 0 where there is none (CiA 301, 7.5.2.35).
@@ -134,21 +132,21 @@ fn kept_by(kind: u8, mapped: usize, rpdo: &Option<KeptFrame>) -> SlotEvent
 /// What the input was to the RPDO frames that wait for a SYNC, by the states before and after it. The RPDO whose frame
 /// came has this type, and maps so many bytes.
 #[inline(always)]
-fn slot_event(marks: &Marks, kind: u8, mapped: usize, transition: Transition) -> SlotEvent
+fn slot_event(mark: &Mark, kind: u8, mapped: usize, transition: Transition) -> SlotEvent
     ensures { (d : Description) (contents : Contents) →
-        IsTypeOf contents marks.now.rpdo kind → IsMappedLength d contents marks.now.rpdo mapped →
-        result ≡ slot_event d contents marks.now transition }
+        IsTypeOf contents (marked_rpdo mark.now) kind → IsMappedLength d contents (marked_rpdo mark.now) mapped →
+        result ≡ slot_event d contents mark.now transition }
 {
-    if marks.is_reset() || transition.leaves(NodeState::Operational) {
+    if mark.is_reset() || transition.leaves(NodeState::Operational) {
         return SlotEvent::EmptyAll;
     }
-    if marks.sync.is_some() && transition.after == NodeState::Operational {
+    if mark.sync().is_some() && transition.after == NodeState::Operational {
         return SlotEvent::Sync;
     }
-    if marks.set.is_some() {
-        return emptied_by(marks.set);
+    if mark.written().is_some() {
+        return emptied_by(mark.written());
     }
-    kept_by(kind, mapped, &marks.rpdo)
+    kept_by(kind, mapped, &mark.rpdo())
 }
 
 /// The error of the length of an RPDO's frame, if one came and has it, where the RPDO maps so many bytes: 8210h where
@@ -239,22 +237,22 @@ fn take_data<S: ObjectStore>(
 fn raise_lengths<S: ObjectStore>(
     store: &mut S,
     emergencies: &mut Emergencies,
-    marks: &Marks,
+    mark: &Mark,
     mapped: usize,
 )
     ensures description { S.description store.new ≡ S.description store.old }
-    ensures contents { IsMappedLength (S.description store.old) (S.contents store.old) marks.now.rpdo mapped →
+    ensures contents { IsMappedLength (S.description store.old) (S.contents store.old) (marked_rpdo mark.now) mapped →
         S.contents store.new ≡
-        after_lengths (S.description store.old) (S.contents store.old) marks.now }
+        after_lengths (S.description store.old) (S.contents store.old) mark.now }
     ensures emergencies { (queued : EmergencyLog) →
-        IsMappedLength (S.description store.old) (S.contents store.old) marks.now.rpdo mapped →
+        IsMappedLength (S.description store.old) (S.contents store.old) (marked_rpdo mark.now) mapped →
         EmergenciesStand emergencies.old queued →
         EmergenciesStand emergencies.new (with_queued (emergencies_of (S.description store.old).rows
-        (length_errors_of (S.description store.old) (S.contents store.old) marks.now)
+        (length_errors_of (S.description store.old) (S.contents store.old) mark.now)
         (S.contents store.old)) queued) }
 {
-    let of_sync = sync_error(store, &marks.sync);
-    let of_rpdo = rpdo_error(mapped, &marks.rpdo);
+    let of_sync = sync_error(store, &mark.sync());
+    let of_rpdo = rpdo_error(mapped, &mark.rpdo());
     raise_some(store, emergencies, of_sync);
     raise_some(store, emergencies, of_rpdo);
 }
@@ -343,33 +341,33 @@ pub(crate) fn take_pdos<S: ObjectStore>(
     mappings: &MappingTable,
     slots: &mut RpdoSlots,
     emergencies: &mut Emergencies,
-    marks: &Marks,
+    mark: &Mark,
     transition: Transition,
 )
-    requires number { IfSome marks.now.rpdo (λ rpdo. rpdo.number < 512) }
+    requires number { IfSome (marked_rpdo mark.now) (λ rpdo. rpdo.number < 512) }
     requires parts { HaveParts (S.description store.old) mappings.now }
     ensures description { S.description store.new ≡ S.description store.old }
     ensures slots { (log : SlotLog) →
         IsMappingTable Rpdo (S.description store.old) (S.contents store.old) mappings.now →
         SlotsStand 512 slots.old log → SlotsStand 512 slots.new
-        (slot_event (S.description store.old) (S.contents store.old) marks.now transition ∷ log) }
+        (slot_event (S.description store.old) (S.contents store.old) mark.now transition ∷ log) }
     ensures contents { (log : SlotLog) →
         IsMappingTable Rpdo (S.description store.old) (S.contents store.old) mappings.now →
         SlotsStand 512 slots.old log → S.contents store.new ≡
-        after_effects (S.description store.old) (S.contents store.old) marks.now transition log }
+        after_effects (S.description store.old) (S.contents store.old) mark.now transition log }
     ensures emergencies { (log : SlotLog) (queued : EmergencyLog) →
         IsMappingTable Rpdo (S.description store.old) (S.contents store.old) mappings.now →
         SlotsStand 512 slots.old log → EmergenciesStand emergencies.old queued →
         EmergenciesStand emergencies.new (with_queued (effect_emergencies
-        (S.description store.old) (S.contents store.old) marks.now transition log) queued) }
+        (S.description store.old) (S.contents store.old) mark.now transition log) queued) }
 {
-    // lent out in place of the marks, so that what is known of these stays known
-    let rpdo = marks.rpdo;
+    // lent out in place of the mark, so that what is known of it stays known
+    let rpdo = mark.rpdo();
     let mapped = mapped_length(mappings, &rpdo);
     let kind = type_of(store, &rpdo);
-    slots.note(slot_event(marks, kind, mapped, transition));
+    slots.note(slot_event(mark, kind, mapped, transition));
     let at_once = is_immediate(kind, mapped, &rpdo);
-    raise_lengths(store, emergencies, marks, mapped);
+    raise_lengths(store, emergencies, mark, mapped);
     take_all_data(store, mappings, emergencies, slots.taken());
     take_at_once(store, mappings, emergencies, &rpdo, at_once);
     // these laws do nothing

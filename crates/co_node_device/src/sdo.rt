@@ -12,16 +12,17 @@ ghost use Rattle.co_sdo_bank.specs.Events.{frames_at, logs_after, time_out_of, w
 ghost use Rattle.co_node_model.specs.declared.address.Address.TheVariants.{Channel};
 ghost use Rattle.co_node_model.specs.Moments.{Constants, History};
 ghost use Rattle.co_node_device.specs.Befores.{IsBefore};
-ghost use Rattle.co_node_device.specs.Receiving.{IsFrameReceived, frame_moment, may_be_due, tick_marks};
+ghost use Rattle.co_node_device.specs.Receiving.{IsFrameReceived, frame_moment, may_be_due, tick_mark};
 ghost use Rattle.co_node_parts.specs.NmtStates.{enters};
 ghost use Rattle.co_node_parts.specs.declared.nmt_state.NodeState.TheVariants.{Stopped};
 ghost use Rattle.co_node_model.specs.Nmt.{is_reset};
 ghost use Rattle.co_node_model.specs.Sdo.{with_drop};
 ghost use Rattle.co_node_model.specs.Inputs.{Ticked};
+ghost use Rattle.co_node_model.specs.Marks.{marked_rpdo, marked_time_out};
 
 use co_dict::ObjectStore;
 use co_frame::{Frame, Outbox};
-use co_node_model::Marks;
+use co_node_model::Mark;
 use co_node_parts::{NodeState, Transition};
 use co_sdo_bank::Bank;
 
@@ -33,13 +34,13 @@ pub(crate) fn take_request<S: ObjectStore>(
     state: NodeState,
     frame: &Frame,
     outbox: &mut Outbox,
-) -> Marks
+) -> Mark
     requires outbox { HasRoomFor segments_per_sub_block outbox.old }
     requires room { HaveRoom (S.description store.old).rows (all_settings bank.old) }
     ensures few { array_vec_len outbox.new ≤ array_vec_len outbox.old + segments_per_sub_block }
     ensures settings { all_settings bank.new ≡ all_settings bank.old }
     ensures description { S.description store.new ≡ S.description store.old }
-    ensures rpdo { result.rpdo ≡ None }
+    ensures rpdo { marked_rpdo result ≡ None }
     ensures alone { may_be_due result ≡ false }
     ensures received { (k : Constants) (history : History) (number : ℕ) →
         IsBefore k history (S.description store.old) (S.contents store.old) bank.old state →
@@ -48,26 +49,23 @@ pub(crate) fn take_request<S: ObjectStore>(
         outbox.old.items outbox.new.items bank.new }
 {
     if state == NodeState::Stopped {
-        return Marks::quiet();
+        return Mark::Quiet;
     }
     let set = bank.take(store, frame, outbox);
-    Marks {
-        set,
-        ..Marks::quiet()
-    }
+    Mark::of_write(set)
 }
 
 /// 1 ms elapsed: of the SDO channels whose time is over the lowest gives up its transfer.
 #[inline(always)]
-pub(crate) fn take_tick(bank: &mut Bank, outbox: &mut Outbox) -> Marks
+pub(crate) fn take_tick(bank: &mut Bank, outbox: &mut Outbox) -> Mark
     requires { HasRoomFor 1 outbox.old }
     ensures few { array_vec_len outbox.new ≤
-        array_vec_len outbox.old + (if result.timed_out then 1 else 0) }
-    ensures rpdo { result.rpdo ≡ None }
+        array_vec_len outbox.old + (if marked_time_out result then 1 else 0) }
+    ensures rpdo { marked_rpdo result ≡ None }
     ensures settings { all_settings bank.new ≡ all_settings bank.old }
-    ensures marks { (d : Description) (channels : List ChannelSettings) (logs : ℕ → Log) →
+    ensures mark { (d : Description) (channels : List ChannelSettings) (logs : ℕ → Log) →
         BankStands d channels bank.old logs →
-        result ≡ tick_marks (time_out_of channels (with_each Ticked logs)) }
+        result ≡ tick_mark (time_out_of channels (with_each Ticked logs)) }
     ensures frames { (d : Description) (channels : List ChannelSettings) (logs : ℕ → Log) →
         BankStands d channels bank.old logs → outbox.new.items ≡
         outbox.old.items ++ frames_at (time_out_of channels (with_each Ticked logs)) }
@@ -76,18 +74,14 @@ pub(crate) fn take_tick(bank: &mut Bank, outbox: &mut Outbox) -> Marks
         (time_out_of channels (with_each Ticked logs)) (with_each Ticked logs)) }
 {
     let timed_out = bank.tick(outbox);
-    Marks {
-        ticked: true,
-        timed_out: timed_out.is_some(),
-        ..Marks::quiet()
-    }
+    Mark::Tick(timed_out.is_some())
 }
 
 /// A reset, and entering stopped, drop the transfers of all SDO channels.
-pub(crate) fn drops(marks: &Marks, transition: Transition) -> bool
-    ensures { result ≡ is_reset marks.now || enters Stopped transition }
+pub(crate) fn drops(mark: &Mark, transition: Transition) -> bool
+    ensures { result ≡ is_reset mark.now || enters Stopped transition }
 {
-    marks.is_reset() || transition.enters(NodeState::Stopped)
+    mark.is_reset() || transition.enters(NodeState::Stopped)
 }
 
 /// Drops the transfers of all SDO channels, or doesn't.

@@ -4,29 +4,27 @@ ghost use Rattle.std.specs.Prelude.{◌≡◌, None, []};
 ghost use Rattle.co_dict.specs.Rows.{Contents};
 ghost use Rattle.co_node_model.specs.Inputs.{InputView};
 ghost use Rattle.co_node_model.specs.Sync.{with_sync, counter_in, sync_length, sync_errors};
-ghost use Rattle.co_node_model.specs.Moments.{nothing_of, quiet};
+ghost use Rattle.co_node_model.specs.Moments.{nothing_of};
 ghost use Rattle.std.specs.List.{cons_option};
+ghost use Rattle.co_node_model.specs.Marks.{marked_rpdo};
 
 use co_dict::{ObjectStore, number_u8};
 use co_frame::{Frame, Sync};
-use co_node_model::{DeviceError, Marks};
+use co_node_model::{DeviceError, Mark};
 use co_node_parts::NodeState;
 use co_profile::keys;
 
 /// A SYNC counts unless the device is stopped (CiA 301, 7.2.5).
 #[inline(always)]
-pub(crate) fn take_sync(state: NodeState, frame: &Frame) -> Marks
-    ensures marks { (input : InputView) (contents : Contents) → result
-        ≡ (with_sync state frame.now (nothing_of input contents)).marks }
-    ensures rpdo { result.rpdo ≡ None }
+pub(crate) fn take_sync(state: NodeState, frame: &Frame) -> Mark
+    ensures mark { (input : InputView) (contents : Contents) → result
+        ≡ (with_sync state frame.now (nothing_of input contents)).mark }
+    ensures rpdo { marked_rpdo result ≡ None }
 {
     if state == NodeState::Stopped {
-        return Marks::quiet();
+        return Mark::Quiet;
     }
-    Marks {
-        sync: Some(*frame),
-        ..Marks::quiet()
-    }
+    Mark::Sync(*frame)
 }
 
 /// The counter of a SYNC: its byte, where it has exactly one.

@@ -25,7 +25,7 @@ use crate::sync::counter_in;
 use arrayvec::ArrayVec;
 use co_dict::{ObjectStore, Side};
 use co_frame::{Frame, Outbox};
-use co_node_model::{Asked, Marks, Turn};
+use co_node_model::{Asked, Mark, Turn};
 use co_node_parts::{NodeState, Transition};
 use co_pdo::{Due, Mapped, Mapping, Part, PdoNumber, Schedule, is_active};
 use co_profile::{EVENT_TIMER, IndexRange, PDO_COB_ID, TRANSMISSION_TYPE};
@@ -107,9 +107,9 @@ fn turn_by_write(key: Key) -> Turn
 
 /// What the input was to the schedule of TPDOs, by the states before and after it.
 #[inline(always)]
-pub(crate) fn turn_of(marks: &Marks, transition: Transition) -> Turn
-    ensures turn { result ≡ turn_of marks.now transition }
-    ensures asked { is_asked result ≡ true → may_be_due marks.now ≡ true }
+pub(crate) fn turn_of(mark: &Mark, transition: Transition) -> Turn
+    ensures turn { result ≡ turn_of mark.now transition }
+    ensures asked { is_asked result ≡ true → may_be_due mark.now ≡ true }
 {
     if transition.after != NodeState::Operational {
         return Turn::Quiet;
@@ -117,16 +117,16 @@ pub(crate) fn turn_of(marks: &Marks, transition: Transition) -> Turn
     if transition.before != NodeState::Operational {
         return Turn::StartAll;
     }
-    if let Some(key) = marks.set {
+    if let Some(key) = mark.written() {
         return turn_by_write(key);
     }
-    if marks.ticked {
+    if mark.is_tick() {
         return Turn::Tick;
     }
-    if let Some(frame) = marks.sync {
+    if let Some(frame) = mark.sync() {
         return Turn::Sync(counter_in(&frame));
     }
-    match marks.asked {
+    match mark.asked() {
         Some(asked) => Turn::Asked(asked),
         None => Turn::Quiet,
     }

@@ -1,9 +1,10 @@
 //! The device of the table of replies, and what it does with frames in text.
 
 use co_dict_build::Limits;
+use co_fixtures::{MANUFACTURER, sheet_of};
 use co_frame::{Frame, Outbox};
 use co_node::{AppEvent, Config, Input, Node};
-use co_sdo_scripts::{SHEET, frame_of};
+use co_sdo_scripts::{DEFAULTS, frame_of};
 use co_sheet::read;
 use co_value::Key;
 use std::alloc::Global;
@@ -21,7 +22,8 @@ pub(crate) const INITIAL: &[u8] = b"0123456789";
 
 /// The device at node-ID 5.
 pub(crate) fn device(alloc: Global) -> Result<Node, Fail> {
-    let sheet = read(alloc, SHEET.as_bytes())?;
+    let text = sheet_of(alloc, &[], &[MANUFACTURER], DEFAULTS)?;
+    let sheet = read(alloc, text.as_bytes())?;
     let config = Config {
         limits: Limits {
             strings: 12,
@@ -52,7 +54,8 @@ pub(crate) fn write(node: &mut Node, key: Key, bytes: &[u8], sent: &mut Outbox) 
     step(node, None, Some(AppEvent::Write(key, bytes)), sent);
 }
 
-/// Whether a dialogue goes so: the requests in this text (605h) get the answers (585h) that come after each, and no other.
+/// Whether a dialogue goes so: the requests in this text (605h) get the answers (585h) that come after each, and no
+/// other.
 pub(crate) fn shows(rt: &impl Abort, node: &mut Node, dialogue: &str) -> Result<(), Fail> {
     let mut sent = Outbox::new();
     let mut seen = 0usize;

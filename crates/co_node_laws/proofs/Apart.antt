@@ -26,7 +26,7 @@ use Rattle.co_node_model.specs.Sync.{is_sync_id}
 use Rattle.co_node_model.specs.AppEvents.{event_refusal, with_app_event}
 use Rattle.co_node_model.specs.Inputs.{AppView, Applied, ChangedAt, Cleared, EventOn, Framed, InputView, Inputs, Raised, Ticked, Written}
 use Rattle.co_profile.specs.Keys.{emergency_key, sync_key}
-use Rattle.co_node_model.specs.Nmt.{is_reset, state_at, after_service, service_for}
+use Rattle.co_node_model.specs.Nmt.{is_reset, is_reset_by, state_at, after_service, service_for}
 use Rattle.co_node_model.specs.declared.address.Address.{Address}
 use Rattle.co_node_model.specs.declared.address.Address.TheVariants.{Channel, ErrorControl, Nmt, Nobody, Rpdo, Sync}
 use Rattle.co_node_laws.specs.Settings.{HasSameSettings}
@@ -34,11 +34,13 @@ use Rattle.co_node_model.specs.Moments.{Constants, History, Moment, nothing_of}
 use Rattle.co_node_model.specs.Device.{moment, with_frame, contents_of, moments}
 use Rattle.co_node_model.specs.Addresses.{address_at}
 use Rattle.co_node_model.specs.Heartbeats.{is_heartbeat}
+use Rattle.co_node_model.specs.Marks.{marked_key}
 use Rattle.co_node_laws.proofs.Below.{Below}
 use Rattle.co_node_laws.proofs.Changed.{by_address}
 use Rattle.co_node_laws.proofs.Received.{MayBecome, changed}
 use Rattle.co_node_laws.proofs.Writes.{IsWrite, number_kept, number_same}
 use Rattle.co_node_laws.specs.Apart.{AreApart, BeginsApart, is_emergency_id}
+use Rattle.co_node_laws.proofs.MarkLemmas.{written_command}
 
 -- ---- words
 
@@ -170,7 +172,7 @@ by_service node initial c (Some ResetCommunication) begins apart = same_words no
 
 -- ---- inputs that are no reset
 
-of_either : (b : Bool) (x y : Moment) → is_reset x.marks ≡ false → is_reset y.marks ≡ false → is_reset (if b then x else y).marks ≡ false
+of_either : (b : Bool) (x y : Moment) → is_reset x.mark ≡ false → is_reset y.mark ≡ false → is_reset (if b then x else y).mark ≡ false
 of_either true x y p q = p
 of_either false x y p q = q
 
@@ -178,15 +180,15 @@ abbrev is_command : Address → Bool
 is_command Nmt = true
 is_command address = false
 
-no_reset : (k : Constants) (history : History) (address : Address) (frame : FrameContent) (input : InputView) (c : Contents) → is_command address ≡ false → is_reset (with_frame k history address frame (nothing_of input c)).marks ≡ false
+no_reset : (k : Constants) (history : History) (address : Address) (frame : FrameContent) (input : InputView) (c : Contents) → is_command address ≡ false → is_reset (with_frame k history address frame (nothing_of input c)).mark ≡ false
 no_reset k history Nmt frame input c off = absurd (cc)
 no_reset k history Sync frame input c off = of_either (is_state Stopped (state_at history)) _ _ refl refl
-no_reset k history (Channel j) frame input c off = of_either (is_state Stopped (state_at history)) _ _ refl refl
+no_reset k history (Channel j) frame input c off = of_either (is_state Stopped (state_at history)) _ _ refl (ap is_reset_by (written_command _))
 no_reset k history (Rpdo n) frame input c off = of_either (is_state Operational (state_at history)) _ _ refl refl
 no_reset k history (ErrorControl node) frame input c off = of_either (is_heartbeat (heartbeat_in frame.bytes)) _ _ refl refl
 no_reset k history Nobody frame input c off = refl
 
-no_reset_event : (d : Description) (event : AppView) (refusal : Option ℕ) (input : InputView) (c : Contents) → is_reset (with_app_event d event refusal (nothing_of input c)).marks ≡ false
+no_reset_event : (d : Description) (event : AppView) (refusal : Option ℕ) (input : InputView) (c : Contents) → is_reset (with_app_event d event refusal (nothing_of input c)).mark ≡ false
 no_reset_event d event (Some code) input c = refl
 no_reset_event d (Written key bytes) None input c = refl
 no_reset_event d (EventOn n) None input c = refl
@@ -197,17 +199,17 @@ no_reset_event d (Cleared bits) None input c = refl
 -- ---- together
 
 module _ (below : Below) where
-  unreset : (k : Constants) (inputs : Inputs) (input : InputView) → IsNode k.description.node → is_reset (moment k (moments k inputs) input).marks ≡ false → AreApart k.description.node (contents_of k inputs)
+  unreset : (k : Constants) (inputs : Inputs) (input : InputView) → IsNode k.description.node → is_reset (moment k (moments k inputs) input).mark ≡ false → AreApart k.description.node (contents_of k inputs)
       → AreApart k.description.node (contents_of k (input ∷ inputs))
   unreset k inputs input node off apart =
-      by_set k.description (moment k (moments k inputs) input).marks.set (contents_of k inputs) (contents_of k (input ∷ inputs)) node
+      by_set k.description (marked_key (moment k (moments k inputs) input).mark) (contents_of k inputs) (contents_of k (input ∷ inputs)) node
       (changed below k (moments k inputs) input off) apart
 
   other_frame : (k : Constants) (inputs : Inputs) (frame : FrameContent) (address : Address) → address_at k (moments k inputs) frame.id ≡ address → is_command address ≡ false → IsNode k.description.node → AreApart k.description.node (contents_of k inputs)
       → AreApart k.description.node (contents_of k (Framed frame ∷ inputs))
   other_frame k inputs frame address is off node apart =
       unreset k inputs (Framed frame) node
-      (ap (λ a. is_reset (with_frame k (moments k inputs) a frame (nothing_of (Framed frame) (contents_of k inputs))).marks) is
+      (ap (λ a. is_reset (with_frame k (moments k inputs) a frame (nothing_of (Framed frame) (contents_of k inputs))).mark) is
       ∙ no_reset k (moments k inputs) address frame (Framed frame) (contents_of k inputs) off)
       apart
 

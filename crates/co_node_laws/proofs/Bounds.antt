@@ -29,7 +29,7 @@ use Rattle.co_node_parts.specs.NmtStates.{is_state}
 use Rattle.co_node_parts.specs.EmergencyQueues.{EmergencyLog, emergency_due}
 use Rattle.co_node_model.specs.declared.address.Address.{Address}
 use Rattle.co_node_model.specs.declared.address.Address.TheVariants.{Nmt, Sync, Channel, Rpdo, ErrorControl, Nobody}
-use Rattle.co_node_model.specs.declared.marks.Marks.{Marks}
+use Rattle.co_node_model.specs.declared.mark.Mark.{Mark}
 use Rattle.co_node_model.specs.declared.turn.Turn.{Turn}
 use Rattle.co_node_model.specs.declared.turn.Turn.TheVariants as turn
 use Rattle.co_node_model.specs.Tpdos.{numbers_asked, part_started, start_turn, turn_with, schedule_log, due_at, tpdo_frame, tpdo_count}
@@ -44,10 +44,12 @@ use Rattle.co_node_model.specs.Emergencies.{unsent_log, emergency_log, emergency
 use Rattle.co_node_model.specs.Heartbeats.{producer_log, is_heartbeat, life_frames}
 use Rattle.co_node_model.specs.Device.{with_frame, moment, frames, moments, prescribed, frame_bound, bound_at}
 use Rattle.co_node_model.specs.Addresses.{address_at}
+use Rattle.co_node_model.specs.Marks.{marked_event, marked_key, marked_sync, marked_tick}
 use Rattle.co_node_laws.specs.Kinds.{is_unanswered}
 use Rattle.co_node_laws.specs.Lengths.{HasParts}
 use Rattle.co_node_laws.proofs.FewExchanged.{few_exchanged}
 use Rattle.co_node_laws.proofs.Counts.{few_unanswered, one_by, joined, joined_twice, no_heartbeat_by}
+use Rattle.co_node_laws.proofs.MarkLemmas.{command_tick, written_event, written_sync, written_tick}
 
 -- ---- the TPDOs that are due are at most all that there are
 
@@ -89,7 +91,7 @@ few_due d c turn.Tick log lawful = fewer _ (has_tpdo d.rows) (λ n off. never_du
 -- ---- an input that is no tick
 
 record IsUnticked (m : Moment) : Type 0 where
-  ticked : m.marks.ticked ≡ false
+  ticked : marked_tick m.mark ≡ false
   timed_out : m.timed_out ≡ None
 
 unticked_either : (b : Bool) (x y : Moment) → IsUnticked x → IsUnticked y → IsUnticked (if b then x else y)
@@ -97,9 +99,9 @@ unticked_either true x y p q = p
 unticked_either false x y p q = q
 
 unticked_frame : (k : Constants) (history : History) (address : Address) (frame : FrameContent) (input : InputView) (c : Contents) → IsUnticked (with_frame k history address frame (nothing_of input c))
-unticked_frame k history Nmt frame input c = record { ticked = refl; timed_out = refl }
+unticked_frame k history Nmt frame input c = record { ticked = command_tick _; timed_out = refl }
 unticked_frame k history Sync frame input c = unticked_either (is_state Stopped (state_at history)) _ _ (record { ticked = refl; timed_out = refl }) (record { ticked = refl; timed_out = refl })
-unticked_frame k history (Channel j) frame input c = unticked_either (is_state Stopped (state_at history)) _ _ (record { ticked = refl; timed_out = refl }) (record { ticked = refl; timed_out = refl })
+unticked_frame k history (Channel j) frame input c = unticked_either (is_state Stopped (state_at history)) _ _ (record { ticked = refl; timed_out = refl }) (record { ticked = written_tick _; timed_out = refl })
 unticked_frame k history (Rpdo n) frame input c = unticked_either (is_state Operational (state_at history)) _ _ (record { ticked = refl; timed_out = refl }) (record { ticked = refl; timed_out = refl })
 unticked_frame k history (ErrorControl node) frame input c = unticked_either (is_heartbeat (heartbeat_in frame.bytes)) _ _ (record { ticked = refl; timed_out = refl }) (record { ticked = refl; timed_out = refl })
 unticked_frame k history Nobody frame input c = record { ticked = refl; timed_out = refl }
@@ -132,8 +134,8 @@ by_moment : (k : Constants) (history : History) (input : InputView) → IsUntick
 by_moment k history input plain =
     let m = moment k history input in
     with_answers k m plain.timed_out
-    (one_by k.description.node m.contents m.marks _ _ _ _ (is_reset m.marks) refl
-    (no_heartbeat_by (is_reset m.marks || is_set m.marks.set producer_key) m.marks m.contents (producer_log k history) refl plain.ticked))
+    (one_by k.description.node m.contents m.mark _ _ _ _ (is_reset m.mark) refl
+    (no_heartbeat_by (is_reset m.mark || is_set (marked_key m.mark) producer_key) m.mark m.contents (producer_log k history) refl plain.ticked))
 
 -- ---- a tick
 
@@ -193,9 +195,9 @@ no_exchange_event d event (Some code) input c = refl
 no_exchange_event d event None input c = refl
 
 record IsRequest (m : Moment) : Type 0 where
-  ticked : m.marks.ticked ≡ false
-  sync : m.marks.sync ≡ None
-  asked : m.marks.asked ≡ None
+  ticked : marked_tick m.mark ≡ false
+  sync : marked_sync m.mark ≡ None
+  asked : marked_event m.mark ≡ None
 
 request_either : (b : Bool) (x y : Moment) → IsRequest x → IsRequest y → IsRequest (if b then x else y)
 request_either true x y p q = p
@@ -204,7 +206,8 @@ request_either false x y p q = q
 request_frame : (k : Constants) (history : History) (address : Address) (frame : FrameContent) (input : InputView) (c : Contents) → is_channel address ≡ true → IsRequest (with_frame k history address frame (nothing_of input c))
 request_frame k history Nmt frame input c is = absurd (cc)
 request_frame k history Sync frame input c is = absurd (cc)
-request_frame k history (Channel j) frame input c is = request_either (is_state Stopped (state_at history)) _ _ (record { ticked = refl; sync = refl; asked = refl }) (record { ticked = refl; sync = refl; asked = refl })
+request_frame k history (Channel j) frame input c is = request_either (is_state Stopped (state_at history)) _ _ (record { ticked = refl; sync = refl; asked = refl })
+    (record { ticked = written_tick _; sync = written_sync _; asked = written_event _ })
 request_frame k history (Rpdo n) frame input c is = absurd (cc)
 request_frame k history (ErrorControl node) frame input c is = absurd (cc)
 request_frame k history Nobody frame input c is = absurd (cc)
@@ -214,12 +217,12 @@ none_started d c log false n part = refl
 none_started d c log true n None = refl
 none_started d c log true n (Some part) = refl
 
-no_turn : (d : Description) (marks : Marks) (c : Contents) (log : Schedule) (outside entering : Bool) (set : Option Key) → marks.ticked ≡ false → marks.sync ≡ None → marks.asked ≡ None
-    → due_at d (cond outside turn.Quiet (cond entering turn.StartAll (turn_with set marks))) c log ≡ []
-no_turn d marks c log true entering set ticked sync asked = refl
-no_turn d marks c log false true set ticked sync asked = refl
-no_turn d marks c log false false None ticked sync asked = rw (ticked, sync, asked) refl
-no_turn d marks c log false false (Some key) ticked sync asked = none_started d c log (is_within tpdo_communication key.index) (key.index - 0x1800) (part_started key.sub)
+no_turn : (d : Description) (mark : Mark) (c : Contents) (log : Schedule) (outside entering : Bool) (set : Option Key) → marked_tick mark ≡ false → marked_sync mark ≡ None → marked_event mark ≡ None
+    → due_at d (cond outside turn.Quiet (cond entering turn.StartAll (turn_with set mark))) c log ≡ []
+no_turn d mark c log true entering set ticked sync asked = refl
+no_turn d mark c log false true set ticked sync asked = refl
+no_turn d mark c log false false None ticked sync asked = rw (ticked, sync, asked) refl
+no_turn d mark c log false false (Some key) ticked sync asked = none_started d c log (is_within tpdo_communication key.index) (key.index - 0x1800) (part_started key.sub)
 
 -- ---- sums
 
@@ -258,7 +261,7 @@ by_address k inputs frame (Channel j) is parts =
     let m = moment k history (Framed frame) in
     let p = request_frame k history (address_at k history frame.id) frame (Framed frame) (contents_at k history) (ap is_channel is) in
     rw (ap (λ a. bound_at a (tpdo_count k.description.rows)) is)
-    (without_due (length (frames_at m.exchange)) (length (frames k m)) m.due (no_turn k.description m.marks m.contents (schedule_log k history) _ _ m.marks.set p.ticked p.sync p.asked)
+    (without_due (length (frames_at m.exchange)) (length (frames k m)) m.due (no_turn k.description m.mark m.contents (schedule_log k history) _ _ (marked_key m.mark) p.ticked p.sync p.asked)
     (by_moment k history (Framed frame) (unticked_input k history frame)) (few_exchanged k inputs (Framed frame)))
 
 two_more : (total due tpdos : ℕ) → total ≤ due + 2 → due ≤ tpdos → total ≤ tpdos + 2

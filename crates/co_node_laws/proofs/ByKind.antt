@@ -46,7 +46,7 @@ use Rattle.co_node_model.specs.Device.{contents_of, moments, prescribed, receive
 use Rattle.co_node_model.specs.Emergencies.{all_raised, emergencies_of, emergency_frames}
 use Rattle.co_node_model.specs.Heartbeats.{consumers_call, consumers_log, is_heartbeat, life_frames, life_of, lost_by, producer_event, producer_log, with_lost}
 use Rattle.co_node_model.specs.Inputs.{AppView, Applied, ChangedAt, Cleared, EventOn, Framed, Inputs, InputView, Raised, Ticked, Written}
-use Rattle.co_node_model.specs.Moments.{Constants, Moment, channels, nothing_of, quiet}
+use Rattle.co_node_model.specs.Moments.{Constants, Moment, channels, nothing_of}
 use Rattle.co_node_model.specs.Nmt.{commanded_event, is_reset, service_for, state_log, transition_of, with_service}
 use Rattle.co_node_model.specs.Rpdos.{all_data_emergencies, arrival_errors, empties_slot, immediate, is_short, rpdo_errors, rpdo_type, slot_event, slot_log, with_rpdo}
 use Rattle.co_node_model.specs.Sdo.{channel_logs, timed_out_at, with_channel_frame, with_channel_ticks, with_drop, with_request, with_tick}
@@ -65,6 +65,9 @@ use Rattle.co_node_laws.proofs.HeartbeatDistances.{period_is, ticks_are}
 use Rattle.co_node_laws.proofs.Kept.{by_reset}
 use Rattle.co_node_laws.proofs.LossDistances.{monitored_is, silence_is}
 use Rattle.co_node_laws.proofs.ValuesNow.{monitored_now, period_now}
+use Rattle.co_node_model.specs.declared.mark.Mark.TheVariants as was
+use Rattle.co_node_model.specs.Marks.{marked_command, marked_rpdo, marked_tick, marked_time_out, written_mark}
+use Rattle.co_node_laws.proofs.MarkLemmas.{written_command, written_tick}
 
 -- ---- what the definitions have of a device after its inputs
 
@@ -93,29 +96,29 @@ ended k inputs t errors taken w =
     let d = k.description in
     let h = moments k inputs in
     let c = after_errors_and_data d errors taken w.watched in
-    let due = due_at d (turn_of w.marks t) c (schedule_log k h) in
+    let due = due_at d (turn_of w.mark t) c (schedule_log k h) in
     record {
       device = record {
         state = t.after;
         entries = c;
-        transfers = with_drop (is_reset w.marks || enters Stopped t) (logs_after w.timed_out (with_channel_ticks w.marks.ticked (logs_after w.exchange (channel_logs h))));
-        queue = if is_reset w.marks then [] else queued (emergencies_of d.rows errors w.watched ++ all_data_emergencies d (all_raised d.rows errors w.watched) taken) (queued w.raised_by_loss (queued w.raised_by_app (waiting k inputs)));
-        sendings = aged w.marks (emergencies_sent k inputs);
-        produced = if begins_heartbeat w.marks then 0 else (if w.marks.ticked then heartbeat_ticks k inputs + 1 else heartbeat_ticks k inputs);
-        silence = λ sub. if begins_entry sub w.marks then None else silence_after w.marks (monitored k sub inputs) (ticks_silent k sub inputs);
-        kept = λ n. kept_of n (slot_event d w.watched w.marks t ∷ slot_log k h);
-        schedule = with_turn d (turn_of w.marks t) c due (schedule_log k h);
+        transfers = with_drop (is_reset w.mark || enters Stopped t) (logs_after w.timed_out (with_channel_ticks (marked_tick w.mark) (logs_after w.exchange (channel_logs h))));
+        queue = if is_reset w.mark then [] else queued (emergencies_of d.rows errors w.watched ++ all_data_emergencies d (all_raised d.rows errors w.watched) taken) (queued w.raised_by_loss (queued w.raised_by_app (waiting k inputs)));
+        sendings = aged w.mark (emergencies_sent k inputs);
+        produced = if begins_heartbeat w.mark then 0 else (if marked_tick w.mark then heartbeat_ticks k inputs + 1 else heartbeat_ticks k inputs);
+        silence = λ sub. if begins_entry sub w.mark then None else silence_after w.mark (monitored k sub inputs) (ticks_silent k sub inputs);
+        kept = λ n. kept_of n (slot_event d w.watched w.mark t ∷ slot_log k h);
+        schedule = with_turn d (turn_of w.mark t) c due (schedule_log k h);
       };
       responses = frames_at w.exchange ++ frames_at w.timed_out;
-      aborted = w.marks.timed_out;
-      last = life_frames d.node (life_of w.marks t.after (is_heartbeat_due (producer_event w.marks c) (producer_log k h))) ++ map (tpdo_frame d c) due;
+      aborted = marked_time_out w.mark;
+      last = life_frames d.node (life_of w.mark t.after (is_heartbeat_due (producer_event w.mark c) (producer_log k h))) ++ map (tpdo_frame d c) due;
     }
 
 abbrev of_watched : Constants → Inputs → Transition → Moment → Outcome
 of_watched k inputs t w =
     let d = k.description in
     ended k inputs t (arrival_errors d w)
-    (taken_at 512 (slot_event d w.watched w.marks t) (slot_log k (moments k inputs)) ++ immediate d w.watched w.marks.rpdo) w
+    (taken_at 512 (slot_event d w.watched w.mark t) (slot_log k (moments k inputs)) ++ immediate d w.watched (marked_rpdo w.mark)) w
 
 -- where no heartbeat is lost
 abbrev of_received : Constants → Inputs → Transition → Moment → Outcome
@@ -129,7 +132,7 @@ of_lost k inputs r lost =
 
 -- after this was received
 abbrev of_input : Constants → Inputs → Moment → Outcome
-of_input k inputs r = of_lost k inputs r (lost_by (consumers_call r.marks r.received) (consumers_log k (moments k inputs)))
+of_input k inputs r = of_lost k inputs r (lost_by (consumers_call r.mark r.received) (consumers_log k (moments k inputs)))
 
 -- the state stays
 abbrev stays : NodeState → Transition
@@ -147,10 +150,10 @@ gives k inputs input =
     ∙ append_assoc (frames_at m.exchange ++ frames_at m.timed_out ++ emergency_frames m.contents (emergency_at_end o.aborted o.device)) (life_frames d.node m.life) (map (tpdo_frame d m.contents) m.due)
 
 -- an input that is no tick and no command loses no heartbeat, and the state stays
-uncommanded : (k : Constants) (inputs : Inputs) (r : Moment) → r.marks.ticked ≡ false → r.marks.command ≡ None → of_input k inputs r ≡ of_received k inputs (stays (state_of k inputs)) r
+uncommanded : (k : Constants) (inputs : Inputs) (r : Moment) → marked_tick r.mark ≡ false → marked_command r.mark ≡ None → of_input k inputs r ≡ of_received k inputs (stays (state_of k inputs)) r
 uncommanded k inputs r ticked command =
     let h = moments k inputs in
-    ap (of_lost k inputs r) (by_reset r.marks r.received (consumers_log k h) (is_reset r.marks) refl ticked)
+    ap (of_lost k inputs r) (by_reset r.mark r.received (consumers_log k h) (is_reset r.mark) refl ticked)
     ∙ ap (λ c. of_received k inputs (record { before = state_of k inputs; after = state_after (state.Quiet ∷ commanded_event c ∷ state_log h) }) r) command
 
 -- ---- parts of an outcome, each by itself
@@ -160,12 +163,6 @@ with_queue o queue = record o { device = record o.device { queue = queue } }
 
 abbrev with_kept : Outcome → (ℕ → Option FrameContent) → Outcome
 with_kept o kept = record o { device = record o.device { kept = kept } }
-
-abbrev with_schedule : Outcome → Schedule → Outcome
-with_schedule o schedule = record o { device = record o.device { schedule = schedule } }
-
-abbrev with_last : Outcome → List FrameContent → Outcome
-with_last o last = record o { last = last }
 
 abbrev with_responses : Outcome → List FrameContent → Outcome
 with_responses o responses = record o { responses = responses }
@@ -202,7 +199,7 @@ by_command : (k : Constants) (inputs : Inputs) (input : InputView) (service : Op
 by_command k inputs input None = uncommanded k inputs (with_service k.description.initial None (nothing_of input (contents_of k inputs))) refl refl ∙ ignored k inputs input (state_of k inputs)
 by_command k inputs input (Some service) =
     let r = with_service k.description.initial (Some service) (nothing_of input (contents_of k inputs)) in
-    ap (of_lost k inputs r) (by_reset r.marks r.received (consumers_log k (moments k inputs)) (is_reset r.marks) refl refl)
+    ap (of_lost k inputs r) (by_reset r.mark r.received (consumers_log k (moments k inputs)) (is_reset r.mark) refl refl)
     ∙ by_service k inputs input (state_of k inputs) service
 
 -- ---- a SYNC
@@ -275,7 +272,7 @@ by_rpdo k inputs input n frame =
 
 -- this was written, with an exchange on an SDO channel or without one
 abbrev write_of : InputView → Contents → Option ChannelEvent → Key → Contents → Moment
-write_of input c exchange key entries = record (nothing_of input c) { marks = record quiet { set = Some key }; exchange = exchange; received = entries }
+write_of input c exchange key entries = record (nothing_of input c) { mark = was.Written key; exchange = exchange; received = entries }
 
 emptied_takes_none : (b : Bool) (n : ℕ) (log : SlotLog) → taken_at 512 (cond b (slot.Empty n) slot.Quiet) log ≡ []
 emptied_takes_none true n log = refl
@@ -303,9 +300,9 @@ starts d false n part c due log = refl
 
 -- what is sent after it
 none_last : (d : Description) (s : NodeState) (key : Key) (c : Contents) (due : List ℕ) (log : ProducerLog) → due ≡ []
-    → life_frames d.node (life_of (record quiet { set = Some key }) s (is_heartbeat_due (producer_event (record quiet { set = Some key }) c) log)) ++ map (tpdo_frame d c) due ≡ []
+    → life_frames d.node (life_of (was.Written key) s (is_heartbeat_due (producer_event (was.Written key) c) log)) ++ map (tpdo_frame d c) due ≡ []
 none_last d s key c due log none =
-    ap (λ b. life_frames d.node (life_of (record quiet { set = Some key }) s b) ++ map (tpdo_frame d c) due) (begins_none (same_key key producer_key) (number_at c producer_key) log)
+    ap (λ b. life_frames d.node (life_of (was.Written key) s b) ++ map (tpdo_frame d c) due) (begins_none (same_key key producer_key) (number_at c producer_key) log)
     ∙ ap (map (tpdo_frame d c)) none
 
 -- the device, where no exchange is looked at
@@ -370,7 +367,7 @@ write_in k inputs input exchange key entries Operational =
 
 -- an exchange that sets this download, or none
 abbrev exchanged : InputView → Contents → Option ChannelEvent → Option Download → Moment
-exchanged input c exchange set = record (nothing_of input c) { marks = record quiet { set = key_set set }; exchange = exchange; received = contents_with c set }
+exchanged input c exchange set = record (nothing_of input c) { mark = written_mark (key_set set); exchange = exchange; received = contents_with c set }
 
 none_set : (k : Constants) (inputs : Inputs) (input : InputView) (exchange : Option ChannelEvent) (s : NodeState)
     → of_received k inputs (stays s) (exchanged input (contents_of k inputs) exchange None)
@@ -403,15 +400,15 @@ answered_in k inputs input frame Operational =
     let c = contents_of k inputs in
     exchange_in k inputs input (exchange_of (channels k) k.description c logs frame) (set_of (channels k) k.description c logs frame) Operational
 
-no_tick : (k : Constants) (inputs : Inputs) (input : InputView) (frame : FrameContent) (s : NodeState) → (request_in k inputs input frame s).marks.ticked ≡ false
+no_tick : (k : Constants) (inputs : Inputs) (input : InputView) (frame : FrameContent) (s : NodeState) → (marked_tick (request_in k inputs input frame s).mark) ≡ false
 no_tick k inputs input frame Stopped = refl
-no_tick k inputs input frame PreOperational = refl
-no_tick k inputs input frame Operational = refl
+no_tick k inputs input frame PreOperational = written_tick _
+no_tick k inputs input frame Operational = written_tick _
 
-no_command : (k : Constants) (inputs : Inputs) (input : InputView) (frame : FrameContent) (s : NodeState) → (request_in k inputs input frame s).marks.command ≡ None
+no_command : (k : Constants) (inputs : Inputs) (input : InputView) (frame : FrameContent) (s : NodeState) → (marked_command (request_in k inputs input frame s).mark) ≡ None
 no_command k inputs input frame Stopped = refl
-no_command k inputs input frame PreOperational = refl
-no_command k inputs input frame Operational = refl
+no_command k inputs input frame PreOperational = written_command _
+no_command k inputs input frame Operational = written_command _
 
 by_request_is : (k : Constants) (inputs : Inputs) (input : InputView) (frame : FrameContent)
     → of_input k inputs (with_channel_frame k (moments k inputs) frame (nothing_of input (contents_of k inputs))) ≡ outcome k (Requested frame) (view k inputs)
@@ -438,14 +435,14 @@ event_in k inputs input (Cleared bits) PreOperational = refl
 event_in k inputs input (Cleared bits) Operational = refl
 event_in k inputs input (Cleared bits) Stopped = refl
 
-event_ticked : (d : Description) (event : AppView) (input : InputView) (c : Contents) → (with_app_event d event None (nothing_of input c)).marks.ticked ≡ false
+event_ticked : (d : Description) (event : AppView) (input : InputView) (c : Contents) → (marked_tick (with_app_event d event None (nothing_of input c)).mark) ≡ false
 event_ticked d (Written key bytes) input c = refl
 event_ticked d (EventOn n) input c = refl
 event_ticked d (ChangedAt key) input c = refl
 event_ticked d (Raised code bits manufacturer) input c = refl
 event_ticked d (Cleared bits) input c = refl
 
-event_command : (d : Description) (event : AppView) (input : InputView) (c : Contents) → (with_app_event d event None (nothing_of input c)).marks.command ≡ None
+event_command : (d : Description) (event : AppView) (input : InputView) (c : Contents) → (marked_command (with_app_event d event None (nothing_of input c)).mark) ≡ None
 event_command d (Written key bytes) input c = refl
 event_command d (EventOn n) input c = refl
 event_command d (ChangedAt key) input c = refl
@@ -542,21 +539,21 @@ module _ (below : Below) where
   -- ---- a heartbeat of another node
 
   heard_in : (k : Constants) (inputs : Inputs) (input : InputView) (c : ℕ) (s : NodeState)
-      → of_received k inputs (stays s) (record (nothing_of input (contents_of k inputs)) { marks = record quiet { heard = Some c } })
+      → of_received k inputs (stays s) (record (nothing_of input (contents_of k inputs)) { mark = was.Heard c })
       ≡ no_frame (record (in_view k inputs s) { silence = λ sub. if is_monitored c (monitored k sub inputs) then Some 0 else ticks_silent k sub inputs })
   heard_in k inputs input c PreOperational = refl
   heard_in k inputs input c Operational = refl
   heard_in k inputs input c Stopped = refl
 
   heard_is : (k : Constants) (inputs : Inputs) (input : InputView) (c : ℕ)
-      → of_input k inputs (record (nothing_of input (contents_of k inputs)) { marks = record quiet { heard = Some c } }) ≡ by_heartbeat c (view k inputs)
+      → of_input k inputs (record (nothing_of input (contents_of k inputs)) { mark = was.Heard c }) ≡ by_heartbeat c (view k inputs)
   heard_is k inputs input c =
-      uncommanded k inputs (record (nothing_of input (contents_of k inputs)) { marks = record quiet { heard = Some c } }) refl refl
+      uncommanded k inputs (record (nothing_of input (contents_of k inputs)) { mark = was.Heard c }) refl refl
       ∙ heard_in k inputs input c (state_of k inputs)
       ∙ (λ i. no_frame (record (view k inputs) { silence = λ sub. if is_monitored c (monitored_now below k sub inputs i) then Some 0 else ticks_silent k sub inputs }))
 
   control_is : (k : Constants) (inputs : Inputs) (input : InputView) (c : ℕ) (b : Bool)
-      → of_input k inputs (if b then record (nothing_of input (contents_of k inputs)) { marks = record quiet { heard = Some c } } else nothing_of input (contents_of k inputs))
+      → of_input k inputs (if b then record (nothing_of input (contents_of k inputs)) { mark = was.Heard c } else nothing_of input (contents_of k inputs))
       ≡ outcome k (if b then Heard c else Ignored) (view k inputs)
   control_is k inputs input c true = heard_is k inputs input c
   control_is k inputs input c false = uncommanded k inputs (nothing_of input (contents_of k inputs)) refl refl ∙ ignored k inputs input (state_of k inputs)

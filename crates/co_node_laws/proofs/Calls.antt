@@ -9,9 +9,10 @@ use Rattle.co_pdo.specs.Log.{Log, Happened}
 use Rattle.co_pdo.specs.Tpdos.{settings_of}
 use Rattle.co_pdo.specs.Countdowns.{IsCurrent}
 use Rattle.co_pdo.specs.Schedules.{History, log_of, is_among, with_all_started, with_sync, with_events, with_tick, AllCurrent}
-use Rattle.co_node_model.specs.declared.marks.Asked.{Asked}
-use Rattle.co_node_model.specs.declared.marks.Marks.{Marks}
+use Rattle.co_node_model.specs.declared.mark.Asked.{Asked}
+use Rattle.co_node_model.specs.declared.mark.Mark.{Mark}
 use Rattle.co_node_model.specs.Tpdos.{numbers_asked, turn_by_asked, turn_with, with_turn}
+use Rattle.co_node_model.specs.Marks.{marked_event, marked_sync, marked_tick}
 
 happened : (s t : Settings) (log : Log) (o : Occasion) (sent : Bool) → IsCurrent s log → IsCurrent s (Happened o t sent ∷ log)
 happened s t log o sent h = record { started = h.started; timer = h.timer }
@@ -36,10 +37,10 @@ by_asked : (d : Description) (c : Contents) (due : List ℕ) (history : History)
 by_asked d c due history None all = all
 by_asked d c due history (Some asked) all = events c history (numbers_asked d c asked) due all
 
-by_happening : (d : Description) (c : Contents) (due : List ℕ) (history : History) (marks : Marks) (tick : Bool) (sync : Option FrameContent) → marks.ticked ≡ tick → marks.sync ≡ sync → AllCurrent c history → AllCurrent c (with_turn d (turn_with None marks) c due history)
-by_happening d c due history marks true sync ticks syncs all = rw ticks (ticked c history due all)
-by_happening d c due history marks false None ticks syncs all = rw (ticks, syncs) (by_asked d c due history marks.asked all)
-by_happening d c due history marks false (Some frame) ticks syncs all = rw (ticks, syncs) (synced c history _ due all)
+by_happening : (d : Description) (c : Contents) (due : List ℕ) (history : History) (mark : Mark) (tick : Bool) (sync : Option FrameContent) → marked_tick mark ≡ tick → marked_sync mark ≡ sync → AllCurrent c history → AllCurrent c (with_turn d (turn_with None mark) c due history)
+by_happening d c due history mark true sync ticks syncs all = rw ticks (ticked c history due all)
+by_happening d c due history mark false None ticks syncs all = rw (ticks, syncs) (by_asked d c due history (marked_event mark) all)
+by_happening d c due history mark false (Some frame) ticks syncs all = rw (ticks, syncs) (synced c history _ due all)
 
-pub current_happened : (d : Description) (c : Contents) (due : List ℕ) (history : History) (marks : Marks) → AllCurrent c history → AllCurrent c (with_turn d (turn_with None marks) c due history)
-current_happened d c due history marks all = by_happening d c due history marks marks.ticked marks.sync refl refl all
+pub current_happened : (d : Description) (c : Contents) (due : List ℕ) (history : History) (mark : Mark) → AllCurrent c history → AllCurrent c (with_turn d (turn_with None mark) c due history)
+current_happened d c due history mark all = by_happening d c due history mark (marked_tick mark) (marked_sync mark) refl refl all

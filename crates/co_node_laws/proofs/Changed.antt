@@ -30,21 +30,23 @@ use Rattle.co_node_model.specs.Emergencies.{all_raised}
 use Rattle.co_node_model.specs.Moments.{Constants, Moment, History, channels, contents_at, nothing_of}
 use Rattle.co_node_model.specs.Sdo.{channel_logs, with_request}
 use Rattle.co_node_model.specs.Device.{with_frame, moment, moments, contents_of}
+use Rattle.co_node_model.specs.Marks.{marked_command, marked_rpdo, marked_sync, marked_tick}
 use Rattle.co_node_laws.specs.Changes.{changed_by_sync, changed_by_rpdo, download_set, changed_by_request, changed_by_frame, changed_by_tick, changed_by_event, changed_by}
 use Rattle.co_node_laws.proofs.Kept.{IsSilent, kept, none_taken, by_reset, silent_either, event_done, event_refused}
+use Rattle.co_node_laws.proofs.MarkLemmas.{command_rpdo, command_sync, command_tick, written_rpdo, written_sync, written_tick}
 
 -- ---- a SYNC and the frame of an RPDO: no heartbeat is lost at them, and the state stays
 
 -- the entries after this was received in a state
 abbrev ended : Constants → History → NodeState → Moment → Contents
 ended k history state r =
-    after_all_data k.description (all_raised k.description.rows (sync_errors r.watched r.marks.sync ++ rpdo_errors k.description r.watched r.marks.rpdo) r.watched)
-    (taken_at 512 (slot_event k.description r.watched r.marks (record { before = state; after = state })) (slot_log k history) ++ immediate k.description r.watched r.marks.rpdo)
+    after_all_data k.description (all_raised k.description.rows (sync_errors r.watched (marked_sync r.mark) ++ rpdo_errors k.description r.watched (marked_rpdo r.mark)) r.watched)
+    (taken_at 512 (slot_event k.description r.watched r.mark (record { before = state; after = state })) (slot_log k history) ++ immediate k.description r.watched (marked_rpdo r.mark))
 
 -- a moment at which no command came and no entry changed
 pub record IsUncommanded (r : Moment) (c : Contents) : Type 0 where
-  pub command : r.marks.command ≡ None
-  pub ticked : r.marks.ticked ≡ false
+  pub command : marked_command r.mark ≡ None
+  pub ticked : marked_tick r.mark ≡ false
   pub received : r.received ≡ c
   pub watched : r.watched ≡ c
 
@@ -90,8 +92,8 @@ finally k history r = (with_pdos k history (with_losses k history r)).contents
 
 at_end : (k : Constants) (history : History) (r : Moment) (c : Contents) → IsUncommanded r c → finally k history r ≡ ended k history (state_at history) r
 at_end k history r c u =
-    after_quiet k history r c (lost_by (consumers_call r.marks r.received) (consumers_log k history))
-    (by_reset r.marks r.received (consumers_log k history) (is_reset r.marks) refl u.ticked) u
+    after_quiet k history r c (lost_by (consumers_call r.mark r.received) (consumers_log k history))
+    (by_reset r.mark r.received (consumers_log k history) (is_reset r.mark) refl u.ticked) u
 
 -- ---- frames that are neither
 
@@ -151,7 +153,7 @@ request_received k c logs frame input j Operational e = ap (λ set. contents_wit
 
 pub by_address : (k : Constants) (inputs : Inputs) (frame : FrameContent) (address : Address) → address_at k (moments k inputs) frame.id ≡ address
     → contents_of k (Framed frame ∷ inputs) ≡ changed_by_frame k inputs address frame
-by_address k inputs frame Nmt is = after_silent k inputs frame Nmt is (record { ticked = refl; sync = refl; rpdo = refl })
+by_address k inputs frame Nmt is = after_silent k inputs frame Nmt is (record { ticked = command_tick _; sync = command_sync _; rpdo = command_rpdo _ })
 by_address k inputs frame Sync is =
     let h = moments k inputs in
     let c = contents_of k inputs in
@@ -160,7 +162,8 @@ by_address k inputs frame Sync is =
     ∙ sync_ended k h frame c (Framed frame) (state_at h)
 by_address k inputs frame (Channel j) is =
     let h = moments k inputs in
-    after_silent k inputs frame (Channel j) is (silent_either (is_state Stopped (state_at h)) _ _ (record { ticked = refl; sync = refl; rpdo = refl }) (record { ticked = refl; sync = refl; rpdo = refl }))
+    after_silent k inputs frame (Channel j) is (silent_either (is_state Stopped (state_at h)) _ _ (record { ticked = refl; sync = refl; rpdo = refl })
+    (record { ticked = written_tick _; sync = written_sync _; rpdo = written_rpdo _ }))
     ∙ request_received k (contents_of k inputs) (channel_logs h) frame (Framed frame) j (state_at h) (number_at_channel k h frame.id j is)
 by_address k inputs frame (Rpdo n) is =
     let h = moments k inputs in
@@ -181,7 +184,7 @@ by_tick k inputs =
     let m = moment k h Ticked in
     let d = k.description in
     ap (λ taken. after_all_data d m.watched (taken ++ []))
-    (none_taken d m.watched m.marks (transition_of m h) (slot_log k h) _ None refl refl refl refl)
+    (none_taken d m.watched m.mark (transition_of m h) (slot_log k h) _ None refl refl refl refl)
 
 -- ---- an application event
 

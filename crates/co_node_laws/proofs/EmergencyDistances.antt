@@ -12,6 +12,7 @@ use Rattle.co_node_model.specs.Nmt.{is_reset}
 use Rattle.co_node_model.specs.Emergencies.{may_send, unsent_log, emergency_log}
 use Rattle.co_node_model.specs.Moments.{Constants, Moment}
 use Rattle.co_node_model.specs.Device.{moments, state_of, contents_of}
+use Rattle.co_node_model.specs.Marks.{marked_tick}
 use Rattle.co_node_laws.specs.Distances.{moment_at, aged, and_sent, emergencies_sent, queued, queue_with, rest_after, waiting, emergency_by}
 
 -- ---- sendings
@@ -32,10 +33,10 @@ sendings_sent : (o : Option Emergency) (inhibit : ℕ) (log : EmergencyLog) → 
 sendings_sent None inhibit log = refl
 sendings_sent (Some e) inhibit log = refl
 
-sendings_unsent : (m : Moment) (log : EmergencyLog) (known : List Sending) → sendings log ≡ known → sendings (unsent_log m log) ≡ aged m.marks known
+sendings_unsent : (m : Moment) (log : EmergencyLog) (known : List Sending) → sendings log ≡ known → sendings (unsent_log m log) ≡ aged m.mark known
 sendings_unsent m log known is =
-    sendings_noted (is_reset m.marks) m.marks.ticked (with_queued m.raised_by_pdo (with_queued m.raised_by_loss (with_queued m.raised_by_app log)))
-    ∙ ap (λ s. aged m.marks s) (sendings_with m.raised_by_pdo _ known (sendings_with m.raised_by_loss _ known (sendings_with m.raised_by_app log known is)))
+    sendings_noted (is_reset m.mark) (marked_tick m.mark) (with_queued m.raised_by_pdo (with_queued m.raised_by_loss (with_queued m.raised_by_app log)))
+    ∙ ap (λ s. aged m.mark s) (sendings_with m.raised_by_pdo _ known (sendings_with m.raised_by_loss _ known (sendings_with m.raised_by_app log known is)))
 
 pub sendings_are : (k : Constants) (inputs : Inputs) → sendings (emergency_log (moments k inputs)) ≡ emergencies_sent k inputs
 sendings_are k [] = refl
@@ -63,8 +64,8 @@ queue_unsent : (m : Moment) (log : EmergencyLog) (known : List Emergency) → qu
 queue_unsent m log known is =
     let app = with_queued m.raised_by_app log in
     let loss = with_queued m.raised_by_loss app in
-    queue_noted (is_reset m.marks) m.marks.ticked (with_queued m.raised_by_pdo loss)
-    ∙ ap (λ q. cond (is_reset m.marks) [] q)
+    queue_noted (is_reset m.mark) (marked_tick m.mark) (with_queued m.raised_by_pdo loss)
+    ∙ ap (λ q. cond (is_reset m.mark) [] q)
     (queue_queued m.raised_by_pdo loss ∙ ap (queued m.raised_by_pdo) (queue_queued m.raised_by_loss app ∙ ap (queued m.raised_by_loss) (queue_queued m.raised_by_app log ∙ ap (queued m.raised_by_app) is)))
 
 pub queue_is : (k : Constants) (inputs : Inputs) → queue_of (emergency_log (moments k inputs)) ≡ waiting k inputs
@@ -80,6 +81,6 @@ pub sent_is : (k : Constants) (inputs : Inputs) (input : InputView) → (moment_
 sent_is k inputs input =
     let m = moment_at k inputs input in
     let log = unsent_log m (emergency_log (moments k inputs)) in
-    let may = may_send m.marks (state_of k (input ∷ inputs)) (contents_of k (input ∷ inputs)) in
+    let may = may_send m.mark (state_of k (input ∷ inputs)) (contents_of k (input ∷ inputs)) in
     ap (λ s. cond (may && list_all is_past s) (slice_get (queue_of log) 0) None) (sendings_unsent m (emergency_log (moments k inputs)) (emergencies_sent k inputs) (sendings_are k inputs))
-    ∙ ap (λ q. cond (may && list_all is_past (aged m.marks (emergencies_sent k inputs))) (slice_get q 0) None) (queue_unsent m (emergency_log (moments k inputs)) (waiting k inputs) (queue_is k inputs))
+    ∙ ap (λ q. cond (may && list_all is_past (aged m.mark (emergencies_sent k inputs))) (slice_get q 0) None) (queue_unsent m (emergency_log (moments k inputs)) (waiting k inputs) (queue_is k inputs))

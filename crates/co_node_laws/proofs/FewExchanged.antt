@@ -24,6 +24,7 @@ use Rattle.co_node_model.specs.Sdo.{with_channel_ticks, with_drop, drops, channe
 use Rattle.co_node_model.specs.Device.{with_frame, with_input, moment, moments}
 use Rattle.co_node_model.specs.Addresses.{address_at}
 use Rattle.co_node_model.specs.Heartbeats.{is_heartbeat}
+use Rattle.co_node_model.specs.Marks.{marked_tick}
 use Rattle.co_node_laws.proofs.FewAnswers.{HasSmallBegin, is_exchange, few_reply, small_quiet, small_exchange}
 
 -- no log has an open block upload with more than 127 segments in a sub-block
@@ -134,8 +135,8 @@ small_input k history (Applied event) as_input c all = small_event k.description
 small_moment : (m : Moment) (history : History) → IsSmallIn m.exchange (channel_logs history) → IsQuiet m.timed_out → AllSmall (channel_logs history) → AllSmall (channel_logs (m ∷ history))
 small_moment m history exchange quiet all =
     let exchanged = small_logs m.exchange (channel_logs history) exchange all in
-    let ticked = small_ticked m.marks.ticked (logs_after m.exchange (channel_logs history)) exchanged in
-    let logs = with_channel_ticks m.marks.ticked (logs_after m.exchange (channel_logs history)) in
+    let ticked = small_ticked (marked_tick m.mark) (logs_after m.exchange (channel_logs history)) exchanged in
+    let logs = with_channel_ticks (marked_tick m.mark) (logs_after m.exchange (channel_logs history)) in
     small_dropped (drops m history) (logs_after m.timed_out logs) (small_logs m.timed_out logs (small_in m.timed_out logs quiet ticked) ticked)
 
 all_small : (k : Constants) (inputs : Inputs) → AllSmall (channel_logs (moments k inputs))

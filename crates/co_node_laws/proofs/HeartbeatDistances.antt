@@ -12,6 +12,7 @@ use Rattle.co_node_model.specs.Nmt.{is_reset}
 use Rattle.co_node_model.specs.Heartbeats.{life_of, producer_event, producer_log}
 use Rattle.co_node_model.specs.Moments.{Constants}
 use Rattle.co_node_model.specs.Device.{moments, state_of}
+use Rattle.co_node_model.specs.Marks.{marked_tick}
 use Rattle.co_node_laws.specs.Kinds.{is_tick}
 use Rattle.co_node_laws.proofs.Ticks.{ticked_is}
 use Rattle.co_node_laws.specs.Distances.{moment_at, begins_heartbeat, heartbeat_period, heartbeat_ticks, heartbeat_at_tick}
@@ -30,15 +31,15 @@ pub period_is : (k : Constants) (inputs : Inputs) → period_of (producer_log k 
 period_is k [] = refl
 period_is k (input ∷ inputs) =
     let m = moment_at k inputs input in
-    period_by (begins_heartbeat m.marks) m.marks.ticked (number_at m.contents producer_key) (producer_log k (moments k inputs))
-    ∙ ap (λ n. cond (begins_heartbeat m.marks) (number_at m.contents producer_key) n) (period_is k inputs)
+    period_by (begins_heartbeat m.mark) (marked_tick m.mark) (number_at m.contents producer_key) (producer_log k (moments k inputs))
+    ∙ ap (λ n. cond (begins_heartbeat m.mark) (number_at m.contents producer_key) n) (period_is k inputs)
 
 pub ticks_are : (k : Constants) (inputs : Inputs) → ticks (producer_log k (moments k inputs)) ≡ heartbeat_ticks k inputs
 ticks_are k [] = refl
 ticks_are k (input ∷ inputs) =
     let m = moment_at k inputs input in
-    ticks_by (begins_heartbeat m.marks) m.marks.ticked (number_at m.contents producer_key) (producer_log k (moments k inputs))
-    ∙ ap (λ n. cond (begins_heartbeat m.marks) 0 (cond m.marks.ticked (n + 1) n)) (ticks_are k inputs)
+    ticks_by (begins_heartbeat m.mark) (marked_tick m.mark) (number_at m.contents producer_key) (producer_log k (moments k inputs))
+    ∙ ap (λ n. cond (begins_heartbeat m.mark) 0 (cond (marked_tick m.mark) (n + 1) n)) (ticks_are k inputs)
 
 pub at_tick : (k : Constants) (inputs : Inputs) → (moment_at k inputs Ticked).life ≡ heartbeat_at_tick k inputs
 at_tick k inputs =
@@ -49,16 +50,16 @@ none_by : (begins : Bool) (n : ℕ) (log : ProducerLog) → is_heartbeat_due (co
 none_by true n log = refl
 none_by false n log = refl
 
-pub elsewhere : (k : Constants) (inputs : Inputs) (input : InputView) → is_tick input ≡ false → is_reset (moment_at k inputs input).marks ≡ false → (moment_at k inputs input).life ≡ None
+pub elsewhere : (k : Constants) (inputs : Inputs) (input : InputView) → is_tick input ≡ false → is_reset (moment_at k inputs input).mark ≡ false → (moment_at k inputs input).life ≡ None
 elsewhere k inputs input off reset =
     let m = moment_at k inputs input in
-    let ticked : m.marks.ticked ≡ false = ticked_is k inputs input ∙ off in
-    let event = λ (t : Bool). cond (begins_heartbeat m.marks) (producer.Begin (number_at m.contents producer_key)) (cond t producer.Tick producer.Quiet) in
-    ap (λ t. life_of m.marks (state_of k (input ∷ inputs)) (is_heartbeat_due (event t) (producer_log k (moments k inputs)))) ticked
-    ∙ ap (λ due. life_of m.marks (state_of k (input ∷ inputs)) due) (none_by (begins_heartbeat m.marks) (number_at m.contents producer_key) (producer_log k (moments k inputs)))
+    let ticked : marked_tick m.mark ≡ false = ticked_is k inputs input ∙ off in
+    let event = λ (t : Bool). cond (begins_heartbeat m.mark) (producer.Begin (number_at m.contents producer_key)) (cond t producer.Tick producer.Quiet) in
+    ap (λ t. life_of m.mark (state_of k (input ∷ inputs)) (is_heartbeat_due (event t) (producer_log k (moments k inputs)))) ticked
+    ∙ ap (λ due. life_of m.mark (state_of k (input ∷ inputs)) due) (none_by (begins_heartbeat m.mark) (number_at m.contents producer_key) (producer_log k (moments k inputs)))
     ∙ ap (λ b. cond b (Some BootUp) None) reset
 
-pub at_reset : (k : Constants) (inputs : Inputs) (input : InputView) → is_reset (moment_at k inputs input).marks ≡ true → (moment_at k inputs input).life ≡ Some BootUp
+pub at_reset : (k : Constants) (inputs : Inputs) (input : InputView) → is_reset (moment_at k inputs input).mark ≡ true → (moment_at k inputs input).life ≡ Some BootUp
 at_reset k inputs input reset =
     let m = moment_at k inputs input in
-    ap (λ b. cond b (Some BootUp) (cond (is_heartbeat_due (producer_event m.marks m.contents) (producer_log k (moments k inputs))) (Some (heartbeat_of (state_of k (input ∷ inputs)))) None)) reset
+    ap (λ b. cond b (Some BootUp) (cond (is_heartbeat_due (producer_event m.mark m.contents) (producer_log k (moments k inputs))) (Some (heartbeat_of (state_of k (input ∷ inputs)))) None)) reset

@@ -31,6 +31,7 @@ use Rattle.co_node_model.specs.Sdo.{with_channel_ticks, with_drop, drops, channe
 use Rattle.co_node_model.specs.Device.{with_frame, with_input, moment, moments, contents_of, held_of, room_of}
 use Rattle.co_node_model.specs.Addresses.{address_at}
 use Rattle.co_node_model.specs.Heartbeats.{is_heartbeat}
+use Rattle.co_node_model.specs.Marks.{marked_tick}
 use Rattle.co_node_laws.specs.Lengths.{AllDictionaries}
 use Rattle.co_node_laws.proofs.FewAnswers.{is_exchange}
 
@@ -140,8 +141,8 @@ under_input k history (Applied event) as_input c lawful all = under_event k.desc
 under_moment : (rows : Rows) (m : Moment) (history : History) → IsUnderWayIn rows m.exchange (channel_logs history) → IsQuiet m.timed_out → AllUnderWay rows (channel_logs history) → AllUnderWay rows (channel_logs (m ∷ history))
 under_moment rows m history exchange quiet all =
     let exchanged = under_logs rows m.exchange (channel_logs history) exchange all in
-    let ticked = under_ticked rows m.marks.ticked (logs_after m.exchange (channel_logs history)) exchanged in
-    let logs = with_channel_ticks m.marks.ticked (logs_after m.exchange (channel_logs history)) in
+    let ticked = under_ticked rows (marked_tick m.mark) (logs_after m.exchange (channel_logs history)) exchanged in
+    let logs = with_channel_ticks (marked_tick m.mark) (logs_after m.exchange (channel_logs history)) in
     under_dropped rows (drops m history) (logs_after m.timed_out logs) (under_logs rows m.timed_out logs (under_in rows m.timed_out logs quiet ticked) ticked)
 
 lawful_now : (k : Constants) (inputs : Inputs) → AllDictionaries k inputs → IsDictionary k.description (contents_of k inputs)

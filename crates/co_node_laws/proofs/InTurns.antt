@@ -37,9 +37,6 @@ record IsPassed (request id : ℕ) (call : Call) (events : List Event) (frames :
   events_same : events_after id events frames ≡ events
   none : asked_after request id call events frames ≡ []
 
-other_id : (a b : Bool) → a ≡ false → (a && b) ≡ false
-other_id a b off = rw off refl
-
 one_passed : (request id : ℕ) (call : Call) (events : List Event) (frame : FrameContent) → (frame.id == id) ≡ false → IsPassed request id call events (frame ∷ [])
 one_passed request id call events frame other = record { events_same = rw other refl; none = rw other refl }
 

@@ -19,7 +19,7 @@ use Rattle.co_sdo.specs.Completed.{contents_with}
 use Rattle.co_sdo_bank.specs.Events.{set_of}
 use Rattle.co_node_model.specs.declared.address.Address.{Address}
 use Rattle.co_node_model.specs.declared.address.Address.TheVariants.{Channel}
-use Rattle.co_node_model.specs.declared.marks.Marks.{Marks}
+use Rattle.co_node_model.specs.declared.mark.Mark.{Mark}
 use Rattle.co_node_model.specs.Inputs.{InputView, Inputs, AppView, Applied, Written, EventOn, ChangedAt, Raised, Cleared, Framed}
 use Rattle.co_node_model.specs.AppEvents.{event_refusal, with_app_event, app_contents}
 use Rattle.co_node_model.specs.Rpdos.{slot_event, emptied_by, empties_slot, after_all_data, slot_log, arrival_errors, effective}
@@ -30,6 +30,8 @@ use Rattle.co_node_model.specs.Moments.{Constants, Moment, History, channels, no
 use Rattle.co_node_model.specs.Sdo.{channel_logs}
 use Rattle.co_node_model.specs.Device.{with_frame, moment, moments, contents_of, state_of}
 use Rattle.co_node_model.specs.Addresses.{address_at}
+use Rattle.co_node_model.specs.Marks.{marked_heartbeat, marked_key, marked_rpdo, marked_sync, marked_tick}
+use Rattle.co_node_laws.proofs.MarkLemmas.{written_rpdo, written_sync, written_tick}
 
 -- ---- no heartbeat is lost
 
@@ -63,11 +65,11 @@ no_tick : (c : Contents) (heard : Option ℕ) (set : Option Key) → is_tick (co
 no_tick c None set = begins_no_tick c set
 no_tick c (Some node) set = refl
 
-pub by_reset : (marks : Marks) (c : Contents) (log : ConsumersLog) (reset : Bool) → is_reset marks ≡ reset → marks.ticked ≡ false → lost_by (consumers_call marks c) log ≡ []
-by_reset marks c log true is ticked = rw is refl
-by_reset marks c log false is ticked =
-    rw (is, ticked) (none_pass (λ sub. is_lost (event_of sub (Noted (cond (is_none marks.heard) (begin_event c marks.set) (heard_event marks.heard)))) (entry_log sub log))
-    (λ sub. none_lost (cond (is_none marks.heard) (begin_event c marks.set) (heard_event marks.heard)) log sub (no_tick c marks.heard marks.set)) entry_subs)
+pub by_reset : (mark : Mark) (c : Contents) (log : ConsumersLog) (reset : Bool) → is_reset mark ≡ reset → marked_tick mark ≡ false → lost_by (consumers_call mark c) log ≡ []
+by_reset mark c log true is ticked = rw is refl
+by_reset mark c log false is ticked =
+    rw (is, ticked) (none_pass (λ sub. is_lost (event_of sub (Noted (cond (is_none (marked_heartbeat mark)) (begin_event c (marked_key mark)) (heard_event (marked_heartbeat mark))))) (entry_log sub log))
+    (λ sub. none_lost (cond (is_none (marked_heartbeat mark)) (begin_event c (marked_key mark)) (heard_event (marked_heartbeat mark))) log sub (no_tick c (marked_heartbeat mark) (marked_key mark))) entry_subs)
 
 -- ---- no data of RPDOs
 
@@ -79,26 +81,26 @@ by_emptied (Some key) log = by (empties_slot key) refl
     by true is = rw is refl
     by false is = rw is refl
 
-pub none_taken : (d : Description) (c : Contents) (marks : Marks) (t : Transition) (log : SlotLog) (drops : Bool) (set : Option Key) → is_reset marks || leaves Operational t ≡ drops → marks.set ≡ set → marks.sync ≡ None → marks.rpdo ≡ None → taken_at 512 (slot_event d c marks t) log ≡ []
-none_taken d c marks t log true set is e sync rpdo = rw is refl
-none_taken d c marks t log false None is e sync rpdo = rw (is, sync, e, rpdo) refl
-none_taken d c marks t log false (Some key) is e sync rpdo = rw (is, sync, e) (by_emptied (Some key) log)
+pub none_taken : (d : Description) (c : Contents) (mark : Mark) (t : Transition) (log : SlotLog) (drops : Bool) (set : Option Key) → is_reset mark || leaves Operational t ≡ drops → marked_key mark ≡ set → marked_sync mark ≡ None → marked_rpdo mark ≡ None → taken_at 512 (slot_event d c mark t) log ≡ []
+none_taken d c mark t log true set is e sync rpdo = rw is refl
+none_taken d c mark t log false None is e sync rpdo = rw (is, sync, e, rpdo) refl
+none_taken d c mark t log false (Some key) is e sync rpdo = rw (is, sync, e) (by_emptied (Some key) log)
 
 -- ---- together
 
 pub record IsSilent (m : Moment) : Type 0 where
-  pub ticked : m.marks.ticked ≡ false
-  pub sync : m.marks.sync ≡ None
-  pub rpdo : m.marks.rpdo ≡ None
+  pub ticked : marked_tick m.mark ≡ false
+  pub sync : marked_sync m.mark ≡ None
+  pub rpdo : marked_rpdo m.mark ≡ None
 
 pub kept : (k : Constants) (history : History) (input : InputView) → IsSilent (moment k history input) → (moment k history input).contents ≡ (moment k history input).received
 kept k history input s =
     let m = moment k history input in
     let d = k.description in
-    let lost : m.lost ≡ [] = by_reset m.marks m.received (consumers_log k history) (is_reset m.marks) refl s.ticked in
+    let lost : m.lost ≡ [] = by_reset m.mark m.received (consumers_log k history) (is_reset m.mark) refl s.ticked in
     let watched : m.watched ≡ m.received = ap (λ l. all_raised d.rows (loss_errors l) m.received) lost in
     let arrived : arrival_errors d m ≡ [] = rw (s.sync, s.rpdo) refl in
-    let slots : taken_at 512 (slot_event d m.watched m.marks (transition_of m history)) (slot_log k history) ≡ [] = none_taken d m.watched m.marks (transition_of m history) (slot_log k history) _ m.marks.set refl refl s.sync s.rpdo in
+    let slots : taken_at 512 (slot_event d m.watched m.mark (transition_of m history)) (slot_log k history) ≡ [] = none_taken d m.watched m.mark (transition_of m history) (slot_log k history) _ (marked_key m.mark) refl refl s.sync s.rpdo in
     let taken : effective k history m ≡ [] = rw (slots, s.rpdo) refl in
     ap (λ errors. after_all_data d (all_raised d.rows errors m.watched) (effective k history m)) arrived
     ∙ ap (λ rpdos. after_all_data d m.watched rpdos) taken
@@ -136,7 +138,8 @@ silent_either false x y p q = q
 silent_request : (k : Constants) (history : History) (address : Address) (j : ℕ) (frame : FrameContent) (input : InputView) (c : Contents) → address ≡ Channel j → IsSilent (with_frame k history address frame (nothing_of input c))
 silent_request k history address j frame input c is =
     subst (λ (a : Address). IsSilent (with_frame k history a frame (nothing_of input c))) (sym is)
-    (silent_either (is_state Stopped (state_at history)) _ _ (record { ticked = refl; sync = refl; rpdo = refl }) (record { ticked = refl; sync = refl; rpdo = refl }))
+    (silent_either (is_state Stopped (state_at history)) _ _ (record { ticked = refl; sync = refl; rpdo = refl })
+    (record { ticked = written_tick _; sync = written_sync _; rpdo = written_rpdo _ }))
 
 after_request : (k : Constants) (inputs : Inputs) (frame : FrameContent) (j : ℕ) → address_at k (moments k inputs) frame.id ≡ Channel j
     → contents_of k (Framed frame ∷ inputs) ≡ (with_frame k (moments k inputs) (Channel j) frame (nothing_of (Framed frame) (contents_of k inputs))).received

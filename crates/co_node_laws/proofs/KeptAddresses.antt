@@ -12,6 +12,7 @@ use Rattle.co_profile.specs.Keys.{sync_key}
 use Rattle.co_node_model.specs.Nmt.{is_reset}
 use Rattle.co_node_model.specs.Moments.{Constants, contents_at}
 use Rattle.co_node_model.specs.Device.{moment, moments, contents_of}
+use Rattle.co_node_model.specs.Marks.{marked_key}
 use Rattle.co_node_laws.proofs.Below.{Below}
 use Rattle.co_node_laws.proofs.Received.{MayBecome, changed}
 use Rattle.co_node_laws.proofs.SameSettings.{written_other}
@@ -38,11 +39,11 @@ sync_by_set d (Some set) c e may off =
     ∙ may.1.same.same sync_key (omega arith) (omega arith)
 
 module _ (below : Below) (k : Constants) (inputs : Inputs) (input : InputView)
-    (off : may_change_addresses (moment k (moments k inputs) input).marks ≡ false) where
-  neither : (is_reset (moment k (moments k inputs) input).marks ≡ false) × (is_address_set (moment k (moments k inputs) input).marks.set ≡ false)
-  neither = both_off (is_reset (moment k (moments k inputs) input).marks) (is_address_set (moment k (moments k inputs) input).marks.set) off
+    (off : may_change_addresses (moment k (moments k inputs) input).mark ≡ false) where
+  neither : (is_reset (moment k (moments k inputs) input).mark ≡ false) × (is_address_set (marked_key (moment k (moments k inputs) input).mark) ≡ false)
+  neither = both_off (is_reset (moment k (moments k inputs) input).mark) (is_address_set (marked_key (moment k (moments k inputs) input).mark)) off
 
-  may : MayBecome k.description (moment k (moments k inputs) input).marks.set (contents_at k (moments k inputs)) (moment k (moments k inputs) input).contents
+  may : MayBecome k.description (marked_key (moment k (moments k inputs) input).mark) (contents_at k (moments k inputs)) (moment k (moments k inputs) input).contents
   may = changed below k (moments k inputs) input neither.0
 
   pub kept_rpdos : (key : Key) → 0x1400 ≤ key.index → key.index < 0x1800

@@ -14,6 +14,7 @@ use Rattle.co_node_laws.proofs.Below.{Below}
 use Rattle.co_node_laws.proofs.Received.{MayBecome, after_watched, changed_watched}
 use Rattle.co_node_laws.proofs.SameSettings.{from_1600, same_mappings, to_1BFF, written_other}
 use Rattle.co_node_model.specs.Mappings.{is_mapping_key, is_mapping_set, may_change_mappings, AgreeOnMappings}
+use Rattle.co_node_model.specs.Marks.{marked_key}
 
 both_off : (a b : Bool) → a || b ≡ false → (a ≡ false) × (b ≡ false)
 both_off true b off = absurd (cc)
@@ -33,13 +34,13 @@ by_set d (Some set) c e may off key there =
     sym (written_other c set key may.0 (apart set key off there)) ∙ may.1.same.same key (omega arith) (omega arith)
 
 pub kept_mappings : Below → (k : Constants) (inputs : Inputs) (input : InputView)
-    → may_change_mappings (moment k (moments k inputs) input).marks ≡ false
+    → may_change_mappings (moment k (moments k inputs) input).mark ≡ false
     → AgreeOnMappings (contents_of k inputs) (moment k (moments k inputs) input).watched
 kept_mappings below k inputs input off key there =
     let history = moments k inputs in
     let m = moment k history input in
-    let both = both_off (is_reset m.marks) (is_mapping_set m.marks.set) off in
-    by_set k.description m.marks.set (contents_at k history) m.watched (changed_watched below k history input both.0) both.1 key there
+    let both = both_off (is_reset m.mark) (is_mapping_set (marked_key m.mark)) off in
+    by_set k.description (marked_key m.mark) (contents_at k history) m.watched (changed_watched below k history input both.0) both.1 key there
 
 pub mappings_after : Below → (k : Constants) (inputs : Inputs) (input : InputView)
     → AgreeOnMappings (moment k (moments k inputs) input).watched (contents_of k (input ∷ inputs))

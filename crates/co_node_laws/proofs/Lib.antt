@@ -8,6 +8,7 @@ pub mod Calls
 pub mod Received
 pub mod Schedules
 mod Examples
+mod MarkLemmas
 pub mod Counts
 pub mod FewAnswers
 pub mod FewExchanged

@@ -1,36 +1,30 @@
 -- Which heartbeats of other nodes are lost at a tick, by the ticks since the last ones.
 use Rattle.std.proofs.Common.{◌≡◌, ℕ, suc, zero, ◌+◌, ◌-◌, ◌<◌, ◌≤◌, Bool, true, false, cond, [], ◌∷◌, Option, Some, None, refl, ap, ◌∙◌, arith}
-use Rattle.std.specs.Prelude.{◌==◌, ◌&&◌, ◌||◌, is_some, is_none, slice_index, if◌then◌else◌}
+use Rattle.std.specs.Prelude.{◌==◌, ◌&&◌, ◌||◌, is_some, is_none, slice_index}
 use Rattle.std.specs.List.{filter, list_any, range_with_len}
 use Rattle.std.proofs.lemmas.Bool.Decides.{nat_tests}
 use Rattle.std.proofs.lemmas.List.FromFn.{get_or-map-range_with_len}
 use Rattle.std.proofs.lemmas.Map.Views.{any-filter_same}
 use Rattle.co_value.specs.declared.key.Key.{Key}
 use Rattle.co_value.specs.Keys.{same_key, same_key-is}
-use Rattle.co_frame.specs.FrameContent.{FrameContent}
-use Rattle.co_frame.specs.Heartbeats.{heartbeat_in}
 use Rattle.co_dict.specs.Rows.{Contents, number_at}
 use Rattle.co_dict.specs.ConsumerHeartbeats.{consumer_key}
-use Rattle.co_dict.specs.Stores.{Description}
 use Rattle.co_pdo.specs.Schedules.{is_among}
 use Rattle.co_node_parts.specs.declared.heartbeat_consumer.ConsumerEvent.{ConsumerEvent}
 use Rattle.co_node_parts.specs.declared.heartbeat_consumer.ConsumerEvent.TheVariants as one
 use Rattle.co_node_parts.specs.declared.heartbeat_consumers.ConsumersEvent.TheVariants as consumers
-use Rattle.co_node_parts.specs.declared.nmt_state.NodeState.TheVariants.{Operational, Stopped}
-use Rattle.co_node_parts.specs.NmtStates.{is_state}
 use Rattle.co_node_parts.specs.Consumers.{ConsumerLog, monitored_by, monitored_after, later, silence, is_over_after, is_lost}
 use Rattle.co_node_parts.specs.ConsumerTables.{ConsumersCall, Noted, AllBegun, event_of, entry_log, entry_subs}
-use Rattle.co_node_model.specs.declared.address.Address.{Address}
-use Rattle.co_node_model.specs.declared.address.Address.TheVariants.{Nmt, Sync, Channel, Rpdo, ErrorControl, Nobody}
-use Rattle.co_node_model.specs.declared.marks.Marks.{Marks}
-use Rattle.co_node_model.specs.AppEvents.{event_refusal, with_app_event}
-use Rattle.co_node_model.specs.Inputs.{InputView, Inputs, AppView, Framed, Ticked, Applied, Written, EventOn, ChangedAt, Raised, Cleared}
+use Rattle.co_node_model.specs.declared.address.Address.TheVariants.{Sync, Rpdo}
+use Rattle.co_node_model.specs.declared.mark.Mark.{Mark}
+use Rattle.co_node_model.specs.declared.mark.Mark.TheVariants as was
+use Rattle.co_node_model.specs.Inputs.{InputView, Inputs, Ticked, Written}
 use Rattle.co_node_model.specs.Keys.{is_set}
-use Rattle.co_node_model.specs.Nmt.{is_reset, state_at}
-use Rattle.co_node_model.specs.Heartbeats.{is_consumer_key, consumer_words, begin_event, heard_event, consumers_call, consumers_log, is_heartbeat}
-use Rattle.co_node_model.specs.Moments.{Constants, Moment, History, contents_at, nothing_of}
-use Rattle.co_node_model.specs.Device.{with_frame, with_input, moments}
-use Rattle.co_node_model.specs.Addresses.{address_at}
+use Rattle.co_node_model.specs.Nmt.{is_reset}
+use Rattle.co_node_model.specs.Heartbeats.{is_consumer_key, consumer_words, begin_event, heard_event, consumers_call, consumers_log}
+use Rattle.co_node_model.specs.Moments.{Constants}
+use Rattle.co_node_model.specs.Device.{moments}
+use Rattle.co_node_model.specs.Marks.{marked_heartbeat, marked_key, marked_tick}
 use Rattle.co_node_laws.specs.Kinds.{is_tick}
 use Rattle.co_node_laws.proofs.Ticks.{ticked_is}
 use Rattle.co_node_laws.specs.Distances.{moment_at, begins_entry, heard_after, silence_after, monitored, ticks_silent, is_time_passed}
@@ -38,33 +32,15 @@ use Rattle.co_node_laws.proofs.Kept.{by_reset}
 
 -- ---- an input that is a tick or a heartbeat sets no entry
 
-abbrev IsApart : Marks → Type 0
-IsApart marks = (marks.ticked || is_some marks.heard) && is_some marks.set ≡ false
-
-apart_either : (b : Bool) (x y : Moment) → IsApart x.marks → IsApart y.marks → IsApart (if b then x else y).marks
-apart_either true x y p q = p
-apart_either false x y p q = q
-
-apart_frame : (k : Constants) (history : History) (address : Address) (frame : FrameContent) (input : InputView) (c : Contents) → IsApart (with_frame k history address frame (nothing_of input c)).marks
-apart_frame k history Nmt frame input c = refl
-apart_frame k history Sync frame input c = apart_either (is_state Stopped (state_at history)) _ _ refl refl
-apart_frame k history (Channel j) frame input c = apart_either (is_state Stopped (state_at history)) _ _ refl refl
-apart_frame k history (Rpdo n) frame input c = apart_either (is_state Operational (state_at history)) _ _ refl refl
-apart_frame k history (ErrorControl node) frame input c = apart_either (is_heartbeat (heartbeat_in frame.bytes)) _ _ refl refl
-apart_frame k history Nobody frame input c = refl
-
-apart_event : (d : Description) (event : AppView) (refusal : Option ℕ) (input : InputView) (c : Contents) → IsApart (with_app_event d event refusal (nothing_of input c)).marks
-apart_event d event (Some code) input c = refl
-apart_event d (Written key bytes) None input c = refl
-apart_event d (EventOn n) None input c = refl
-apart_event d (ChangedAt key) None input c = refl
-apart_event d (Raised code bits manufacturer) None input c = refl
-apart_event d (Cleared bits) None input c = refl
-
-apart_input : (k : Constants) (history : History) (input as_input : InputView) (c : Contents) → IsApart (with_input k history input (nothing_of as_input c)).marks
-apart_input k history (Framed frame) as_input c = apart_frame k history (address_at k history frame.id) frame as_input c
-apart_input k history Ticked as_input c = refl
-apart_input k history (Applied event) as_input c = apart_event k.description event (event_refusal k.description c event) as_input c
+apart : (mark : Mark) → (marked_tick mark || is_some (marked_heartbeat mark)) && is_some (marked_key mark) ≡ false
+apart was.Quiet = refl
+apart (was.Command service) = refl
+apart (was.Written key) = refl
+apart (was.Sync frame) = refl
+apart (was.Rpdo frame) = refl
+apart (was.Heard node) = refl
+apart (was.Tick timed_out) = refl
+apart (was.Asked asked) = refl
 
 -- ---- what a call is to an entry
 
@@ -107,11 +83,11 @@ entry_by false false None None c sub apart low high = refl
 entry_by false false None (Some key) c sub apart low high = begun c key sub (same_key key (consumer_key sub)) refl low high
 
 entry_is : (k : Constants) (inputs : Inputs) (input : InputView) (sub : ℕ) → 1 ≤ sub → sub ≤ 127
-    → event_of sub (consumers_call (moment_at k inputs input).marks (moment_at k inputs input).received)
-    ≡ cond (begins_entry sub (moment_at k inputs input).marks) (one.Begin (number_at (moment_at k inputs input).received (consumer_key sub))) (cond (moment_at k inputs input).marks.ticked one.Tick (of_heard (moment_at k inputs input).marks.heard))
+    → event_of sub (consumers_call (moment_at k inputs input).mark (moment_at k inputs input).received)
+    ≡ cond (begins_entry sub (moment_at k inputs input).mark) (one.Begin (number_at (moment_at k inputs input).received (consumer_key sub))) (cond (marked_tick (moment_at k inputs input).mark) one.Tick (of_heard (marked_heartbeat (moment_at k inputs input).mark)))
 entry_is k inputs input sub low high =
     let m = moment_at k inputs input in
-    entry_by (is_reset m.marks) m.marks.ticked m.marks.heard m.marks.set m.received sub (apart_input k (moments k inputs) input input (contents_at k (moments k inputs))) low high
+    entry_by (is_reset m.mark) (marked_tick m.mark) (marked_heartbeat m.mark) (marked_key m.mark) m.received sub (apart m.mark) low high
 
 -- ---- what is monitored, and how long ago it was heard
 
@@ -134,8 +110,8 @@ monitored_is k sub (input ∷ inputs) low high =
     let log = entry_log sub (consumers_log k (moments k inputs)) in
     let word = number_at m.received (consumer_key sub) in
     ap (λ e. monitored_after (e ∷ log)) (entry_is k inputs input sub low high)
-    ∙ monitored_with (begins_entry sub m.marks) m.marks.ticked m.marks.heard word log
-    ∙ ap (λ o. cond (begins_entry sub m.marks) (monitored_by word) o) (monitored_is k sub inputs low high)
+    ∙ monitored_with (begins_entry sub m.mark) (marked_tick m.mark) (marked_heartbeat m.mark) word log
+    ∙ ap (λ o. cond (begins_entry sub m.mark) (monitored_by word) o) (monitored_is k sub inputs low high)
 
 pub silence_is : (k : Constants) (sub : ℕ) (inputs : Inputs) → 1 ≤ sub → sub ≤ 127 → silence (entry_log sub (consumers_log k (moments k inputs))) ≡ ticks_silent k sub inputs
 silence_is k sub [] low high = refl
@@ -144,9 +120,9 @@ silence_is k sub (input ∷ inputs) low high =
     let log = entry_log sub (consumers_log k (moments k inputs)) in
     let word = number_at m.received (consumer_key sub) in
     ap (λ e. silence (e ∷ log)) (entry_is k inputs input sub low high)
-    ∙ silence_with (begins_entry sub m.marks) m.marks.ticked m.marks.heard word log
-    ∙ ap (λ o. cond (begins_entry sub m.marks) None (silence_after m.marks o (silence log))) (monitored_is k sub inputs low high)
-    ∙ ap (λ o. cond (begins_entry sub m.marks) None (silence_after m.marks (monitored k sub inputs) o)) (silence_is k sub inputs low high)
+    ∙ silence_with (begins_entry sub m.mark) (marked_tick m.mark) (marked_heartbeat m.mark) word log
+    ∙ ap (λ o. cond (begins_entry sub m.mark) None (silence_after m.mark o (silence log))) (monitored_is k sub inputs low high)
+    ∙ ap (λ o. cond (begins_entry sub m.mark) None (silence_after m.mark (monitored k sub inputs) o)) (silence_is k sub inputs low high)
 
 -- ---- which are lost
 
@@ -185,5 +161,5 @@ at_tick k inputs sub low high =
 pub elsewhere : (k : Constants) (inputs : Inputs) (input : InputView) → is_tick input ≡ false → (moment_at k inputs input).lost ≡ []
 elsewhere k inputs input off =
     let m = moment_at k inputs input in
-    let ticked : m.marks.ticked ≡ false = ticked_is k inputs input ∙ off in
-    by_reset m.marks m.received (consumers_log k (moments k inputs)) (is_reset m.marks) refl ticked
+    let ticked : marked_tick m.mark ≡ false = ticked_is k inputs input ∙ off in
+    by_reset m.mark m.received (consumers_log k (moments k inputs)) (is_reset m.mark) refl ticked

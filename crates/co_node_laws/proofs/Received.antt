@@ -1,5 +1,5 @@
 -- What one input does to the entries from 1004h to 1FFFh, where it is no reset: one permitted write, or nothing.
-use Rattle.std.proofs.Common.{◌≡◌, ℕ, Bool, true, false, List, [], ◌∷◌, Option, Some, None, refl, sym, arith}
+use Rattle.std.proofs.Common.{◌≡◌, ℕ, Bool, true, false, List, [], ◌∷◌, Option, Some, None, refl, subst, sym, arith}
 use Rattle.std.specs.Prelude.{if◌then◌else◌}
 use Rattle.co_value.specs.declared.key.Key.{Key}
 use Rattle.co_frame.specs.FrameContent.{FrameContent}
@@ -31,10 +31,12 @@ use Rattle.co_node_model.specs.Sdo.{channel_logs, with_request}
 use Rattle.co_node_model.specs.Device.{with_frame, with_input, moment}
 use Rattle.co_node_model.specs.Addresses.{address_at}
 use Rattle.co_node_model.specs.Heartbeats.{is_heartbeat, loss_errors}
+use Rattle.co_node_model.specs.Marks.{marked_key}
 use Rattle.co_node_laws.proofs.Below.{Below}
 use Rattle.co_node_laws.specs.Settings.{HasSameSettings}
 use Rattle.co_node_laws.proofs.SameSettings.{same_none, same_both, same_register, same_raised, same_all_raised}
 use Rattle.co_node_laws.proofs.Writes.{IsWrite}
+use Rattle.co_node_laws.proofs.MarkLemmas.{written_key}
 
 -- the entries may change so, where this key was set or none was
 abbrev pub MayBecome : Description → Option Key → Contents → Contents → Type 0
@@ -47,7 +49,7 @@ and_then d (Some key) c e f may same = (may.0, record { permitted = may.1.permit
 
 -- what was received did so, unless it was a reset
 abbrev IsLawful : Description → Contents → Moment → Type 0
-IsLawful d c m = is_reset m.marks ≡ false → MayBecome d m.marks.set c m.received
+IsLawful d c m = is_reset m.mark ≡ false → MayBecome d (marked_key m.mark) c m.received
 
 of_either : (d : Description) (c : Contents) (b : Bool) (x y : Moment) → IsLawful d c x → IsLawful d c y → IsLawful d c (if b then x else y)
 of_either d c true x y p q = p
@@ -92,7 +94,9 @@ module _ (below : Below) where
 
   of_request : (k : Constants) (c : Contents) (logs : ℕ → Log) (frame : FrameContent) (input : InputView) → IsLawful k.description c (with_request k logs frame (nothing_of input c))
   of_request k c logs frame input = λ off.
-      of_download k.description c (set_of (channels k) k.description c logs frame) (below.permitted (channels k) k.description c logs frame)
+      let set = set_of (channels k) k.description c logs frame in
+      subst (λ (key : Option Key). MayBecome k.description key c (contents_with c set)) (sym (written_key (key_set set)))
+      (of_download k.description c set (below.permitted (channels k) k.description c logs frame))
 
   of_frame : (k : Constants) (history : History) (address : Address) (frame : FrameContent) (c : Contents) (input : InputView) → IsLawful k.description c (with_frame k history address frame (nothing_of input c))
   of_frame k history Nmt frame c input = of_service k.description c k.description.initial (service_for k.description.node (nmt_command_in frame)) input
@@ -131,12 +135,12 @@ module _ (below : Below) where
       let d = k.description in
       same_both m.received m.watched m.contents (same_all_raised d.rows (loss_errors m.lost) m.received) (after_watched k history input)
 
-  pub changed_watched : (k : Constants) (history : History) (input : InputView) → is_reset (moment k history input).marks ≡ false → MayBecome k.description (moment k history input).marks.set (contents_at k history) (moment k history input).watched
+  pub changed_watched : (k : Constants) (history : History) (input : InputView) → is_reset (moment k history input).mark ≡ false → MayBecome k.description (marked_key (moment k history input).mark) (contents_at k history) (moment k history input).watched
   changed_watched k history input off =
       let m = moment k history input in
-      and_then k.description m.marks.set (contents_at k history) m.received m.watched (of_input k history (contents_at k history) input input off) (same_all_raised k.description.rows (loss_errors m.lost) m.received)
+      and_then k.description (marked_key m.mark) (contents_at k history) m.received m.watched (of_input k history (contents_at k history) input input off) (same_all_raised k.description.rows (loss_errors m.lost) m.received)
 
-  pub changed : (k : Constants) (history : History) (input : InputView) → is_reset (moment k history input).marks ≡ false → MayBecome k.description (moment k history input).marks.set (contents_at k history) (moment k history input).contents
+  pub changed : (k : Constants) (history : History) (input : InputView) → is_reset (moment k history input).mark ≡ false → MayBecome k.description (marked_key (moment k history input).mark) (contents_at k history) (moment k history input).contents
   changed k history input off =
       let m = moment k history input in
-      and_then k.description m.marks.set (contents_at k history) m.received m.contents (of_input k history (contents_at k history) input input off) (after_received k history input)
+      and_then k.description (marked_key m.mark) (contents_at k history) m.received m.contents (of_input k history (contents_at k history) input input off) (after_received k history input)

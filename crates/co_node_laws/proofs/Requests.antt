@@ -17,24 +17,27 @@ use Rattle.co_pdo.specs.declared.tpdo.Part.{Part}
 use Rattle.co_node_parts.specs.declared.nmt_state.NodeState.{NodeState}
 use Rattle.co_node_parts.specs.declared.nmt_state.NodeState.TheVariants.{PreOperational, Operational, Stopped}
 use Rattle.co_node_parts.specs.declared.nmt_state.StateEvent.TheVariants as state
+use Rattle.co_frame.specs.declared.nmt.NmtService.{NmtService}
 use Rattle.co_node_parts.specs.NmtStates.{enters, is_state, state_after}
 use Rattle.co_node_parts.specs.EmergencyQueues.{EmergencyLog, emergency_due}
 use Rattle.co_node_model.specs.declared.address.Address.TheVariants.{Channel}
-use Rattle.co_node_model.specs.declared.marks.Marks.{Marks}
+use Rattle.co_node_model.specs.declared.mark.Mark.{Mark}
 use Rattle.co_node_model.specs.declared.turn.Turn.TheVariants as turn
 use Rattle.co_node_model.specs.Sync.{is_sync_id}
 use Rattle.co_node_model.specs.Inputs.{Inputs, Framed}
 use Rattle.co_node_model.specs.Keys.{is_set}
 use Rattle.co_profile.specs.Keys.{emergency_key, producer_key}
 use Rattle.co_node_model.specs.Tpdos.{part_started, start_turn, turn_by_write, turn_of, turn_with, schedule_log, due_at}
-use Rattle.co_node_model.specs.Moments.{quiet, Constants, Moment, History, channels, contents_at, nothing_of}
-use Rattle.co_node_model.specs.Nmt.{is_reset, state_event, state_at, state_log, transition_of}
-use Rattle.co_node_model.specs.Heartbeats.{life_of, consumers_log, producer_log, loss_event}
+use Rattle.co_node_model.specs.Moments.{Constants, Moment, History, channels, contents_at, nothing_of}
+use Rattle.co_node_model.specs.Nmt.{commanded_event, is_reset, is_reset_by, state_event, state_at, state_log, transition_of}
+use Rattle.co_node_model.specs.Heartbeats.{consumers_log, producer_log, loss_event}
 use Rattle.co_node_model.specs.Sdo.{channel_logs, drops, with_drop, with_channel_ticks, with_request}
 use Rattle.co_node_model.specs.Emergencies.{emergency_log, unsent_log, emergency_frames}
 use Rattle.co_node_model.specs.Addresses.{address_at}
 use Rattle.co_node_model.specs.Device.{received_at, moment, contents_of, frames, moments, prescribed, state_of}
-use Rattle.co_node_laws.proofs.Counts.{no_heartbeat_by}
+use Rattle.co_node_model.specs.Marks.{marked_command, marked_key, marked_rpdo, marked_sync, marked_tick, written_mark}
+use Rattle.co_node_laws.proofs.Counts.{no_heartbeat_by, no_life}
+use Rattle.co_node_laws.proofs.MarkLemmas.{written_command, written_rpdo, written_sync, written_tick}
 use Rattle.co_node_laws.proofs.Kept.{by_reset, kept}
 use Rattle.co_node_laws.proofs.Channel.{default_channel, receives, takes}
 
@@ -62,9 +65,9 @@ received_is : (k : Constants) (history : History) (bytes : List ℕ) → address
     → received_at k history (Framed (request_to k bytes)) ≡ with_request k (channel_logs history) (request_to k bytes) (nothing_of (Framed (request_to k bytes)) (contents_at k history))
 received_is k history bytes address running = rw (address, running) refl
 
--- what a moment is whose marks are those of a request
+-- what a moment is whose mark is that of a request
 pub record IsExchange (k : Constants) (history : History) (bytes : List ℕ) (m : Moment) : Type 0 where
-  pub marks : m.marks ≡ record quiet { set = key_set (set_by k.description (contents_at k history) (logs_at history) bytes) }
+  pub mark : m.mark ≡ written_mark (key_set (set_by k.description (contents_at k history) (logs_at history) bytes))
   pub exchange : m.exchange ≡ Some (exchanged k history bytes)
   pub timed_out : m.timed_out ≡ None
   pub received : m.received ≡ contents_with (contents_at k history) (set_by k.description (contents_at k history) (logs_at history) bytes)
@@ -75,7 +78,7 @@ exchange_at_moment k history bytes eight address running =
     let is = received_is k history bytes address running in
     let set = set_is k history bytes eight in
     record {
-      marks = ap (λ (m : Moment). m.marks) is ∙ ap (λ s. record quiet { set = key_set s }) set;
+      mark = ap (λ (m : Moment). m.mark) is ∙ ap (λ s. written_mark (key_set s)) set;
       exchange = ap (λ (m : Moment). m.exchange) is ∙ exchange_is k history bytes eight;
       timed_out = ap (λ (m : Moment). m.timed_out) is;
       received = ap (λ (m : Moment). m.received) is ∙ ap (contents_with (contents_at k history)) set;
@@ -91,12 +94,12 @@ by_write : (d : Description) (c : Contents) (log : Schedule) (key : Key) (within
 by_write d c log key true is = rw is (started d c log _ (part_started key.sub))
 by_write d c log key false is = rw is refl
 
-by_set : (d : Description) (c : Contents) (log : Schedule) (set : Option Key) → due_at d (turn_with set (record quiet { set = set })) c log ≡ []
+by_set : (d : Description) (c : Contents) (log : Schedule) (set : Option Key) → due_at d (turn_with (marked_key (written_mark set)) (written_mark set)) c log ≡ []
 by_set d c log None = refl
 by_set d c log (Some key) = by_write d c log key (is_within tpdo_communication key.index) refl
 
 no_turn : (d : Description) (c : Contents) (log : Schedule) (set : Option Key) (outside entering : Bool)
-    → due_at d (cond outside turn.Quiet (cond entering turn.StartAll (turn_with set (record quiet { set = set })))) c log ≡ []
+    → due_at d (cond outside turn.Quiet (cond entering turn.StartAll (turn_with (marked_key (written_mark set)) (written_mark set)))) c log ≡ []
 no_turn d c log set true entering = refl
 no_turn d c log set false true = refl
 no_turn d c log set false false = by_set d c log set
@@ -137,17 +140,18 @@ flip Stopped off = off
 
 -- the log of the channel: no tick, and nothing is dropped
 log_is : (k : Constants) (history : History) (bytes : List ℕ) (m : Moment) → m.exchange ≡ Some (exchanged k history bytes) → m.timed_out ≡ None
-    → m.marks ≡ record quiet { set = key_set (set_by k.description (contents_at k history) (logs_at history) bytes) }
+    → m.mark ≡ written_mark (key_set (set_by k.description (contents_at k history) (logs_at history) bytes))
     → state_at (m ∷ history) ≡ state_at history → is_state Stopped (state_at history) ≡ false
     → channel_logs (m ∷ history) 0 ≡ (exchanged k history bytes).event ∷ channel_logs history 0
-log_is k history bytes m exchange timed_out marks next running =
+log_is k history bytes m exchange timed_out mark next running =
     let stays : is_state Stopped (state_at (m ∷ history)) ≡ false = ap (is_state Stopped) next ∙ running in
     let drops_none : drops m history ≡ false =
-    ap (λ (a : Marks). is_reset a || enters Stopped (transition_of m history)) marks
+    ap (λ (a : Mark). is_reset a || enters Stopped (transition_of m history)) mark
+    ∙ ap (λ (c : Option NmtService). is_reset_by c || enters Stopped (transition_of m history)) (written_command _)
     ∙ never_entered (not (is_state (state_at history) Stopped)) (is_state (state_at (m ∷ history)) Stopped) (flip _ stays) in
-    ap (λ b. with_drop b (logs_after m.timed_out (with_channel_ticks m.marks.ticked (logs_after m.exchange (channel_logs history)))) 0) drops_none
-    ∙ ap (λ t. logs_after t (with_channel_ticks m.marks.ticked (logs_after m.exchange (channel_logs history))) 0) timed_out
-    ∙ ap (λ (a : Marks). with_channel_ticks a.ticked (logs_after m.exchange (channel_logs history)) 0) marks
+    ap (λ b. with_drop b (logs_after m.timed_out (with_channel_ticks (marked_tick m.mark) (logs_after m.exchange (channel_logs history)))) 0) drops_none
+    ∙ ap (λ t. logs_after t (with_channel_ticks (marked_tick m.mark) (logs_after m.exchange (channel_logs history))) 0) timed_out
+    ∙ ap (λ (b : Bool). with_channel_ticks b (logs_after m.exchange (channel_logs history)) 0) (ap marked_tick mark ∙ written_tick _)
     ∙ ap (λ e. logs_after e (channel_logs history) 0) exchange
 
 pub answers : (k : Constants) (inputs : Inputs) (bytes : List ℕ) → length bytes ≡ 8 → is_sync_id (contents_of k inputs) (0x600 + k.description.node) ≡ false → is_state Stopped (state_of k inputs) ≡ false → Answers k inputs bytes
@@ -155,27 +159,27 @@ answers k inputs bytes eight sync running =
     let history : History = moments k inputs in
     let m : Moment = moment k history (Framed (request_to k bytes)) in
     let x = exchange_at_moment k history bytes eight (takes k history sync) running in
-    let marks : Marks = record quiet { set = key_set (set_by k.description (contents_at k history) (logs_at history) bytes) } in
-    let off : is_reset m.marks ≡ false = ap is_reset x.marks in
-    let unticked : m.marks.ticked ≡ false = ap (λ (a : Marks). a.ticked) x.marks in
-    let lost : m.lost ≡ [] = by_reset m.marks m.received (consumers_log k history) false off unticked in
+    let set : Option Key = key_set (set_by k.description (contents_at k history) (logs_at history) bytes) in
+    let uncommanded : marked_command m.mark ≡ None = ap marked_command x.mark ∙ written_command set in
+    let off : is_reset m.mark ≡ false = ap is_reset_by uncommanded in
+    let unticked : marked_tick m.mark ≡ false = ap marked_tick x.mark ∙ written_tick set in
+    let lost : m.lost ≡ [] = by_reset m.mark m.received (consumers_log k history) false off unticked in
     let loss : m.loss ≡ state.Quiet = ap (λ subs. loss_event subs m.received) lost in
     let next : state_at (m ∷ history) ≡ state_at history =
-    ap (λ event. state_after (event ∷ state_event m.marks ∷ state_log history)) loss ∙ ap (λ (a : Marks). state_after (state_event a ∷ state_log history)) x.marks in
+    ap (λ event. state_after (event ∷ state_event m.mark ∷ state_log history)) loss ∙ ap (λ (c : Option NmtService). state_after (commanded_event c ∷ state_log history)) uncommanded in
     let same : m.contents ≡ m.received =
-    kept k history (Framed (request_to k bytes)) (record { ticked = unticked; sync = ap (λ (a : Marks). a.sync) x.marks; rpdo = ap (λ (a : Marks). a.rpdo) x.marks }) in
+    kept k history (Framed (request_to k bytes)) (record { ticked = unticked; sync = ap marked_sync x.mark ∙ written_sync set; rpdo = ap marked_rpdo x.mark ∙ written_rpdo set }) in
     let life : m.life ≡ None =
-    ap (λ due. life_of m.marks (state_at (m ∷ history)) due) (no_heartbeat_by (is_reset m.marks || is_set m.marks.set producer_key) m.marks m.contents (producer_log k history) refl unticked)
-    ∙ ap (λ (a : Marks). life_of a (state_at (m ∷ history)) false) x.marks in
+    no_life m.mark (state_at (m ∷ history)) _ off (no_heartbeat_by (is_reset m.mark || is_set (marked_key m.mark) producer_key) m.mark m.contents (producer_log k history) refl unticked) in
     let due : m.due ≡ [] =
-    ap (λ (a : Marks). due_at k.description (turn_of a (transition_of m history)) m.contents (schedule_log k history)) x.marks
-    ∙ no_turn k.description m.contents (schedule_log k history) marks.set _ _ in
+    ap (λ (a : Mark). due_at k.description (turn_of a (transition_of m history)) m.contents (schedule_log k history)) x.mark
+    ∙ no_turn k.description m.contents (schedule_log k history) set _ _ in
     let stays : is_state Stopped (state_at (m ∷ history)) ≡ false = ap (is_state Stopped) next ∙ running in
     record {
       emergency = m.emergency;
       frames = frames_are k m (exchanged k history bytes) x.exchange x.timed_out life due;
       valid = λ none. unsent _ _ (is_valid (number_at m.contents emergency_key)) (unsent_log m (emergency_log history)) none;
       contents = same ∙ x.received;
-      log = log_is k history bytes m x.exchange x.timed_out x.marks next running;
+      log = log_is k history bytes m x.exchange x.timed_out x.mark next running;
       state = next;
     }

@@ -8,17 +8,19 @@ use Rattle.co_profile.specs.Indices.{rpdo_communication}
 use Rattle.co_profile.specs.TransmissionTypes.{is_synchronous}
 use Rattle.co_dict.specs.Rows.{Contents}
 use Rattle.co_dict.specs.Stores.{Description}
-use Rattle.co_node_parts.specs.declared.nmt_state.NodeState.{NodeState}
-use Rattle.co_node_parts.specs.declared.nmt_state.NodeState.TheVariants.{PreOperational, Operational, Stopped}
+use Rattle.co_node_parts.specs.declared.nmt_state.NodeState.TheVariants.{Operational}
 use Rattle.co_node_parts.specs.declared.rpdo_slots.KeptFrame.{KeptFrame}
 use Rattle.co_node_parts.specs.declared.rpdo_slots.SlotEvent.TheVariants as slot
 use Rattle.co_node_parts.specs.NmtStates.{leaves}
 use Rattle.co_node_parts.specs.RpdoSlots.{SlotLog, kept_of}
 use Rattle.co_node_model.specs.Inputs.{InputView, Inputs, Framed}
-use Rattle.co_node_model.specs.Moments.{Constants, nothing_of}
-use Rattle.co_node_model.specs.Nmt.{is_reset, state_at, transition_of}
-use Rattle.co_node_model.specs.Device.{contents_of, moments, with_frame}
-use Rattle.co_node_model.specs.Rpdos.{emptied_by, empties_slot, is_short, kept_by, rpdo_type, slot_log, with_rpdo}
+use Rattle.co_node_model.specs.Moments.{Constants}
+use Rattle.co_node_model.specs.Nmt.{is_reset, transition_of}
+use Rattle.co_node_model.specs.Device.{moments}
+use Rattle.co_node_model.specs.Rpdos.{emptied_by, empties_slot, is_short, kept_by, rpdo_type, slot_log}
+use Rattle.co_node_model.specs.Marks.{marked_key, marked_rpdo, marked_sync}
+use Rattle.co_node_model.specs.declared.mark.Mark.{Mark}
+use Rattle.co_node_model.specs.declared.mark.Mark.TheVariants as was
 use Rattle.co_node_laws.specs.Distances.{moment_at}
 use Rattle.co_node_laws.specs.RpdoWaits.{
   IsLastAccepted,
@@ -82,29 +84,19 @@ new_by d c n false false None (Some rpdo) frame log apart off e =
 
 -- ---- a write and a frame of an RPDO are never one input
 
-rpdo_sets_none : (n : ℕ) (frame : FrameContent) (input : InputView) (c : Contents) (s : NodeState) → (with_rpdo n s frame (nothing_of input c)).marks.set ≡ None
-rpdo_sets_none n frame input c PreOperational = refl
-rpdo_sets_none n frame input c Operational = refl
-rpdo_sets_none n frame input c Stopped = refl
-
-sets_none : (k : Constants) (inputs : Inputs) (input : InputView) (rpdo : KeptFrame) → (moment_at k inputs input).marks.rpdo ≡ Some rpdo → (moment_at k inputs input).marks.set ≡ None
-sets_none k inputs input rpdo e =
-    let is = taken_for k inputs input rpdo e in
-    let h = moments k inputs in
-    let c = contents_of k inputs in
-    ap (λ (i : InputView). (moment_at k inputs i).marks.set) is.is
-    ∙ ap (λ a. (with_frame k h a rpdo.frame (nothing_of (Framed rpdo.frame) c)).marks.set) is.address
-    ∙ rpdo_sets_none rpdo.number rpdo.frame (Framed rpdo.frame) c (state_at h)
-
-apart_by : (k : Constants) (inputs : Inputs) (input : InputView) (set : Option Key) (rpdo : Option KeptFrame)
-    → (moment_at k inputs input).marks.set ≡ set → (moment_at k inputs input).marks.rpdo ≡ rpdo → is_some set && is_some rpdo ≡ false
-apart_by k inputs input None rpdo set is = refl
-apart_by k inputs input (Some key) None set is = refl
-apart_by k inputs input (Some key) (Some rpdo) set is = absurd (let none = sets_none k inputs input rpdo is in cc)
+apart : (mark : Mark) → is_some (marked_key mark) && is_some (marked_rpdo mark) ≡ false
+apart was.Quiet = refl
+apart (was.Command service) = refl
+apart (was.Written key) = refl
+apart (was.Sync frame) = refl
+apart (was.Rpdo frame) = refl
+apart (was.Heard node) = refl
+apart (was.Tick timed_out) = refl
+apart (was.Asked asked) = refl
 
 -- ---- together
 
-as_new : (k : Constants) (inputs : Inputs) (input : InputView) (n : ℕ) (frame : FrameContent) → IsNew k.description (moment_at k inputs input).watched n (moment_at k inputs input).marks.rpdo frame
+as_new : (k : Constants) (inputs : Inputs) (input : InputView) (n : ℕ) (frame : FrameContent) → IsNew k.description (moment_at k inputs input).watched n (marked_rpdo (moment_at k inputs input).mark) frame
     → IsLastAccepted k n (input ∷ inputs) frame
 as_new k inputs input n frame new =
     let rpdo : KeptFrame = record { number = n; frame = frame } in
@@ -143,9 +135,9 @@ step k n input inputs frame false keeps e before =
     let m = moment_at k inputs input in
     let t = transition_of m (moments k inputs) in
     as_new k inputs input n frame
-    (new_by k.description m.watched n (is_reset m.marks || leaves Operational t) (is_effective m.marks.sync t) m.marks.set m.marks.rpdo frame (slot_log k (moments k inputs))
-    (apart_by k inputs input m.marks.set m.marks.rpdo refl refl)
-    (sym (ap (λ b. not (is_reset m.marks || leaves Operational t) && (not (is_effective m.marks.sync t) && (not (renews n m.marks.set) && not b))) (newer_is k inputs input n)) ∙ keeps) e)
+    (new_by k.description m.watched n (is_reset m.mark || leaves Operational t) (is_effective (marked_sync m.mark) t) (marked_key m.mark) (marked_rpdo m.mark) frame (slot_log k (moments k inputs))
+    (apart m.mark)
+    (sym (ap (λ b. not (is_reset m.mark || leaves Operational t) && (not (is_effective (marked_sync m.mark) t) && (not (renews n (marked_key m.mark)) && not b))) (newer_is k inputs input n)) ∙ keeps) e)
 
 pub last_accepted : (k : Constants) (n : ℕ) (inputs : Inputs) (frame : FrameContent) → waiting_frame k n inputs ≡ Some frame → IsLastAccepted k n inputs frame
 last_accepted k n [] frame e = absurd (cc)

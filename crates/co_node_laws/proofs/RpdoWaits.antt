@@ -28,28 +28,30 @@ use Rattle.co_node_model.specs.Moments.{Constants, Moment, History, nothing_of}
 use Rattle.co_node_model.specs.Sync.{with_sync}
 use Rattle.co_node_model.specs.Device.{with_frame, moments, contents_of, state_of}
 use Rattle.co_node_model.specs.Addresses.{address_at}
+use Rattle.co_node_model.specs.Marks.{marked_key, marked_rpdo, marked_sync}
 use Rattle.co_node_laws.specs.Distances.{moment_at}
 use Rattle.co_node_laws.specs.RpdoWaits.{waiting_frame, renews, is_effective, is_newer_of, keeps_waiting, all_keep_waiting}
 use Rattle.co_node_laws.proofs.Kept.{by_reset}
 use Rattle.co_node_laws.proofs.Changed.{IsUncommanded, quiet_sync, quiet_rpdo}
+use Rattle.co_node_laws.proofs.MarkLemmas.{command_rpdo, written_rpdo}
 
 -- ---- it is kept as it comes
 
 -- what this was to the frames that wait, as received in a state
 abbrev slot_in : Constants → NodeState → Moment → SlotEvent
-slot_in k state r = slot_event k.description r.watched r.marks (record { before = state; after = state })
+slot_in k state r = slot_event k.description r.watched r.mark (record { before = state; after = state })
 
 -- what a moment was to them
 abbrev slot_of : Constants → History → Moment → SlotEvent
-slot_of k history m = slot_event k.description m.watched m.marks (transition_of m history)
+slot_of k history m = slot_event k.description m.watched m.mark (transition_of m history)
 
 slot_quiet : (k : Constants) (history : History) (r : Moment) (c : Contents) (lost : List ℕ) → lost ≡ [] → IsUncommanded r c → slot_of k history (with_lost k.description lost r) ≡ slot_in k (state_at history) r
 slot_quiet k history r c lost none u = rw (none, u.command, u.received, u.watched) refl
 
 slot_received : (k : Constants) (history : History) (r : Moment) (c : Contents) → IsUncommanded r c → slot_of k history (with_losses k history r) ≡ slot_in k (state_at history) r
 slot_received k history r c u =
-    slot_quiet k history r c (lost_by (consumers_call r.marks r.received) (consumers_log k history))
-    (by_reset r.marks r.received (consumers_log k history) (is_reset r.marks) refl u.ticked) u
+    slot_quiet k history r c (lost_by (consumers_call r.mark r.received) (consumers_log k history))
+    (by_reset r.mark r.received (consumers_log k history) (is_reset r.mark) refl u.ticked) u
 
 slot_rpdo : (k : Constants) (inputs : Inputs) (n : ℕ) (frame : FrameContent) → address_at k (moments k inputs) frame.id ≡ Rpdo n → state_of k inputs ≡ Operational
     → slot_of k (moments k inputs) (moment_at k inputs (Framed frame)) ≡ kept_by k.description (contents_of k inputs) (Some (record { number = n; frame = frame }))
@@ -121,7 +123,7 @@ pub record IsTaken (k : Constants) (inputs : Inputs) (input : InputView) (rpdo :
   pub address : address_at k (moments k inputs) rpdo.frame.id ≡ Rpdo rpdo.number
   pub operational : state_of k inputs ≡ Operational
 
-none_either : (b : Bool) (x y : Moment) → x.marks.rpdo ≡ None → y.marks.rpdo ≡ None → (if b then x else y).marks.rpdo ≡ None
+none_either : (b : Bool) (x y : Moment) → marked_rpdo x.mark ≡ None → marked_rpdo y.mark ≡ None → (marked_rpdo (if b then x else y).mark) ≡ None
 none_either true x y p q = p
 none_either false x y p q = q
 
@@ -134,23 +136,23 @@ pub record IsFor (s : NodeState) (address : Address) (frame : FrameContent) (rpd
   pub same : frame ≡ rpdo.frame
   pub operational : s ≡ Operational
 
-rpdo_for : (n : ℕ) (frame : FrameContent) (m : Moment) (rpdo : KeptFrame) (s : NodeState) → m.marks.rpdo ≡ None → (with_rpdo n s frame m).marks.rpdo ≡ Some rpdo → IsFor s (Rpdo n) frame rpdo
-rpdo_for n frame m rpdo PreOperational none e = absurd (not_some m.marks.rpdo rpdo none e)
-rpdo_for n frame m rpdo Stopped none e = absurd (not_some m.marks.rpdo rpdo none e)
+rpdo_for : (n : ℕ) (frame : FrameContent) (m : Moment) (rpdo : KeptFrame) (s : NodeState) → marked_rpdo m.mark ≡ None → (marked_rpdo (with_rpdo n s frame m).mark) ≡ Some rpdo → IsFor s (Rpdo n) frame rpdo
+rpdo_for n frame m rpdo PreOperational none e = absurd (not_some (marked_rpdo m.mark) rpdo none e)
+rpdo_for n frame m rpdo Stopped none e = absurd (not_some (marked_rpdo m.mark) rpdo none e)
 rpdo_for n frame m rpdo Operational none e =
     let is : record { number = n; frame = frame } ≡ rpdo = cc in
     record { to = ap (λ (r : KeptFrame). Rpdo r.number) is; same = ap (λ (r : KeptFrame). r.frame) is; operational = refl }
 
 frame_for : (k : Constants) (history : History) (address : Address) (frame : FrameContent) (input : InputView) (c : Contents) (rpdo : KeptFrame)
-    → (with_frame k history address frame (nothing_of input c)).marks.rpdo ≡ Some rpdo → IsFor (state_at history) address frame rpdo
-frame_for k history Nmt frame input c rpdo e = absurd (cc)
+    → (marked_rpdo (with_frame k history address frame (nothing_of input c)).mark) ≡ Some rpdo → IsFor (state_at history) address frame rpdo
+frame_for k history Nmt frame input c rpdo e = absurd (not_some _ rpdo (command_rpdo _) e)
 frame_for k history Sync frame input c rpdo e = absurd (not_some _ rpdo (none_either (is_state Stopped (state_at history)) _ _ refl refl) e)
-frame_for k history (Channel j) frame input c rpdo e = absurd (not_some _ rpdo (none_either (is_state Stopped (state_at history)) _ _ refl refl) e)
+frame_for k history (Channel j) frame input c rpdo e = absurd (not_some _ rpdo (none_either (is_state Stopped (state_at history)) _ _ refl (written_rpdo _)) e)
 frame_for k history (Rpdo n) frame input c rpdo e = rpdo_for n frame (nothing_of input c) rpdo (state_at history) refl e
 frame_for k history (ErrorControl node) frame input c rpdo e = absurd (not_some _ rpdo (none_either (is_heartbeat (heartbeat_in frame.bytes)) _ _ refl refl) e)
 frame_for k history Nobody frame input c rpdo e = absurd (cc)
 
-event_for : (d : Description) (event : AppView) (refusal : Option ℕ) (input : InputView) (c : Contents) → (with_app_event d event refusal (nothing_of input c)).marks.rpdo ≡ None
+event_for : (d : Description) (event : AppView) (refusal : Option ℕ) (input : InputView) (c : Contents) → (marked_rpdo (with_app_event d event refusal (nothing_of input c)).mark) ≡ None
 event_for d event (Some code) input c = refl
 event_for d (Written key bytes) None input c = refl
 event_for d (EventOn n) None input c = refl
@@ -158,7 +160,7 @@ event_for d (ChangedAt key) None input c = refl
 event_for d (Raised code bits manufacturer) None input c = refl
 event_for d (Cleared bits) None input c = refl
 
-pub taken_for : (k : Constants) (inputs : Inputs) (input : InputView) (rpdo : KeptFrame) → (moment_at k inputs input).marks.rpdo ≡ Some rpdo → IsTaken k inputs input rpdo
+pub taken_for : (k : Constants) (inputs : Inputs) (input : InputView) (rpdo : KeptFrame) → (marked_rpdo (moment_at k inputs input).mark) ≡ Some rpdo → IsTaken k inputs input rpdo
 taken_for k inputs (Framed frame) rpdo e =
     let h = moments k inputs in
     let is = frame_for k h (address_at k h frame.id) frame (Framed frame) (contents_of k inputs) rpdo e in
@@ -167,7 +169,7 @@ taken_for k inputs Ticked rpdo e = absurd (cc)
 taken_for k inputs (Applied event) rpdo e =
     absurd (not_some _ rpdo (event_for k.description event (event_refusal k.description (contents_of k inputs) event) (Applied event) (contents_of k inputs)) e)
 
-pub watched_is : (k : Constants) (inputs : Inputs) (input : InputView) (rpdo : KeptFrame) → (moment_at k inputs input).marks.rpdo ≡ Some rpdo → (moment_at k inputs input).watched ≡ contents_of k inputs
+pub watched_is : (k : Constants) (inputs : Inputs) (input : InputView) (rpdo : KeptFrame) → (marked_rpdo (moment_at k inputs input).mark) ≡ Some rpdo → (moment_at k inputs input).watched ≡ contents_of k inputs
 watched_is k inputs input rpdo e =
     let is = taken_for k inputs input rpdo e in
     let h = moments k inputs in
@@ -176,24 +178,24 @@ watched_is k inputs input rpdo e =
     let u = quiet_rpdo rpdo.number rpdo.frame c (Framed rpdo.frame) (state_at h) in
     ap (λ (i : InputView). (moment_at k inputs i).watched) is.is
     ∙ ap (λ a. (with_losses k h (with_frame k h a rpdo.frame (nothing_of (Framed rpdo.frame) c))).watched) is.address
-    ∙ ap (λ lost. (with_lost k.description lost r).watched) (by_reset r.marks r.received (consumers_log k h) (is_reset r.marks) refl u.ticked)
+    ∙ ap (λ lost. (with_lost k.description lost r).watched) (by_reset r.mark r.received (consumers_log k h) (is_reset r.mark) refl u.ticked)
     ∙ u.received
 
-newer_by : (k : Constants) (inputs : Inputs) (input : InputView) (n : ℕ) (rpdo : Option KeptFrame) → (moment_at k inputs input).marks.rpdo ≡ rpdo
+newer_by : (k : Constants) (inputs : Inputs) (input : InputView) (n : ℕ) (rpdo : Option KeptFrame) → (marked_rpdo (moment_at k inputs input).mark) ≡ rpdo
     → is_newer_of n k.description (contents_of k inputs) rpdo ≡ is_newer_of n k.description (moment_at k inputs input).watched rpdo
 newer_by k inputs input n None is = refl
 newer_by k inputs input n (Some rpdo) is = ap (λ c. is_newer_of n k.description c (Some rpdo)) (sym (watched_is k inputs input rpdo is))
 
 pub newer_is : (k : Constants) (inputs : Inputs) (input : InputView) (n : ℕ)
-    → is_newer_of n k.description (contents_of k inputs) (moment_at k inputs input).marks.rpdo ≡ is_newer_of n k.description (moment_at k inputs input).watched (moment_at k inputs input).marks.rpdo
-newer_is k inputs input n = newer_by k inputs input n (moment_at k inputs input).marks.rpdo refl
+    → is_newer_of n k.description (contents_of k inputs) (marked_rpdo (moment_at k inputs input).mark) ≡ is_newer_of n k.description (moment_at k inputs input).watched (marked_rpdo (moment_at k inputs input).mark)
+newer_is k inputs input n = newer_by k inputs input n (marked_rpdo (moment_at k inputs input).mark) refl
 
 pub goes_on : (k : Constants) (n : ℕ) (inputs : Inputs) (input : InputView) → keeps_waiting k n inputs input ≡ true → waiting_frame k n (input ∷ inputs) ≡ waiting_frame k n inputs
 goes_on k n inputs input keeps =
     let m = moment_at k inputs input in
     let t = transition_of m (moments k inputs) in
-    by_marks k.description m.watched n (is_reset m.marks || leaves Operational t) (is_effective m.marks.sync t) m.marks.set m.marks.rpdo (slot_log k (moments k inputs))
-    (sym (ap (λ b. not (is_reset m.marks || leaves Operational t) && (not (is_effective m.marks.sync t) && (not (renews n m.marks.set) && not b))) (newer_is k inputs input n)) ∙ keeps)
+    by_marks k.description m.watched n (is_reset m.mark || leaves Operational t) (is_effective (marked_sync m.mark) t) (marked_key m.mark) (marked_rpdo m.mark) (slot_log k (moments k inputs))
+    (sym (ap (λ b. not (is_reset m.mark || leaves Operational t) && (not (is_effective (marked_sync m.mark) t) && (not (renews n (marked_key m.mark)) && not b))) (newer_is k inputs input n)) ∙ keeps)
 
 pub waits : (k : Constants) (n : ℕ) (inputs later : Inputs) → all_keep_waiting k n inputs later ≡ true → waiting_frame k n (later ++ inputs) ≡ waiting_frame k n inputs
 waits k n inputs [] all = refl
@@ -211,6 +213,6 @@ taken_by_sync k inputs frame is operational =
     let log = slot_log k h in
     let r = with_sync (state_at h) frame (nothing_of (Framed frame) c) in
     ap (λ a. (with_pdos k h (with_losses k h (with_frame k h a frame (nothing_of (Framed frame) c)))).taken) is
-    ∙ ap (λ e. taken_at 512 e log ++ immediate k.description (with_losses k h r).watched r.marks.rpdo) (slot_received k h r c (quiet_sync frame c (Framed frame) (state_at h)))
-    ∙ ap (λ state. taken_at 512 (slot_in k state (with_sync state frame (nothing_of (Framed frame) c))) log ++ immediate k.description (with_losses k h (with_sync state frame (nothing_of (Framed frame) c))).watched (with_sync state frame (nothing_of (Framed frame) c)).marks.rpdo) operational
+    ∙ ap (λ e. taken_at 512 e log ++ immediate k.description (with_losses k h r).watched (marked_rpdo r.mark)) (slot_received k h r c (quiet_sync frame c (Framed frame) (state_at h)))
+    ∙ ap (λ state. taken_at 512 (slot_in k state (with_sync state frame (nothing_of (Framed frame) c))) log ++ immediate k.description (with_losses k h (with_sync state frame (nothing_of (Framed frame) c))).watched (marked_rpdo (with_sync state frame (nothing_of (Framed frame) c)).mark)) operational
     ∙ append-nil (all_kept 512 log)

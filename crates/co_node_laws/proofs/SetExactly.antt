@@ -22,10 +22,6 @@ use Rattle.co_node_model.specs.Device.{moments, contents_of, state_of}
 use Rattle.co_node_laws.specs.Changes.{download_set, changed_by_request}
 use Rattle.co_node_laws.proofs.Changed.{by_address}
 
--- what a frame of eight bytes that completes this sets
-abbrev set_if : Bool → Description → Contents → Option Download → Contents
-set_if eight d c completed = contents_with c (cond eight (permitted d c completed) None)
-
 none_set : (d : Description) (c : Contents) (log : Log) (frame : FrameContent) (state : NodeState) → download_set d c log frame ≡ None → changed_by_request d state log frame c ≡ c
 none_set d c log frame Stopped e = refl
 none_set d c log frame PreOperational e = ap (contents_with c) e

@@ -16,7 +16,7 @@ use Rattle.co_pdo.specs.Schedules.{History as Schedule, log_of, is_among, sync_w
 use Rattle.co_pdo.specs.Tpdos.{is_active, settings_of, tpdo_numbers}
 use Rattle.co_node_model.specs.Tpdos.{numbers_asked, schedule_log, due_at, with_turn}
 use Rattle.co_node_model.specs.Inputs.{InputView, Inputs, Ticked}
-use Rattle.co_node_model.specs.declared.marks.Asked.{Asked as AskedFor}
+use Rattle.co_node_model.specs.declared.mark.Asked.{Asked as AskedFor}
 use Rattle.co_node_model.specs.declared.turn.Turn.{Turn}
 use Rattle.co_node_model.specs.declared.turn.Turn.TheVariants.{Quiet, StartAll, Start, Sync, Asked, Tick}
 use Rattle.co_node_model.specs.Moments.{Constants}

@@ -12,6 +12,7 @@ use Rattle.co_profile.specs.Keys.{producer_key}
 use Rattle.co_node_model.specs.Nmt.{is_reset}
 use Rattle.co_node_model.specs.Moments.{Constants}
 use Rattle.co_node_model.specs.Device.{moments, contents_of}
+use Rattle.co_node_model.specs.Marks.{marked_key}
 use Rattle.co_node_laws.specs.Distances.{moment_at, begins_heartbeat, heartbeat_period, begins_entry, monitored}
 use Rattle.co_node_laws.proofs.Below.{Below}
 use Rattle.co_node_laws.proofs.Received.{MayBecome, after_received, changed}
@@ -32,23 +33,23 @@ number_stays d (Some key) c e other low high off may = sym (number_kept c e key 
 module _ (below : Below) where
   -- an entry that isn't written keeps its number, where the input is no reset
   stays : (k : Constants) (inputs : Inputs) (input : InputView) (other : Key) → 0x1004 ≤ other.index → other.index ≤ 0x1FFF
-      → is_reset (moment_at k inputs input).marks || is_set (moment_at k inputs input).marks.set other ≡ false
+      → is_reset (moment_at k inputs input).mark || is_set (marked_key (moment_at k inputs input).mark) other ≡ false
       → number_at (contents_of k inputs) other ≡ number_at (contents_of k (input ∷ inputs)) other
   stays k inputs input other low high off =
       let m = moment_at k inputs input in
-      number_stays k.description m.marks.set (contents_of k inputs) m.contents other low high (second_off (is_reset m.marks) (is_set m.marks.set other) off)
-      (changed below k (moments k inputs) input (first_off (is_reset m.marks) (is_set m.marks.set other) off))
+      number_stays k.description (marked_key m.mark) (contents_of k inputs) m.contents other low high (second_off (is_reset m.mark) (is_set (marked_key m.mark) other) off)
+      (changed below k (moments k inputs) input (first_off (is_reset m.mark) (is_set (marked_key m.mark) other) off))
 
-  period_by : (k : Constants) (inputs : Inputs) (input : InputView) (b : Bool) → begins_heartbeat (moment_at k inputs input).marks ≡ b → heartbeat_period k inputs ≡ number_at (contents_of k inputs) producer_key
+  period_by : (k : Constants) (inputs : Inputs) (input : InputView) (b : Bool) → begins_heartbeat (moment_at k inputs input).mark ≡ b → heartbeat_period k inputs ≡ number_at (contents_of k inputs) producer_key
       → cond b (number_at (contents_of k (input ∷ inputs)) producer_key) (heartbeat_period k inputs) ≡ number_at (contents_of k (input ∷ inputs)) producer_key
   period_by k inputs input true is before = refl
   period_by k inputs input false is before = before ∙ stays k inputs input producer_key (omega arith) (omega arith) is
 
   pub period_now : (k : Constants) (inputs : Inputs) → heartbeat_period k inputs ≡ number_at (contents_of k inputs) producer_key
   period_now k [] = refl
-  period_now k (input ∷ inputs) = period_by k inputs input (begins_heartbeat (moment_at k inputs input).marks) refl (period_now k inputs)
+  period_now k (input ∷ inputs) = period_by k inputs input (begins_heartbeat (moment_at k inputs input).mark) refl (period_now k inputs)
 
-  monitored_with : (k : Constants) (sub : ℕ) (inputs : Inputs) (input : InputView) (b : Bool) → begins_entry sub (moment_at k inputs input).marks ≡ b → monitored k sub inputs ≡ monitored_by (number_at (contents_of k inputs) (consumer_key sub))
+  monitored_with : (k : Constants) (sub : ℕ) (inputs : Inputs) (input : InputView) (b : Bool) → begins_entry sub (moment_at k inputs input).mark ≡ b → monitored k sub inputs ≡ monitored_by (number_at (contents_of k inputs) (consumer_key sub))
       → cond b (monitored_by (number_at (moment_at k inputs input).received (consumer_key sub))) (monitored k sub inputs) ≡ monitored_by (number_at (contents_of k (input ∷ inputs)) (consumer_key sub))
   monitored_with k sub inputs input true is before =
       let m = moment_at k inputs input in
@@ -57,4 +58,4 @@ module _ (below : Below) where
 
   pub monitored_now : (k : Constants) (sub : ℕ) (inputs : Inputs) → monitored k sub inputs ≡ monitored_by (number_at (contents_of k inputs) (consumer_key sub))
   monitored_now k sub [] = refl
-  monitored_now k sub (input ∷ inputs) = monitored_with k sub inputs input (begins_entry sub (moment_at k inputs input).marks) refl (monitored_now k sub inputs)
+  monitored_now k sub (input ∷ inputs) = monitored_with k sub inputs input (begins_entry sub (moment_at k inputs input).mark) refl (monitored_now k sub inputs)

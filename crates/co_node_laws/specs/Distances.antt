@@ -15,9 +15,10 @@ use Rattle.co_node_model.specs.Keys.{is_set}
 use Rattle.co_profile.specs.Keys.{producer_key, emergency_inhibit_key}
 use Rattle.co_node_model.specs.Nmt.{is_reset}
 use Rattle.co_node_model.specs.Emergencies.{may_send}
-use Rattle.co_node_model.specs.declared.marks.Marks.{Marks}
+use Rattle.co_node_model.specs.declared.mark.Mark.{Mark}
 use Rattle.co_node_model.specs.Moments.{Constants, Moment}
 use Rattle.co_node_model.specs.Device.{moment, moments, state_of, contents_of}
+use Rattle.co_node_model.specs.Marks.{marked_heartbeat, marked_key, marked_tick}
 
 -- what one more input is, does and gives
 abbrev pub moment_at : Constants → Inputs → InputView → Moment
@@ -26,22 +27,22 @@ moment_at k inputs input = moment k (moments k inputs) input
 -- ---- the device's own heartbeat (CiA 301, 7.2.8.3.2 and 7.5.2.20)
 
 -- it begins anew: the input is a reset, or 1017:00 is written
-abbrev pub begins_heartbeat : Marks → Bool
-begins_heartbeat marks = is_reset marks || is_set marks.set producer_key
+abbrev pub begins_heartbeat : Mark → Bool
+begins_heartbeat mark = is_reset mark || is_set (marked_key mark) producer_key
 
 -- its period in ms: 1017:00 as it last began; it begins as the device is built
 abbrev pub heartbeat_period : Constants → Inputs → ℕ
 heartbeat_period k [] = number_at k.start producer_key
 heartbeat_period k (input ∷ inputs) =
-    if begins_heartbeat (moment_at k inputs input).marks then number_at (contents_of k (input ∷ inputs)) producer_key
+    if begins_heartbeat (moment_at k inputs input).mark then number_at (contents_of k (input ∷ inputs)) producer_key
     else heartbeat_period k inputs
 
 -- how many ticks came since
 abbrev pub heartbeat_ticks : Constants → Inputs → ℕ
 heartbeat_ticks k [] = 0
 heartbeat_ticks k (input ∷ inputs) =
-    if begins_heartbeat (moment_at k inputs input).marks then 0
-    else (if (moment_at k inputs input).marks.ticked then heartbeat_ticks k inputs + 1 else heartbeat_ticks k inputs)
+    if begins_heartbeat (moment_at k inputs input).mark then 0
+    else (if (marked_tick (moment_at k inputs input).mark) then heartbeat_ticks k inputs + 1 else heartbeat_ticks k inputs)
 
 -- a tick after so many is a multiple of the period; a period of 0 has none
 abbrev pub is_multiple : ℕ → ℕ → Bool
@@ -55,14 +56,14 @@ heartbeat_at_tick k inputs =
 -- ---- heartbeats of others (7.2.8.3.2 and 7.5.2.19)
 
 -- an entry of 1016h begins anew: the input is a reset, or it is written
-abbrev pub begins_entry : ℕ → Marks → Bool
-begins_entry sub marks = is_reset marks || is_set marks.set (consumer_key sub)
+abbrev pub begins_entry : ℕ → Mark → Bool
+begins_entry sub mark = is_reset mark || is_set (marked_key mark) (consumer_key sub)
 
 -- what it monitors: a node and a time in ms, as it last began; it begins as the device is built
 abbrev pub monitored : Constants → ℕ → Inputs → Option Monitored
 monitored k sub [] = monitored_by (number_at k.start (consumer_key sub))
 monitored k sub (input ∷ inputs) =
-    if begins_entry sub (moment_at k inputs input).marks then monitored_by (number_at (moment_at k inputs input).received (consumer_key sub))
+    if begins_entry sub (moment_at k inputs input).mark then monitored_by (number_at (moment_at k inputs input).received (consumer_key sub))
     else monitored k sub inputs
 
 -- a heartbeat of the node that is monitored is 0 ticks ago
@@ -71,15 +72,15 @@ heard_after None m before = before
 heard_after (Some node) m before = if is_monitored node m then Some 0 else before
 
 -- one more tick, or what a heartbeat that came does
-abbrev pub silence_after : Marks → Option Monitored → Option ℕ → Option ℕ
-silence_after marks m before = if marks.ticked then later before else heard_after marks.heard m before
+abbrev pub silence_after : Mark → Option Monitored → Option ℕ → Option ℕ
+silence_after mark m before = if marked_tick mark then later before else heard_after (marked_heartbeat mark) m before
 
 -- how many ticks ago the last heartbeat was, where one came since the entry began
 abbrev pub ticks_silent : Constants → ℕ → Inputs → Option ℕ
 ticks_silent k sub [] = None
 ticks_silent k sub (input ∷ inputs) =
-    if begins_entry sub (moment_at k inputs input).marks then None
-    else silence_after (moment_at k inputs input).marks (monitored k sub inputs) (ticks_silent k sub inputs)
+    if begins_entry sub (moment_at k inputs input).mark then None
+    else silence_after (moment_at k inputs input).mark (monitored k sub inputs) (ticks_silent k sub inputs)
 
 -- at one more tick exactly the time of the entry has passed since the last heartbeat
 abbrev pub is_time_passed : Constants → ℕ → Inputs → Bool
@@ -88,8 +89,8 @@ is_time_passed k sub inputs = is_over_after (ticks_silent k sub inputs) (monitor
 -- ---- emergencies (7.2.7, 7.5.2.17 and 7.5.2.18)
 
 -- the sendings since the last reset, with what the input is: none after a reset; at a tick each is one tick longer ago
-abbrev pub aged : Marks → List Sending → List Sending
-aged marks sendings = if is_reset marks then [] else (if marks.ticked then map older sendings else sendings)
+abbrev pub aged : Mark → List Sending → List Sending
+aged mark sendings = if is_reset mark then [] else (if marked_tick mark then map older sendings else sendings)
 
 -- one more sending, if there is one
 abbrev pub and_sent : Option Emergency → ℕ → List Sending → List Sending
@@ -101,7 +102,7 @@ abbrev pub emergencies_sent : Constants → Inputs → List Sending
 emergencies_sent k [] = []
 emergencies_sent k (input ∷ inputs) =
     and_sent (moment_at k inputs input).emergency (number_at (contents_of k (input ∷ inputs)) emergency_inhibit_key)
-    (aged (moment_at k inputs input).marks (emergencies_sent k inputs))
+    (aged (moment_at k inputs input).mark (emergencies_sent k inputs))
 
 -- a queue after these came, of which a ninth overwrites the oldest
 abbrev pub queued : List Emergency → List Emergency → List Emergency
@@ -111,7 +112,7 @@ queued (emergency ∷ emergencies) queue = queued emergencies (keep_last 8 (queu
 -- a queue after all that an input raises; a reset empties it
 abbrev pub queue_with : Moment → List Emergency → List Emergency
 queue_with m queue =
-    if is_reset m.marks then [] else queued m.raised_by_pdo (queued m.raised_by_loss (queued m.raised_by_app queue))
+    if is_reset m.mark then [] else queued m.raised_by_pdo (queued m.raised_by_loss (queued m.raised_by_app queue))
 
 -- the rest of a queue, where its front was sent
 abbrev pub rest_after : Option Emergency → List Emergency → List Emergency
@@ -128,6 +129,6 @@ waiting k (input ∷ inputs) =
 -- is fewer ticks ago than its inhibit time
 abbrev pub emergency_by : Constants → Inputs → InputView → Option Emergency
 emergency_by k inputs input =
-    if may_send (moment_at k inputs input).marks (state_of k (input ∷ inputs)) (contents_of k (input ∷ inputs))
-    && list_all is_past (aged (moment_at k inputs input).marks (emergencies_sent k inputs))
+    if may_send (moment_at k inputs input).mark (state_of k (input ∷ inputs)) (contents_of k (input ∷ inputs))
+    && list_all is_past (aged (moment_at k inputs input).mark (emergencies_sent k inputs))
     then slice_get (queue_with (moment_at k inputs input) (waiting k inputs)) 0 else None

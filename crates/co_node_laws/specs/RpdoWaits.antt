@@ -17,9 +17,10 @@ use Rattle.co_node_model.specs.Addresses.{address_at}
 use Rattle.co_node_model.specs.Inputs.{InputView, Inputs, Framed}
 use Rattle.co_node_model.specs.Rpdos.{empties_slot, is_short, rpdo_type, slot_log}
 use Rattle.co_node_model.specs.Nmt.{is_reset, transition_of}
-use Rattle.co_node_model.specs.declared.marks.Marks.{Marks}
+use Rattle.co_node_model.specs.declared.mark.Mark.{Mark}
 use Rattle.co_node_model.specs.Moments.{Constants}
 use Rattle.co_node_model.specs.Device.{contents_of, moments, state_of}
+use Rattle.co_node_model.specs.Marks.{marked_key, marked_rpdo, marked_sync}
 use Rattle.co_node_laws.specs.Distances.{moment_at}
 
 -- the frame of RPDO n that waits for a SYNC after all inputs, if one does
@@ -44,15 +45,15 @@ is_effective sync t = is_some sync && is_state Operational t.after
 
 -- what an input was leaves a frame of RPDO n waiting: it is no reset and no SYNC in operational, operational isn't left, the
 -- RPDO isn't written, and no newer frame of it comes that waits
-abbrev pub leaves_waiting : ℕ → Description → Contents → Marks → Transition → Bool
-leaves_waiting n d contents marks t =
-    not (is_reset marks || leaves Operational t)
-    && (not (is_effective marks.sync t) && (not (renews n marks.set) && not (is_newer_of n d contents marks.rpdo)))
+abbrev pub leaves_waiting : ℕ → Description → Contents → Mark → Transition → Bool
+leaves_waiting n d contents mark t =
+    not (is_reset mark || leaves Operational t)
+    && (not (is_effective (marked_sync mark) t) && (not (renews n (marked_key mark)) && not (is_newer_of n d contents (marked_rpdo mark))))
 
 -- so does one more input
 abbrev pub keeps_waiting : Constants → ℕ → Inputs → InputView → Bool
 keeps_waiting k n inputs input =
-    leaves_waiting n k.description (contents_of k inputs) (moment_at k inputs input).marks
+    leaves_waiting n k.description (contents_of k inputs) (moment_at k inputs input).mark
     (transition_of (moment_at k inputs input) (moments k inputs))
 
 -- so do all these, the newest first, after some more

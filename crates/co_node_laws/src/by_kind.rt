@@ -25,8 +25,9 @@ use co_dict::{invalid_pdo_law, own_rule_law};
 use co_pdo::written_from_2000;
 use co_sdo_bank::Bank;
 
-/// A device is what `specs/ByKind.antt` says by the kind of each input, after whatever inputs: its frames (`frames`), its
-/// NMT state (`state`), its entries (`entries`), and the bytes held for the transfers of its SDO channels (`held`).
+/// A device is what `specs/ByKind.antt` says by the kind of each input, after whatever inputs: its frames (`frames`),
+/// its NMT state (`state`), its entries (`entries`), and the bytes held for the transfers of its SDO channels
+/// (`held`).
 pub fn device_by_kind()
     ensures frames { (k : Constants) (inputs : Inputs) (input : InputView) →
         prescribed k inputs input ≡ sent_by k inputs input }

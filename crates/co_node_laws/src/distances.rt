@@ -33,11 +33,11 @@ pub fn heartbeat_due()
     ensures at_tick { (k : Constants) (inputs : Inputs) →
         (moment_at k inputs Ticked).life ≡ heartbeat_at_tick k inputs }
     ensures reset { (k : Constants) (inputs : Inputs) (input : InputView) →
-        is_reset (moment_at k inputs input).marks ≡ true →
+        is_reset (moment_at k inputs input).mark ≡ true →
         (moment_at k inputs input).life ≡ Some BootUp }
     ensures elsewhere { (k : Constants) (inputs : Inputs) (input : InputView) →
         is_tick input ≡ false →
-        is_reset (moment_at k inputs input).marks ≡ false →
+        is_reset (moment_at k inputs input).mark ≡ false →
         (moment_at k inputs input).life ≡ None }
     ensures period { (k : Constants) (inputs : Inputs) →
         heartbeat_period k inputs ≡ number_at (contents_of k inputs) producer_key }

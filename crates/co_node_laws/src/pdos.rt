@@ -14,7 +14,7 @@ ghost use Rattle.co_profile.specs.TransmissionTypes.{is_synchronous};
 ghost use Rattle.co_node_model.specs.Tpdos.{numbers_asked};
 ghost use Rattle.co_node_model.specs.Inputs.{InputView, Inputs, Framed, Ticked};
 ghost use Rattle.co_node_model.specs.declared.address.Address.TheVariants.{Sync, Rpdo};
-ghost use Rattle.co_node_model.specs.declared.marks.Asked.{Asked};
+ghost use Rattle.co_node_model.specs.declared.mark.Asked.{Asked};
 ghost use Rattle.co_node_model.specs.declared.turn.Turn.TheVariants as turn;
 ghost use Rattle.co_node_model.specs.Moments.{Constants};
 ghost use Rattle.co_node_model.specs.Addresses.{address_at};

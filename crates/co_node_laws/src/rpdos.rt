@@ -19,10 +19,10 @@ use co_sdo_bank::Bank;
 /// alone.
 pub fn addresses_kept()
     ensures sync { (k : Constants) (inputs : Inputs) (input : InputView) →
-        may_change_addresses (moment k (moments k inputs) input).marks ≡ false →
+        may_change_addresses (moment k (moments k inputs) input).mark ≡ false →
         contents_of k inputs sync_key ≡ contents_of k (input ∷ inputs) sync_key }
     ensures rpdos { (k : Constants) (inputs : Inputs) (input : InputView) →
-        may_change_addresses (moment k (moments k inputs) input).marks ≡ false →
+        may_change_addresses (moment k (moments k inputs) input).mark ≡ false →
         (key : Key) → 0x1400 ≤ key.index → key.index < 0x1800 →
         contents_of k inputs key ≡ contents_of k (input ∷ inputs) key }
 {
@@ -37,7 +37,7 @@ pub fn addresses_kept()
 /// which SYNC and RPDOs take effect, no input changes them any more.
 pub fn mappings_kept()
     ensures before { (k : Constants) (inputs : Inputs) (input : InputView) →
-        may_change_mappings (moment k (moments k inputs) input).marks ≡ false →
+        may_change_mappings (moment k (moments k inputs) input).mark ≡ false →
         AgreeOnMappings (contents_of k inputs) (moment k (moments k inputs) input).watched }
     ensures after { (k : Constants) (inputs : Inputs) (input : InputView) →
         AgreeOnMappings (moment k (moments k inputs) input).watched

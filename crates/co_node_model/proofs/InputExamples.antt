@@ -13,9 +13,9 @@ use Rattle.co_node_model.specs.Sync.{is_sync_id, counter_in}
 use Rattle.co_node_model.specs.Rpdos.{rpdo_with, empties_slot, emptied_by}
 use Rattle.co_profile.specs.TransmissionTypes.{is_synchronous}
 use Rattle.co_node_model.specs.declared.address.Address.TheVariants.{Nmt, Sync, Channel, Rpdo, ErrorControl, Nobody}
-use Rattle.co_node_model.specs.declared.marks.Marks.{Marks}
+use Rattle.co_node_model.specs.declared.mark.Mark.{Mark}
 use Rattle.co_node_model.specs.declared.turn.Turn.TheVariants as turn
-use Rattle.co_node_model.specs.Moments.{quiet}
+use Rattle.co_node_model.specs.declared.mark.Mark.TheVariants as was
 use Rattle.co_node_model.specs.Nmt.{resets}
 use Rattle.co_node_model.specs.Heartbeats.{is_consumer_key, life_of}
 use Rattle.co_node_model.specs.Emergencies.{may_send}
@@ -118,8 +118,8 @@ counters = refl
 
 -- ---- turns: by the states before and after a tick
 
-abbrev ticked : Marks
-ticked = record quiet { ticked = true }
+abbrev ticked : Mark
+ticked = was.Tick false
 
 tick_in_operational : turn_of ticked (record { before = Operational; after = Operational }) ≡ turn.Tick
 tick_in_operational = refl
@@ -128,38 +128,38 @@ tick_in_operational = refl
 tick_that_leaves : turn_of ticked (record { before = Operational; after = PreOperational }) ≡ turn.Quiet
 tick_that_leaves = refl
 
-entering : turn_of (record quiet { command = Some Start }) (record { before = Stopped; after = Operational }) ≡ turn.StartAll
+entering : turn_of (was.Command Start) (record { before = Stopped; after = Operational }) ≡ turn.StartAll
 entering = refl
 
-start_again : turn_of (record quiet { command = Some Start }) (record { before = Operational; after = Operational }) ≡ turn.Quiet
+start_again : turn_of (was.Command Start) (record { before = Operational; after = Operational }) ≡ turn.Quiet
 start_again = refl
 
 -- a write in pre-operational starts no TPDO
-written_before : turn_of (record quiet { set = Some (at 0x1800 1) }) (record { before = PreOperational; after = PreOperational }) ≡ turn.Quiet
+written_before : turn_of (was.Written (at 0x1800 1)) (record { before = PreOperational; after = PreOperational }) ≡ turn.Quiet
 written_before = refl
 
 -- ---- emergencies: by the state after the input, 1014h, and whether an SDO transfer was aborted in the tick
 
 abbrev may_with : ℕ → Bool
-may_with word = may_send quiet Operational (with_u32 0x1014 0 word nothing)
+may_with word = may_send was.Quiet Operational (with_u32 0x1014 0 word nothing)
 
 may_by_word : map may_with (0x85 ∷ 0 ∷ 0x8000_0085 ∷ 0x4000_0085 ∷ []) ≡ true ∷ false ∷ false ∷ true ∷ []
 may_by_word = refl
 
-may_by_state : map (λ state. may_send quiet state (with_u32 0x1014 0 0x85 nothing)) (PreOperational ∷ Operational ∷ Stopped ∷ []) ≡ true ∷ true ∷ false ∷ []
+may_by_state : map (λ state. may_send was.Quiet state (with_u32 0x1014 0 0x85 nothing)) (PreOperational ∷ Operational ∷ Stopped ∷ []) ≡ true ∷ true ∷ false ∷ []
 may_by_state = refl
 
-not_with_time_out : may_send (record quiet { ticked = true; timed_out = true }) Operational (with_u32 0x1014 0 0x85 nothing) ≡ false
+not_with_time_out : may_send (was.Tick true) Operational (with_u32 0x1014 0 0x85 nothing) ≡ false
 not_with_time_out = refl
 
-no_entry_of_1014 : may_send quiet Operational nothing ≡ false
+no_entry_of_1014 : may_send was.Quiet Operational nothing ≡ false
 no_entry_of_1014 = refl
 
 -- ---- boot-up and heartbeats
 
-lives : map (λ state. life_of quiet state true) (PreOperational ∷ Operational ∷ Stopped ∷ [])
+lives : map (λ state. life_of was.Quiet state true) (PreOperational ∷ Operational ∷ Stopped ∷ [])
     ≡ Some heartbeat.PreOperational ∷ Some heartbeat.Operational ∷ Some heartbeat.Stopped ∷ []
 lives = refl
 
-no_life : life_of quiet Operational false ≡ None
+no_life : life_of was.Quiet Operational false ≡ None
 no_life = refl

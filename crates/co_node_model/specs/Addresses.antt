@@ -13,7 +13,8 @@ use Rattle.co_node_model.specs.Sync.{is_sync_id}
 use Rattle.co_node_model.specs.Moments.{Constants, History, channels, contents_at}
 use Rattle.co_profile.specs.Keys.{sync_key}
 use Rattle.co_node_model.specs.Nmt.{is_reset}
-use Rattle.co_node_model.specs.declared.marks.Marks.{Marks}
+use Rattle.co_node_model.specs.declared.mark.Mark.{Mark}
+use Rattle.co_node_model.specs.Marks.{marked_key}
 
 -- an identifier is that of the error control of a node with node-ID 1 to 127
 abbrev pub is_error_control : ℕ → Bool
@@ -56,8 +57,8 @@ is_address_set None = false
 is_address_set (Some key) = same_key key sync_key || is_rpdo_key key
 
 -- it was a reset, or one of these was written
-abbrev pub may_change_addresses : Marks → Bool
-may_change_addresses marks = is_reset marks || is_address_set marks.set
+abbrev pub may_change_addresses : Mark → Bool
+may_change_addresses mark = is_reset mark || is_address_set (marked_key mark)
 
 -- the parameters of RPDOs are the same: 1400h to 15FFh and 1600h to 17FFh
 abbrev pub AgreeOnRpdos : Contents → Contents → Type 0

@@ -10,12 +10,13 @@ use Rattle.co_dict.specs.WriteRefusals.{app_refusal}
 use Rattle.co_pdo.specs.Tpdos.{has_tpdo}
 use Rattle.co_node_model.specs.Inputs.{AppView, Written, EventOn, ChangedAt, Raised, Cleared}
 use Rattle.co_node_model.specs.declared.app_answer.AppAnswer.{AppAnswer}
-use Rattle.co_node_model.specs.Moments.{quiet, Moment, History}
-use Rattle.co_node_model.specs.declared.marks.Marks.{Marks}
+use Rattle.co_node_model.specs.Moments.{Moment, History}
+use Rattle.co_node_model.specs.declared.mark.Mark.{Mark}
 use Rattle.co_node_model.specs.declared.device_error.DeviceError.{DeviceError}
 use Rattle.co_node_model.specs.Emergencies.{raised, cleared, emergency_of, clearing_of}
 use Rattle.co_node_model.specs.declared.app_answer.AppAnswer.TheVariants as answer
-use Rattle.co_node_model.specs.declared.marks.Asked.TheVariants as asked
+use Rattle.co_node_model.specs.declared.mark.Asked.TheVariants as asked
+use Rattle.co_node_model.specs.declared.mark.Mark.TheVariants as was
 
 -- ---- why one is refused
 
@@ -43,13 +44,13 @@ app_answer d contents event = answer_with (event_refusal d contents event)
 
 -- ---- what one does that isn't refused
 
--- what they were to the parts
-abbrev pub app_marks : AppView → Marks
-app_marks (Written key bytes) = record quiet { set = Some key }
-app_marks (EventOn n) = record quiet { asked = Some (asked.Event n) }
-app_marks (ChangedAt key) = record quiet { asked = Some (asked.Changed key) }
-app_marks (Raised code bits manufacturer) = quiet
-app_marks (Cleared bits) = quiet
+-- what they were to the services
+abbrev pub app_mark : AppView → Mark
+app_mark (Written key bytes) = was.Written key
+app_mark (EventOn n) = was.Asked (asked.Event n)
+app_mark (ChangedAt key) = was.Asked (asked.Changed key)
+app_mark (Raised code bits manufacturer) = was.Quiet
+app_mark (Cleared bits) = was.Quiet
 
 -- the error of the application: it sets bit 0, generic error, too
 abbrev pub app_error : ℕ → ℕ → List ℕ → DeviceError
@@ -75,7 +76,7 @@ app_emergencies (Cleared bits) contents = clearing_of bits contents ∷ []
 abbrev pub with_app_event : Description → AppView → Option ℕ → Moment → Moment
 with_app_event d event (Some code) m = record m { app = answer_with (Some code) }
 with_app_event d event None m = record m {
-  marks = app_marks event;
+  mark = app_mark event;
   app = answer_with None;
   raised_by_app = app_emergencies event m.received;
   received = app_contents d event m.received;

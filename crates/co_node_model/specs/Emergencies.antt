@@ -16,8 +16,9 @@ use Rattle.co_node_parts.specs.declared.emergencies.EmergencyEvent.TheVariants a
 use Rattle.co_node_model.specs.declared.device_error.DeviceError.{DeviceError}
 use Rattle.co_profile.specs.Keys.{error_register_key, emergency_key, emergency_inhibit_key}
 use Rattle.co_node_model.specs.Nmt.{is_reset, state_at}
-use Rattle.co_node_model.specs.declared.marks.Marks.{Marks}
+use Rattle.co_node_model.specs.declared.mark.Mark.{Mark}
 use Rattle.co_node_model.specs.Moments.{Moment, History}
+use Rattle.co_node_model.specs.Marks.{marked_tick, marked_time_out}
 
 -- bits 0, generic error, and 4, communication error, of the error register
 abbrev pub communication_bits : ℕ
@@ -102,22 +103,22 @@ clearing_of bits contents = record { code = 0; register = register_without bits 
 -- ---- what an input is to the queue
 
 -- to the queue of emergencies, besides those that the input raised: a reset drops what waits
-abbrev pub emergency_event : Marks → EmergencyEvent
-emergency_event marks =
-    if is_reset marks then emergencies.Empty else (if marks.ticked then emergencies.Tick else emergencies.Quiet)
+abbrev pub emergency_event : Mark → EmergencyEvent
+emergency_event mark =
+    if is_reset mark then emergencies.Empty else (if marked_tick mark then emergencies.Tick else emergencies.Quiet)
 
 -- an emergency may be sent at the end of the input: the node isn't stopped then, 1014h has a valid COB-ID then, and no
 -- transfer was aborted because its time was over
-abbrev pub may_send : Marks → NodeState → Contents → Bool
-may_send marks after contents =
-    not (is_state Stopped after) && is_valid (number_at contents emergency_key) && not marks.timed_out
+abbrev pub may_send : Mark → NodeState → Contents → Bool
+may_send mark after contents =
+    not (is_state Stopped after) && is_valid (number_at contents emergency_key) && not (marked_time_out mark)
 
 -- ---- over all inputs: the emergencies of each service in the order of an input, then what else it was, then a sending
 
 -- before a sending
 abbrev pub unsent_log : Moment → EmergencyLog → EmergencyLog
 unsent_log m log =
-    Noted (emergency_event m.marks) ∷ with_queued m.raised_by_pdo (with_queued m.raised_by_loss (with_queued m.raised_by_app log))
+    Noted (emergency_event m.mark) ∷ with_queued m.raised_by_pdo (with_queued m.raised_by_loss (with_queued m.raised_by_app log))
 
 -- the inhibit time counts as it is at the sending
 abbrev pub emergency_log : History → EmergencyLog
@@ -130,7 +131,7 @@ emergency_log (m ∷ history) =
 -- an emergency (7.2.7), by the state and the entries at the end of the input
 abbrev pub with_emergency : History → Moment → Moment
 with_emergency history m =
-    record m { emergency = emergency_due (may_send m.marks (state_at (m ∷ history)) m.contents) (unsent_log m (emergency_log history)) }
+    record m { emergency = emergency_due (may_send m.mark (state_at (m ∷ history)) m.contents) (unsent_log m (emergency_log history)) }
 
 -- an emergency on the identifier that 1014h has at the end of the input (CiA 301, 7.5.2.17)
 abbrev pub emergency_frames : Contents → Option Emergency → List FrameContent

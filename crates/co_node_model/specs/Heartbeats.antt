@@ -23,13 +23,15 @@ use Rattle.co_node_parts.specs.declared.heartbeat_producer.ProducerEvent.TheVari
 use Rattle.co_node_parts.specs.Producers.{ProducerLog, is_heartbeat_due}
 use Rattle.co_node_parts.specs.declared.heartbeat_consumers.ConsumersEvent.TheVariants as consumers
 use Rattle.co_node_parts.specs.declared.heartbeat_producer.ProducerEvent.TheVariants as producer
-use Rattle.co_node_model.specs.Moments.{quiet, Moment, Constants, History}
-use Rattle.co_node_model.specs.declared.marks.Marks.{Marks}
+use Rattle.co_node_model.specs.Moments.{Moment, Constants, History}
+use Rattle.co_node_model.specs.declared.mark.Mark.{Mark}
 use Rattle.co_node_model.specs.Nmt.{is_reset, state_at}
 use Rattle.co_node_model.specs.declared.device_error.DeviceError.{DeviceError}
 use Rattle.co_node_model.specs.Emergencies.{heartbeat_lost, all_raised, emergencies_of}
 use Rattle.co_node_model.specs.Keys.{is_set}
 use Rattle.co_profile.specs.Keys.{error_behaviour_key, producer_key}
+use Rattle.co_node_model.specs.declared.mark.Mark.TheVariants as was
+use Rattle.co_node_model.specs.Marks.{marked_heartbeat, marked_key, marked_tick}
 
 -- ---- consumers: a heartbeat of another node is received, in every state; a boot-up is none
 
@@ -42,7 +44,7 @@ is_heartbeat (Some heartbeat.PreOperational) = true
 
 abbrev pub with_error_control : ℕ → FrameContent → Moment → Moment
 with_error_control node frame m =
-    if is_heartbeat (heartbeat_in frame.bytes) then record m { marks = record quiet { heard = Some node } } else m
+    if is_heartbeat (heartbeat_in frame.bytes) then record m { mark = was.Heard node } else m
 
 -- ---- consumers: what an input is to them
 
@@ -65,20 +67,20 @@ begin_event contents None = consumers.Quiet
 begin_event contents (Some key) = if is_consumer_key key then consumers.Begin key.sub (number_at contents key) else consumers.Quiet
 
 -- to the consumers of heartbeats, where the input was no reset
-abbrev pub consumers_event : Marks → Contents → ConsumersEvent
-consumers_event marks contents =
-    if marks.ticked then consumers.Tick
-    else (if is_none marks.heard then begin_event contents marks.set else heard_event marks.heard)
+abbrev pub consumers_event : Mark → Contents → ConsumersEvent
+consumers_event mark contents =
+    if marked_tick mark then consumers.Tick
+    else (if is_none (marked_heartbeat mark) then begin_event contents (marked_key mark) else heard_event (marked_heartbeat mark))
 
 -- the call of the consumers of heartbeats: at a reset each entry begins with the word that it then has
-abbrev pub consumers_call : Marks → Contents → ConsumersCall
-consumers_call marks contents = if is_reset marks then AllBegun (consumer_words contents) else Noted (consumers_event marks contents)
+abbrev pub consumers_call : Mark → Contents → ConsumersCall
+consumers_call mark contents = if is_reset mark then AllBegun (consumer_words contents) else Noted (consumers_event mark contents)
 
 -- ---- consumers: over all inputs; each entry of 1016h begins as the device is built
 
 abbrev pub consumers_log : Constants → History → ConsumersLog
 consumers_log k [] = AllBegun (consumer_words k.start) ∷ []
-consumers_log k (m ∷ history) = consumers_call m.marks m.received ∷ consumers_log k history
+consumers_log k (m ∷ history) = consumers_call m.mark m.received ∷ consumers_log k history
 
 -- ---- consumers: heartbeats that are lost (7.5.2.32)
 
@@ -105,32 +107,32 @@ with_lost d lost m = record m {
 }
 
 abbrev pub with_losses : Constants → History → Moment → Moment
-with_losses k history m = with_lost k.description (lost_by (consumers_call m.marks m.received) (consumers_log k history)) m
+with_losses k history m = with_lost k.description (lost_by (consumers_call m.mark m.received) (consumers_log k history)) m
 
 -- ---- producer: what an input is to it
 
 -- to the heartbeat producer: it begins at a reset and where 1017h was written, with the time that this then has
-abbrev pub producer_event : Marks → Contents → ProducerEvent
-producer_event marks contents =
-    if is_reset marks || is_set marks.set producer_key then producer.Begin (number_at contents producer_key)
-    else (if marks.ticked then producer.Tick else producer.Quiet)
+abbrev pub producer_event : Mark → Contents → ProducerEvent
+producer_event mark contents =
+    if is_reset mark || is_set (marked_key mark) producer_key then producer.Begin (number_at contents producer_key)
+    else (if marked_tick mark then producer.Tick else producer.Quiet)
 
 -- the boot-up at a reset; else the heartbeat of the state after the input, where one is due
-abbrev pub life_of : Marks → NodeState → Bool → Option Heartbeat
-life_of marks after due = if is_reset marks then Some BootUp else (if due then Some (heartbeat_of after) else None)
+abbrev pub life_of : Mark → NodeState → Bool → Option Heartbeat
+life_of mark after due = if is_reset mark then Some BootUp else (if due then Some (heartbeat_of after) else None)
 
 -- ---- producer: over all inputs; it begins as the device is built
 
 abbrev pub producer_log : Constants → History → ProducerLog
 producer_log k [] = Begin (number_at k.start producer_key) ∷ []
-producer_log k (m ∷ history) = producer_event m.marks m.contents ∷ producer_log k history
+producer_log k (m ∷ history) = producer_event m.mark m.contents ∷ producer_log k history
 
 -- ---- producer: the boot-up, or a heartbeat with the state at the end of the input
 
 -- the boot-up, or a heartbeat with the state at the end of the input (7.2.8.3.2 and 7.2.8.3.3)
 abbrev pub with_life : Constants → History → Moment → Moment
 with_life k history m =
-    record m { life = life_of m.marks (state_at (m ∷ history)) (is_heartbeat_due (producer_event m.marks m.contents) (producer_log k history)) }
+    record m { life = life_of m.mark (state_at (m ∷ history)) (is_heartbeat_due (producer_event m.mark m.contents) (producer_log k history)) }
 
 -- a boot-up or heartbeat on 700h + node-ID (7.2.8.3.2 and 7.2.8.3.3)
 abbrev pub life_frames : ℕ → Option Heartbeat → List FrameContent

@@ -1,5 +1,6 @@
 pub mod Inputs
 pub mod Keys
+pub mod Marks
 pub mod Moments
 pub mod Nmt
 pub mod Sdo

@@ -1,10 +1,11 @@
--- Whether an input may have changed what a PDO maps, by its marks (CiA 301, 7.5.2.36 and 7.5.2.38).
+-- Whether an input may have changed what a PDO maps, by its mark (CiA 301, 7.5.2.36 and 7.5.2.38).
 use Rattle.std.specs.Prelude.{◌||◌, Bool, false, Option, Some, None, ◌≡◌, true}
 use Rattle.co_value.specs.declared.key.Key.{Key}
 use Rattle.co_profile.specs.Indices.{rpdo_mapping, tpdo_mapping, is_within}
 use Rattle.co_dict.specs.Rows.{Contents}
 use Rattle.co_node_model.specs.Nmt.{is_reset}
-use Rattle.co_node_model.specs.declared.marks.Marks.{Marks}
+use Rattle.co_node_model.specs.declared.mark.Mark.{Mark}
+use Rattle.co_node_model.specs.Marks.{marked_key}
 
 -- an entry of a mapping parameter, 1600h to 17FFh and 1A00h to 1BFFh
 abbrev pub is_mapping_key : Key → Bool
@@ -16,8 +17,8 @@ is_mapping_set None = false
 is_mapping_set (Some key) = is_mapping_key key
 
 -- it was a reset, or one was written
-abbrev pub may_change_mappings : Marks → Bool
-may_change_mappings marks = is_reset marks || is_mapping_set marks.set
+abbrev pub may_change_mappings : Mark → Bool
+may_change_mappings mark = is_reset mark || is_mapping_set (marked_key mark)
 
 -- the mapping parameters of all PDOs are the same: 1600h to 17FFh and 1A00h to 1BFFh
 abbrev pub AgreeOnMappings : Contents → Contents → Type 0

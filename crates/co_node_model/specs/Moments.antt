@@ -1,5 +1,5 @@
 -- What one input of a device was, did and gave, service by service.
-use Rattle.std.specs.Prelude.{ℕ, List, Option, [], ◌∷◌, false, None}
+use Rattle.std.specs.Prelude.{ℕ, List, Option, [], ◌∷◌, None}
 use Rattle.co_frame.specs.declared.emergency.Emergency.{Emergency}
 use Rattle.co_frame.specs.declared.heartbeat.Heartbeat.{Heartbeat}
 use Rattle.co_dict.specs.Rows.{Contents}
@@ -11,8 +11,9 @@ use Rattle.co_node_parts.specs.declared.rpdo_slots.KeptFrame.{KeptFrame}
 use Rattle.co_node_parts.specs.declared.nmt_state.StateEvent.TheVariants as state
 use Rattle.co_node_model.specs.Inputs.{InputView}
 use Rattle.co_node_model.specs.declared.app_answer.AppAnswer.{AppAnswer}
-use Rattle.co_node_model.specs.declared.marks.Marks.{Marks}
+use Rattle.co_node_model.specs.declared.mark.Mark.{Mark}
 use Rattle.co_node_model.specs.declared.app_answer.AppAnswer.TheVariants as answer
+use Rattle.co_node_model.specs.declared.mark.Mark.TheVariants as was
 
 -- what never changes of a device: its dictionary's description, the bytes of the entries as it was built, the greatest
 -- capacity of an entry, and the time in ms after which an SDO transfer is aborted, 0 for never
@@ -31,7 +32,7 @@ pub record Moment : Type 0 where
   pub input : InputView
   -- received: what it was; the exchange on an SDO channel; the channel whose time was over, with what is sent on it; the
   -- answer to an application event; the emergencies that this event queued; the entries then
-  pub marks : Marks
+  pub mark : Mark
   pub exchange : Option ChannelEvent
   pub timed_out : Option ChannelEvent
   pub app : AppAnswer
@@ -61,15 +62,11 @@ abbrev pub contents_at : Constants → History → Contents
 contents_at k [] = k.start
 contents_at k (m ∷ history) = m.contents
 
--- nothing that concerns any part
-abbrev pub quiet : Marks
-quiet = record { command = None; set = None; sync = None; rpdo = None; heard = None; ticked = false; timed_out = false; asked = None }
-
 -- an input of which nothing came
 abbrev pub nothing_of : InputView → Contents → Moment
 nothing_of input contents = record {
   input = input;
-  marks = quiet;
+  mark = was.Quiet;
   exchange = None;
   timed_out = None;
   app = answer.None;

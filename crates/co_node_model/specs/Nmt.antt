@@ -11,9 +11,10 @@ use Rattle.co_node_parts.specs.NmtStates.{StateLog, state_after}
 use Rattle.co_node_parts.specs.declared.nmt_state.NodeState.{NodeState}
 use Rattle.co_node_parts.specs.declared.nmt_state.Transition.{Transition}
 use Rattle.co_node_parts.specs.declared.nmt_state.StateEvent.TheVariants as state
-use Rattle.co_node_model.specs.declared.marks.Marks.{Marks}
-use Rattle.co_node_model.specs.Moments.{quiet, Moment, History}
+use Rattle.co_node_model.specs.declared.mark.Mark.{Mark}
+use Rattle.co_node_model.specs.Moments.{Moment, History}
 use Rattle.co_node_model.specs.Inputs.{InputView, Framed}
+use Rattle.co_node_model.specs.Marks.{command_mark, marked_command}
 
 -- ---- what a command is
 
@@ -31,8 +32,8 @@ is_reset_by None = false
 is_reset_by (Some service) = resets service
 
 -- the input was a reset
-abbrev pub is_reset : Marks → Bool
-is_reset marks = is_reset_by marks.command
+abbrev pub is_reset : Mark → Bool
+is_reset mark = is_reset_by (marked_command mark)
 
 -- a command, if there was one
 abbrev pub commanded_event : Option NmtService → StateEvent
@@ -40,8 +41,8 @@ commanded_event None = state.Quiet
 commanded_event (Some service) = state.Command service
 
 -- to the NMT state
-abbrev pub state_event : Marks → StateEvent
-state_event marks = commanded_event marks.command
+abbrev pub state_event : Mark → StateEvent
+state_event mark = commanded_event (marked_command mark)
 
 -- ---- a command is received
 
@@ -61,13 +62,13 @@ after_service initial (Some ResetCommunication) contents = restored Communicatio
 
 abbrev pub with_service : Contents → Option NmtService → Moment → Moment
 with_service initial service m =
-    record m { marks = record quiet { command = service }; received = after_service initial service m.received }
+    record m { mark = command_mark service; received = after_service initial service m.received }
 
 -- ---- the state, over all inputs: commands, and what lost heartbeats do
 
 abbrev pub state_log : History → StateLog
 state_log [] = []
-state_log (m ∷ history) = m.loss ∷ state_event m.marks ∷ state_log history
+state_log (m ∷ history) = m.loss ∷ state_event m.mark ∷ state_log history
 
 -- the NMT state
 abbrev pub state_at : History → NodeState

@@ -27,12 +27,14 @@ use Rattle.co_node_parts.specs.declared.rpdo_slots.SlotEvent.{SlotEvent}
 use Rattle.co_node_parts.specs.declared.rpdo_slots.SlotEvent.TheVariants.{Empty, Quiet, Keep, Sync, EmptyAll}
 use Rattle.co_node_parts.specs.declared.nmt_state.Transition.{Transition}
 use Rattle.co_node_parts.specs.RpdoSlots.{SlotLog, taken_at}
-use Rattle.co_node_model.specs.Moments.{quiet, Moment, Constants, History}
-use Rattle.co_node_model.specs.declared.marks.Marks.{Marks}
+use Rattle.co_node_model.specs.Moments.{Moment, Constants, History}
+use Rattle.co_node_model.specs.declared.mark.Mark.{Mark}
 use Rattle.co_node_model.specs.Nmt.{is_reset, transition_of}
 use Rattle.co_node_model.specs.declared.device_error.DeviceError.{DeviceError}
 use Rattle.co_node_model.specs.Emergencies.{pdo_too_short, pdo_too_long, value_outside_limits, all_raised, emergencies_of}
 use Rattle.co_node_model.specs.Sync.{sync_errors}
+use Rattle.co_node_model.specs.declared.mark.Mark.TheVariants as was
+use Rattle.co_node_model.specs.Marks.{marked_key, marked_rpdo, marked_sync}
 
 -- the transmission type of RPDO k
 abbrev pub rpdo_type : Contents → ℕ → ℕ
@@ -66,7 +68,7 @@ is_short d contents rpdo = nat_lt (length rpdo.frame.bytes) (mapped_length d con
 
 abbrev pub with_rpdo : ℕ → NodeState → FrameContent → Moment → Moment
 with_rpdo n state frame m =
-    if is_state Operational state then record m { marks = record quiet { rpdo = Some (record { number = n; frame = frame }) } } else m
+    if is_state Operational state then record m { mark = was.Rpdo (record { number = n; frame = frame }) } else m
 
 -- ---- the frames that wait for a SYNC: what an input is to them
 
@@ -86,21 +88,21 @@ kept_by d contents (Some rpdo) =
     if is_synchronous (rpdo_type contents rpdo.number) && not (is_short d contents rpdo) then Keep rpdo.number rpdo.frame else Quiet
 
 -- by what was written or came, where operational isn't left
-abbrev pub slot_event_in : Description → Contents → Marks → Transition → SlotEvent
-slot_event_in d contents marks t =
-    if is_some marks.sync && is_state Operational t.after then Sync
-    else (if is_some marks.set then emptied_by marks.set else kept_by d contents marks.rpdo)
+abbrev pub slot_event_in : Description → Contents → Mark → Transition → SlotEvent
+slot_event_in d contents mark t =
+    if is_some (marked_sync mark) && is_state Operational t.after then Sync
+    else (if is_some (marked_key mark) then emptied_by (marked_key mark) else kept_by d contents (marked_rpdo mark))
 
 -- to the frames that wait: a reset and leaving operational drop all of them
-abbrev pub slot_event : Description → Contents → Marks → Transition → SlotEvent
-slot_event d contents marks t =
-    if is_reset marks || leaves Operational t then EmptyAll else slot_event_in d contents marks t
+abbrev pub slot_event : Description → Contents → Mark → Transition → SlotEvent
+slot_event d contents mark t =
+    if is_reset mark || leaves Operational t then EmptyAll else slot_event_in d contents mark t
 
 -- ---- over all inputs
 
 abbrev pub slot_log : Constants → History → SlotLog
 slot_log k [] = []
-slot_log k (m ∷ history) = slot_event k.description m.watched m.marks (transition_of m history) ∷ slot_log k history
+slot_log k (m ∷ history) = slot_event k.description m.watched m.mark (transition_of m history) ∷ slot_log k history
 
 -- ---- the error of a frame's length
 
@@ -162,13 +164,13 @@ all_data_emergencies d contents (rpdo ∷ rpdos) =
 
 -- the errors of the length of a SYNC, or of an RPDO's frame
 abbrev pub arrival_errors : Description → Moment → List DeviceError
-arrival_errors d m = sync_errors m.watched m.marks.sync ++ rpdo_errors d m.watched m.marks.rpdo
+arrival_errors d m = sync_errors m.watched (marked_sync m.mark) ++ rpdo_errors d m.watched (marked_rpdo m.mark)
 
 -- the frames whose data take effect: at a SYNC those that wait; a frame of types 254 and 255 at once
 abbrev pub effective : Constants → History → Moment → List KeptFrame
 effective k history m =
-    taken_at 512 (slot_event k.description m.watched m.marks (transition_of m history)) (slot_log k history)
-    ++ immediate k.description m.watched m.marks.rpdo
+    taken_at 512 (slot_event k.description m.watched m.mark (transition_of m history)) (slot_log k history)
+    ++ immediate k.description m.watched (marked_rpdo m.mark)
 
 -- after the errors of length, the data of these frames take effect
 abbrev pub with_taken : Description → List DeviceError → List KeptFrame → Moment → Moment

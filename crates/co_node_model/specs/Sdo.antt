@@ -7,7 +7,9 @@ use Rattle.co_sdo_bank.specs.Events.{with_each, logs_after, exchange_of, set_of,
 use Rattle.co_node_parts.specs.declared.nmt_state.NodeState.TheVariants.{Stopped}
 use Rattle.co_node_parts.specs.NmtStates.{enters, is_state}
 use Rattle.co_node_model.specs.Nmt.{transition_of, is_reset, state_at}
-use Rattle.co_node_model.specs.Moments.{Moment, History, quiet, Constants, channels}
+use Rattle.co_node_model.specs.Moments.{Moment, History, Constants, channels}
+use Rattle.co_node_model.specs.declared.mark.Mark.TheVariants as was
+use Rattle.co_node_model.specs.Marks.{marked_tick, written_mark}
 
 -- ---- the log of each channel: requests with their responses, ticks, the end of a transfer's time, and drops
 
@@ -23,14 +25,14 @@ with_drop false logs = logs
 
 -- a reset, and entering stopped, drop all transfers
 abbrev pub drops : Moment → History → Bool
-drops m history = is_reset m.marks || enters Stopped (transition_of m history)
+drops m history = is_reset m.mark || enters Stopped (transition_of m history)
 
 -- the log of each channel, by its number
 abbrev pub channel_logs : History → ℕ → Log
 channel_logs [] = λ j. []
 channel_logs (m ∷ history) =
     with_drop (drops m history)
-    (logs_after m.timed_out (with_channel_ticks m.marks.ticked (logs_after m.exchange (channel_logs history))))
+    (logs_after m.timed_out (with_channel_ticks (marked_tick m.mark) (logs_after m.exchange (channel_logs history))))
 
 -- ---- a frame to a channel: not while stopped; one that hasn't eight bytes is ignored
 
@@ -39,7 +41,7 @@ abbrev pub with_request : Constants → (ℕ → Log) → FrameContent → Momen
 with_request k logs frame m =
     let set = set_of (channels k) k.description m.received logs frame in
     record m {
-      marks = record quiet { set = key_set set };
+      mark = written_mark (key_set set);
       exchange = exchange_of (channels k) k.description m.received logs frame;
       received = contents_with m.received set;
     }
@@ -52,7 +54,7 @@ with_channel_frame k history frame m =
 
 abbrev pub with_tick : Option ChannelEvent → Moment → Moment
 with_tick timed_out m =
-    record m { marks = record quiet { ticked = true; timed_out = is_some timed_out }; timed_out = timed_out }
+    record m { mark = was.Tick (is_some timed_out); timed_out = timed_out }
 
 -- the channel that is aborted, with what is sent
 abbrev pub timed_out_at : Constants → History → Option ChannelEvent

@@ -9,9 +9,10 @@ use Rattle.co_node_parts.specs.declared.nmt_state.NodeState.{NodeState}
 use Rattle.co_node_parts.specs.declared.nmt_state.NodeState.TheVariants.{Stopped}
 use Rattle.co_node_parts.specs.NmtStates.{is_state}
 use Rattle.co_profile.specs.Keys.{sync_key}
-use Rattle.co_node_model.specs.Moments.{quiet, Moment}
+use Rattle.co_node_model.specs.Moments.{Moment}
 use Rattle.co_node_model.specs.declared.device_error.DeviceError.{DeviceError}
 use Rattle.co_node_model.specs.Emergencies.{unexpected_sync_length}
+use Rattle.co_node_model.specs.declared.mark.Mark.TheVariants as was
 
 -- an identifier is that of SYNC; there is none without 1005:00, or where it is 0
 abbrev pub is_sync_id : Contents → ℕ → Bool
@@ -24,7 +25,7 @@ counter_in frame = option_and_then (λ sync. sync.counter) (sync_in frame.bytes)
 -- ---- a SYNC is received: not while stopped
 
 abbrev pub with_sync : NodeState → FrameContent → Moment → Moment
-with_sync state frame m = if is_state Stopped state then m else record m { marks = record quiet { sync = Some frame } }
+with_sync state frame m = if is_state Stopped state then m else record m { mark = was.Sync frame }
 
 -- ---- the error of its length
 

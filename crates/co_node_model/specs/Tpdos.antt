@@ -22,14 +22,15 @@ use Rattle.co_pdo.specs.declared.tpdo.Occasion.TheVariants as occasion
 use Rattle.co_node_parts.specs.declared.nmt_state.NodeState.TheVariants.{Operational}
 use Rattle.co_node_parts.specs.declared.nmt_state.Transition.{Transition}
 use Rattle.co_node_parts.specs.NmtStates.{is_state}
-use Rattle.co_node_model.specs.declared.marks.Asked.{Asked}
-use Rattle.co_node_model.specs.declared.marks.Asked.TheVariants.{Event, Changed}
+use Rattle.co_node_model.specs.declared.mark.Asked.{Asked}
+use Rattle.co_node_model.specs.declared.mark.Asked.TheVariants.{Event, Changed}
 use Rattle.co_node_model.specs.declared.turn.Turn.{Turn}
 use Rattle.co_node_model.specs.Sync.{counter_in}
-use Rattle.co_node_model.specs.declared.marks.Marks.{Marks}
+use Rattle.co_node_model.specs.declared.mark.Mark.{Mark}
 use Rattle.co_node_model.specs.Nmt.{transition_of}
 use Rattle.co_node_model.specs.Moments.{Moment, History, Constants}
 use Rattle.co_node_model.specs.declared.turn.Turn.TheVariants as turn
+use Rattle.co_node_model.specs.Marks.{marked_event, marked_key, marked_sync, marked_tick}
 
 -- how many TPDOs a dictionary has
 abbrev pub tpdo_count : Rows → ℕ
@@ -77,17 +78,17 @@ turn_by_asked None = turn.Quiet
 turn_by_asked (Some asked) = turn.Asked asked
 
 -- in operational, where an entry was written or not
-abbrev pub turn_with : Option Key → Marks → Turn
-turn_with (Some key) marks = turn_by_write key
-turn_with None marks =
-    if marks.ticked then turn.Tick
-    else (if is_some marks.sync then turn_by_sync marks.sync else turn_by_asked marks.asked)
+abbrev pub turn_with : Option Key → Mark → Turn
+turn_with (Some key) mark = turn_by_write key
+turn_with None mark =
+    if marked_tick mark then turn.Tick
+    else (if is_some (marked_sync mark) then turn_by_sync (marked_sync mark) else turn_by_asked (marked_event mark))
 
 -- to the schedule, by the states before and after the input: outside operational nothing; entering it starts all
-abbrev pub turn_of : Marks → Transition → Turn
-turn_of marks t =
+abbrev pub turn_of : Mark → Transition → Turn
+turn_of mark t =
     if not (is_state Operational t.after) then turn.Quiet
-    else (if not (is_state Operational t.before) then turn.StartAll else turn_with marks.set marks)
+    else (if not (is_state Operational t.before) then turn.StartAll else turn_with (marked_key mark) mark)
 
 -- ---- which are due
 
@@ -113,7 +114,7 @@ with_turn d turn.Tick contents due history = with_tick contents due history
 
 -- what an input was to it
 abbrev pub turn_at : Moment → History → Turn
-turn_at m history = turn_of m.marks (transition_of m history)
+turn_at m history = turn_of m.mark (transition_of m history)
 
 abbrev pub schedule_log : Constants → History → Schedule
 schedule_log k [] = []

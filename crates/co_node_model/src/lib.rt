@@ -6,7 +6,7 @@ mod app_answer;
 mod device_error;
 mod input;
 mod limit;
-mod marks;
+mod mark;
 mod turn;
 
 pub use address::Address;
@@ -14,5 +14,5 @@ pub use app_answer::AppAnswer;
 pub use device_error::DeviceError;
 pub use input::{AppEvent, Input};
 pub use limit::most_rounds;
-pub use marks::{Asked, Marks};
+pub use mark::{Asked, Mark};
 pub use turn::Turn;

@@ -1,6 +1,6 @@
 //! What the schedule of TPDOs is asked.
 
-use crate::marks::Asked;
+use crate::mark::Asked;
 use co_pdo::{Part, PdoNumber};
 
 /// What an input is to the schedule of TPDOs (CiA 301, 7.2.2.2 to 7.2.2.4).

@@ -3,7 +3,7 @@ use Rattle.std.proofs.Common.{◌≡◌, ◌≢◌, ℕ, ◌+◌, ◌<◌, ◌�
 use Rattle.std.specs.Prelude.{Option, Some, None}
 use Rattle.std.specs.List.{filter, range_with_len}
 use Rattle.std.proofs.Math.ListN.{replicate}
-use Rattle.std.proofs.lemmas.List.{map-id, get_or_default, get_or-replicate, length-replicate}
+use Rattle.std.proofs.lemmas.List.{map-id, get_or-replicate, length-replicate}
 use Rattle.std.proofs.lemmas.List.FromFn.{filter_of_map_range_with_len_more}
 use Rattle.std.proofs.lemmas.Bool.Decides.{nat_tests}
 use Rattle.co_node_parts.specs.declared.heartbeat_consumer.ConsumerEvent.{ConsumerEvent}
@@ -145,17 +145,6 @@ module _ (event : ConsumersEvent) (entries : List HeartbeatConsumer) (used n : �
           (passed_stands event (j + 1) (get_or entries j d) (logs (j + 1)) (passed j d (omega arith) lt) (all j d lt))
 
 -- ---- from which entry on none monitors anything
-
-pub idle_more : (entries : List HeartbeatConsumer) (used i : ℕ) (d : HeartbeatConsumer) → i < length entries → (get_or entries i d).monitored ≡ None
-    → ((j : ℕ) (e : HeartbeatConsumer) → used ≤ j → j < i → (get_or entries j e).monitored ≡ None)
-    → (j : ℕ) (e : HeartbeatConsumer) → used ≤ j → j < i + 1 → (get_or entries j e).monitored ≡ None
-idle_more entries used i d within here idle j e le lt = by_test (eqb j i) refl
-  where
-    by_test : (b : Bool) → eqb j i ≡ b → (get_or entries j e).monitored ≡ None
-    by_test true h =
-        let same : j ≡ i = grind (arith, nat_tests) in
-        rw same (ap (λ (c : HeartbeatConsumer). c.monitored) (get_or_default entries i e d within) ∙ here)
-    by_test false h = let other : j ≢ i = grind (arith, nat_tests) in idle j e le (omega arith)
 
 -- those from there on stay so where they are as they were
 pub idle_kept : (entries after : List HeartbeatConsumer) (used : ℕ) → length after ≡ length entries → AreIdleFrom used entries

@@ -10,7 +10,8 @@ use co_value::Key;
 use std::alloc::{AllocError, Global};
 use std::string::String;
 
-/// The device of a sheet at node-ID 5, with room for strings of 16 bytes and domains of 889, and with this SDO timeout in ms.
+/// The device of a sheet at node-ID 5, with room for strings of 16 bytes and domains of 889, and with this SDO
+/// timeout in ms.
 pub fn node_of(alloc: Global, text: &str, time: u16) -> Result<Node, BadScript> {
     let sheet = read(alloc, text.as_bytes()).ok().ok_or(BadScript)?;
     let config = Config {

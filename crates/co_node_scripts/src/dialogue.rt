@@ -15,8 +15,8 @@ impl End for Server<'_> {
     }
 }
 
-/// Does what a dialogue with a server says: `Ok` with the number of the answers, else the first word that isn't so. Its words
-/// are frames alone.
+/// Does what a dialogue with a server says: `Ok` with the number of the answers, else the first word that isn't so.
+/// Its words are frames alone.
 pub fn node_follows<'a>(node: &mut Node, dialogue: &'a str) -> Result<u64, &'a str> {
     let mut sent = Outbox::new();
     follows(&mut Server(node), "585#", dialogue, &mut sent)

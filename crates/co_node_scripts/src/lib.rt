@@ -1,5 +1,5 @@
-//! Worked sequences of a whole device, as texts: what comes to it, and what it then sends. The tests of a device run them, and
-//! so does the program that a test refuses memory to.
+//! Worked sequences of a whole device, as texts: what comes to it, and what it then sends. The tests of a device run
+//! them, and so does the program that a test refuses memory to.
 #![tactic(auto)]
 
 mod device;

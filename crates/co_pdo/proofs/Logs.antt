@@ -202,15 +202,6 @@ due_by t log s Tick h f false e = ap (λ b. b && wants_with s Tick t) e ∙ ap (
 pub due_is : (t : Tpdo) (log : Log) (s : Settings) (o : Occasion) → IsAfter t log → IsCurrent s log → s.is_active && wants_with s o t ≡ is_due s log o
 due_is t log s o h f = due_by t log s o h f s.is_active refl
 
-number_counted : (o : Occasion) (c : Bool) (t : Tpdo) → (counted o c t).number ≡ t.number
-number_counted (Sync overflow counter) c t = refl
-number_counted Event c t = refl
-number_counted Tick c t = refl
-
--- the number stays
-pub number_then : (o : Occasion) (c : Bool) (t new : Tpdo) → new ≡ counted o c t → new.number ≡ t.number
-number_then o c t new e = ap (λ u. u.number) e ∙ number_counted o c t
-
 -- the countdowns after a call, by what was done to them
 pub after_unsent : (t new : Tpdo) (log : Log) (s : Settings) (o : Occasion) → new ≡ counted_with s o t → IsAfter t log → IsCurrent s log → IsAfter new (Happened o s false ∷ log)
 after_unsent t new log s o e h f = rw e (after_counted t log s o h f)
@@ -249,22 +240,3 @@ after_passed t log s (Sync overflow counter) p h = record {
     never low = let high : leb t.transmission_type.0 240 ≡ false = is_high _ p in cc
 after_passed t log s Event p h = cc
 after_passed t log s Tick p h = cc
-
-unwanted_passed : (t : Tpdo) (s : Settings) (o : Occasion) → passes_over o t ≡ true → false ≡ wants_with s o t
-unwanted_passed t s (Sync overflow counter) p = sym (by_zero (eqb t.transmission_type.0 0) refl)
-  where
-    high : leb t.transmission_type.0 240 ≡ false
-    high = is_high _ p
-
-    by_zero : (zero : Bool) → eqb t.transmission_type.0 0 ≡ zero
-        → cond zero t.event_since_sync ((t.has_begun || begins_count s.start_value overflow counter) && (leb t.syncs_left 1 && leb t.transmission_type.0 240)) ≡ false
-    by_zero true e =
-        let none : t.transmission_type.0 ≡ 0 = grind (arith, nat_tests) in
-        let low : leb t.transmission_type.0 240 ≡ true = ap (λ n. leb n 240) none in
-        cc
-    by_zero false e = none_high _ _ _ high
-unwanted_passed t s Event p = cc
-unwanted_passed t s Tick p = cc
-
-pub due_passed : (t : Tpdo) (log : Log) (s : Settings) (o : Occasion) → IsAfter t log → IsCurrent s log → passes_over o t ≡ true → false ≡ is_due s log o
-due_passed t log s o h f p = due_unwanted t log s o false h f (unwanted_passed t s o p) refl

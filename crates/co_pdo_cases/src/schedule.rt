@@ -1,9 +1,9 @@
 //! Which TPDOs are due, as scripts say it.
 //!
-//! `180002=3` writes a number by SDO, and one that is refused has its abort code after it, as `180003=19:08000022`. `n.` is
-//! a new schedule. Each other word is a call, `s` a start of TPDO 0, `u` one of all, `r` one of the timer of TPDO 1, `e` an
-//! event for TPDO 0, `f` one for TPDO 1 and 511, `t` a tick, a digit a SYNC with that counter and `-` one with none, and then the TPDO
-//! that is due, `.` for none.
+//! `180002=3` writes a number by SDO, and one that is refused has its abort code after it, as `180003=19:08000022`.
+//! `n.` is a new schedule. Each other word is a call, `s` a start of TPDO 0, `u` one of all, `r` one of the timer of
+//! TPDO 1, `e` an event for TPDO 0, `f` one for TPDO 1 and 511, `t` a tick, a digit a SYNC with that counter and `-`
+//! one with none, and then the TPDO that is due, `.` for none.
 
 use crate::device::{device, image_device, write};
 use co_dict_list::ListStore;

@@ -83,9 +83,6 @@ none_closes : (same segments indicated : Bool) → (((same && false) && segments
 none_closes true segments indicated = refl
 none_closes false segments indicated = refl
 
-abbrev segment_of : Bool → ArrayVec ℕ → Bool → SdoRequest
-segment_of toggle segment last = DownloadSegment toggle segment last
-
 -- the download that a begin and segments make
 abbrev pub segmented : Key → Option ℕ → Transfer → OpenTransfer
 segmented key size t = record { key = key; stage = Download size (is_odd (length (requests t.later))); bytes = segments_joined (requests t.later) }

@@ -1,5 +1,5 @@
 -- What is open after one more event.
-use Rattle.std.proofs.Common.{◌≡◌, ℕ, Bool, true, false, cond, not, List, [], ◌∷◌, length, Option, Some, None, refl, sym, ap, ◌∙◌}
+use Rattle.std.proofs.Common.{◌≡◌, ℕ, Bool, true, false, cond, not, List, [], ◌∷◌, length, Option, Some, None, refl, ap, ◌∙◌}
 use Rattle.std.specs.Prelude.{◌&&◌, ◌||◌, if◌then◌else◌}
 use Rattle.std.specs.List.{list_any}
 use Rattle.std.specs.Option.{option_map_or}
@@ -38,10 +38,6 @@ inside_by _ t = refl
 pub inside_is : (t : Option Transfer) → is_in_sub_block (opened t) ≡ option_map_or is_inside t false
 inside_is None = refl
 inside_is (Some t) = inside_by (request_in t.begin.request) t
-
-or_false : (a b : Bool) → a || b ≡ true → a ≡ false → b ≡ true
-or_false true b h e = absurd (false≢true (sym e))
-or_false false b h e = h
 
 whole_outside : (later : List (List ℕ)) (b : Bool) → (are_all_sub_blocks later && b) || false ≡ true → not (has_last later) ≡ false
 whole_outside [] b h = absurd (false≢true h)

@@ -5,8 +5,8 @@ use co_frame::{Frame, Outbox};
 use co_sdo_scripts::frame_of;
 use std::test::Fail;
 
-// How many bytes; the answer to the begin; the segments of the first sub-block; one in the middle of it, and how many come
-// after that; the server's end.
+// How many bytes; the answer to the begin; the segments of the first sub-block; one in the middle of it, and how many
+// come after that; the server's end.
 const ROWS: &str = "\
 0 585#C200210000000000 1 0 1 585#DD00000000000000
 1 585#C200210001000000 1 0 1 585#D900000000000000

@@ -1,7 +1,8 @@
 //! A channel over the dictionary of a data sheet.
 
 use co_dict_list::{Limits, ListStore};
-use co_sdo_scripts::{SHEET, Served, server_follows};
+use co_fixtures::{MANUFACTURER, sheet_of};
+use co_sdo_scripts::{DEFAULTS, Served, server_follows};
 use co_sheet::read;
 use std::alloc::Global;
 use std::process::Abort;
@@ -17,7 +18,8 @@ pub(crate) fn device_of(alloc: Global, domains: u16, time: u16) -> Result<Device
         domains,
         own: &[],
     };
-    let sheet = read(alloc, SHEET.as_bytes())?;
+    let text = sheet_of(alloc, &[], &[MANUFACTURER], DEFAULTS)?;
+    let sheet = read(alloc, text.as_bytes())?;
     let store = ListStore::build(alloc, &sheet, 5, &limits)?;
     Ok(Served::over(alloc, store, time)?)
 }

@@ -1,5 +1,5 @@
-//! Tests of an SDO channel, of all channels of a device, and of a client with a channel, through the public calls of their
-//! crates, so that these are proved once.
+//! Tests of an SDO channel, of all channels of a device, and of a client with a channel, through the public calls of
+//! their crates, so that these are proved once.
 #![tactic(auto)]
 
 #[cfg(test)]

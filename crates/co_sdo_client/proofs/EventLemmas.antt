@@ -22,29 +22,7 @@ waits-is Waiting h = refl
 waits-is Done h = absurd (false≢true h)
 waits-is (Failed code) h = absurd (false≢true h)
 
-kept : {A : Type 0} (s : ClientState) (next same : A) → waits s ≡ false → while_waiting s next same ≡ same
-kept Waiting next same h = absurd (false≢true (sym h))
-kept Done next same h = refl
-kept (Failed code) next same h = refl
-
 -- ---- after the end nothing changes
-
-pub ended_stands : (call : Call) (events : List Event) (e : Event) (client : Standing) → ClientStands call events client → waits client.state ≡ false → ClientStands call (e ∷ events) client
-ended_stands call events e client h w =
-    let over : waits (outcome call events) ≡ false = ap waits (sym h.state) ∙ w in
-    let same : outcome call (e ∷ events) ≡ outcome call events = kept (outcome call events) _ _ over in
-    let silent : asked_by call events e ≡ [] = kept (outcome call events) _ _ over in
-    record {
-      same_call = h.same_call;
-      begun = h.begun;
-      state = h.state ∙ sym same;
-      waiting = λ x. absurd (false≢true (sym over ∙ ap waits (sym same ∙ x)));
-      shown = h.shown ∙ sym (kept (outcome call events) _ _ over);
-      sent = h.sent ∙ ap (λ ms. counted (length ms)) (sym (ap (λ ms. all_asked call events ++ ms) silent ∙ append-nil (all_asked call events)));
-    }
-
-pub ended_silent : (call : Call) (events : List Event) (e : Event) (client : Standing) → ClientStands call events client → waits client.state ≡ false → asked_by call events e ≡ []
-ended_silent call events e client h w = kept (outcome call events) _ _ (ap waits (sym h.state) ∙ w)
 
 -- ---- while it waits
 
@@ -146,9 +124,3 @@ tick_stands call events client h t =
     let w : IsWaitingAfter call events client = h.waiting o in
     stands_after call events Ticked client (if is_over client then GivesUp timed_out else GoesOn []) client.stage client.held (client.left - 1) h o (tick_verdict call events client h o)
     (λ x. record { stage_is = w.stage; held_is = w.held; left_is = omega (arith, w.left) })
-
-pub tick_asks : (call : Call) (events : List Event) (client : Standing) → ClientStands call events client → waits client.state ≡ true
-    → asked_by call events Ticked ≡ messages_by call (if is_over client then GivesUp timed_out else GoesOn [])
-tick_asks call events client h t =
-    let o : outcome call events ≡ Waiting = sym h.state ∙ waits-is client.state t in
-    asked_next call events Ticked _ o (tick_verdict call events client h o)

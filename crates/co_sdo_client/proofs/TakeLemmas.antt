@@ -4,10 +4,10 @@ use Rattle.co_sdo_client.specs.declared.state.ClientState.TheVariants.{Waiting}
 use Rattle.co_sdo_client.specs.Calls.{Call, Event, Answered, answers, since_first}
 use Rattle.co_sdo_client.specs.Stages.{stage_after}
 use Rattle.co_sdo_client.specs.Verdicts.{answer_verdict, verdict}
-use Rattle.co_sdo_client.specs.Outcomes.{messages_by, outcome, asked_by}
+use Rattle.co_sdo_client.specs.Outcomes.{outcome}
 use Rattle.co_sdo_client.specs.Standing.{Standing, ClientStands, IsWaitingAfter, waits}
-use Rattle.co_sdo_client.specs.Steps.{frame_stage, frame_held, after_frame, messages_to_frame}
-use Rattle.co_sdo_client.proofs.EventLemmas.{waits-is, goes_on, asked_next, stands_after}
+use Rattle.co_sdo_client.specs.Steps.{frame_stage, frame_held, after_frame}
+use Rattle.co_sdo_client.proofs.EventLemmas.{waits-is, goes_on, stands_after}
 use Rattle.co_sdo_client.proofs.StageLemmas.{next_is}
 
 frame_verdict : (call : Call) (events : List Event) (client : Standing) (frame : List ℕ) → ClientStands call events client → outcome call events ≡ Waiting
@@ -15,12 +15,6 @@ frame_verdict : (call : Call) (events : List Event) (client : Standing) (frame :
 frame_verdict call events client frame h o =
     let w : IsWaitingAfter call events client = h.waiting o in
     rw (h.same_call, w.stage, w.held) refl
-
-pub frame_asks : (call : Call) (events : List Event) (client : Standing) (frame : List ℕ) → ClientStands call events client → waits client.state ≡ true
-    → asked_by call events (Answered frame) ≡ messages_to_frame client frame
-frame_asks call events client frame h t =
-    let o : outcome call events ≡ Waiting = sym h.state ∙ waits-is client.state t in
-    asked_next call events (Answered frame) _ o (frame_verdict call events client frame h o) ∙ ap (λ c. messages_by c (answer_verdict client.call client.stage client.held frame)) (sym h.same_call)
 
 pub frame_stands : (call : Call) (events : List Event) (client : Standing) (frame : List ℕ) → ClientStands call events client → waits client.state ≡ true
     → ClientStands call (Answered frame ∷ events) (after_frame (record client { left = client.call.time }) frame)

@@ -66,7 +66,8 @@ impl<'a> Client<'a> {
         }
     }
 
-    // Why an upload of this key, with this many bytes, isn't taken: another key than the call's, or more than it has room for.
+    // Why an upload of this key, with this many bytes, isn't taken: another key than the call's, or more than it has
+    // room for.
     pub(crate) fn upload_fault(&self, key: Key, size: usize) -> Option<AbortCode>
         ensures { result ≡ if not (same_key key self.now.call.key) then Some (record { 0 = unknown_command })
             else if nat_lt (cap_of self.now.call.job) size then Some (record { 0 = out_of_memory }) else None }

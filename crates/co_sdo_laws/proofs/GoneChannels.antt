@@ -18,7 +18,7 @@ use Rattle.co_frame.specs.SdoFields.{has_bit, key_in}
 use Rattle.co_frame.specs.SdoParts.{expedited_in, size_in}
 use Rattle.co_frame.specs.SdoRequests.{request_row_in, request_in}
 use Rattle.co_frame.specs.SdoResponses.{response_row_in, response_in, response_bytes}
-use Rattle.co_dict.specs.Rows.{Rows, Contents}
+use Rattle.co_dict.specs.Rows.{Contents}
 use Rattle.co_dict.specs.Stores.{Description}
 use Rattle.co_dict.specs.Refusals.{first_of}
 use Rattle.co_sdo.specs.declared.stage.Stage.TheVariants.{Download, Upload as Uploading}
@@ -29,10 +29,9 @@ use Rattle.co_sdo.specs.Uploads.{value_at, part_after}
 use Rattle.co_sdo.specs.OpenTransfers.{Transfer, is_initiate, is_finished, is_uploaded, is_cut, is_inside, is_inside_after, is_abort_request, begins, open_transfer}
 use Rattle.co_sdo.specs.Opened.{OpenTransfer, opened, opened_by, opened_after}
 use Rattle.co_sdo.specs.Replies.{aborted, unless_refused, toggle_refusal, block_size_refusal, segment_refusal, request_answers, answers_to, reply_to}
-use Rattle.co_sdo.specs.Standing.{is_under_way, is_transfer_after}
 use Rattle.co_sdo.proofs.Initiations.{exchange}
 use Rattle.co_sdo.proofs.Logs.{after_initiates, after_open, after_nothing}
-use Rattle.co_sdo_laws.proofs.Server.{Serves, tick_opens}
+use Rattle.co_sdo_laws.proofs.Server.{tick_opens}
 use Rattle.co_sdo_laws.proofs.Channel.{ended}
 
 -- ---- answers that the client of a block download awaits after its begin
@@ -305,17 +304,3 @@ gone_ticks log (other t e b) = other t (tick_opens log ∙ e) b
 
 pub gone_ends : (log : Log) (answers : List Answer) → IsGone (TimedOut answers ∷ log)
 gone_ends log answers = idle (ended log answers)
-
-opens_one : (rows : Rows) (begin : Option SdoRequest) (t : Transfer) → is_transfer_after rows begin t → opened_by begin t ≡ None → ⊥
-opens_one rows (Some (DownloadInitiate key size)) t u e = cc
-opens_one rows (Some (Upload key)) t u e = cc
-opens_one rows (Some (BlockUploadInitiate key size threshold)) t u e = cc
-opens_one rows (Some (BlockDownloadInitiate key size)) t u e = cc
-opens_one rows _ t u e = u
-
-none_open : (rows : Rows) (t : Option Transfer) → is_under_way rows t → opened t ≡ None → t ≡ None
-none_open rows None u e = refl
-none_open rows (Some t) u e = absurd (opens_one rows (request_in t.begin.request) t u e)
-
-pub gone_idle : (rows : Rows) (log : Log) → Serves rows log None → IsGone log
-gone_idle rows log h = idle (none_open rows (open_transfer log) h.under_way h.opens)

@@ -20,8 +20,8 @@ pub fn answered(client: &mut Client<'_>, frame: &Frame) -> Outbox {
     sent
 }
 
-/// Lets so many ms go by. Whether the client sends nothing before the last, whose frames are put into the place of what was
-/// sent.
+/// Lets so many ms go by. Whether the client sends nothing before the last, whose frames are put into the place of
+/// what was sent.
 pub fn elapsed(client: &mut Client<'_>, ticks: u16, sent: &mut Outbox) -> bool {
     sent.clear();
     for _ in 0..ticks {

@@ -23,9 +23,9 @@ fn is_at(sent: &Outbox, place: usize, word: &str) -> bool {
     }
 }
 
-/// Whether an end does what a dialogue says: it hears each word that doesn't begin as its own frames do, and sends those
-/// that come next, and no other. What it sends before the first word is in the outbox. How many frames it sent; else the
-/// first word that isn't so, or the dialogue where more is sent at its end.
+/// Whether an end does what a dialogue says: it hears each word that doesn't begin as its own frames do, and sends
+/// those that come next, and no other. What it sends before the first word is in the outbox. How many frames it sent;
+/// else the first word that isn't so, or the dialogue where more is sent at its end.
 pub fn follows<'a, E: End>(
     end: &mut E,
     own: &str,

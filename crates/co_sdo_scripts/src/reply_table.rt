@@ -5,6 +5,10 @@
 //! no such entry, since a data sheet's indices below 1000h are passed over. So each begin is refused as `NO_OBJECT`,
 //! and nothing else about it is asked. It drops what is open, as each abort does.
 
+/// What the entries of the device begin with, as `sheet_of` of `co_fixtures` reads it. Its sheet has the manufacturer
+/// objects of `co_fixtures`.
+pub const DEFAULTS: &str = "2001=0123456789 2002=0xDEADBEEF";
+
 /// What a frame leads to.
 #[derive(Clone, Copy, Debug, PartialEq, Eq)]
 pub struct Outcome {

@@ -50,16 +50,6 @@ no_access-domain e h k =
 
 -- ---- numbers
 
-code_cases : (key : Option Property) (found : Option ℕ) (domain : Bool) → IsNumberAt key found → (key ≡ None → domain ≡ true)
-    → option_map_or property_number key (cond domain (Some 0x0F) None) ≡ Some (unwrap_or found 0x0F)
-code_cases None None domain h k = rw (k refl) refl
-code_cases None (Some n) domain h k = absurd h
-code_cases (Some key) None domain h k = absurd h
-code_cases (Some key) (Some n) domain h k = ap result_ok h
-
-pub code-read : (e : Entry) (found : Option ℕ) → IsNumberAt (property_at (codes "DataType") e.section) found → (property_at (codes "DataType") e.section ≡ None → is_domain e ≡ true) → type_code e ≡ Some (unwrap_or found 0x0F)
-code-read e found h k = code_cases (property_at (codes "DataType") e.section) found (is_domain e) h k
-
 pub number-read : (key : Option Property) (found : Option ℕ) → IsNumberAt key found → option_and_then property_number key ≡ found
 number-read None None h = refl
 number-read None (Some n) h = absurd h
@@ -239,27 +229,6 @@ numeric-values t e values is numeric low high default parameter =
       default = default-read t (property_at (codes "DefaultValue") e.section) (property_at (codes "ParameterValue") e.section) values.default values.parameter default_stated parameter_stated;
       limits = numeric_is t e bad_limits is numeric ∙ limits-read t e values.low values.high numeric low high;
       defaults = bad-read t e values is low_same high_same default_stated parameter_stated;
-    }
-
--- and of any other
-text_is : (t : DataType) (e : Entry) (found : DataType → Entry → List SheetFault) → data_type_of e ≡ Some t → is_numeric t ≡ false → in_numeric found e ≡ []
-text_is t e found is other = ap (λ o. option_map_or (λ u. cond (is_numeric u) (found u e) []) o []) is ∙ ap (λ b. cond b (found t e) []) other
-
-pub text-unread : (t : DataType) (e : Entry) → data_type_of e ≡ Some t → is_numeric t ≡ false → None ≡ least_fault (in_numeric unread_limits e)
-text-unread t e is other = ap least_fault (sym (text_is t e unread_limits is other))
-
-pub text-values : (t : DataType) (e : Entry) (default parameter : Option Stated) → data_type_of e ≡ Some t → is_numeric t ≡ false
-    → IsStatedAt t (property_at (codes "DefaultValue") e.section) default → IsStatedAt t (property_at (codes "ParameterValue") e.section) parameter
-    → AreValues t e (record { low = None; high = None; default = default; parameter = parameter })
-text-values t e default parameter is other default_stated parameter_stated =
-    let low = ap (λ b. cond b (option_and_then (λ (k : Property). result_ok (number_at_type t k.value)) (property_at (codes "LowLimit") e.section)) None) other in
-    let high = ap (λ b. cond b (option_and_then (λ (k : Property). result_ok (number_at_type t k.value)) (property_at (codes "HighLimit") e.section)) None) other in
-    record {
-      low = low;
-      high = high;
-      default = default-read t (property_at (codes "DefaultValue") e.section) (property_at (codes "ParameterValue") e.section) default parameter default_stated parameter_stated;
-      limits = text_is t e bad_limits is other;
-      defaults = bad-read t e (record { low = None; high = None; default = default; parameter = parameter }) is low high default_stated parameter_stated;
     }
 
 -- ---- results

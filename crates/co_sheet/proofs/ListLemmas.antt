@@ -33,9 +33,6 @@ pub collect-turn : {X V Y : Type 0} (view : X → V) (f : V → Option Y) (xs : 
     → after ≡ before ++ listed (f (view (get_or xs i d))) → before ++ filter_map f (map view (drop i xs)) ≡ all → after ++ filter_map f (map view (drop (i + 1) xs)) ≡ all
 collect-turn view f = pieces-turn (λ l. filter_map f (map view l)) (λ x. listed (f (view x))) (λ x l. cons-listed (f (view x)) (filter_map f (map view l)))
 
-pub collect-end : {X V Y : Type 0} (view : X → V) (f : V → Option Y) (xs : List X) (i : ℕ) (before all : List Y) → length xs ≤ i → before ++ filter_map f (map view (drop i xs)) ≡ all → before ≡ all
-collect-end view f = pieces-end (λ l. filter_map f (map view l)) refl
-
 -- and of a `flat_map`
 pub flat-turn : {X V Y : Type 0} (view : X → V) (f : V → List Y) (xs : List X) (i : ℕ) (d : X) (before after all : List Y) → i < length xs
     → after ≡ before ++ f (view (get_or xs i d)) → before ++ flat_map f (map view (drop i xs)) ≡ all → after ++ flat_map f (map view (drop (i + 1) xs)) ≡ all

@@ -123,9 +123,6 @@ no_list true d i c h = absurd (cc)
 no_list false d i c h = refl
 
 -- a section that isn't read here
-pub none-read : (s : TextSection) → has_numbers s.kind ≡ false → None ≡ list_finding s
-none-read s h = let other = no_list (is_list s.kind) (same_kind s.kind DummyUsage) (same_kind s.kind DeviceInfo) (same_kind s.kind DeviceCommissioning) h in rw (h, other) refl
-
 pub none-named : (s : TextSection) (before : List Listing) → has_numbers s.kind ≡ false → before ≡ before ++ named_by s
 none-named s before h = let other = no_list (is_list s.kind) (same_kind s.kind DummyUsage) (same_kind s.kind DeviceInfo) (same_kind s.kind DeviceCommissioning) h in rw other (sym (append-none before))
 
@@ -134,12 +131,6 @@ pub number-read : (s : TextSection) (fault : SheetFault) → has_numbers s.kind 
 number-read s fault h unread = rw (h, unread) refl
 
 -- DummyUsage, DeviceInfo or the device commissioning
-pub usage-read : (s : TextSection) → has_numbers s.kind ≡ true → is_list s.kind ≡ false → least_fault (flat_map unread_number s.properties) ≡ None → None ≡ list_finding s
-usage-read s h other unread = rw (h, other, unread) refl
-
-pub usage-named : (s : TextSection) (before : List Listing) → is_list s.kind ≡ false → before ≡ before ++ named_by s
-usage-named s before other = rw other (sym (append-none before))
-
 or-none : {X : Type 0} (o : Option X) → o ≡ option_or o None
 or-none None = refl
 or-none (Some x) = refl

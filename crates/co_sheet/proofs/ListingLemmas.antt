@@ -36,10 +36,6 @@ by_list : (b : Bool) (s : TextSection) → filter from_1000 (cond b (listings_in
 by_list true s = refl
 by_list false s = refl
 
-ahead : (b : Bool) (s : TextSection) (rest : List Listing) → cond b (listings_in s) [] ++ rest ≡ cond b (listings_in s ++ rest) rest
-ahead true s rest = refl
-ahead false s rest = refl
-
 pub flat_same : {X Y : Type 0} (f g : X → List Y) → ((x : X) → f x ≡ g x) → (xs : List X) → flat_map f xs ≡ flat_map g xs
 flat_same f g same [] = refl
 flat_same f g same (x ∷ xs) = ap (λ l. l ++ flat_map f xs) (same x) ∙ ap (λ l. g x ++ l) (flat_same f g same xs)

@@ -512,9 +512,6 @@ node_id-range (Some s) = property_within (property_at (codes "NodeID") s)
 
 -- ---- a sheet
 
-abbrev is_below : ObjectRow → ObjectRow → Type 0
-is_below o p = ltb o.index p.index ≡ true
-
 pub content_laws : (sections : List TextSection) → IsParsed sections → KeepsEntries sections → first_found checks sections ≡ None → IsSheetContent (content_of sections)
 content_laws sections parsed kept found =
     let nothing = finds-nothing sections found in

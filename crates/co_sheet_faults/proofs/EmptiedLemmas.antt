@@ -30,7 +30,9 @@ use Rattle.co_sheet_faults.proofs.ElementLemmas.{same-some, In, in-apart, from-f
 use Rattle.co_sheet_faults.proofs.KindLemmas.{AreOf, PassMost, is_other, AreOther, others-stay, of-line-faults, of-lists, of-numbers, of-bad-lists, of-twice, of-missing-sections, of-object, of-types-found, of-compact-forms, of-sub-0, of-objects, of-mandatory-found, of-entry, of-limits-found, of-default-found, of-sound}
 use Rattle.co_sheet_faults.proofs.CutChecks.{Cut, cut, cut_all, cut_entry, IsApart, lists-same, numbers-same, bad-lists-same, twice-same, missing-sections-same, object-numbers-same, types-same, forms-same, sub-0-same, mandatory-same, of-entries-cut, entry-same}
 use Rattle.co_sheet_faults.proofs.CutEntries.{entry-of, AreAt, is_on, bad_lines, drop_bad, drop-is-cut}
-use Rattle.co_sheet_faults.proofs.CutValues.{limits-at, defaults-at, AreLeft, limits_cut, limits-apart, limits-left, defaults_cut, defaults-apart, defaults-left}
+use Rattle.co_sheet_faults.proofs.CutProperties.{limits-at, defaults-at}
+use Rattle.co_sheet_faults.proofs.CutLimits.{AreLeft, limits_cut, limits-apart, limits-left}
+use Rattle.co_sheet_faults.proofs.CutDefaults.{defaults_cut, defaults-apart, defaults-left}
 
 -- ---- a line of a property is emptied
 

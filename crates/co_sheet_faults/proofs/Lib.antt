@@ -8,7 +8,9 @@ mod AllLemmas
 mod ElementLemmas
 mod CutChecks
 mod CutEntries
-mod CutValues
+mod CutProperties
+mod CutLimits
+mod CutDefaults
 mod EmptiedLemmas
 mod EntryOrderLemmas
 mod CollectedLemmas

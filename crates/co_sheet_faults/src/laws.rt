@@ -42,17 +42,17 @@ pub fn all_faults()
 
 /// Where the lines whose own fault is of one kind are emptied (`TooLarge`, `BadLine`, `KeyOutsideSection`,
 /// `DuplicateSection`, `DuplicateKey`), exactly the faults of that kind are gone. A section line is emptied to `[]`,
-/// which begins a section that nothing reads. It is of lists of lines, not of texts. This is a law: a call of it changes
-/// nothing.
+/// which begins a section that nothing reads. It is of lists of lines, not of texts. This is a law: a call of it
+/// changes nothing.
 pub fn emptied_lines()
     ensures gone { (kind : Kind) (lines : List Line) → IsLineKind kind →
         faults_in (emptied_of kind [] lines) ≡ without kind (faults_in lines) }
 {}
 
-/// Where the lines at which limits are at fault are emptied, exactly the faults `BadLimits` are gone, and all others stay;
-/// so it is with `BadDefault`. It is of lines whose numbers rise, as those of a text do (`numbered`), and of which none has
-/// a key that its section has already: with a first `LowLimit` emptied, a second one is no second one any more. This is a
-/// law: a call of it changes nothing.
+/// Where the lines at which limits are at fault are emptied, exactly the faults `BadLimits` are gone, and all others
+/// stay; so it is with `BadDefault`. It is of lines whose numbers rise, as those of a text do (`numbered`), and of
+/// which none has a key that its section has already: with a first `LowLimit` emptied, a second one is no second one
+/// any more. This is a law: a call of it changes nothing.
 pub fn emptied_values()
     ensures numbered { (text : List ℕ) → AreNumbered (lines_of text) }
     ensures limits { (lines : List Line) → AreNumbered lines → HaveNoKeyTwice lines →

@@ -8,9 +8,6 @@ use Rattle.co_sheet_text.specs.Sections.{TextSection}
 use Rattle.co_sheet_text.specs.Cuts.{section_with, cut, property_count}
 
 -- one more property is one of the last section
-pub earlier_pushed : (first : ℕ) (items more : List CodeProperty) (k : CodeProperty) → first ≤ length items → more ≡ items ++ k ∷ [] → take first more ≡ take first items
-earlier_pushed first items more k within pushed = ap (take first) pushed ∙ take-append-le first items (k ∷ []) within
-
 pub own_pushed : (first : ℕ) (items more : List CodeProperty) (k : CodeProperty) → first ≤ length items → more ≡ items ++ k ∷ [] → drop first more ≡ drop first items ++ k ∷ []
 own_pushed first items more k within pushed = ap (drop first) pushed ∙ drop-append-le first items (k ∷ []) within
 

@@ -27,11 +27,6 @@ read_after-digit base n x text h =
     let test : is_digit x base ≡ true = grind (arith, nat_tests) in
     rw test refl
 
-pub read_after-other : (base n x : ℕ) (text : List ℕ) → base ≤ digit_value x → read_after base n (x ∷ text) ≡ None
-read_after-other base n x text h =
-    let test : is_digit x base ≡ false = grind (arith, nat_tests) in
-    rw test refl
-
 pub fold-grows : (base n : ℕ) (text : List ℕ) → 1 ≤ base → n ≤ fold (with_digit base) n text
 fold-grows base n [] h = omega arith
 fold-grows base n (x ∷ text) h =

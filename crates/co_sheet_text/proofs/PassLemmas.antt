@@ -3,7 +3,6 @@ use Rattle.std.proofs.Common.{◌≡◌, ℕ, ◌+◌, List, [], ◌∷◌, Opti
 use Rattle.std.specs.Prelude.{option_map}
 use Rattle.std.specs.Str.Lines.{lines}
 use Rattle.std.specs.Option.{option_or}
-use Rattle.co_sheet_text.specs.declared.fault.TextFaultKind.{TextFaultKind}
 use Rattle.co_sheet_text.specs.declared.fault.TextFault.{TextFault}
 use Rattle.co_sheet_text.specs.Text.{Line, lines_of, without_mark}
 use Rattle.co_sheet_text.specs.Sections.{TextSection, sections_of, first_line_fault, fault_at}
@@ -24,23 +23,6 @@ reads_all text rest sections h empty =
       whole = ap (λ (r : List ℕ). with_lines sections (numbered 1 (lines r))) h
           ∙ ap (λ (ss : List TextSection). with_lines ss (lines_of text)) empty
           ∙ sections_of-with_lines (lines_of text);
-    }
-
--- a line without a fault
-pub reads_more : (text rest tail bytes : List ℕ) (number : ℕ) (sections more : List TextSection) → Reads text sections number rest → lines rest ≡ bytes ∷ lines tail →
-    fault_by_form sections (record { number = number; bytes = bytes }) ≡ None → more ≡ with_line sections (record { number = number; bytes = bytes }) →
-    Reads text more (number + 1) tail
-reads_more text rest tail bytes number sections more reads first good next =
-    let line : Line = record { number = number; bytes = bytes } in
-    let others : List Line = numbered (number + 1) (lines tail) in
-    record {
-      faults = ap (λ (ss : List TextSection). fault_after ss others) next
-          ∙ sym (ap (λ (o : Option TextFaultKind). option_or (option_map (fault_at number) o) (fault_after (with_line sections line) others)) good)
-          ∙ sym (ap (λ (ls : List (List ℕ)). fault_after sections (numbered number ls)) first)
-          ∙ reads.faults;
-      whole = ap (λ (ss : List TextSection). with_lines ss others) next
-          ∙ sym (ap (λ (ls : List (List ℕ)). with_lines sections (numbered number ls)) first)
-          ∙ reads.whole;
     }
 
 -- the first line at fault

@@ -117,32 +117,6 @@ on_all text rest sections faults h empty none =
           ∙ after-read [] (lines_of text);
     }
 
-joined : (faults : List TextFault) (o : Option TextFault) (rest : List TextFault) → (faults ++ cons_option o []) ++ rest ≡ faults ++ cons_option o rest
-joined faults None rest = ap (λ (fs : List TextFault). fs ++ rest) (append-nil faults)
-joined faults (Some f) rest = append_assoc faults (f ∷ []) rest
-
--- one more line
-pub on_more : (text rest tail bytes : List ℕ) (number : ℕ) (sections next : List TextSection) (faults more : List TextFault) (fault : Option TextFault)
-    → ReadsOn text sections faults number rest → lines rest ≡ bytes ∷ lines tail
-    → fault ≡ option_map (fault_at number) (fault_by_form sections (record { number = number; bytes = bytes }))
-    → next ≡ with_line_read sections (record { number = number; bytes = bytes }) → more ≡ faults ++ cons_option fault []
-    → ReadsOn text next more (number + 1) tail
-on_more text rest tail bytes number sections next faults more fault reads first is taken pushed =
-    let line : Line = record { number = number; bytes = bytes } in
-    let others : List Line = numbered (number + 1) (lines tail) in
-    let here = option_map (fault_at number) (fault_by_form sections line) in
-    record {
-      found = ap (λ (ss : List TextSection). more ++ faults_after ss others) taken
-          ∙ ap (λ (fs : List TextFault). fs ++ faults_after (with_line_read sections line) others) pushed
-          ∙ joined faults fault (faults_after (with_line_read sections line) others)
-          ∙ ap (λ (o : Option TextFault). faults ++ cons_option o (faults_after (with_line_read sections line) others)) is
-          ∙ sym (ap (λ (ls : List (List ℕ)). faults ++ faults_after sections (numbered number ls)) first)
-          ∙ reads.found;
-      whole = ap (λ (ss : List TextSection). read_after ss others) taken
-          ∙ sym (ap (λ (ls : List (List ℕ)). read_after sections (numbered number ls)) first)
-          ∙ reads.whole;
-    }
-
 -- no line is left
 pub on_end : (text rest : List ℕ) (number : ℕ) (sections : List TextSection) (faults : List TextFault) → ReadsOn text sections faults number rest → lines rest ≡ []
     → (faults ≡ own_faults [] (lines_of text)) × (sections ≡ sections_read (lines_of text))

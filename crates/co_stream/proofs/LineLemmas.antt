@@ -81,9 +81,6 @@ strip-append xs ys some =
     ∙ ap (λ l. cond (slice_index ys (length ys - 1) == 13) l (xs ++ ys)) front
     ∙ choose (slice_index ys (length ys - 1) == 13) xs _ ys
 
-pub strip-return : (xs : List ℕ) → strip_carriage_return (xs ++ 13 ∷ []) ≡ xs
-strip-return xs = strip-append xs (13 ∷ []) (omega arith) ∙ append-nil xs
-
 shorter : (b : Bool) (n : ℕ) (xs : List ℕ) → length (cond b (take n xs) xs) ≤ length xs
 shorter true n xs = omega (arith, length-take n xs)
 shorter false n xs = omega arith

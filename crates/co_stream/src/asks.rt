@@ -1,9 +1,24 @@
 //! The read calls of a reader, counted.
 //!
-//! The fields are private to this module, and `read` alone changes them: so a count that is used up, or a failure, means
-//! that the reader was asked so often, or failed.
+//! The fields are private to this module, and `read` alone changes them: so a count that is used up, or a failure,
+//! means that the reader was asked so often, or failed.
 
-ghost use Rattle.std.specs.Prelude.{◌≡◌, ◌+◌, ◌<◌, ◌≤◌, length, take, IfOk, IfErr, IfSome, OnOk, OnErr, MatchOption, true, false};
+ghost use Rattle.std.specs.Prelude.{
+  ◌≡◌,
+  ◌+◌,
+  ◌<◌,
+  ◌≤◌,
+  length,
+  take,
+  IfOk,
+  IfErr,
+  IfSome,
+  OnOk,
+  OnErr,
+  MatchOption,
+  true,
+  false,
+};
 ghost use Rattle.std.specs.Io.KnownBytes.{Consumes, IsAtEnd, Keeps};
 
 use crate::fault::AskFault;

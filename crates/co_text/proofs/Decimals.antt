@@ -2,7 +2,6 @@
 use Rattle.std.proofs.Common.{◌≡◌, ℕ, zero, suc, ◌+◌, ◌-◌, ◌*◌, ◌<◌, ◌≤◌, Bool, true, false, ◌&&◌, List, [], ◌∷◌, length, take, get_or, Some, None, leb, ltb, refl, arith, ap, ◌∙◌}
 use Rattle.std.specs.Prelude.{fold}
 use Rattle.std.specs.List.{list_all}
-use Rattle.std.proofs.lemmas.List.Folds.{list_all_at}
 use Rattle.std.proofs.lemmas.List.Sums.{fold_more}
 use Rattle.std.proofs.lemmas.Bool.Decides.{nat_tests}
 use Rattle.std.proofs.lemmas.List.{take_all}
@@ -35,22 +34,10 @@ and_false : (b : Bool) → (b && false) ≡ false
 and_false true = refl
 and_false false = refl
 
-pub decimal_not_digit : (least most : ℕ) (word : List ℕ) (i : ℕ) → i < length word → is_digit (get_or word i 0) ≡ false → None ≡ decimal_in least most word
-decimal_not_digit least most word i within other = rw (list_all_at is_digit word i 0 within other, and_false) refl
-
 pub decimal_too_large : (least most : ℕ) (word : List ℕ) → most < decimal_value word → None ≡ decimal_in least most word
 decimal_too_large least most word h =
     let large : leb (decimal_value word) most ≡ false = grind (arith, nat_tests) in
     rw (large, and_false) refl
-
-pub decimal_empty : (least most : ℕ) (word : List ℕ) → length word ≡ 0 → None ≡ decimal_in least most word
-decimal_empty least most [] h = refl
-decimal_empty least most (x ∷ xs) h = absurd (omega arith)
-
-pub decimal_too_small : (least most : ℕ) (word : List ℕ) → decimal_value word < least → None ≡ decimal_in least most word
-decimal_too_small least most word h =
-    let small : leb least (decimal_value word) ≡ false = grind (arith, nat_tests) in
-    rw (small, and_false) refl
 
 pub decimal_found : (least most : ℕ) (word : List ℕ) → 0 < length word → ((k : ℕ) → k < length word → is_digit (get_or word k 0) ≡ true) → least ≤ decimal_value word → decimal_value word ≤ most → Some (decimal_value word) ≡ decimal_in least most word
 decimal_found least most word some digits enough few =

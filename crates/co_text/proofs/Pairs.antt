@@ -40,9 +40,6 @@ read_all text bytes rest h e = h ∙ rw (pairs_end rest e, append-nil) refl
 pub pairs_left : (text : List ℕ) (byte : ℕ) (rest : List ℕ) → pair_at text ≡ Some (byte, rest) → (pairs_at text).1 ≡ (pairs_at rest).1
 pairs_left text byte rest e = ap (λ (p : List ℕ × List ℕ). p.1) (pairs_begin text byte rest e)
 
-pub pairs_taken : (text : List ℕ) (byte : ℕ) (rest : List ℕ) → pair_at text ≡ Some (byte, rest) → (pairs_at text).0 ≡ byte ∷ (pairs_at rest).0
-pairs_taken text byte rest e = ap (λ (p : List ℕ × List ℕ). p.0) (pairs_begin text byte rest e)
-
 longer : (high low : ℕ) (text : List ℕ) (o : Option ℕ) → length text ≡ 2 * length (pairs_at text).0 + length (pairs_at text).1 → length (high ∷ low ∷ text) ≡ 2 * length (option_map_or {U = List ℕ × List ℕ} (λ byte. (byte ∷ (pairs_at text).0, (pairs_at text).1)) o ([], high ∷ low ∷ text)).0 + length (option_map_or {U = List ℕ × List ℕ} (λ byte. (byte ∷ (pairs_at text).0, (pairs_at text).1)) o ([], high ∷ low ∷ text)).1
 longer high low text None h = omega arith
 longer high low text (Some byte) h = omega arith

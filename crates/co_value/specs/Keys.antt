@@ -71,9 +71,3 @@ same_key-refl a =
     let index : eqb a.index a.index ≡ true = grind (arith, nat_tests) in
     let sub : eqb a.sub a.sub ≡ true = grind (arith, nat_tests) in
     rw (index, sub) refl
-
-pub same_key-sym : (a b : Key) → same_key a b ≡ same_key b a
-same_key-sym a b =
-    let index : eqb a.index b.index ≡ eqb b.index a.index = grind (arith, nat_tests) in
-    let sub : eqb a.sub b.sub ≡ eqb b.sub a.sub = grind (arith, nat_tests) in
-    rw (index, sub) refl

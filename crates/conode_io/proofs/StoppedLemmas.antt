@@ -10,7 +10,7 @@ use Rattle.conode_io.specs.declared.fault.CmdFault.{CmdFault}
 use Rattle.conode_io.specs.declared.fault.CmdFault.TheVariants.{Write, BadLine, Memory}
 use Rattle.conode_io.specs.Endings.{stopped_line, SomeStopped, WritesStopped}
 use Rattle.conode_io.specs.Written.{WritesLines, WritesSome}
-use Rattle.conode_io.proofs.WriteLemmas.{appends_nothing, line_alone, lines_after}
+use Rattle.conode_io.proofs.WriteLemmas.{line_alone, lines_after}
 
 -- ---- which fault it was
 
@@ -49,10 +49,6 @@ pub stopped_after : (old mid kept new : Option (List ℕ)) (lines : List (List �
 stopped_after old mid kept new lines fault first flushed last =
     lines_after old kept new lines (stopped_line fault ∷ []) (Appends-kept old mid kept (flat_map (λ line. line) lines) first flushed) (line_alone kept new (stopped_line fault) last)
 
-pub stopped_alone : (old mid kept new : Option (List ℕ)) (fault : CmdFault) → Keeps old mid → Keeps mid kept → Appends kept new (stopped_line fault) → WritesStopped old new [] fault
-stopped_alone old mid kept new fault first flushed last =
-    stopped_after old mid kept new [] fault (appends_nothing old mid first) flushed last
-
 pub some_stopped : (old mid kept new : Option (List ℕ)) (lines : List (List ℕ)) (fault : CmdFault) → WritesSome old mid lines → Keeps mid kept → Appends kept new (stopped_line fault) → SomeStopped old new lines fault
 some_stopped old mid kept new lines fault some flushed last =
     (some.0, some.1, stopped_after old mid kept new (take some.0 lines) fault some.2 flushed last)
@@ -62,8 +58,3 @@ module _ (lines : List ℕ → List (List ℕ)) (old mid kept new : Option (List
   pub text_stopped : (known : Option (List ℕ)) → IfSome known (λ text. WritesLines old mid (lines text)) → IfSome known (λ text. WritesStopped old new (lines text) fault)
   text_stopped None first = tt
   text_stopped (Some text) first = stopped_after old mid kept new (lines text) fault first flushed last
-
-  pub some_text_stopped : (known : Option (List ℕ)) → Keeps old mid ⊎ IfSome known (λ text. WritesSome old mid (lines text)) → WritesStopped old new [] fault ⊎ IfSome known (λ text. SomeStopped old new (lines text) fault)
-  some_text_stopped known (inl first) = inl (stopped_alone old mid kept new fault first flushed last)
-  some_text_stopped None (inr first) = inr tt
-  some_text_stopped (Some text) (inr first) = inr (some_stopped old mid kept new (lines text) fault first flushed last)

@@ -1,7 +1,7 @@
 -- What a writer holds after some lines.
 use Rattle.std.proofs.Common.{◌≡◌, ℕ, zero, suc, ◌+◌, ◌<◌, List, [], ◌∷◌, ◌++◌, length, map, take, drop, get_or, Option, Some, None, refl, ap, subst, sym, ◌∙◌, arith, append_assoc, append-nil, length-append}
 use Rattle.std.specs.List.{flat_map}
-use Rattle.std.specs.Io.KnownBytes.{Appends, Keeps}
+use Rattle.std.specs.Io.KnownBytes.{Appends}
 use Rattle.std.proofs.KnownBytes.{Appends-trans, Appends-nil}
 use Rattle.std.proofs.lemmas.List.{length-map, take-append-le, take-map}
 use Rattle.std.proofs.lemmas.Grind.{flat_map-append}
@@ -10,15 +10,6 @@ use Rattle.std.proofs.Math.Numerals.{add-one}
 use Rattle.conode_io.specs.Written.{IsFront, AppendsFront, WritesLines, WritesSome, WritesFront}
 
 -- ---- fronts
-
-pub appends_nothing : (old new : Option (List ℕ)) → Keeps old new → Appends old new []
-appends_nothing None new h = tt
-appends_nothing (Some xs) None h = absurd h
-appends_nothing (Some xs) (Some ys) h = h ∙ sym (append-nil xs)
-
--- nothing is a front of what isn't empty
-pub no_front : (text : List ℕ) → 0 < length text → IsFront [] text
-no_front text some = record { rest = text; some = some; joined = refl }
 
 -- a front after other bytes
 pub front_after : (before front text : List ℕ) → IsFront front text → IsFront (before ++ front) (before ++ text)

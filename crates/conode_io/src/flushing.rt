@@ -1,6 +1,7 @@
 //! What was written goes out.
 //!
-//! The field of `Flushed` is private to this module, and `flush` alone makes one: so whoever has one has flushed a writer.
+//! The field of `Flushed` is private to this module, and `flush` alone makes one: so whoever has one has flushed a
+//! writer.
 
 ghost use Rattle.std.specs.Prelude.{◌≡◌, IfErr};
 ghost use Rattle.std.specs.Io.KnownBytes.{Keeps};

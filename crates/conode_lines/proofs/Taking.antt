@@ -1,5 +1,5 @@
 -- How far the lines of a trace are taken, for those who go through them one at a time.
-use Rattle.std.proofs.Common.{◌≡◌, ℕ, ◌+◌, ◌<◌, List, [], ◌∷◌, ◌++◌, length, true, Option, None, Some, Result, Ok, Err, IfSome, refl, ap, sym, subst, ◌∙◌, append_assoc, append-nil}
+use Rattle.std.proofs.Common.{◌≡◌, ℕ, ◌+◌, ◌<◌, List, [], ◌∷◌, ◌++◌, length, Option, None, Some, Result, Ok, Err, IfSome, refl, ap, sym, subst, ◌∙◌, append_assoc, append-nil}
 use Rattle.std.specs.Prelude.{◌≢◌, IfOk, IfErr, IfNone, ⊤}
 use Rattle.std.specs.Io.KnownBytes.{IsAtEnd}
 use Rattle.std.specs.Str.Lines.{lines}
@@ -152,12 +152,6 @@ module _ (old new : Reading) (before after : Option (List ℕ)) (result : Result
 
   -- it gives none, for the first time
   module _ (fault : LineFault) (is : result ≡ Err fault) (first : old.fault ≡ None) where
-    pub next_never_ends : fault ≡ NeverEnds → new.asks ≡ 0
-    next_never_ends same = subst (λ (r : Result (Option (Bor (List ℕ))) LineFault). IfErr r (λ f. f ≡ NeverEnds → old.fault ≡ None → new.asks ≡ 0)) is h.never_ends same first
-
-    pub next_failed : fault ≡ Read → new.failed ≡ true
-    next_failed same = subst (λ (r : Result (Option (Bor (List ℕ))) LineFault). IfErr r (λ f. f ≡ Read → old.fault ≡ None → new.failed ≡ true)) is h.read same first
-
     long : fault ≡ TooLong → OfAny old new before after (λ had has. IfSome (to_come old had) IsTooLong)
     long same = subst (λ (r : Result (Option (Bor (List ℕ))) LineFault). IfErr r (λ f. f ≡ TooLong → old.fault ≡ None → OfAny old new before after (λ had has. IfSome (to_come old had) IsTooLong))) is h.too_long same first
 

@@ -1,6 +1,6 @@
 //! Files, folders and standard input linted.
 
-ghost use Rattle.std.specs.Prelude.{◌≡◌};
+ghost use Rattle.std.specs.Prelude.{◌≡◌, nat_lt};
 ghost use Rattle.conode_lint.specs.Statuses.{lint_status};
 
 use crate::folder::{is_folder, sheets_in};
@@ -157,13 +157,19 @@ fn lint_paths<R: Files + AllocGlobal + Input + Clone + Drop, O: Write, E: Write>
     Ok(counts)
 }
 
+fn is_any(count: usize) -> bool
+    ensures { result ≡ nat_lt 0 count }
+{
+    count > 0
+}
+
 /// 2 where a file couldn't be read, else 1 with an error, or where warnings count with a warning, else 0.
 fn status_of(counts: &Counts, strict: bool) -> u8
     ensures { result ≡ lint_status counts.now strict }
 {
-    if counts.unread > 0 {
+    if is_any(counts.unread) {
         2
-    } else if counts.errors > 0 || (strict && counts.warnings > 0) {
+    } else if is_any(counts.errors) || (strict && is_any(counts.warnings)) {
         1
     } else {
         0

@@ -1,7 +1,14 @@
 //! Members of JSON's objects. Each function writes tokens; on an `Err` memory ran out, and some of them may be there.
 
 ghost use Rattle.std.specs.Prelude.{◌≡◌, ◌++◌, OnOk};
-ghost use Rattle.conode_lint_text.specs.JsonForm.{array_begin, flag_member, number_member, object_begin, text_member, utf8_of};
+ghost use Rattle.conode_lint_text.specs.JsonForm.{
+  array_begin,
+  flag_member,
+  number_member,
+  object_begin,
+  text_member,
+  utf8_of,
+};
 ghost use Rattle.conode_lint_text.specs.Characters.{characters_of};
 ghost use Rattle.conode_lint_text.specs.SarifForm.{message_member};
 

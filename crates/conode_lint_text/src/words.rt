@@ -1,7 +1,14 @@
 //! The words of a finding.
 
 ghost use Rattle.std.specs.Prelude.{◌≡◌, ◌++◌, OnOk, string_bytes};
-ghost use Rattle.conode_lint_text.specs.Findings.{about_text, bits_text, entry_text, help_of, message_of, severity_name};
+ghost use Rattle.conode_lint_text.specs.Findings.{
+  about_text,
+  bits_text,
+  entry_text,
+  help_of,
+  message_of,
+  severity_name,
+};
 
 use crate::finding::{About, Finding, Severity};
 use co_text::{push_byte, push_decimal, push_u16};

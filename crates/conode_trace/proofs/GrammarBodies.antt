@@ -16,11 +16,6 @@ use Rattle.std.proofs.lemmas.Bool.{and_parts}
 use Rattle.co_text.proofs.Tests.{by_test, guarded}
 use Rattle.conode_trace.proofs.GrammarRuns.{take-run}
 
--- both ways that an option may go
-by_option : {P : Type 0} (o : Option ℕ) → ((x : ℕ) → o ≡ Some x → P) → (o ≡ None → P) → P
-by_option (Some x) some none = some x refl
-by_option None some none = none refl
-
 or_right : (a b : Bool) → b ≡ true → (a || b) ≡ true
 or_right true b e = refl
 or_right false b e = e

@@ -7,17 +7,10 @@ use Rattle.std.proofs.lemmas.Bool.{false≢true, cases_lt}
 use Rattle.std.proofs.lemmas.Bool.Decides.{nat_tests}
 use Rattle.std.proofs.Math.Nat.{pow-suc, add-suc}
 use Rattle.std.proofs.Math.ListN.{drop_of_length-le}
-use Rattle.std.proofs.Math.Numerals.{add-one}
 use Rattle.co_text.specs.Texts.{is_digit, decimal_value}
 use Rattle.conode_trace.specs.FrameLines.{number_at}
 
-pub digit_bounds : (byte : ℕ) → is_digit byte ≡ true → (48 ≤ byte) × (byte ≤ 57)
-digit_bounds byte h = (grind (arith, nat_tests), grind (arith, nat_tests))
-
 -- a digit more is a power more
-pub power-more : (number digit i : ℕ) → number < 10 ^ i → digit < 10 → 10 * number + digit < 10 ^ (i + 1)
-power-more number digit i h d = rw (add-one, pow-suc) (omega arith)
-
 -- a power of a greater exponent is not less
 pub pow_ten_le : (i j : ℕ) → 10 ^ i ≤ 10 ^ (i + j)
 pow_ten_le i zero = grind arith

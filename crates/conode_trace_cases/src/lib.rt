@@ -1,5 +1,5 @@
-//! Tests of traces, and of the lines and texts that come in pieces, through the public calls of their crates, so that these are
-//! proved once.
+//! Tests of traces, and of the lines and texts that come in pieces, through the public calls of their crates, so that
+//! these are proved once.
 #![tactic(auto)]
 
 #[cfg(test)]

@@ -112,9 +112,9 @@ fn add_listings(
     Ok(has_large)
 }
 
-/// Adds what a list names from 1000h on, at its places 1 to SupportedObjects (CiA 306, object lists). Whether the list is
-/// bad: it lacks its count, has one above FFFFh, lacks a place up to it, or names an index above FFFFh. It fails out of
-/// memory.
+/// Adds what a list names from 1000h on, at its places 1 to SupportedObjects (CiA 306, object lists). Whether the
+/// list is bad: it lacks its count, has one above FFFFh, lacks a place up to it, or names an index above FFFFh. It
+/// fails out of memory.
 pub fn read_list(listings: &mut Vec<Listing>, section: &TextSection) -> Result<bool, AllocError>
     ensures bad { IfOk result (λ bad. bad ≡ is_bad_section (section_view section.now)) }
     ensures named { OnOk result (map listing_view listings.new.items

@@ -1,4 +1,4 @@
-use Rattle.std.proofs.Common.{◌≡◌, ℕ, sym, ap, ◌∙◌, arith}
+use Rattle.std.proofs.Common.{◌≡◌, sym, ap, ◌∙◌, arith}
 use Rattle.co_pdo.specs.Mappings.{has_pdo}
 use Rattle.co_node_device.proofs.Tables.{covers_more}
 use Rattle.co_node_device.proofs.mapping_table.count_of.Goals as goal

@@ -5,9 +5,9 @@ use Rattle.co_node_model.specs.Inputs.{Written, EventOn, ChangedAt}
 use Rattle.co_node_device.proofs.Receptions.{at_address, event_frames, event_channels, write_queues}
 use Rattle.co_node_device.proofs.receiving.receive.Goals as goal
 
-pub returns-in-Tick-clause-marks : goal.returns-in-Tick-clause-marks
-returns-in-Tick-clause-marks g c = λ k history before addressed.
-    rw c.in-Tick.is (c.take_tick.ensures.marks _ (channels k) (channel_logs history) before.channels)
+pub returns-in-Tick-clause-mark : goal.returns-in-Tick-clause-mark
+returns-in-Tick-clause-mark g c = λ k history before addressed.
+    rw c.in-Tick.is (c.take_tick.ensures.mark _ (channels k) (channel_logs history) before.channels)
 
 pub returns-in-Tick-clause-frames : goal.returns-in-Tick-clause-frames
 returns-in-Tick-clause-frames g c = λ k history before addressed.
@@ -37,9 +37,9 @@ pub returns-in-Changed-clause-channels : goal.returns-in-Changed-clause-channels
 returns-in-Changed-clause-channels g c = λ k history before addressed.
     rw c.in-Changed.is (event_channels k history _ c.args.bank.now (ChangedAt c.in-Changed.key) before.channels)
 
-pub returns-in-Frame-clause-marks : goal.returns-in-Frame-clause-marks
-returns-in-Frame-clause-marks g c = rw c.in-Frame.is (λ k history before addressed.
-    (at_address c.args.frame.now c.args.address (address_at k history c.args.frame.now.id) addressed (c.take_frame.ensures.received k history before)).marks)
+pub returns-in-Frame-clause-mark : goal.returns-in-Frame-clause-mark
+returns-in-Frame-clause-mark g c = rw c.in-Frame.is (λ k history before addressed.
+    (at_address c.args.frame.now c.args.address (address_at k history c.args.frame.now.id) addressed (c.take_frame.ensures.received k history before)).mark)
 
 pub returns-in-Frame-clause-contents : goal.returns-in-Frame-clause-contents
 returns-in-Frame-clause-contents g c = rw c.in-Frame.is (λ k history before addressed.

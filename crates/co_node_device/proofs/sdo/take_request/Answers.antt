@@ -9,8 +9,8 @@ use Rattle.co_node_device.proofs.sdo.take_request.Goals as goal
 pub returns-clause-received : goal.returns-clause-received
 returns-clause-received g c = λ k history number before.
     let runs : is_state Stopped c.args.state ≡ false = search rules in
-    request_received k history _ _ c.args.bank.now c.args.state before c.args.frame.now c.quiet-2.result
-    c.take-set.result _ c.args.outbox.now.items c.take-set.new.outbox.items c.take-set.new.self runs c.quiet-2.ensures
+    request_received k history _ _ c.args.bank.now c.args.state before c.args.frame.now c.of_write.result
+    c.take-set.result _ c.args.outbox.now.items c.take-set.new.outbox.items c.take-set.new.self runs c.of_write.ensures
     (c.take-set.ensures.responses (channels k) (channel_logs history) before.channels)
     (c.take-set.ensures.key (channels k) (channel_logs history) before.channels)
     (c.take-set.ensures.contents (channels k) (channel_logs history) before.channels)

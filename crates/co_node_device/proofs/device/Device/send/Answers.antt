@@ -13,6 +13,7 @@ use Rattle.co_node_model.specs.Heartbeats.{life_frames, producer_log}
 use Rattle.co_node_model.specs.Tpdos.{schedule_log, tpdo_frame, turn_at}
 use Rattle.co_node_model.specs.Nmt.{state_at}
 use Rattle.co_node_model.specs.Device.{moment, moments}
+use Rattle.co_node_model.specs.Marks.{marked_time_out}
 use Rattle.co_node_laws.specs.Calls.{is_asked}
 use Rattle.co_node_device.specs.Phases.{with_sent}
 use Rattle.co_node_device.specs.Standing.{HasTakenEffect}
@@ -23,7 +24,7 @@ use Rattle.co_node_device.proofs.device.Device.send.Given as given
 use Rattle.co_node_device.proofs.device.Device.send.Goals as goal
 use Rattle.co_node_device.proofs.device.Device.send.Goals.{After-schedule_ready}
 
-module _ (g : given.Over) (c : After-schedule_ready g) (k : Constants) (inputs : Inputs) (input : InputView) (t : HasTakenEffect k c.args.self.now inputs input c.args.marks.now c.args.transition) where
+module _ (g : given.Over) (c : After-schedule_ready g) (k : Constants) (inputs : Inputs) (input : InputView) (t : HasTakenEffect k c.args.self.now inputs input c.args.mark.now c.args.transition) where
   abbrev h : History
   h = moments k inputs
 
@@ -37,31 +38,31 @@ module _ (g : given.Over) (c : After-schedule_ready g) (k : Constants) (inputs :
   after = ap (λ (t : Transition). t.after) t.transition
 
   unsent : EmergenciesStand c.note.new.self (unsent_log m (emergency_log h))
-  unsent = steps.unsent k h m is _ _ t.marks t.contents _ _ c.emergency_event.ensures (c.note.ensures _ t.emergencies)
+  unsent = steps.unsent k h m is _ _ t.mark t.contents _ _ c.emergency_event.ensures (c.note.ensures _ t.emergencies)
 
   emergency : c.take_emergency-emergency.result ≡ m.emergency
-  emergency = steps.emergency k h m is _ _ t.marks t.contents _ _ _ after refl (c.take_emergency-emergency.ensures.due _ unsent)
+  emergency = steps.emergency k h m is _ _ t.mark t.contents _ _ _ after refl (c.take_emergency-emergency.ensures.due _ unsent)
 
   emergencies : EmergenciesStand c.take_emergency-emergency.new.emergencies (emergency_log (m ∷ h))
-  emergencies = steps.emergencies k h m is _ _ t.marks t.contents _ _ _ emergency refl (c.take_emergency-emergency.ensures.stands _ unsent)
+  emergencies = steps.emergencies k h m is _ _ t.mark t.contents _ _ _ emergency refl (c.take_emergency-emergency.ensures.stands _ unsent)
 
   life : c.life_of-life.result ≡ m.life
-  life = steps.life k h m is _ _ t.marks t.contents _ _ _ _ after c.producer_event.ensures (c.note-is_due.ensures.due (producer_log k h) t.producer) c.life_of-life.ensures
+  life = steps.life k h m is _ _ t.mark t.contents _ _ _ _ after c.producer_event.ensures (c.note-is_due.ensures.due (producer_log k h) t.producer) c.life_of-life.ensures
 
   producer : ProducerStands c.note-is_due.new.self (producer_log k (m ∷ h))
-  producer = steps.producer k h m is _ _ t.marks t.contents _ _ c.producer_event.ensures (c.note-is_due.ensures.stands (producer_log k h) t.producer)
+  producer = steps.producer k h m is _ _ t.mark t.contents _ _ c.producer_event.ensures (c.note-is_due.ensures.stands (producer_log k h) t.producer)
 
   turn : c.turn_of-turn.result ≡ turn_at m h
-  turn = steps.turned k h m is _ _ t.marks t.contents _ _ t.transition c.turn_of-turn.ensures.turn
+  turn = steps.turned k h m is _ _ t.mark t.contents _ _ t.transition c.turn_of-turn.ensures.turn
 
   current : is_asked c.turn_of-turn.result ≡ true → AllCurrent (g.S.ObjectStore.contents c.args.self.now.store) (schedule_log k h)
   current asked = subst (λ contents. AllCurrent contents (schedule_log k h)) (sym t.contents) (c.schedule_ready.ensures k inputs input (ap is_asked (sym turn) ∙ asked))
 
   due : c.take_turn.new.sent.items ≡ m.due
-  due = steps.due k h m is _ _ t.marks t.contents _ _ t.transition c.turn_of-turn.ensures.turn _ _ t.description (c.take_turn.ensures.due (schedule_log k h) t.schedule current)
+  due = steps.due k h m is _ _ t.mark t.contents _ _ t.transition c.turn_of-turn.ensures.turn _ _ t.description (c.take_turn.ensures.due (schedule_log k h) t.schedule current)
 
   schedule : IsScheduleAfter (g.S.ObjectStore.description c.args.self.now.store) c.take_turn.new.schedule (schedule_log k (m ∷ h))
-  schedule = steps.schedule k h m is _ _ t.marks t.contents _ _ t.transition c.turn_of-turn.ensures.turn _ _ _ t.description due (c.take_turn.ensures.after (schedule_log k h) t.schedule current)
+  schedule = steps.schedule k h m is _ _ t.mark t.contents _ _ t.transition c.turn_of-turn.ensures.turn _ _ _ t.description due (c.take_turn.ensures.after (schedule_log k h) t.schedule current)
 
   -- the frames
   emergency_same : emergency_frames (g.S.ObjectStore.contents c.args.self.now.store) c.take_emergency-emergency.result ≡ emergency_frames m.contents m.emergency
@@ -105,7 +106,7 @@ returns-clause-stands g c = λ k inputs input t. record {
 pub send_tpdos-requires-clause-room : goal.send_tpdos-requires-clause-room
 send_tpdos-requires-clause-room g c =
     let most : length c.send_life.new.outbox.items + length c.take_turn.new.sent.items ≤ 514 =
-    tpdos_fit (is_asked c.turn_of-turn.result) _ c.args.marks.now.timed_out (length c.args.outbox.now.items) _ _ c.take_turn.new.sent.items c.take_emergency-emergency.result
+    tpdos_fit (is_asked c.turn_of-turn.result) _ (marked_time_out c.args.mark.now) (length c.args.outbox.now.items) _ _ c.take_turn.new.sent.items c.take_emergency-emergency.result
     c.requires.room c.requires.alone c.take_emergency-emergency.ensures.alone c.send_emergency.ensures.few c.send_life.ensures.few
     c.turn_of-turn.ensures.asked c.take_turn.ensures.idle (subst (λ ns. length ns ≤ 512) c.deref.ensures.0 c.deref.ensures.1) in
     subst (λ ns. length c.send_life.new.outbox.items + length ns ≤ 514) (sym c.deref.ensures.0) most

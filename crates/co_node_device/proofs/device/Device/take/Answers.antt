@@ -34,11 +34,11 @@ module _ (g : given.Over) (c : After-self-3-1 g) (k : Constants) (inputs : Input
   same : g.S.ObjectStore.description c.args.self.now.store ≡ g.S.ObjectStore.description c.receive-received.new.store
   same = sym c.receive-received.ensures.description
 
-  took : HasTakenEffect k c.take_effect-transition.new.self inputs (given_view c.args.given c.args.frame.now) c.receive-received.result.marks c.take_effect-transition.result
+  took : HasTakenEffect k c.take_effect-transition.new.self inputs (given_view c.args.given c.args.frame.now) c.receive-received.result.mark c.take_effect-transition.result
   took = c.take_effect-transition.ensures k inputs (given_view c.args.given c.args.frame.now) (record {
     description = sym same ∙ ns.description;
     contents = c.receive-received.ensures.contents k h before addressed;
-    marks = c.receive-received.ensures.marks k h before addressed;
+    mark = c.receive-received.ensures.mark k h before addressed;
     state = ns.state;
     channels = subst (λ (d : Description). BankStands d (channels k) c.receive-received.new.bank (logs_received m h)) same (c.receive-received.ensures.channels k h before addressed);
     addresses = subst (λ (e : Contents). IsTableOf e c.args.self.now.parts.addresses) ns.contents ns.addresses;

@@ -32,7 +32,7 @@ use Rattle.co_node_device.proofs.device.Device.take_effect.Given as given
 use Rattle.co_node_device.proofs.device.Device.take_effect.Goals as goal
 use Rattle.co_node_device.proofs.device.Device.take_effect.Goals.{After-mappings_stay}
 
-module _ (g : given.Over) (c : After-mappings_stay g) (k : Constants) (inputs : Inputs) (input : InputView) (r : HasReceived k c.args.self.now inputs input c.args.marks.now) where
+module _ (g : given.Over) (c : After-mappings_stay g) (k : Constants) (inputs : Inputs) (input : InputView) (r : HasReceived k c.args.self.now inputs input c.args.mark.now) where
   abbrev h : History
   h = moments k inputs
 
@@ -52,21 +52,21 @@ module _ (g : given.Over) (c : After-mappings_stay g) (k : Constants) (inputs : 
   d3 = c.take_pdos.ensures.description ∙ d2
 
   watched : g.S.ObjectStore.contents c.watch-loss.new.store ≡ m.watched
-  watched = steps.watched k h m is _ _ _ r.description r.marks r.contents _ (c.watch-loss.ensures.contents (consumers_log k h) r.consumers)
+  watched = steps.watched k h m is _ _ _ r.description r.mark r.contents _ (c.watch-loss.ensures.contents (consumers_log k h) r.consumers)
 
   loss : c.watch-loss.result ≡ m.loss
-  loss = steps.loss k h m is _ _ _ r.description r.marks r.contents _ (c.watch-loss.ensures.loss (consumers_log k h) r.consumers)
+  loss = steps.loss k h m is _ _ _ r.description r.mark r.contents _ (c.watch-loss.ensures.loss (consumers_log k h) r.consumers)
 
   state_after_all : c.note-changed.new.self ≡ state_at (m ∷ h)
-  state_after_all = steps.state k h m is _ r.marks _ state_before _ _ c.state_event.ensures loss _ (c.note-changed.ensures.stands (c.state_event.result ∷ state_log h) (c.note.ensures.stands (state_log h) r.state))
+  state_after_all = steps.state k h m is _ r.mark _ state_before _ _ c.state_event.ensures loss _ (c.note-changed.ensures.stands (c.state_event.result ∷ state_log h) (c.note.ensures.stands (state_log h) r.state))
 
   transition : record { before = c.get-before.result; after = c.note-changed.result.after } ≡ transition_of m h
-  transition = steps.transition k h m is _ r.marks _ state_before _ _ c.state_event.ensures loss _ (ap (λ (t : Transition). t.after) (c.note-changed.ensures.transition (c.state_event.result ∷ state_log h) (c.note.ensures.stands (state_log h) r.state)))
+  transition = steps.transition k h m is _ r.mark _ state_before _ _ c.state_event.ensures loss _ (ap (λ (t : Transition). t.after) (c.note-changed.ensures.transition (c.state_event.result ∷ state_log h) (c.note.ensures.stands (state_log h) r.state)))
 
   -- the mappings, as they are from the lost heartbeats on
-  same_mappings : may_change_mappings c.args.marks.now ≡ false → AgreeOnMappings (contents_of k inputs) (g.S.ObjectStore.contents c.watch-loss.new.store)
+  same_mappings : may_change_mappings c.args.mark.now ≡ false → AgreeOnMappings (contents_of k inputs) (g.S.ObjectStore.contents c.watch-loss.new.store)
   same_mappings off = λ key there.
-      c.mappings_kept.ensures.before k inputs input (ap may_change_mappings (sym r.marks) ∙ off) key there
+      c.mappings_kept.ensures.before k inputs input (ap may_change_mappings (sym r.mark) ∙ off) key there
       ∙ ap (λ (entries : Contents). entries key) (sym watched)
 
   mappings_watched : AreMappings (g.S.ObjectStore.description c.watch-loss.new.store) (g.S.ObjectStore.contents c.watch-loss.new.store) c.note-2.new.self
@@ -75,21 +75,21 @@ module _ (g : given.Over) (c : After-mappings_stay g) (k : Constants) (inputs : 
       (sym c.watch-loss.ensures.description) r.mappings) same_mappings
 
   contents : g.S.ObjectStore.contents c.take_pdos.new.store ≡ m.contents
-  contents = steps.contents k h m is _ _ _ _ d2 r.marks watched transition _ (c.take_pdos.ensures.contents (slot_log k h) mappings_watched.rpdos r.slots)
+  contents = steps.contents k h m is _ _ _ _ d2 r.mark watched transition _ (c.take_pdos.ensures.contents (slot_log k h) mappings_watched.rpdos r.slots)
 
   -- the parts
   consumers : ConsumersStand c.watch-loss.new.consumers (consumers_log k (m ∷ h))
-  consumers = steps.consumers k h m is _ _ _ r.description r.marks r.contents _ (c.watch-loss.ensures.consumers (consumers_log k h) r.consumers)
+  consumers = steps.consumers k h m is _ _ _ r.description r.mark r.contents _ (c.watch-loss.ensures.consumers (consumers_log k h) r.consumers)
 
   channels_stand : BankStands (g.S.ObjectStore.description c.args.self.now.store) (channels k) c.drop_if.new.bank (channel_logs (m ∷ h))
-  channels_stand = steps.dropped k h m is _ _ _ _ r.marks transition (subst (λ b. BankStands (g.S.ObjectStore.description c.args.self.now.store) (channels k) c.drop_if.new.bank (with_drop b (logs_received m h))) c.drops.ensures (c.drop_if.ensures.stands _ _ _ r.channels))
+  channels_stand = steps.dropped k h m is _ _ _ _ r.mark transition (subst (λ b. BankStands (g.S.ObjectStore.description c.args.self.now.store) (channels k) c.drop_if.new.bank (with_drop b (logs_received m h))) c.drops.ensures (c.drop_if.ensures.stands _ _ _ r.channels))
 
-  same_addresses : may_change_addresses c.args.marks.now ≡ false → AgreeOnAddresses (contents_of k inputs) (g.S.ObjectStore.contents c.take_pdos.new.store)
+  same_addresses : may_change_addresses c.args.mark.now ≡ false → AgreeOnAddresses (contents_of k inputs) (g.S.ObjectStore.contents c.take_pdos.new.store)
   same_addresses off = record {
-    sync = c.addresses_kept.ensures.sync k inputs input (ap may_change_addresses (sym r.marks) ∙ off)
+    sync = c.addresses_kept.ensures.sync k inputs input (ap may_change_addresses (sym r.mark) ∙ off)
         ∙ ap (λ (entries : Contents). entries sync_key) (sym contents);
     rpdos = λ key low high.
-        c.addresses_kept.ensures.rpdos k inputs input (ap may_change_addresses (sym r.marks) ∙ off) key low high
+        c.addresses_kept.ensures.rpdos k inputs input (ap may_change_addresses (sym r.mark) ∙ off) key low high
         ∙ ap (λ (entries : Contents). entries key) (sym contents);
   }
 
@@ -111,13 +111,13 @@ module _ (g : given.Over) (c : After-mappings_stay g) (k : Constants) (inputs : 
   mappings = record { rpdos = kept_table Rpdo _ mappings_watched.rpdos; tpdos = kept_table Tpdo _ mappings_watched.tpdos }
 
   slots : SlotsStand 512 c.take_pdos.new.slots (slot_log k (m ∷ h))
-  slots = steps.slots k h m is _ _ _ _ d2 r.marks watched transition _ (c.take_pdos.ensures.slots (slot_log k h) mappings_watched.rpdos r.slots)
+  slots = steps.slots k h m is _ _ _ _ d2 r.mark watched transition _ (c.take_pdos.ensures.slots (slot_log k h) mappings_watched.rpdos r.slots)
 
   queued_by_loss : EmergenciesStand c.watch-loss.new.emergencies (with_queued m.raised_by_loss (with_queued m.raised_by_app (emergency_log h)))
-  queued_by_loss = steps.lost_queued k h m is _ _ _ r.description r.marks r.contents _ _ (c.watch-loss.ensures.emergencies (consumers_log k h) _ r.consumers r.emergencies)
+  queued_by_loss = steps.lost_queued k h m is _ _ _ r.description r.mark r.contents _ _ (c.watch-loss.ensures.emergencies (consumers_log k h) _ r.consumers r.emergencies)
 
   queued_by_pdo : EmergenciesStand c.take_pdos.new.emergencies (with_queued m.raised_by_pdo (with_queued m.raised_by_loss (with_queued m.raised_by_app (emergency_log h))))
-  queued_by_pdo = steps.pdo_queued k h m is _ _ _ _ d2 r.marks watched transition _ _ (c.take_pdos.ensures.emergencies (slot_log k h) _ mappings_watched.rpdos r.slots queued_by_loss)
+  queued_by_pdo = steps.pdo_queued k h m is _ _ _ _ d2 r.mark watched transition _ _ (c.take_pdos.ensures.emergencies (slot_log k h) _ mappings_watched.rpdos r.slots queued_by_loss)
 
   same : g.S.ObjectStore.description c.args.self.now.store ≡ g.S.ObjectStore.description c.take_pdos.new.store
   same = r.description ∙ sym d3
@@ -126,7 +126,7 @@ pub returns : goal.returns
 returns g c = λ k inputs input r. record {
   description = d3 g c k inputs input r;
   contents = contents g c k inputs input r;
-  marks = r.marks;
+  mark = r.mark;
   transition = transition g c k inputs input r;
   state = state_after_all g c k inputs input r;
   channels = subst (λ d. BankStands d (channels k) c.drop_if.new.bank (channel_logs (m g c k inputs input r ∷ h g c k inputs input r))) (same g c k inputs input r) (channels_stand g c k inputs input r);
