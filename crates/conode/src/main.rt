@@ -1,11 +1,13 @@
 //! A CANopen device node on the command line: checks, lints, shows and adapts data sheets, decodes and explains CAN
-//! traces as `candump -L` writes them, plays one to the device of a data sheet, and lets an SDO client download to it.
+//! traces as `candump -L` writes them, converts other recorders' logs to such traces, plays one to the device of a data
+//! sheet, and lets an SDO client download to it.
 #![tactic(auto)]
 
 use co_dict_build::Limits;
 use co_node::Config;
 use conode_adapt::{AdaptWords, LeadingZeros as ZerosRead, adapt_file};
 use conode_check::check_file;
+use conode_convert::{Form as RecordedForm, convert_file};
 use conode_decode::decode_files;
 use conode_explain::{Layout, StampForm, explain_files};
 use conode_io::{CmdFault, stopped};
@@ -14,8 +16,8 @@ use conode_loop::loop_files;
 use conode_replay::{replay_files, replay_stored};
 use conode_show::{Form as ShownForm, Format as ShownFormat, show_file};
 use conode_words::{
-    Colours, DeviceWords, DictionaryWords, Format, LeadingZeros, LintWords, ShownAs, Stamps, Task,
-    VERSION, task,
+    Colours, DeviceWords, DictionaryWords, Format, LeadingZeros, LintWords, LogForm, ShownAs,
+    Stamps, Task, VERSION, task,
 };
 use std::io::{BufWriter, IsTerminal, Write};
 use std::process::ExitCode;
@@ -54,6 +56,18 @@ fn stamp_form(stamps: Stamps) -> StampForm {
         Stamps::Absolute => StampForm::Absolute,
         Stamps::Delta => StampForm::Delta,
         Stamps::Date => StampForm::Date,
+    }
+}
+
+/// The form of a log.
+fn recorded_form(form: LogForm) -> RecordedForm {
+    match form {
+        LogForm::Auto => RecordedForm::Unknown,
+        LogForm::Candump => RecordedForm::Candump,
+        LogForm::Screen => RecordedForm::Screen,
+        LogForm::ScreenDelta => RecordedForm::Deltas,
+        LogForm::Trc => RecordedForm::trc(),
+        LogForm::Asc => RecordedForm::asc(),
     }
 }
 
@@ -183,6 +197,7 @@ fn carry_out_task<O: Write, E: Write>(
             };
             explain_files(rt, trace, sheet, form, out, err)
         }
+        Task::Convert { log, form } => convert_file(rt, log, recorded_form(form), out, err),
     }
 }
 

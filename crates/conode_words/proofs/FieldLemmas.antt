@@ -10,7 +10,7 @@ use Rattle.conode_words.specs.declared.tasks.DeviceWords.{DeviceWords}
 use Rattle.conode_words.specs.declared.tasks.DictionaryWords.{DictionaryWords}
 use Rattle.conode_words.specs.declared.tasks.Task.{Task}
 use Rattle.conode_words.specs.Fields.{AsksFor, GivesDevice, GivesDictionary}
-use Rattle.conode_words.specs.Tasks.{Asked, AskedAdapt, AskedCheck, AskedDecode, AskedExplain, AskedLint, AskedLoop, AskedReplay, AskedShow, adapt, asked_adapt, asked_by, asked_check, asked_decode, asked_device, asked_dictionary, asked_explain, asked_in, asked_lint, asked_lint_of, asked_loop, asked_of, asked_other, asked_replay, asked_show, check, colours_for, colours_of, decode, explain, format_for, format_of, lint, loop_back, mode_for, mode_of, number_for, number_of_bits, replay, show, shown_as, shown_for, stamps_for, stamps_of, zeros_for, zeros_of}
+use Rattle.conode_words.specs.Tasks.{Asked, AskedAdapt, AskedCheck, AskedConvert, AskedDecode, AskedExplain, AskedLint, AskedLoop, AskedReplay, AskedShow, adapt, asked_adapt, asked_by, asked_check, asked_convert, asked_decode, asked_device, asked_dictionary, asked_explain, asked_in, asked_lint, asked_lint_of, asked_loop, asked_of, asked_other, asked_replay, asked_show, check, colours_for, colours_of, convert, decode, explain, format_for, format_of, lint, log_form_for, log_form_of, loop_back, mode_for, mode_of, number_for, number_of_bits, replay, show, shown_as, shown_for, stamps_for, stamps_of, zeros_for, zeros_of}
 
 -- a value that is made of another
 mapped : {A B P : Type 0} (f : A → B) (o : Option A) (b : B) → option_map f o ≡ Some b → ((a : A) → o ≡ Some a → f a ≡ b → P) → P
@@ -142,6 +142,13 @@ explain_fields rows a e =
     mapped _ (stamps_for rows) a f0 (λ stamps e1 is.
     subst (AsksFor (codes "explain") rows) is (refl, e0, refl, chosen stamps_of (first_of (codes "stamps") rows) stamps e1, refl)))
 
+convert_fields : (rows : List Row) (a : Asked) → asked_convert rows ≡ Some a → AsksFor (codes "convert") rows a
+unfolding asked_convert log_form_for
+convert_fields rows a e =
+    option_and_then_some _ (first_of (codes "LOG") rows) a e (λ log e0 f0.
+    mapped _ (log_form_for rows) a f0 (λ form e1 is.
+    subst (AsksFor (codes "convert") rows) is (refl, e0, chosen log_form_of (first_of (codes "log") rows) form e1)))
+
 at_name : (name known : Text) (rows : List Row) (a : Asked) → bytes_eq name known ≡ true → AsksFor known rows a → AsksFor name rows a
 at_name name known rows a same h = subst (λ (n : Text). AsksFor n rows a) (sym (named name known same)) h
 
@@ -163,7 +170,8 @@ other_fields name rows a e =
     either_way _ _ _ a f (λ y f. at_name name (codes "show") rows a y (show_fields rows a f)) (λ _ f.
     either_way _ _ _ a f (λ y f. at_name name (codes "adapt") rows a y (adapt_fields rows a f)) (λ _ f.
     either_way _ _ _ a f (λ y f. at_name name (codes "explain") rows a y (explain_fields rows a f)) (λ _ f.
-    absurd (none_is a f))))))))
+    either_way _ _ _ a f (λ y f. at_name name (codes "convert") rows a y (convert_fields rows a f)) (λ _ f.
+    absurd (none_is a f)))))))))
 
 pub fields_of : (name : Text) (rows : List Row) (a : Asked) → asked_in name rows ≡ Some a → AsksFor name rows a
 unfolding asked_in
@@ -228,6 +236,10 @@ named_explain : (rows : List Row) → asked_in (codes "explain") rows ≡ asked_
 unfolding asked_in asked_other
 named_explain rows = refl
 
+named_convert : (rows : List Row) → asked_in (codes "convert") rows ≡ asked_convert rows
+unfolding asked_in asked_other
+named_convert rows = refl
+
 check_is : (rows : List Row) (a : AskedCheck) → AsksFor (codes "check") rows (check a) → asked_check rows ≡ Some (check a)
 unfolding asked_check
 check_is rows a (name_is, sheet, d) =
@@ -278,6 +290,12 @@ explain_is rows a (name_is, trace, sheet, s, transfers) =
     let stamps = choice_is stamps_of (first_of (codes "stamps") rows) a.stamps s in
     rw (trace, stamps, ← sheet, ← transfers) refl
 
+convert_is : (rows : List Row) (a : AskedConvert) → AsksFor (codes "convert") rows (convert a) → asked_convert rows ≡ Some (convert a)
+unfolding asked_convert log_form_for
+convert_is rows a (name_is, log, f) =
+    let form = choice_is log_form_of (first_of (codes "log") rows) a.form f in
+    rw (log, form) refl
+
 pub only_asked : (name : Text) (rows : List Row) (a : Asked) → AsksFor name rows a → asked_in name rows ≡ Some a
 only_asked name rows (check a) h = ap (λ (n : Text). asked_in n rows) h.0 ∙ named_check rows ∙ check_is rows a (subst (λ (n : Text). AsksFor n rows (check a)) h.0 h)
 only_asked name rows (lint a) h = ap (λ (n : Text). asked_in n rows) h.0 ∙ named_lint rows ∙ lint_is rows a (subst (λ (n : Text). AsksFor n rows (lint a)) h.0 h)
@@ -287,3 +305,4 @@ only_asked name rows (loop_back a) h = ap (λ (n : Text). asked_in n rows) h.0 �
 only_asked name rows (show a) h = ap (λ (n : Text). asked_in n rows) h.0 ∙ named_show rows ∙ show_is rows a (subst (λ (n : Text). AsksFor n rows (show a)) h.0 h)
 only_asked name rows (adapt a) h = ap (λ (n : Text). asked_in n rows) h.0 ∙ named_adapt rows ∙ adapt_is rows a (subst (λ (n : Text). AsksFor n rows (adapt a)) h.0 h)
 only_asked name rows (explain a) h = ap (λ (n : Text). asked_in n rows) h.0 ∙ named_explain rows ∙ explain_is rows a (subst (λ (n : Text). AsksFor n rows (explain a)) h.0 h)
+only_asked name rows (convert a) h = ap (λ (n : Text). asked_in n rows) h.0 ∙ named_convert rows ∙ convert_is rows a (subst (λ (n : Text). AsksFor n rows (convert a)) h.0 h)

@@ -8,14 +8,15 @@ use Rattle.clap.specs.declared.error.kind.ErrorKind.TheVariants as kind
 use Rattle.co_sdo_client.specs.declared.mode.Mode.TheVariants.{Plain, Segmented, Block}
 use Rattle.conode_words.specs.declared.tasks.DeviceWords.{DeviceWords}
 use Rattle.conode_words.specs.declared.tasks.DictionaryWords.{DictionaryWords}
+use Rattle.conode_words.specs.declared.tasks.LogForm.TheVariants as log_form
 use Rattle.conode_words.specs.declared.tasks.ShownAs.TheVariants.{Columns, Markdown}
 use Rattle.conode_words.specs.declared.tasks.ShownAs.TheVariants as shown_form
 use Rattle.conode_words.specs.declared.tasks.LeadingZeros.TheVariants.{Octal, Decimal}
 use Rattle.conode_words.specs.declared.tasks.Stamps.TheVariants.{Relative, Absolute, Delta, Date}
 use Rattle.conode_words.specs.declared.tasks.Colours.TheVariants.{Auto, Always, Never}
 use Rattle.conode_words.specs.declared.tasks.Format.TheVariants.{Json, Sarif, Text as AsText}
-use Rattle.conode_words.specs.Commands.{adapt_command, check_command, conode_command, decode_command, domains_option, explain_command, lint_command, loop_command, node_option, replay_command, show_command, strings_option, time_option}
-use Rattle.conode_words.specs.Tasks.{Asked, check, lint, decode, replay, loop_back, show, adapt, explain, asked_in, asked_of, colours_of, format_of, mode_of, shown_as, stamps_of, word_fault, zeros_of}
+use Rattle.conode_words.specs.Commands.{adapt_command, check_command, conode_command, convert_command, decode_command, domains_option, explain_command, lint_command, loop_command, node_option, replay_command, show_command, strings_option, time_option}
+use Rattle.conode_words.specs.Tasks.{Asked, check, lint, decode, replay, loop_back, show, adapt, explain, convert, asked_in, asked_of, colours_of, format_of, log_form_of, mode_of, shown_as, stamps_of, word_fault, zeros_of}
 use Rattle.conode_words.proofs.OnLiterals.{words_on_literals}
 
 -- what all words ask for, by the program's command; and those after the name of a subcommand, by that alone, which is computed
@@ -224,9 +225,31 @@ explain_in_other_stamps : fault_after explain_command (codes "explain") (codes "
 unfolding words_on_literals
 explain_in_other_stamps = refl
 
+convert_of_a_log : asked_after convert_command (codes "convert") (codes "l" ∷ []) ≡ Some (convert (record { log = codes "l"; form = log_form.Auto }))
+unfolding words_on_literals
+convert_of_a_log = refl
+
+convert_with_a_form : asked_after convert_command (codes "convert") (codes "--log" ∷ codes "asc" ∷ codes "-" ∷ [])
+    ≡ Some (convert (record { log = codes "-"; form = log_form.Asc }))
+unfolding words_on_literals
+convert_with_a_form = refl
+
+convert_with_another_form : fault_after convert_command (codes "convert") (codes "l" ∷ codes "--log=blf" ∷ []) ≡ kind.InvalidValue ∷ []
+unfolding words_on_literals
+convert_with_another_form = refl
+
+convert_without_log : fault_after convert_command (codes "convert") [] ≡ kind.MissingRequiredArgument ∷ []
+unfolding words_on_literals
+convert_without_log = refl
+
+forms_of_logs : map log_form_of (codes "candump" ∷ codes "screen" ∷ codes "screen-delta" ∷ codes "trc" ∷ codes "Auto" ∷ [])
+    ≡ Some log_form.Candump ∷ Some log_form.Screen ∷ Some log_form.ScreenDelta ∷ Some log_form.Trc ∷ None ∷ []
+unfolding words_on_literals
+forms_of_logs = refl
+
 -- ---- the program's command
 
-commands_by_name : map (λ (s : Shape). s.name) conode_command.subs ≡ codes "check" ∷ codes "lint" ∷ codes "decode" ∷ codes "replay" ∷ codes "loop" ∷ codes "show" ∷ codes "adapt" ∷ codes "explain" ∷ []
+commands_by_name : map (λ (s : Shape). s.name) conode_command.subs ≡ codes "check" ∷ codes "lint" ∷ codes "decode" ∷ codes "replay" ∷ codes "loop" ∷ codes "show" ∷ codes "adapt" ∷ codes "explain" ∷ codes "convert" ∷ []
 unfolding words_on_literals
 commands_by_name = refl
 

@@ -121,6 +121,11 @@ explain_command =
     with_rule (with_rule (with_rule (with_rule (new_app (codes "explain")) (wanted (codes "TRACE")))
     (valued (codes "sheet"))) stamps_option) (flag (codes "transfers"))
 
+-- `convert LOG [--log FORM]`
+unfoldable pub convert_command : App
+convert_command =
+    with_rule (with_rule (new_app (codes "convert")) (wanted (codes "LOG"))) (worded (codes "log") (codes "auto"))
+
 -- a command with `--version`
 abbrev pub versioned : App → App
 versioned app = record app { top = record app.top { has_version = true } }
@@ -129,6 +134,6 @@ versioned app = record app { top = record app.top { has_version = true } }
 unfoldable pub conode_command : App
 conode_command =
     with_subcommand (with_subcommand (with_subcommand (with_subcommand (with_subcommand (with_subcommand
-    (with_subcommand (with_subcommand (versioned (new_app (codes "conode"))) check_command.top)
+    (with_subcommand (with_subcommand (with_subcommand (versioned (new_app (codes "conode"))) check_command.top)
     lint_command.top) decode_command.top) replay_command.top) loop_command.top) show_command.top)
-    adapt_command.top) explain_command.top
+    adapt_command.top) explain_command.top) convert_command.top

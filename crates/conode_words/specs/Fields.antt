@@ -3,7 +3,7 @@ use Rattle.std.specs.Prelude.{◌≡◌, ℕ, List, codes, Option, Some, IsSomeA
 use Rattle.clap.specs.Words.{Row, Text, first_of}
 use Rattle.conode_words.specs.declared.tasks.DeviceWords.{DeviceWords}
 use Rattle.conode_words.specs.declared.tasks.DictionaryWords.{DictionaryWords}
-use Rattle.conode_words.specs.Tasks.{Asked, check, lint, decode, replay, loop_back, show, adapt, explain, colours_of, format_of, is_used, mode_of, number_for, number_of_bits, shown_as, stamps_of, words_for, zeros_of}
+use Rattle.conode_words.specs.Tasks.{Asked, check, lint, decode, replay, loop_back, show, adapt, explain, convert, colours_of, format_of, is_used, log_form_of, mode_of, number_for, number_of_bits, shown_as, stamps_of, words_for, zeros_of}
 
 -- the word, or the value of an option, is this one
 abbrev pub IsWord : Text → List Row → Text → Type 0
@@ -67,3 +67,5 @@ AsksFor name rows (explain a) =
     (name ≡ codes "explain") × IsWord (codes "TRACE") rows a.trace
     × (a.sheet ≡ first_of (codes "sheet") rows) × IsChoice stamps_of (codes "stamps") rows a.stamps
     × (a.transfers ≡ is_used (codes "transfers") rows)
+AsksFor name rows (convert a) =
+    (name ≡ codes "convert") × IsWord (codes "LOG") rows a.log × IsChoice log_form_of (codes "log") rows a.form

@@ -17,11 +17,13 @@ use Rattle.conode_words.specs.declared.tasks.Colours.TheVariants.{Auto, Always, 
 use Rattle.conode_words.specs.declared.tasks.Format.{Format}
 use Rattle.conode_words.specs.declared.tasks.Format.TheVariants as format
 use Rattle.conode_words.specs.declared.tasks.Task.{Task}
-use Rattle.conode_words.specs.declared.tasks.Task.TheVariants.{Check, Lint, Decode, Replay, LoopBack, Show, Adapt, Explain}
+use Rattle.conode_words.specs.declared.tasks.Task.TheVariants.{Check, Lint, Decode, Replay, LoopBack, Show, Adapt, Explain, Convert}
 use Rattle.conode_words.specs.declared.tasks.LeadingZeros.{LeadingZeros}
 use Rattle.conode_words.specs.declared.tasks.LeadingZeros.TheVariants.{Octal, Decimal}
 use Rattle.conode_words.specs.declared.tasks.Stamps.{Stamps}
 use Rattle.conode_words.specs.declared.tasks.Stamps.TheVariants.{Relative, Absolute, Delta, Date}
+use Rattle.conode_words.specs.declared.tasks.LogForm.{LogForm}
+use Rattle.conode_words.specs.declared.tasks.LogForm.TheVariants as log_form
 use Rattle.conode_words.specs.declared.tasks.ShownAs.{ShownAs}
 use Rattle.conode_words.specs.declared.tasks.ShownAs.TheVariants.{Columns, Markdown}
 use Rattle.conode_words.specs.declared.tasks.ShownAs.TheVariants as shown_form
@@ -80,6 +82,11 @@ pub record AskedExplain : Type 0 where
   pub stamps : Stamps
   pub transfers : Bool
 
+-- what the words after `convert` ask for
+pub record AskedConvert : Type 0 where
+  pub log : Text
+  pub form : LogForm
+
 -- what the words ask for
 pub data Asked : Type 0 where
   check : AskedCheck → Asked
@@ -90,6 +97,7 @@ pub data Asked : Type 0 where
   show : AskedShow → Asked
   adapt : AskedAdapt → Asked
   explain : AskedExplain → Asked
+  convert : AskedConvert → Asked
 
 -- what a task asks for
 abbrev pub asked_by : Task → Asked
@@ -115,6 +123,7 @@ asked_by (Adapt sheet zeros force) =
     adapt (record { sheet = sheet.now; leading_zeros = zeros; force = force })
 asked_by (Explain trace sheet stamps transfers) =
     explain (record { trace = trace.now; sheet = option_copied sheet; stamps = stamps; transfers = transfers })
+asked_by (Convert log form) = convert (record { log = log.now; form = form })
 
 -- the number that a word is, of so many bits: decimal digits, perhaps after a plus
 unfoldable pub number_of_bits : ℕ → Text → Option ℕ
@@ -288,6 +297,26 @@ asked_explain rows =
     }))
     (stamps_for rows)) (first_of (codes "TRACE") rows)
 
+-- the form of log that a word names
+unfoldable pub log_form_of : Text → Option LogForm
+log_form_of word =
+    if bytes_eq word (codes "auto") then Some log_form.Auto
+    else (if bytes_eq word (codes "candump") then Some log_form.Candump
+    else (if bytes_eq word (codes "screen") then Some log_form.Screen
+    else (if bytes_eq word (codes "screen-delta") then Some log_form.ScreenDelta
+    else (if bytes_eq word (codes "trc") then Some log_form.Trc
+    else (if bytes_eq word (codes "asc") then Some log_form.Asc else None)))))
+
+-- the form of log of matches
+unfoldable pub log_form_for : List Row → Option LogForm
+log_form_for rows = option_and_then log_form_of (first_of (codes "log") rows)
+
+-- what the matches of `convert` ask for
+unfoldable pub asked_convert : List Row → Option Asked
+asked_convert rows =
+    option_and_then (λ log. option_map (λ form. convert (record { log = log; form = form })) (log_form_for rows))
+    (first_of (codes "LOG") rows)
+
 -- what the matches of a subcommand other than `lint` ask for
 unfoldable pub asked_other : Text → List Row → Option Asked
 asked_other name rows =
@@ -297,7 +326,8 @@ asked_other name rows =
     else (if bytes_eq name (codes "loop") then asked_loop rows
     else (if bytes_eq name (codes "show") then asked_show rows
     else (if bytes_eq name (codes "adapt") then asked_adapt rows
-    else (if bytes_eq name (codes "explain") then asked_explain rows else None))))))
+    else (if bytes_eq name (codes "explain") then asked_explain rows
+    else (if bytes_eq name (codes "convert") then asked_convert rows else None)))))))
 
 -- what the matches of a subcommand ask for
 unfoldable pub asked_in : Text → List Row → Option Asked
@@ -308,14 +338,15 @@ unfoldable pub asked_of : Option (Text × List Row) → Option Asked
 asked_of matches = option_and_then (λ m. asked_in m.0 m.1) matches
 
 -- the matches of a subcommand have a word that is none of those that it takes: the mode of `loop`, the format and
--- the colours of `lint`, the form of `show`, the leading zeros of `adapt`, the stamps of `explain`
+-- the colours of `lint`, the form of `show`, the leading zeros of `adapt`, the stamps of `explain`, the form of `convert`
 unfoldable pub is_other : Text → List Row → Bool
 is_other name rows =
     if bytes_eq name (codes "loop") then is_none (mode_for rows)
     else (if bytes_eq name (codes "lint") then is_none (format_for rows) || is_none (colours_for rows)
     else (if bytes_eq name (codes "show") then is_none (shown_for rows)
     else (if bytes_eq name (codes "adapt") then is_none (zeros_for rows)
-    else (if bytes_eq name (codes "explain") then is_none (stamps_for rows) else false))))
+    else (if bytes_eq name (codes "explain") then is_none (stamps_for rows)
+    else (if bytes_eq name (codes "convert") then is_none (log_form_for rows) else false)))))
 
 unfoldable pub has_other_word : Option (Text × List Row) → Bool
 has_other_word matches = option_map_or (λ m. is_other m.0 m.1) matches false

@@ -7,6 +7,7 @@ ghost use Rattle.conode_words.specs.Tasks.{
   asked_adapt,
   asked_by,
   asked_check,
+  asked_convert,
   asked_decode,
   asked_device,
   asked_dictionary,
@@ -23,6 +24,8 @@ ghost use Rattle.conode_words.specs.Tasks.{
   format_for,
   format_of,
   is_used,
+  log_form_for,
+  log_form_of,
   mode_for,
   mode_of,
   number_for,
@@ -36,7 +39,8 @@ ghost use Rattle.conode_words.specs.Tasks.{
 };
 
 use crate::tasks::{
-    Colours, DeviceWords, DictionaryWords, Format, LeadingZeros, LintWords, ShownAs, Stamps, Task,
+    Colours, DeviceWords, DictionaryWords, Format, LeadingZeros, LintWords, LogForm, ShownAs,
+    Stamps, Task,
 };
 use clap::ArgMatches;
 use co_sdo_client::Mode;
@@ -402,6 +406,45 @@ fn asked_explain<'a>(found: &ArgMatches<'a>) -> Option<Task<'a>>
     })
 }
 
+// the form of log that a word names
+#[tactic(auto, unfolding(crate::specs::Tasks::log_form_of))]
+fn log_form_of(word: &str) -> Option<LogForm>
+    ensures { result ≡ log_form_of word.now }
+{
+    if is(word, "auto") {
+        Some(LogForm::Auto)
+    } else if is(word, "candump") {
+        Some(LogForm::Candump)
+    } else if is(word, "screen") {
+        Some(LogForm::Screen)
+    } else if is(word, "screen-delta") {
+        Some(LogForm::ScreenDelta)
+    } else if is(word, "trc") {
+        Some(LogForm::Trc)
+    } else if is(word, "asc") {
+        Some(LogForm::Asc)
+    } else {
+        None
+    }
+}
+
+#[tactic(auto, unfolding(crate::specs::Tasks::log_form_for))]
+pub(crate) fn log_form_for(found: &ArgMatches<'_>) -> Option<LogForm>
+    ensures { result ≡ log_form_for (rows_of (found_of found.now)) }
+{
+    log_form_of(word_for(found, "log")?)
+}
+
+// what the words after `convert` ask for
+#[tactic(auto, unfolding(crate::specs::Tasks::asked_convert))]
+fn asked_convert<'a>(found: &ArgMatches<'a>) -> Option<Task<'a>>
+    ensures { option_map asked_by result ≡ asked_convert (rows_of (found_of found.now)) }
+{
+    let log = word_for(found, "LOG")?;
+    let form = log_form_for(found)?;
+    Some(Task::Convert { log, form })
+}
+
 // what the words after the name of a subcommand other than `lint` ask for
 #[tactic(auto, unfolding(crate::specs::Tasks::asked_other))]
 fn asked_other<'a>(name: &str, found: &ArgMatches<'a>) -> Option<Task<'a>>
@@ -421,6 +464,8 @@ fn asked_other<'a>(name: &str, found: &ArgMatches<'a>) -> Option<Task<'a>>
         asked_adapt(found)
     } else if is(name, "explain") {
         asked_explain(found)
+    } else if is(name, "convert") {
+        asked_convert(found)
     } else {
         None
     }

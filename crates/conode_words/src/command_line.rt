@@ -14,7 +14,7 @@ ghost use Rattle.conode_words.specs.Tasks.{
 };
 
 use crate::asked::{
-    asked_in, colours_for, format_for, is, mode_for, shown_for, stamps_for, zeros_for,
+    asked_in, colours_for, format_for, is, log_form_for, mode_for, shown_for, stamps_for, zeros_for,
 };
 use crate::commands::conode_command;
 use crate::help;
@@ -47,8 +47,12 @@ fn other_of(name: &str, found: &ArgMatches<'_>) -> Option<&'static str>
         if zeros_for(found).is_none() {
             return Some(help::LEADING_ZEROS);
         }
-    } else if is(name, "explain") && stamps_for(found).is_none() {
-        return Some(help::STAMPS);
+    } else if is(name, "explain") {
+        if stamps_for(found).is_none() {
+            return Some(help::STAMPS);
+        }
+    } else if is(name, "convert") && log_form_for(found).is_none() {
+        return Some(help::LOG_FORMS);
     }
     None
 }

@@ -7,6 +7,7 @@ ghost use Rattle.conode_words.specs.Commands.{
   adapt_command,
   check_command,
   conode_command,
+  convert_command,
   decode_command,
   explain_command,
   lint_command,
@@ -277,6 +278,31 @@ fn explain_command<'a>(alloc: Global) -> Result<Command<'a>, AllocError>
     with_arg(command, transfers)
 }
 
+fn convert_command<'a>(alloc: Global) -> Result<Command<'a>, AllocError>
+    ensures { IfOk result (λ command. IsCommand command convert_command) }
+{
+    let command = new_command(
+        alloc,
+        "convert",
+        "Writes a log of another recorder as `candump -L` does",
+        help::CONVERTED,
+    );
+    let log = wanted(
+        alloc,
+        "LOG",
+        "What candump shows, a .trc of PCAN-View or a .asc of Vector",
+    );
+    let command = with_arg(command, log)?;
+    let form = worded(
+        alloc,
+        "log",
+        "FORM",
+        "auto",
+        "auto, candump, screen, screen-delta, trc or asc",
+    );
+    with_arg(command, form)
+}
+
 // the command without the commands below it
 fn only_conode<'a>(alloc: Global) -> Command<'a>
     ensures { IsCommand result (versioned (new_app (codes "conode"))) }
@@ -302,5 +328,6 @@ pub(crate) fn conode_command<'a>(alloc: Global) -> Result<Command<'a>, AllocErro
     let command = with_command(command, loop_command(alloc)?)?;
     let command = with_command(command, show_command(alloc)?)?;
     let command = with_command(command, adapt_command(alloc)?)?;
-    with_command(command, explain_command(alloc)?)
+    let command = with_command(command, explain_command(alloc)?)?;
+    with_command(command, convert_command(alloc)?)
 }

@@ -248,3 +248,29 @@ the letters z, a, d and A too, those of candump.
 
 Status: 0 if all lines are good, or only the last is bad and no line feed ends
 it; 1 if a line is bad or the recording can't be read; 2 if the words are wrong.";
+
+/// What is said of a form of logs that is none.
+pub const LOG_FORMS: &str =
+    "invalid value for '--log <FORM>': auto, candump, screen, screen-delta, trc or asc";
+
+/// What `convert` prints.
+pub const CONVERTED: &str = "\
+Prints a line as `candump -L` writes it for each frame of a log, of every kind:
+data, remote, CAN FD and error frames, with the direction where the log has it.
+Which form the log has is seen by its first lines, or said by --log:
+
+  candump       `candump -L`: the lines pass as they are
+  screen        what candump shows, with -t a, -t z, -t A or without stamps, -x,
+                -a, -e and colours; without stamps each frame is at 0
+  screen-delta  the same with -t d, which can't be told from -t z
+  trc           PCAN-View and PCAN-Explorer: version 1.1, 1.3, 2.0 or 2.1
+  asc           CANalyzer and CANoe: base hex or dec, absolute or relative
+
+  conode convert drive.trc | conode explain - --sheet 5=sensor.eds
+
+Channel or bus 1 is can0. Stamps are those of the log: a .trc and a .asc count
+from the begin of the recording. A bad line is named on standard error, with its
+number and what is wrong, and the rest goes on. `-` as LOG is standard input.
+
+Status: 0 if all lines are good, or only the last is bad and no line feed ends
+it; 1 if a line is bad or the log can't be read; 2 if the words are wrong.";

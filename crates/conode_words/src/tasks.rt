@@ -53,6 +53,23 @@ pub enum Stamps {
     Date,
 }
 
+/// In which form a log is.
+#[derive(Clone, Copy, Debug, PartialEq, Eq)]
+pub enum LogForm {
+    /// In the one that its first lines show.
+    Auto,
+    /// Lines as `candump -L` writes them.
+    Candump,
+    /// What candump shows on a screen.
+    Screen,
+    /// The same, with stamps that are counted from the line before.
+    ScreenDelta,
+    /// A `.trc` of PCAN-View.
+    Trc,
+    /// A `.asc` of CANalyzer.
+    Asc,
+}
+
 /// How `lint` writes what it finds.
 #[derive(Clone, Copy, Debug, PartialEq, Eq)]
 pub enum Format {
@@ -162,5 +179,12 @@ pub enum Task<'a> {
         stamps: Stamps,
         /// Whether only the SDO transfers that ended have lines.
         transfers: bool,
+    },
+    /// To convert a log of another recorder.
+    Convert {
+        /// The log's path, `-` for standard input.
+        log: &'a str,
+        /// In which form it is.
+        form: LogForm,
     },
 }

@@ -12,4 +12,5 @@ returns c =
     let five = c.in_ok-command-5.ensures _ _ four c.in_ok-loop_command.ensures in
     let six = c.in_ok-command-6.ensures _ _ five c.in_ok-show_command.ensures in
     let seven = c.in_ok-command-7.ensures _ _ six c.in_ok-adapt_command.ensures in
-    IfOk-weaker c.with_command-8.result _ _ (λ r h. h _ _ seven c.in_ok-explain_command.ensures) c.with_command-8.ensures
+    let eight = c.in_ok-command-8.ensures _ _ seven c.in_ok-explain_command.ensures in
+    IfOk-weaker c.with_command-9.result _ _ (λ r h. h _ _ eight c.in_ok-convert_command.ensures) c.with_command-9.ensures

@@ -1,0 +1,3 @@
+pub mod Converting
+mod Examples
+pub mod Seconds

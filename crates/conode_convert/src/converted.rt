@@ -1,0 +1,47 @@
+//! A log converted: each of its frames on a line as `candump -L` writes it.
+
+ghost use Rattle.std.specs.Prelude.{IfOk, IfSome};
+ghost use Rattle.conode_lines.specs.TraceTexts.{GaveText};
+ghost use Rattle.conode_convert.specs.Taking.{Converts};
+
+use crate::step::Converting;
+use conode_io::CmdFault;
+use conode_logs::Form;
+use std::alloc::Global;
+use std::io::{Read, Write};
+
+/// Converts a log of a form, or of the one that its first lines show, line by line and in constant memory: for each frame
+/// a line is written on `out` as `candump -L` writes it. A bad line, or one of more than 512 bytes, is named on `err` with
+/// its number and what is wrong with it, and the rest goes on. Gives the number of bad lines; a last line that no line
+/// feed ends is counted only where it is too long, since whoever stops a recording cuts it off there.
+///
+/// `out` is flushed before each read, and not while a whole line is held.
+///
+/// * `Read`: the reader failed. `NeverEnds`: there are 2^64 - 1 lines.
+/// * `Write`: `out` failed. `Memory`: memory ran out.
+pub fn convert<R: Read, W: Write, E: Write>(
+    alloc: Global,
+    reader: &mut R,
+    form: Form,
+    out: &mut W,
+    err: &mut E,
+) -> Result<u64, CmdFault>
+    // What is written of all lines is written, and so many lines are bad.
+    ensures known { IfOk result (λ bad. IfSome (R.remaining reader.old)
+        (Converts form (W.contents out.old) (W.contents out.new) bad)) }
+    // Whatever the reader: it gave a text, and this is so of that text.
+    ensures any_reader { IfOk result (λ bad.
+        GaveText (R.remaining reader.old) (R.remaining reader.new)
+        (Converts form (W.contents out.old) (W.contents out.new) bad)) }
+{
+    let mut converting = Converting::new(alloc, form);
+    let mut bad: u64 = 0;
+    for number in 1..u64::MAX {
+        converting.let_out(out)?;
+        match converting.take_line(reader, number, out, err)? {
+            Some(more) => bad += more,
+            None => return Ok(bad),
+        }
+    }
+    Err(CmdFault::NeverEnds)
+}

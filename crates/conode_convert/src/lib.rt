@@ -1,0 +1,11 @@
+//! A log of another recorder converted to lines as `candump -L` writes them; a bad line is named, and the rest goes on.
+#![tactic(auto)]
+
+mod converted;
+mod log_file;
+mod step;
+mod text;
+
+pub use conode_logs::Form;
+pub use converted::convert;
+pub use log_file::convert_file;

@@ -1,0 +1,57 @@
+//! The file of a log, converted.
+
+ghost use Rattle.std.specs.Prelude.{◌≡◌, ◌⊎◌};
+ghost use Rattle.std.specs.Process.{exit_status};
+
+use crate::converted::convert;
+use conode_io::{cannot_read, flushed, stopped};
+use conode_logs::Form;
+use std::alloc::Global;
+use std::fs;
+use std::io::{Input, Read, Write};
+use std::process::ExitCode;
+use std::rt::Files;
+
+/// The path that stands for standard input.
+const STANDARD_INPUT: &str = "-";
+
+// Converts an input, and says how many lines are bad, on `err`, or why it stopped where it did.
+fn convert_input<R: Read, O: Write, E: Write>(
+    alloc: Global,
+    input: &mut R,
+    form: Form,
+    out: &mut O,
+    err: &mut E,
+) -> ExitCode
+    ensures { (exit_status result ≡ 0) ⊎ (exit_status result ≡ 1) }
+{
+    let outcome = convert(alloc, input, form, out, err);
+    match flushed(out, outcome) {
+        Ok(0) => ExitCode::SUCCESS,
+        Ok(bad) => {
+            let _ = writeln!(err, "bad lines: {bad}");
+            ExitCode::FAILURE
+        }
+        Err(fault) => stopped(fault, out, err).status(),
+    }
+}
+
+/// Converts the log of a path, or of standard input where that is `-`: its frames go to `out` as `candump -L` writes them.
+/// Bad lines, and a file that can't be read, are named on `err`. The status is 0 where all lines are good, else 1.
+pub fn convert_file<R: Files + AllocGlobal + Input, O: Write, E: Write>(
+    rt: &R,
+    path: &str,
+    form: Form,
+    out: &mut O,
+    err: &mut E,
+) -> ExitCode
+    ensures { (exit_status result ≡ 0) ⊎ (exit_status result ≡ 1) }
+{
+    if path == STANDARD_INPUT {
+        return convert_input(rt.alloc(), &mut rt.reader(), form, out, err);
+    }
+    match fs::open(rt, path) {
+        Ok(mut file) => convert_input(rt.alloc(), &mut file, form, out, err),
+        Err(_) => cannot_read(path, err),
+    }
+}

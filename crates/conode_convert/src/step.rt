@@ -1,0 +1,165 @@
+//! One line of a log after another.
+
+ghost use Rattle.std.specs.Prelude.{◌≡◌, ◌⊎◌, ◌≤◌, ◌++◌, [], ◌∷◌, OnOk, IfOk, IfErr, IfSome, IfNone};
+ghost use Rattle.std.specs.Io.KnownBytes.{Keeps, IsAtEnd};
+ghost use Rattle.co_bounded_lines.specs.Held.{nothing_held, to_come};
+ghost use Rattle.co_stream.specs.Readings.{Gave};
+ghost use Rattle.conode_io.specs.Written.{WritesLines};
+ghost use Rattle.conode_logs.specs.Logs.{says};
+ghost use Rattle.conode_convert.specs.Converted.{at_start, faults_in, written_of};
+ghost use Rattle.conode_convert.specs.Printed.{line_text};
+ghost use Rattle.conode_convert.specs.Taking.{Takes};
+
+use crate::text::add_line;
+use co_bounded_lines::{BoundedLines, Found, ReadFault};
+use conode_io::{CmdFault, flush, hand_over};
+use conode_logs::{Form, Log, LogFrame, LogLine};
+use std::alloc::Global;
+use std::io::{Read, Write};
+
+/// What is wrong with a line that has more than 512 bytes.
+const TOO_LONG: &str = "it has more than 512 bytes";
+
+/// How far a log is converted.
+#[derive(Drop)]
+pub(crate) struct Converting {
+    lines: BoundedLines,
+    log: Log,
+    room: Vec<u8>,
+}
+
+// Names a bad line. Where even this can't be written, the status alone tells of it.
+fn name_bad_line<E: Write>(number: u64, words: &str, err: &mut E) {
+    let _ = writeln!(err, "line {number}: {words}");
+}
+
+// why the next line can't be read
+fn read_fault(fault: ReadFault) -> CmdFault {
+    match fault {
+        ReadFault::Read => CmdFault::Read,
+        ReadFault::NeverEnds => CmdFault::NeverEnds,
+    }
+}
+
+// Writes the line of a frame. `room` is for the work.
+#[tactic(auto, using(conode_io::proofs::WriteLemmas::line_alone))]
+fn write_frame<W: Write>(
+    room: &mut Vec<u8>,
+    frame: &LogFrame<'_>,
+    out: &mut W,
+) -> Result<(), CmdFault>
+    ensures lines { OnOk result
+        (WritesLines (W.contents out.old) (W.contents out.new) (line_text frame.now ∷ [])) }
+    ensures err { IfErr result (λ fault. (fault ≡ CmdFault.Write) ⊎ (fault ≡ CmdFault.Memory)) }
+{
+    room.clear();
+    add_line(room, frame)?;
+    hand_over(room.as_slice(), out)
+}
+
+// Writes a line as it is.
+#[tactic(auto, using(conode_io::proofs::WriteLemmas::line_alone))]
+fn write_as_it_is<W: Write>(room: &mut Vec<u8>, line: &[u8], out: &mut W) -> Result<(), CmdFault>
+    ensures lines { OnOk result
+        (WritesLines (W.contents out.old) (W.contents out.new) ((line.now ++ 10 ∷ []) ∷ [])) }
+    ensures err { IfErr result (λ fault. (fault ≡ CmdFault.Write) ⊎ (fault ≡ CmdFault.Memory)) }
+{
+    room.clear();
+    room.extend_from_slice(line)?;
+    room.extend_from_slice(b"\n")?;
+    hand_over(room.as_slice(), out)
+}
+
+// Writes what is written of a line. 1 where the line is bad: then it is named.
+fn convert_line<W: Write, E: Write>(
+    room: &mut Vec<u8>,
+    log: &mut Log,
+    number: u64,
+    line: &[u8],
+    out: &mut W,
+    err: &mut E,
+) -> Result<u64, CmdFault>
+    ensures lines { OnOk result (WritesLines (W.contents out.old) (W.contents out.new)
+        (written_of line.now (says log.old line.now).1)) }
+    ensures log { OnOk result (log.new ≡ (says log.old line.now).0) }
+    ensures bad { IfOk result (λ bad. bad ≡ faults_in (says log.old line.now).1) }
+    ensures err { IfErr result (λ fault. (fault ≡ CmdFault.Write) ⊎ (fault ≡ CmdFault.Memory)) }
+{
+    match log.read(line) {
+        Ok(LogLine::Skipped) => Ok(0),
+        Ok(LogLine::AsItIs) => {
+            write_as_it_is(room, line, out)?;
+            Ok(0)
+        }
+        Ok(LogLine::Frame(frame)) => {
+            write_frame(room, &frame, out)?;
+            Ok(0)
+        }
+        Err(bad) => {
+            name_bad_line(number, bad.words(), err);
+            Ok(1)
+        }
+    }
+}
+
+impl Converting {
+    /// No line was taken.
+    pub(crate) fn new(alloc: Global, form: Form) -> Converting
+        ensures lines { result.lines ≡ nothing_held }
+        ensures log { result.log ≡ at_start form }
+    {
+        Converting {
+            lines: BoundedLines::new(),
+            log: Log { form, clock: 0 },
+            room: Vec::new(alloc),
+        }
+    }
+
+    /// Flushes the writer, unless the next line is held whole.
+    pub(crate) fn let_out<W: Write>(&self, out: &mut W) -> Result<(), CmdFault>
+        ensures text { Keeps (W.contents out.old) (W.contents out.new) }
+    {
+        if !self.lines.has_line() {
+            flush(out)?;
+        }
+        Ok(())
+    }
+
+    /// Takes the next line: writes what is written of it, or names it where it is bad. 1 where it is bad and counts, else 0;
+    /// `None` where no line is left.
+    pub(crate) fn take_line<R: Read, W: Write, E: Write>(
+        &mut self,
+        reader: &mut R,
+        number: u64,
+        out: &mut W,
+        err: &mut E,
+    ) -> Result<Option<u64>, CmdFault>
+        ensures line { IfOk result (λ next. IfSome next (λ bad.
+            Takes self.old.lines self.new.lines (R.remaining reader.old) (R.remaining reader.new)
+            self.old.log self.new.log (W.contents out.old) (W.contents out.new) bad)) }
+        ensures few { IfOk result (λ next. IfSome next (λ bad. bad ≤ 1)) }
+        ensures end { IfOk result (λ next. IfNone next ((out.new ≡ out.old)
+            × Gave self.old.lines.ended self.new.lines.ended
+            (R.remaining reader.old) (R.remaining reader.new)
+            (λ had has. IsAtEnd (to_come self.old.lines had)))) }
+    {
+        match self.lines.advance(reader) {
+            Ok(Found::End) => Ok(None),
+            Ok(Found::TooLong) => {
+                name_bad_line(number, TOO_LONG, err);
+                Ok(Some(1))
+            }
+            Ok(Found::Line) => {
+                let line = self.lines.line();
+                let bad = convert_line(&mut self.room, &mut self.log, number, line, out, err)?;
+                Ok(Some(bad))
+            }
+            Ok(Found::Last) => {
+                let line = self.lines.line();
+                convert_line(&mut self.room, &mut self.log, number, line, out, err)?;
+                Ok(Some(0))
+            }
+            Err(fault) => Err(read_fault(fault)),
+        }
+    }
+}

@@ -1,0 +1,4 @@
+pub mod Asc
+pub mod Logs
+pub mod Screen
+pub mod Trc
