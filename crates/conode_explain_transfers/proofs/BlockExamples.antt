@@ -87,6 +87,28 @@ acknowledge_lost : told (c (codes "C000210000000000") ∷ s (codes "A00021000100
 unfolding request_row_in response_row_in shifted crc_with
 acknowledge_lost = refl
 
+-- the first segment of a sub-block and its acknowledge are lost in the recording: the next sub-block isn't taken for the first one,
+-- sent again
+sub_block_missed : told (c (codes "C000210000000000") ∷ s (codes "A000210002000000") ∷ c (codes "0248494A4B4C4D4E") ∷ c (codes "814F500000000000") ∷ s (codes "A201020000000000") ∷ c (codes "D500000000000000") ∷ s (codes "A100000000000000") ∷ [])
+    ≡ record {
+      whats = Initiate ∷ Part ∷ OutOfSequence 2 1 ∷ OutOfSequence 1 3 ∷ Part ∷ Unexpected ∷ Part ∷ [];
+      ends = record { protocol = Block; bytes = 0; first = []; frames = 7; ending = Irregular } ∷ [];
+    }
+unfolding request_row_in response_row_in shifted crc_with
+sub_block_missed = refl
+
+-- segments after a missing one go on by their numbers, and aren't taken
+after_a_gap : told (c (codes "C000210000000000") ∷ s (codes "A000210004000000") ∷ c (codes "0141424344454647") ∷ c (codes "034F505152535455") ∷ c (codes "8456570000000000") ∷ s (codes "A201040000000000") ∷ [])
+    ≡ record { whats = Initiate ∷ Part ∷ Segment 1 ∷ OutOfSequence 3 2 ∷ Segment 4 ∷ Part ∷ []; ends = [] }
+unfolding request_row_in response_row_in shifted crc_with
+after_a_gap = refl
+
+-- none comes after the last
+after_the_last : told (c (codes "C000210000000000") ∷ s (codes "A000210004000000") ∷ c (codes "8141420000000000") ∷ c (codes "0243444546474849") ∷ [])
+    ≡ record { whats = Initiate ∷ Part ∷ Segment 1 ∷ Unexpected ∷ []; ends = [] }
+unfolding request_row_in response_row_in shifted crc_with
+after_the_last = refl
+
 -- byte 0 of 81h is a segment in a sub-block, and 80h an abort
 abort_in_sub_block : told (c (codes "C000210000000000") ∷ s (codes "A000210004000000") ∷ c (codes "8100210000000405") ∷ c (codes "8000210000000405") ∷ [])
     ≡ record {

@@ -16,7 +16,7 @@ use Rattle.conode_explain_transfers.specs.declared.reading.Reading.TheVariants.{
 use Rattle.conode_explain_transfers.specs.declared.stage.Stage.{Stage}
 use Rattle.conode_explain_transfers.specs.declared.stage.Stage.TheVariants.{Initiated, DownloadConfirmed, DownloadSent, UploadTaken, UploadAsked, BlockInitiated, SubBlock, AllAcknowledged, BlockEnded, Confirmed}
 use Rattle.conode_explain_transfers.specs.declared.transfer.Transfer.{Transfer}
-use Rattle.conode_explain_transfers.specs.BlockTurns.{is_block, block_download_initiated, block_upload_initiated, upload_started_at, segment_added, segment_passed, block_segment_at, acknowledged_at, acknowledged, crc_in, block_ended_at, block_ended, end_confirmed_at, end_confirmed}
+use Rattle.conode_explain_transfers.specs.BlockTurns.{is_block, block_download_initiated, block_upload_initiated, upload_started_at, segment_added, segment_ahead, segment_again, block_segment_at, acknowledged_at, acknowledged, crc_in, block_ended_at, block_ended, end_confirmed_at, end_confirmed}
 use Rattle.conode_explain_transfers.specs.Data.{confirms}
 use Rattle.conode_explain_transfers.specs.Initiates.{has_crc}
 use Rattle.conode_explain_transfers.specs.SegmentedTurns.{answering, download_segment_at, segment_done_at, upload_initiated, upload_request_at, upload_segment_at, upload_stage}
@@ -120,17 +120,10 @@ started_keeps : (stage : Stage) (transfer : Transfer) → Unconfirmed transfer �
 started_keeps BlockInitiated transfer u = refl
 started_keeps _ transfer u = u
 
-either_unconfirmed : (b : Bool) (transfer : Transfer) → Unconfirmed transfer → Unconfirmed (if b then irregular transfer else transfer)
-either_unconfirmed true transfer u = u
-either_unconfirmed false transfer u = u
-
-passed_keeps : (transfer : Transfer) (segment : BlockSegment) → Unconfirmed transfer → Keeps (segment_passed transfer segment)
-passed_keeps transfer segment u = either_unconfirmed (nat_lt segment.sequence (awaited_number transfer)) transfer u
-
 block_segment_keeps : (stage : Stage) (transfer : Transfer) (segment : BlockSegment) → Unconfirmed transfer → Keeps (block_segment_at stage transfer segment)
 block_segment_keeps (SubBlock false) transfer segment u =
-    keeps_if (segment.sequence == awaited_number transfer) (segment_added transfer segment) (segment_passed transfer segment) refl (passed_keeps transfer segment u)
-block_segment_keeps (SubBlock true) transfer segment u = passed_keeps transfer segment u
+    keeps_if (nat_lt segment.sequence transfer.next_number) (segment_again transfer segment) _ u
+    (keeps_if (segment.sequence == awaited_number transfer) (segment_added transfer segment) (segment_ahead transfer segment) refl u)
 block_segment_keeps _ transfer segment u = u
 
 acknowledged_keeps : (stage : Stage) (transfer : Transfer) (sequence block_size : ℕ) → Unconfirmed transfer → Keeps (acknowledged_at stage transfer sequence block_size)

@@ -47,28 +47,41 @@ upload_started transfer = upload_started_at transfer.stage transfer
 
 -- ---- sub-blocks
 
+-- the numbers of a sub-block's segments go up: the next one has the number after this one's
+abbrev pub numbered_after : Transfer → BlockSegment → Transfer
+numbered_after transfer segment = record transfer { next_number = segment.sequence + 1 }
+
 -- the next segment is pending
 abbrev pub segment_added : Transfer → BlockSegment → Turn
 segment_added transfer segment = record {
   what = Segment segment.sequence;
-  transfer = record transfer { pending = record { items = transfer.pending.items ++ segment.bytes }; stage = SubBlock segment.last };
+  transfer = record (numbered_after transfer segment) { pending = record { items = transfer.pending.items ++ segment.bytes }; stage = SubBlock segment.last };
   takes = None;
 }
 
--- a segment with another number: one before the awaited came already, or is of a sub-block whose beginning is missing; one after
--- it shows that some are lost on their way, which the acknowledge decides
-abbrev pub segment_passed : Transfer → BlockSegment → Turn
-segment_passed transfer segment = record {
-  what = OutOfSequence segment.sequence (awaited_number transfer);
-  transfer = (if nat_lt segment.sequence (awaited_number transfer) then irregular transfer else transfer);
+-- a segment after one that is missing, which may be lost on its way: the acknowledge says what was taken
+abbrev pub segment_ahead : Transfer → BlockSegment → Turn
+segment_ahead transfer segment = record {
+  what = (if segment.sequence == transfer.next_number then Segment segment.sequence else OutOfSequence segment.sequence transfer.next_number);
+  transfer = numbered_after transfer segment;
   takes = None;
 }
 
--- a segment: the next one has the awaited number, and none comes after the last
+-- a segment whose number isn't above those before it: it came already, or is of another sub-block, and the acknowledge between them
+-- is missing
+abbrev pub segment_again : Transfer → BlockSegment → Turn
+segment_again transfer segment = record {
+  what = OutOfSequence segment.sequence transfer.next_number;
+  transfer = irregular transfer;
+  takes = None;
+}
+
+-- a segment: it is the next one where its number is the awaited one and none was missing before it; none comes after the last
 abbrev pub block_segment_at : Stage → Transfer → BlockSegment → Turn
 block_segment_at (SubBlock false) transfer segment =
-    if segment.sequence == awaited_number transfer then segment_added transfer segment else segment_passed transfer segment
-block_segment_at (SubBlock true) transfer segment = segment_passed transfer segment
+    if nat_lt segment.sequence transfer.next_number then segment_again transfer segment
+    else (if segment.sequence == awaited_number transfer then segment_added transfer segment
+    else segment_ahead transfer segment)
 block_segment_at _ transfer segment = unexpected transfer
 
 abbrev pub block_segment : Transfer → BlockSegment → Turn
@@ -76,7 +89,7 @@ block_segment transfer = block_segment_at transfer.stage transfer
 
 -- the next sub-block has this size
 abbrev pub next_sub_block : Transfer → ℕ → Transfer
-next_sub_block transfer block_size = record transfer { block_size = block_size; stage = SubBlock false }
+next_sub_block transfer block_size = record transfer { block_size = block_size; next_number = 1; stage = SubBlock false }
 
 -- so many segments of the sub-block are acknowledged: those are taken, the others are sent again; more than came are missing. Where
 -- that is all with the last, the end comes, and says how many bytes of the last segment are data

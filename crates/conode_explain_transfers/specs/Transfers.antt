@@ -22,6 +22,7 @@ begun initiate micros bytes = record {
   size = initiate.size;
   crc = initiate.crc;
   block_size = initiate.block_size;
+  next_number = 1;
   stage = Initiated;
   irregular = false;
   pending = record { items = initiate.bytes.items };
@@ -41,7 +42,7 @@ is_download Upload = false
 abbrev pub is_same_request : Transfer → List ℕ → Bool
 is_same_request transfer bytes = is_initiated transfer.stage && bytes_eq transfer.request.items bytes
 
--- the segments of a sub-block have seven bytes each, and are numbered from 1: the number of the next one
+-- the segments of a sub-block have seven bytes each, and are numbered from 1: the number of the next one, if none is missing
 abbrev pub awaited_number : Transfer → ℕ
 awaited_number transfer = length transfer.pending.items / bytes_per_segment + 1
 

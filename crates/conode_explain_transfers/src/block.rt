@@ -9,7 +9,8 @@ ghost use Rattle.conode_explain_transfers.specs.BlockTurns.{
   block_upload_initiated,
   upload_started,
   segment_added,
-  segment_passed,
+  segment_ahead,
+  segment_again,
   block_segment,
   acknowledged,
   crc_in,
@@ -103,28 +104,43 @@ impl Transfer {
     // The next segment of a sub-block.
     fn add_segment(&mut self, segment: &BlockSegment) -> What
         requires room { length self.old.pending.items ≤ 889 }
+        requires segment { IsBlockSegment segment.now }
         ensures transfer { self.new ≡ after self.old (segment_added self.old segment.now) }
         ensures what { result ≡ (segment_added self.old segment.now).what }
     {
         self.pending.try_extend_from_slice(&segment.bytes).unwrap();
+        self.next_number = segment.sequence + 1;
         self.stage = Stage::SubBlock { last: segment.last };
         What::Segment {
             number: segment.sequence,
         }
     }
 
-    // A segment of a sub-block with another number than the next one.
-    fn pass_segment(&mut self, segment: &BlockSegment) -> What
-        ensures transfer { self.new ≡ after self.old (segment_passed self.old segment.now) }
-        ensures what { result ≡ (segment_passed self.old segment.now).what }
+    // A segment of a sub-block after one that is missing.
+    fn segment_ahead(&mut self, segment: &BlockSegment) -> What
+        requires { IsBlockSegment segment.now }
+        ensures transfer { self.new ≡ after self.old (segment_ahead self.old segment.now) }
+        ensures what { result ≡ (segment_ahead self.old segment.now).what }
     {
-        let awaited = self.awaited_number();
-        if segment.sequence < awaited {
-            self.irregular = true;
+        let number = segment.sequence;
+        let awaited = self.next_number;
+        self.next_number = number + 1;
+        if number == awaited {
+            What::Segment { number }
+        } else {
+            What::OutOfSequence { number, awaited }
         }
+    }
+
+    // A segment of a sub-block that came already, or is of another one.
+    fn segment_again(&mut self, segment: &BlockSegment) -> What
+        ensures transfer { self.new ≡ after self.old (segment_again self.old segment.now) }
+        ensures what { result ≡ (segment_again self.old segment.now).what }
+    {
+        self.irregular = true;
         What::OutOfSequence {
             number: segment.sequence,
-            awaited,
+            awaited: self.next_number,
         }
     }
 
@@ -136,13 +152,14 @@ impl Transfer {
     {
         match self.stage {
             Stage::SubBlock { last: false } => {
-                if segment.sequence == self.awaited_number() {
+                if segment.sequence < self.next_number {
+                    self.segment_again(segment)
+                } else if segment.sequence == self.awaited_number() {
                     self.add_segment(segment)
                 } else {
-                    self.pass_segment(segment)
+                    self.segment_ahead(segment)
                 }
             }
-            Stage::SubBlock { last: true } => self.pass_segment(segment),
             _ => self.unexpected(),
         }
     }
@@ -169,6 +186,7 @@ impl Transfer {
         }
         self.take_pending(BYTES_PER_SEGMENT * usize::from(sequence));
         self.block_size = block_size;
+        self.next_number = 1;
         self.stage = Stage::SubBlock { last: false };
         What::Part
     }

@@ -40,7 +40,7 @@ pub enum What {
     Part,
     /// The next segment of a sub-block, by its number.
     Segment { number: u8 },
-    /// A segment of a sub-block that isn't the next: its number, and the awaited one.
+    /// A segment of a sub-block that isn't the next: its number, and the one after the newest segment's.
     OutOfSequence { number: u8, awaited: u8 },
     /// By its toggle it came before.
     Repeated,

@@ -13,8 +13,8 @@ pub fn kept_data()
         (λ transfer. transfer.taken ≡ digest_of (data_after log)) }
 {}
 
-/// There is no false `Done`: the frame is the last confirmation of the transfer's protocol, its frames go on with one
-/// another, as many bytes came as were indicated, and the CRC, where both ends support it, is that of these bytes.
+/// What `Done` says: the frame is the last confirmation of the transfer's protocol, its frames go on with one another, as
+/// many bytes came as were indicated, and the CRC, where both ends support it, is that of these bytes.
 /// This is a law: a call of it changes nothing.
 pub fn done_is_confirmed()
     ensures { (log : List Event) (micros : ℕ) (side : End) (frame : List ℕ)

@@ -33,6 +33,8 @@ pub(crate) struct Transfer {
     pub(crate) crc: bool,
     /// How many segments a sub-block may have.
     pub(crate) block_size: u8,
+    /// The number after that of the sub-block's newest segment, also where segments before it are missing; at first 1.
+    pub(crate) next_number: u8,
     pub(crate) stage: Stage,
     /// Whether a frame came that doesn't go on with the others: frames are lost in the recording, or stand in it twice.
     pub(crate) irregular: bool,
@@ -68,6 +70,7 @@ impl Transfer {
             size: initiate.size,
             crc: initiate.crc,
             block_size: initiate.block_size,
+            next_number: 1,
             stage: Stage::Initiated,
             irregular: false,
             pending,
@@ -104,7 +107,7 @@ impl Transfer {
         self.stage.is_initiated() && self.request.as_slice() == frame.bytes()
     }
 
-    /// The number of the sub-block's next segment.
+    /// The number of the sub-block's next segment, if none is missing.
     pub(crate) fn awaited_number(&self) -> u8
         ensures number { result ≡ awaited_number self.now }
         ensures few { result ≤ 129 }
