@@ -298,7 +298,7 @@ fn convert_command<'a>(alloc: Global) -> Result<Command<'a>, AllocError>
         "log",
         "FORM",
         "auto",
-        "auto, candump, screen, screen-delta, trc or asc",
+        "The form of the log, as named below",
     );
     with_arg(command, form)
 }
