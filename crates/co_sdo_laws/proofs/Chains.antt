@@ -2,6 +2,7 @@
 use Rattle.std.proofs.Common.{◌≡◌, ℕ, ◌*◌, Bool, true, false, not, List, [], ◌∷◌, length, map, refl, sym, ap, ◌∙◌, subst}
 use Rattle.std.specs.Prelude.{if◌then◌else◌}
 use Rattle.co_value.specs.declared.key.Key.{Key}
+use Rattle.co_value.specs.Numbers.{AreBytes}
 use Rattle.co_sdo_client.specs.declared.mode.Mode.{Mode}
 use Rattle.co_sdo_client.specs.declared.mode.Mode.TheVariants.{Plain, Segmented, Block}
 use Rattle.co_sdo_client.specs.declared.state.ClientState.TheVariants.{Done}
@@ -9,14 +10,13 @@ use Rattle.co_sdo_client.specs.Calls.{Job, Download, Upload, Call}
 use Rattle.co_sdo_client.specs.Segments.{requests_needed}
 use Rattle.co_sdo_client.specs.Outcomes.{result}
 use Rattle.co_dict.specs.Rows.{Contents}
-use Rattle.co_dict.specs.Stores.{Description}
+use Rattle.co_dict.specs.Stores.{Description, IsDictionary}
 use Rattle.co_sdo.specs.Log.{Log}
 use Rattle.co_sdo_laws.specs.World.{Setup, World, WorldEvent, world_after}
 use Rattle.co_sdo_laws.specs.Undisturbed.{AreCalm, IsUndisturbed, on_their_way, rounds_after, IsOver, is_short}
 use Rattle.co_sdo_laws.specs.Chains.{Server, Transfer, calls, initiate_at, end_of, server_after, server_after_all, outcomes, results, contents_after, contents_after_all, bytes_given, all_bytes_given, Fits, MayCall, MayCallAll, IsWhole, AreWhole, IsReady, IsChain, frames_needed, in_rounds, all_in_rounds}
+use Rattle.co_sdo_laws.proofs.Transfers.{setup, Kind, at_once, at_once_lawful, segmented, segmented_lawful, sent_in_blocks, sent_lawful, uploaded, fetched_in_blocks, is_over, rests}
 use Rattle.co_sdo_laws.proofs.Progress.{rounds_calm}
-use Rattle.co_sdo_laws.proofs.Transfers.{setup, download_sets, download_closes, expedited_sets, expedited_closes, upload_gives, upload_sets_nothing, block_download_sets, block_download_closes, block_upload_gives, block_upload_sets_nothing}
-use Rattle.co_sdo_laws.proofs.Endings.{download_over, download_rests, expedited_over, expedited_rests, upload_over, upload_rests, block_download_over, block_download_rests, block_upload_over, block_upload_rests}
 
 -- ---- one transfer
 
@@ -26,96 +26,75 @@ record Ends (s : Setup) (w : World) : Type 0 where
   gives : result s.call w.events ≡ bytes_given s.contents s.call.key s.call.job
   leaves : w.contents ≡ contents_after s.contents s.call.key s.call.job
 
-abbrev EndsWith : Setup → List WorldEvent → Type 0
-EndsWith s events =
-    IsUndisturbed s events → Fits s.contents s.call.key s.call.job → on_their_way (world_after s events) ≡ 0
-    → Ends s (world_after s events)
+-- what holds of a client's transfer, whatever calm events go on
+record Passes (s : Setup) (frames : ℕ) : Type 0 where
+  ends : (events : List WorldEvent) → AreCalm s events → on_their_way (world_after s events) ≡ 0
+      → Ends s (world_after s events)
+  rests : on_their_way (world_after s (rounds_after frames [])) ≡ 0
 
-plain_download : (key : Key) (client_time : ℕ) (bytes : List ℕ) (tells : Bool) (time : ℕ) (d : Description)
-    (contents : Contents) (past : Log) (events : List WorldEvent)
-    → (short : Bool) → is_short (length bytes) ≡ short
-    → EndsWith (setup key Plain client_time (Download bytes tells) time d contents past) events
-plain_download key client_time bytes tells time d contents past events true e u fits none =
-    let s = setup key Plain client_time (Download bytes tells) time d contents past in
-    let over = expedited_over s events u e fits none in
-    record {
-      over = over;
-      gives = (expedited_closes s events u e over.done).gives;
-      leaves = expedited_sets s events u e over.done;
-    }
-plain_download key client_time bytes tells time d contents past events false e u fits none =
-    let s = setup key Plain client_time (Download bytes tells) time d contents past in
-    let over = download_over s events u (ap not e) fits none in
-    record {
-      over = over;
-      gives = (download_closes s events u (ap not e) over.done).gives;
-      leaves = download_sets s events u (ap not e) over.done;
-    }
-
-ends_by : (key : Key) (mode : Mode) (client_time : ℕ) (job : Job) (time : ℕ) (d : Description) (contents : Contents)
-    (past : Log) (events : List WorldEvent)
-    → EndsWith (setup key mode client_time job time d contents past) events
-ends_by key Plain client_time (Download bytes tells) time d contents past events u fits none =
-    plain_download key client_time bytes tells time d contents past events _ refl u fits none
-ends_by key Segmented client_time (Download bytes tells) time d contents past events u fits none =
-    let s = setup key Segmented client_time (Download bytes tells) time d contents past in
-    let over = download_over s events u refl fits none in
-    record {
-      over = over;
-      gives = (download_closes s events u refl over.done).gives;
-      leaves = download_sets s events u refl over.done;
-    }
-ends_by key Block client_time (Download bytes tells) time d contents past events u fits none =
-    let s = setup key Block client_time (Download bytes tells) time d contents past in
-    let over = block_download_over s events u refl fits none in
-    record {
-      over = over;
-      gives = (block_download_closes s events u refl over.done).gives;
-      leaves = block_download_sets s events u refl over.done;
-    }
-ends_by key Plain client_time (Upload cap) time d contents past events u fits none =
-    let s = setup key Plain client_time (Upload cap) time d contents past in
-    let over = upload_over s events u refl fits none in
-    record {
-      over = over;
-      gives = upload_gives s events u refl fits over.done;
-      leaves = upload_sets_nothing s events u refl fits;
-    }
-ends_by key Segmented client_time (Upload cap) time d contents past events u fits none =
-    let s = setup key Segmented client_time (Upload cap) time d contents past in
-    let over = upload_over s events u refl fits none in
-    record {
-      over = over;
-      gives = upload_gives s events u refl fits over.done;
-      leaves = upload_sets_nothing s events u refl fits;
-    }
-ends_by key Block client_time (Upload cap) time d contents past events u fits none =
-    let s = setup key Block client_time (Upload cap) time d contents past in
-    let over = block_upload_over s events u refl fits none in
-    record {
-      over = over;
-      gives = block_upload_gives s events u refl fits over.done;
-      leaves = block_upload_sets_nothing s events u refl fits;
-    }
-
-undisturbed : (server : Server) (call : Call) (events : List WorldEvent) → IsReady server
-    → MayCall server.description server.contents call → AreCalm (initiate_at server call) events
-    → IsUndisturbed (initiate_at server call) events
-undisturbed server call events ready may calm = record {
-  dictionary = ready.dictionary;
-  key = may.key;
-  job = may.job;
-  permitted = may.permitted;
-  idle = ready.idle;
-  calm = calm;
+passes : {needed frames requests answers : ℕ} (s : Setup)
+    → Kind s needed frames requests answers (bytes_given s.contents s.call.key s.call.job)
+    (contents_after s.contents s.call.key s.call.job)
+    → IsDictionary s.description (contents_after s.contents s.call.key s.call.job) → Passes s frames
+passes s k lawful = record {
+  ends = λ events calm none.
+      let over = is_over s k lawful events calm none in
+      let end = k.ends events calm over.done in
+      record { over = over; gives = end.gives; leaves = end.leaves };
+  rests = rests s k [] tt;
 }
+
+plain_passes : (key : Key) (client_time : ℕ) (bytes : List ℕ) (tells : Bool) (time : ℕ) (d : Description)
+    (contents : Contents) (past : Log)
+    → (short : Bool) → is_short (length bytes) ≡ short
+    → IsUndisturbed (setup key Plain client_time (Download bytes tells) time d contents past) [] → AreBytes bytes
+    → Passes (setup key Plain client_time (Download bytes tells) time d contents past)
+    (if short then 2 else 2 * requests_needed (length bytes))
+plain_passes key client_time bytes tells time d contents past true e u small =
+    let s = setup key Plain client_time (Download bytes tells) time d contents past in
+    passes s (at_once s [] u e) (at_once_lawful s [] u e small)
+plain_passes key client_time bytes tells time d contents past false e u small =
+    let s = setup key Plain client_time (Download bytes tells) time d contents past in
+    passes s (segmented s [] u (ap not e)) (segmented_lawful s [] u (ap not e) small)
+
+passes_by : (key : Key) (mode : Mode) (client_time : ℕ) (job : Job) (time : ℕ) (d : Description) (contents : Contents)
+    (past : Log)
+    → IsUndisturbed (setup key mode client_time job time d contents past) [] → Fits contents key job
+    → Passes (setup key mode client_time job time d contents past) (frames_needed mode contents key job)
+passes_by key Plain client_time (Download bytes tells) time d contents past u fits =
+    plain_passes key client_time bytes tells time d contents past _ refl u fits
+passes_by key Segmented client_time (Download bytes tells) time d contents past u fits =
+    let s = setup key Segmented client_time (Download bytes tells) time d contents past in
+    passes s (segmented s [] u refl) (segmented_lawful s [] u refl fits)
+passes_by key Block client_time (Download bytes tells) time d contents past u fits =
+    let s = setup key Block client_time (Download bytes tells) time d contents past in
+    passes s (sent_in_blocks s [] u refl) (sent_lawful s [] u refl fits)
+passes_by key Plain client_time (Upload cap) time d contents past u fits =
+    let s = setup key Plain client_time (Upload cap) time d contents past in
+    passes s (uploaded s [] u refl fits).kind u.dictionary
+passes_by key Segmented client_time (Upload cap) time d contents past u fits =
+    let s = setup key Segmented client_time (Upload cap) time d contents past in
+    passes s (uploaded s [] u refl fits).kind u.dictionary
+passes_by key Block client_time (Upload cap) time d contents past u fits =
+    let s = setup key Block client_time (Upload cap) time d contents past in
+    passes s (fetched_in_blocks s [] u refl fits) u.dictionary
+
+call_passes : (server : Server) (call : Call) → IsReady server → MayCall server.description server.contents call
+    → Passes (initiate_at server call) (frames_needed call.mode server.contents call.key call.job)
+call_passes server call ready may =
+    passes_by call.key call.mode call.time call.job server.time server.description server.contents server.past
+    (record {
+      dictionary = ready.dictionary;
+      key = may.key;
+      job = may.job;
+      permitted = may.permitted;
+      idle = ready.idle;
+      calm = tt;
+    }) may.fits
 
 ends : (server : Server) (t : Transfer) → IsReady server → MayCall server.description server.contents t.call
     → IsWhole server t → Ends (initiate_at server t.call) (end_of server t)
-ends server t ready may whole =
-    ends_by t.call.key t.call.mode t.call.time t.call.job server.time server.description server.contents server.past
-    t.events
-    (undisturbed server t.call t.events ready may whole.calm) may.fits whole.rests
+ends server t ready may whole = (call_passes server t.call ready may).ends t.events whole.calm whole.rests
 
 -- ---- each of them
 
@@ -176,42 +155,11 @@ all_ready server (t ∷ later) ready may whole =
 
 -- ---- in rounds
 
-abbrev RestsAfter : Setup → ℕ → Type 0
-RestsAfter s n =
-    IsUndisturbed s [] → Fits s.contents s.call.key s.call.job → on_their_way (world_after s (rounds_after n [])) ≡ 0
-
-plain_rests : (key : Key) (client_time : ℕ) (bytes : List ℕ) (tells : Bool) (time : ℕ) (d : Description)
-    (contents : Contents) (past : Log)
-    → (short : Bool) → is_short (length bytes) ≡ short
-    → RestsAfter (setup key Plain client_time (Download bytes tells) time d contents past)
-    (if short then 2 else 2 * requests_needed (length bytes))
-plain_rests key client_time bytes tells time d contents past true e u fits =
-    expedited_rests (setup key Plain client_time (Download bytes tells) time d contents past) [] u e
-plain_rests key client_time bytes tells time d contents past false e u fits =
-    download_rests (setup key Plain client_time (Download bytes tells) time d contents past) [] u (ap not e)
-
-rests_by : (key : Key) (mode : Mode) (client_time : ℕ) (job : Job) (time : ℕ) (d : Description) (contents : Contents)
-    (past : Log)
-    → RestsAfter (setup key mode client_time job time d contents past) (frames_needed mode contents key job)
-rests_by key Plain client_time (Download bytes tells) time d contents past u fits =
-    plain_rests key client_time bytes tells time d contents past _ refl u fits
-rests_by key Segmented client_time (Download bytes tells) time d contents past u fits =
-    download_rests (setup key Segmented client_time (Download bytes tells) time d contents past) [] u refl
-rests_by key Block client_time (Download bytes tells) time d contents past u fits =
-    block_download_rests (setup key Block client_time (Download bytes tells) time d contents past) [] u refl
-rests_by key Plain client_time (Upload cap) time d contents past u fits =
-    upload_rests (setup key Plain client_time (Upload cap) time d contents past) [] u refl fits
-rests_by key Segmented client_time (Upload cap) time d contents past u fits =
-    upload_rests (setup key Segmented client_time (Upload cap) time d contents past) [] u refl fits
-rests_by key Block client_time (Upload cap) time d contents past u fits =
-    block_upload_rests (setup key Block client_time (Upload cap) time d contents past) [] u refl fits
-
 whole_in_rounds : (server : Server) (call : Call) → IsReady server → MayCall server.description server.contents call
     → IsWhole server (in_rounds server.contents call)
 whole_in_rounds server call ready may = record {
   calm = rounds_calm (initiate_at server call) (frames_needed call.mode server.contents call.key call.job) [] tt;
-  rests = rests_by call.key call.mode call.time call.job server.time server.description server.contents server.past
-      (undisturbed server call [] ready may tt) may.fits;
+  rests = (call_passes server call ready may).rests;
 }
 
 all_whole : (server : Server) (jobs : List Call) → IsReady server

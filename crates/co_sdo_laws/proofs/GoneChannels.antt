@@ -134,19 +134,13 @@ pub data IsPlain (current : Option OpenTransfer) : Type 0 where
   upload : (key : Key) (sent : ℕ) (held : List ℕ) → current ≡ Some (record { key = key; stage = Uploading sent; bytes = held }) → IsPlain current
 
 nothing_other : (d : Description) (contents : Contents) (r : Option SdoRequest) → AreOthers (request_answers d contents None r)
-nothing_other d contents None = aborted_other (record { index = 0; sub = 0 }) 0x05040001
 nothing_other d contents (Some (DownloadExpedited key expedited)) = unless_other (completion_refusal d contents key None (expedited_part d.rows key expedited)) key _ (done_other key)
 nothing_other d contents (Some (DownloadInitiate key size)) = unless_other (initiate_refusal d key size) key _ (done_other key)
 nothing_other d contents (Some (Upload key)) = unless_other (reading_refusal d contents key) key _ (value_other key (value_at contents key) (nat_le 1 (length (value_at contents key)) && nat_le (length (value_at contents key)) 4))
 nothing_other d contents (Some (BlockUploadInitiate key size threshold)) = unless_other (first_of (reading_refusal d contents key) (block_size_refusal size)) key _ (block_initiated_other key (length (value_at contents key)))
 nothing_other d contents (Some (BlockDownloadInitiate key size)) = unless_other (initiate_refusal d key size) key _ (download_initiated_other key)
-nothing_other d contents (Some (DownloadSegment toggle part last)) = aborted_other (record { index = 0; sub = 0 }) 0x05040001
-nothing_other d contents (Some (UploadSegment toggle)) = aborted_other (record { index = 0; sub = 0 }) 0x05040001
 nothing_other d contents (Some (Abort key code)) = refl
-nothing_other d contents (Some BlockUploadEnd) = aborted_other (record { index = 0; sub = 0 }) 0x05040001
-nothing_other d contents (Some (BlockUploadAcknowledge sequence size)) = aborted_other (record { index = 0; sub = 0 }) 0x05040001
-nothing_other d contents (Some BlockUploadStart) = aborted_other (record { index = 0; sub = 0 }) 0x05040001
-nothing_other d contents (Some (BlockDownloadEnd unused)) = aborted_other (record { index = 0; sub = 0 }) 0x05040001
+nothing_other d contents _ = aborted_other (record { index = 0; sub = 0 }) 0x05040001
 
 download_other : (d : Description) (contents : Contents) (key : Key) (size : Option ℕ) (expected : Bool) (held : List ℕ) (r : Option SdoRequest)
     → AreOthers (request_answers d contents (Some (record { key = key; stage = Download size expected; bytes = held })) r)
@@ -157,13 +151,8 @@ download_other d contents k size expected held (Some (BlockUploadInitiate key n 
 download_other d contents k size expected held (Some (BlockDownloadInitiate key n)) = nothing_other d contents (Some (BlockDownloadInitiate key n))
 download_other d contents k size expected held (Some (DownloadSegment toggle part last)) =
     unless_other (segment_refusal d contents (record { key = k; stage = Download size expected; bytes = held }) size expected toggle part.items last) k _ (segment_done_other toggle)
-download_other d contents k size expected held (Some (UploadSegment toggle)) = aborted_other k 0x05040001
 download_other d contents k size expected held (Some (Abort key code)) = refl
-download_other d contents k size expected held (Some BlockUploadEnd) = aborted_other k 0x05040001
-download_other d contents k size expected held (Some (BlockUploadAcknowledge sequence n)) = aborted_other k 0x05040001
-download_other d contents k size expected held (Some BlockUploadStart) = aborted_other k 0x05040001
-download_other d contents k size expected held (Some (BlockDownloadEnd unused)) = aborted_other k 0x05040001
-download_other d contents k size expected held None = aborted_other k 0x05040001
+download_other d contents k size expected held _ = aborted_other k 0x05040001
 
 upload_other : (d : Description) (contents : Contents) (key : Key) (sent : ℕ) (held : List ℕ) (r : Option SdoRequest)
     → AreOthers (request_answers d contents (Some (record { key = key; stage = Uploading sent; bytes = held })) r)
@@ -172,14 +161,9 @@ upload_other d contents k sent held (Some (DownloadInitiate key n)) = nothing_ot
 upload_other d contents k sent held (Some (Upload key)) = nothing_other d contents (Some (Upload key))
 upload_other d contents k sent held (Some (BlockUploadInitiate key n threshold)) = nothing_other d contents (Some (BlockUploadInitiate key n threshold))
 upload_other d contents k sent held (Some (BlockDownloadInitiate key n)) = nothing_other d contents (Some (BlockDownloadInitiate key n))
-upload_other d contents k sent held (Some (DownloadSegment toggle part last)) = aborted_other k 0x05040001
 upload_other d contents k sent held (Some (UploadSegment toggle)) = unless_other (toggle_refusal toggle (is_odd sent)) k _ (segment_other toggle (nat_le (length held) (7 * sent + 7)) (record { items = part_after sent held }))
 upload_other d contents k sent held (Some (Abort key code)) = refl
-upload_other d contents k sent held (Some BlockUploadEnd) = aborted_other k 0x05040001
-upload_other d contents k sent held (Some (BlockUploadAcknowledge sequence n)) = aborted_other k 0x05040001
-upload_other d contents k sent held (Some BlockUploadStart) = aborted_other k 0x05040001
-upload_other d contents k sent held (Some (BlockDownloadEnd unused)) = aborted_other k 0x05040001
-upload_other d contents k sent held None = aborted_other k 0x05040001
+upload_other d contents k sent held _ = aborted_other k 0x05040001
 
 -- whatever comes, nothing awaited is answered
 others : (d : Description) (contents : Contents) (current : Option OpenTransfer) (frame : List ℕ) → IsPlain current → AreOthers (answers_to d contents current frame)

@@ -32,6 +32,5 @@ pub mod BlockDownloadEvents
 pub mod BlockDownloadOutcomes
 pub mod Progress
 pub mod Transfers
-pub mod Endings
 pub mod Chains
 mod ChainExamples

@@ -1,11 +1,11 @@
 -- Transfers in turns: after each request its answer. What holds of an undisturbed world after each list of events.
-use Rattle.std.proofs.Common.{◌≡◌, ℕ, ◌+◌, ◌*◌, ◌<◌, Bool, true, false, List, [], ◌∷◌, length, map, refl, ◌∙◌, arith, eqb, subst, ◌⊎◌, inl, inr}
+use Rattle.std.proofs.Common.{◌≡◌, ℕ, ◌+◌, ◌*◌, ◌<◌, Bool, true, false, List, [], ◌∷◌, length, map, refl, ◌∙◌, arith, eqb, subst, append-nil, ◌⊎◌, inl, inr}
 use Rattle.std.proofs.lemmas.Bool.{eqb-true}
 use Rattle.std.proofs.lemmas.Bool.Decides.{nat_tests}
 use Rattle.co_sdo_client.specs.declared.state.ClientState.TheVariants.{Waiting, Done}
 use Rattle.co_sdo_client.specs.Calls.{Message, message_bytes, Event as ClientEvent, Answered, Ticked as TickedAtClient, answers as answers_of}
 use Rattle.co_sdo_client.specs.Verdicts.{GoesOn, Ends, verdict}
-use Rattle.co_sdo_client.specs.Outcomes.{outcome, asked, sent, result}
+use Rattle.co_sdo_client.specs.Outcomes.{outcome, asked, sent as messages_sent, result}
 use Rattle.co_dict.specs.Rows.{Contents}
 use Rattle.co_sdo.specs.Log.{answer_bytes, Exchanged, Ticked, Log}
 use Rattle.co_sdo.specs.Replies.{reply_to}
@@ -46,36 +46,31 @@ pub record Turns (s : Setup) : Type 1 where
   pub ends : (k : ℕ) (events : List ClientEvent) → k + 1 ≡ needed → Client k events → verdict s.call events (Answered (answer k)) ≡ Ends [] value
   pub client_ticks : (k : ℕ) (events : List ClientEvent) → Client k events → Client k (TickedAtClient ∷ events)
 
--- so many requests were taken, and the next one is on its way
-pub record Asking (s : Setup) (t : Turns s) (k : ℕ) (w : World) : Type 0 where
+-- the client waits for answer k: the channel has taken j requests, and one frame is on its way
+pub record Waits (s : Setup) (t : Turns s) (j k : ℕ) (sent given : List (List ℕ)) (w : World) : Type 0 where
   within : k < t.needed
-  requests : w.requests ≡ t.request k ∷ []
-  answers : w.answers ≡ []
+  requests : w.requests ≡ sent
+  answers : w.answers ≡ given
   waits : outcome s.call w.events ≡ Waiting
-  count : sent s.call w.events ≡ k + 1
+  count : messages_sent s.call w.events ≡ k + 1
   client : t.Client k w.events
-  channel : t.Channel k w.log w.contents
-  exchanged : w.received ≡ k
+  channel : t.Channel j w.log w.contents
+  exchanged : w.received ≡ j
   answered : length (answers_of w.events) ≡ k
 
--- so many answers were taken, and the next one is on its way
-pub record Answering (s : Setup) (t : Turns s) (k : ℕ) (w : World) : Type 0 where
-  within : k < t.needed
-  requests : w.requests ≡ []
-  answers : w.answers ≡ t.answer k ∷ []
-  waits : outcome s.call w.events ≡ Waiting
-  count : sent s.call w.events ≡ k + 1
-  client : t.Client k w.events
-  channel : t.Channel (k + 1) w.log w.contents
-  exchanged : w.received ≡ k + 1
-  answered : length (answers_of w.events) ≡ k
+-- k answers were taken, and request k is on its way, or its answer
+abbrev pub Asking : (s : Setup) → Turns s → ℕ → World → Type 0
+Asking s t k w = Waits s t k k (t.request k ∷ []) [] w
+
+abbrev pub Answering : (s : Setup) → Turns s → ℕ → World → Type 0
+Answering s t k w = Waits s t (k + 1) k [] (t.answer k ∷ []) w
 
 -- all were taken
 pub record Over (s : Setup) (t : Turns s) (w : World) : Type 0 where
   requests : w.requests ≡ []
   answers : w.answers ≡ []
   done : outcome s.call w.events ≡ Done
-  count : sent s.call w.events ≡ t.needed
+  count : messages_sent s.call w.events ≡ t.needed
   value : result s.call w.events ≡ t.value
   channel : t.Channel t.needed w.log w.contents
   exchanged : w.received ≡ t.needed
@@ -154,27 +149,13 @@ no_answer s w e = rw e refl
 
 -- ---- ticks
 
-asking_ticks : (s : Setup) (t : Turns s) (k : ℕ) (w : World) → Asking s t k w → IsCalm s ClientTicked w → Asking s t k (after_event s ClientTicked w)
-asking_ticks s t k w h calm =
+waits_ticks : (s : Setup) (t : Turns s) (j k : ℕ) (sent given : List (List ℕ)) (w : World) → Waits s t j k sent given w → IsCalm s ClientTicked w
+    → Waits s t j k sent given (after_event s ClientTicked w)
+waits_ticks s t j k sent given w h calm =
     let f = follows s.call w.events TickedAtClient (GoesOn []) h.waits (tick_verdict s.call w.events (calm h.waits)) in
     record {
       within = h.within;
-      requests = rw (h.requests, f.messages) refl;
-      answers = h.answers;
-      waits = f.state;
-      count = let n = h.count in let m = f.count in omega arith;
-      client = t.client_ticks k w.events h.client;
-      channel = h.channel;
-      exchanged = h.exchanged;
-      answered = h.answered;
-    }
-
-answering_ticks : (s : Setup) (t : Turns s) (k : ℕ) (w : World) → Answering s t k w → IsCalm s ClientTicked w → Answering s t k (after_event s ClientTicked w)
-answering_ticks s t k w h calm =
-    let f = follows s.call w.events TickedAtClient (GoesOn []) h.waits (tick_verdict s.call w.events (calm h.waits)) in
-    record {
-      within = h.within;
-      requests = rw (h.requests, f.messages) refl;
+      requests = rw (f.messages, append-nil w.requests) h.requests;
       answers = h.answers;
       waits = f.state;
       count = let n = h.count in let m = f.count in omega arith;
@@ -198,28 +179,16 @@ over_ticks s t w h =
       answered = h.answered;
     }
 
-channel_asking : (s : Setup) (t : Turns s) (k : ℕ) (w : World) → Asking s t k w → IsCalm s ChannelTicked w → Asking s t k (after_event s ChannelTicked w)
-channel_asking s t k w h calm = rw calm (record {
+channel_waits : (s : Setup) (t : Turns s) (j k : ℕ) (sent given : List (List ℕ)) (w : World) → Waits s t j k sent given w → IsCalm s ChannelTicked w
+    → Waits s t j k sent given (after_event s ChannelTicked w)
+channel_waits s t j k sent given w h calm = rw calm (record {
   within = h.within;
   requests = h.requests;
   answers = h.answers;
   waits = h.waits;
   count = h.count;
   client = h.client;
-  channel = t.channel_ticks k w.log w.contents h.channel;
-  exchanged = h.exchanged;
-  answered = h.answered;
-})
-
-channel_answering : (s : Setup) (t : Turns s) (k : ℕ) (w : World) → Answering s t k w → IsCalm s ChannelTicked w → Answering s t k (after_event s ChannelTicked w)
-channel_answering s t k w h calm = rw calm (record {
-  within = h.within;
-  requests = h.requests;
-  answers = h.answers;
-  waits = h.waits;
-  count = h.count;
-  client = h.client;
-  channel = t.channel_ticks (k + 1) w.log w.contents h.channel;
+  channel = t.channel_ticks j w.log w.contents h.channel;
   exchanged = h.exchanged;
   answered = h.answered;
 })
@@ -254,11 +223,11 @@ step s t (Delivered Answers) w calm (answering k h) = elim (either k t.needed h.
 step s t (Delivered Answers) w calm (over h) = subst (InTurns s t) (no_answer s w h.answers) (over h)
 step s t (Lost queue) w calm h = absurd calm
 step s t (Repeated queue) w calm h = absurd calm
-step s t ClientTicked w calm (asking k h) = asking k (asking_ticks s t k w h calm)
-step s t ClientTicked w calm (answering k h) = answering k (answering_ticks s t k w h calm)
+step s t ClientTicked w calm (asking k h) = asking k (waits_ticks s t _ _ _ _ w h calm)
+step s t ClientTicked w calm (answering k h) = answering k (waits_ticks s t _ _ _ _ w h calm)
 step s t ClientTicked w calm (over h) = over (over_ticks s t w h)
-step s t ChannelTicked w calm (asking k h) = asking k (channel_asking s t k w h calm)
-step s t ChannelTicked w calm (answering k h) = answering k (channel_answering s t k w h calm)
+step s t ChannelTicked w calm (asking k h) = asking k (channel_waits s t _ _ _ _ w h calm)
+step s t ChannelTicked w calm (answering k h) = answering k (channel_waits s t _ _ _ _ w h calm)
 step s t ChannelTicked w calm (over h) = over (channel_over s t w h calm)
 
 pub always : (s : Setup) (t : Turns s) (events : List WorldEvent) → AreCalm s events → InTurns s t (world_after s events)
@@ -270,27 +239,22 @@ always s t (event ∷ older) calm = step s t event (world_after s older) calm.0 
 waiting≢done : Waiting ≡ Done → ⊥
 waiting≢done e = cc
 
+waits_in_turns : (s : Setup) (t : Turns s) (j k : ℕ) (sent given : List (List ℕ)) (w : World) → j + k < 2 * t.needed → length sent + length given ≡ 1
+    → Waits s t j k sent given w → GoesInTurns s.call t.needed w
+waits_in_turns s t j k sent given w more one h =
+    let n = h.exchanged in let m = h.answered in
+    let other : eqb (w.received + length (answers_of w.events)) (2 * t.needed) ≡ false = grind (arith, nat_tests) in
+    let waits = h.waits in
+    record {
+      within = omega arith;
+      state = rw (other, h.waits) refl;
+      moves = rw (other, h.requests, h.answers) one;
+      sent = λ done. cc;
+    }
+
 pub goes_in_turns : (s : Setup) (t : Turns s) (w : World) → InTurns s t w → GoesInTurns s.call t.needed w
-goes_in_turns s t w (asking k h) =
-    let n = h.exchanged in let m = h.answered in let q = h.within in
-    let other : eqb (w.received + length (answers_of w.events)) (2 * t.needed) ≡ false = grind (arith, nat_tests) in
-    let waits = h.waits in
-    record {
-      within = omega arith;
-      state = rw (other, h.waits) refl;
-      moves = rw (other, h.requests, h.answers) refl;
-      sent = λ done. cc;
-    }
-goes_in_turns s t w (answering k h) =
-    let n = h.exchanged in let m = h.answered in let q = h.within in
-    let other : eqb (w.received + length (answers_of w.events)) (2 * t.needed) ≡ false = grind (arith, nat_tests) in
-    let waits = h.waits in
-    record {
-      within = omega arith;
-      state = rw (other, h.waits) refl;
-      moves = rw (other, h.requests, h.answers) refl;
-      sent = λ done. cc;
-    }
+goes_in_turns s t w (asking k h) = let q = h.within in waits_in_turns s t k k _ _ w (omega arith) refl h
+goes_in_turns s t w (answering k h) = let q = h.within in waits_in_turns s t (k + 1) k _ _ w (omega arith) refl h
 goes_in_turns s t w (over h) =
     let n = h.exchanged in let m = h.answered in
     let all : eqb (w.received + length (answers_of w.events)) (2 * t.needed) ≡ true = grind (arith, nat_tests) in

@@ -1,21 +1,12 @@
-use Rattle.co_sdo_laws.proofs.Transfers.{block_download_goes, block_download_sends, block_download_sets}
-use Rattle.co_sdo_laws.proofs.Endings.{block_download_ends, block_download_over, block_download_rests}
+use Rattle.co_sdo_laws.proofs.Transfers.{sent_in_blocks, sent_lawful, is_done, is_over, rests}
 use Rattle.co_sdo_laws.proofs.undisturbed.block_download.Goals as goal
 
-pub returns-clause-blocks : goal.returns-clause-blocks
-returns-clause-blocks c = block_download_goes
-
-pub returns-clause-entry : goal.returns-clause-entry
-returns-clause-entry c = block_download_sets
-
-pub returns-clause-frames : goal.returns-clause-frames
-returns-clause-frames c = block_download_sends
-
-pub returns-clause-ends : goal.returns-clause-ends
-returns-clause-ends c = block_download_ends
-
-pub returns-clause-over : goal.returns-clause-over
-returns-clause-over c = block_download_over
-
-pub returns-clause-rests : goal.returns-clause-rests
-returns-clause-rests c = block_download_rests
+pub returns : goal.returns
+returns c = record {
+  blocks = λ s events u t. (sent_in_blocks s events u t).goes events u.calm;
+  entry = λ s events u t done. ((sent_in_blocks s events u t).ends events u.calm done).leaves;
+  frames = λ s events u t done. ((sent_in_blocks s events u t).ends events u.calm done).sends;
+  over = λ s events u t small. is_over s (sent_in_blocks s events u t) (sent_lawful s events u t small) events u.calm;
+  ends = λ s events u t. is_done s (sent_in_blocks s events u t) events u.calm;
+  rests = λ s events u t. rests s (sent_in_blocks s events u t) events u.calm;
+}

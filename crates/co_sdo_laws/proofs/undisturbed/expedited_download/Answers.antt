@@ -1,21 +1,12 @@
-use Rattle.co_sdo_laws.proofs.Transfers.{expedited_goes, expedited_sets}
-use Rattle.co_sdo_laws.proofs.Endings.{expedited_ends, expedited_over, expedited_rests, expedited_sends}
+use Rattle.co_sdo_laws.proofs.Transfers.{expedited_goes, at_once, at_once_lawful, is_done, is_over, rests}
 use Rattle.co_sdo_laws.proofs.undisturbed.expedited_download.Goals as goal
 
-pub returns-clause-turns : goal.returns-clause-turns
-returns-clause-turns c = expedited_goes
-
-pub returns-clause-entry : goal.returns-clause-entry
-returns-clause-entry c = expedited_sets
-
-pub returns-clause-ends : goal.returns-clause-ends
-returns-clause-ends c = expedited_ends
-
-pub returns-clause-frames : goal.returns-clause-frames
-returns-clause-frames c = expedited_sends
-
-pub returns-clause-over : goal.returns-clause-over
-returns-clause-over c = expedited_over
-
-pub returns-clause-rests : goal.returns-clause-rests
-returns-clause-rests c = expedited_rests
+pub returns : goal.returns
+returns c = record {
+  turns = expedited_goes;
+  entry = λ s events u t done. ((at_once s events u t).ends events u.calm done).leaves;
+  frames = λ s events u t done. ((at_once s events u t).ends events u.calm done).sends;
+  over = λ s events u t small. is_over s (at_once s events u t) (at_once_lawful s events u t small) events u.calm;
+  ends = λ s events u t. is_done s (at_once s events u t) events u.calm;
+  rests = λ s events u t. rests s (at_once s events u t) events u.calm;
+}

@@ -1,21 +1,12 @@
-use Rattle.co_sdo_laws.proofs.Transfers.{download_goes, download_sets}
-use Rattle.co_sdo_laws.proofs.Endings.{download_ends, download_over, download_rests, download_sends}
+use Rattle.co_sdo_laws.proofs.Transfers.{download_goes, segmented, segmented_lawful, is_done, is_over, rests}
 use Rattle.co_sdo_laws.proofs.undisturbed.segmented_download.Goals as goal
 
-pub returns-clause-turns : goal.returns-clause-turns
-returns-clause-turns c = download_goes
-
-pub returns-clause-entry : goal.returns-clause-entry
-returns-clause-entry c = download_sets
-
-pub returns-clause-ends : goal.returns-clause-ends
-returns-clause-ends c = download_ends
-
-pub returns-clause-frames : goal.returns-clause-frames
-returns-clause-frames c = download_sends
-
-pub returns-clause-over : goal.returns-clause-over
-returns-clause-over c = download_over
-
-pub returns-clause-rests : goal.returns-clause-rests
-returns-clause-rests c = download_rests
+pub returns : goal.returns
+returns c = record {
+  turns = download_goes;
+  entry = λ s events u t done. ((segmented s events u t).ends events u.calm done).leaves;
+  frames = λ s events u t done. ((segmented s events u t).ends events u.calm done).sends;
+  over = λ s events u t small. is_over s (segmented s events u t) (segmented_lawful s events u t small) events u.calm;
+  ends = λ s events u t. is_done s (segmented s events u t) events u.calm;
+  rests = λ s events u t. rests s (segmented s events u t) events u.calm;
+}
