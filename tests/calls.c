@@ -141,6 +141,7 @@ static size_t give(bafokun_node *node, const char *input, bafokun_frame *frames)
         return bafokun_raise(node, (uint16_t)code, (uint8_t)bits, none, frames, BAFOKUN_MOST_FRAMES);
     }
     if (sscanf(input, "clear %x", &bits) == 1) return bafokun_clear(node, (uint8_t)bits, frames, BAFOKUN_MOST_FRAMES);
+    if (sscanf(input, "bus %lu", &number) == 1) return bafokun_bus(node, (uint8_t)number, frames, BAFOKUN_MOST_FRAMES);
     if (sscanf(input, "write %x:%x %lx", &index, &sub, &number) == 3) {
         uint8_t bytes[2];
         bytes[0] = (uint8_t)number;
@@ -176,6 +177,8 @@ static bool run_line(bafokun_node *node, const char *line)
     uint32_t code;
     if (strncmp(line, "value ", 6) == 0) return has_value(node, line + 6);
     if (strncmp(line, "state ", 6) == 0) return bafokun_state(node) == atoi(line + 6);
+    if (strcmp(line, "idle for ever") == 0) return bafokun_idle(node) == BAFOKUN_FOREVER;
+    if (strncmp(line, "idle ", 5) == 0) return bafokun_idle(node) == strtoul(line + 5, NULL, 10);
     if (strncmp(line, "held ", 5) == 0) return bafokun_held(node, 0) == (size_t)atoi(line + 5);
     if (strcmp(line, "done") == 0) return bafokun_answer(node, &code) == BAFOKUN_DONE && code == 0;
     if (strncmp(line, "refused ", 8) == 0)
@@ -260,6 +263,140 @@ static const char *const application[] = {
     "raise 0000 01",
     "refused 06090030",
     "000#0205",
+    "state 4",
+    NULL
+};
+
+/* for how many ticks nothing is due */
+static const char *const idle[] = {
+    "idle for ever",
+    /* the device's own heartbeat, each 100 ms */
+    "605#2B17100064000000 = 585#6017100000000000",
+    "idle 99",
+    "ticks 60",
+    "idle 39",
+    "ticks 39",
+    "idle 0",
+    "ticks 1 = 705#7F",
+    "idle 99",
+    /* in stopped too */
+    "000#0205",
+    "idle 99",
+    "000#8005",
+    "605#2B17100001000000 = 585#6017100000000000",
+    "idle 0",
+    "ticks 1 = 705#7F",
+    "idle 0",
+    "605#2B17100000000000 = 585#6017100000000000",
+    "idle for ever",
+    /* a transfer, which may wait for a second */
+    "605#210120000A000000 = 585#6001200000000000",
+    "idle 999",
+    "ticks 500",
+    "idle 499",
+    "605#0030313233343536 = 585#2000000000000000",
+    "idle 999",
+    "ticks 1000 = 585#8001200000000405",
+    "idle for ever",
+    /* the heartbeat of node 7, which is lost after 100 ms, from the first one on */
+    "605#2316100164000700 = 585#6016100100000000",
+    "idle for ever",
+    "707#05",
+    "ticks 30",
+    "idle 69",
+    "605#2B17100032000000 = 585#6017100000000000",
+    "idle 49",
+    "605#2B17100000000000 = 585#6017100000000000",
+    "idle 69",
+    /* and that of node 8, after 40 ms */
+    "605#2316100228000800 = 585#6016100200000000",
+    "708#05",
+    "idle 39",
+    "ticks 40 = 085#3081110000000000",
+    "idle 29",
+    "ticks 30 = 085#3081110000000000",
+    "idle for ever",
+    NULL
+};
+static const char *const idle_event_timer[] = {
+    "idle for ever",
+    "000#0105",
+    "idle 49",
+    "ticks 20",
+    "idle 29",
+    "event 0 = 185#00000000",
+    "idle 49",
+    "ticks 50 = 185#00000000",
+    "idle 49",
+    /* it isn't active */
+    "605#2300180185010080 = 585#6000180100000000",
+    "idle for ever",
+    "605#2300180185010000 = 585#6000180100000000",
+    "idle 49",
+    "000#8005",
+    "idle for ever",
+    NULL
+};
+static const char *const idle_inhibit_time[] = {
+    "000#0105",
+    "idle for ever",
+    "event 0 = 185#00000000",
+    "idle for ever",
+    "ticks 40",
+    "event 0",
+    "idle 59",
+    "ticks 60 = 185#00000000",
+    "idle for ever",
+    NULL
+};
+/* a synchronous TPDO is due at a SYNC, and at no tick */
+static const char *const idle_synchronous[] = { "000#0105", "event 0", "idle for ever", "080# = 185#00000000", "idle for ever", NULL };
+static const char *const idle_emergencies[] = {
+    "raise 1000 01 = 085#0010010000000000",
+    "idle for ever",
+    "raise 2000 01",
+    "idle 49",
+    /* while it is stopped none is sent */
+    "000#0205",
+    "idle for ever",
+    "ticks 10",
+    "000#8005",
+    "idle 39",
+    "ticks 40 = 085#0020010000000000",
+    "idle for ever",
+    NULL
+};
+static const char *const bus[] = {
+    "000#0105",
+    "bus 1 = 085#2081110000000000",
+    "done",
+    "value 1001:00 11",
+    "bus 0 = 085#0000000000000000",
+    "value 1001:00 00",
+    "state 5",
+    "bus 2",
+    "state 127",
+    "bus 3 = 085#4081110000000000",
+    "605#4003100100000000 = 585#4303100140810000",
+    "bus 0 = 085#0000000000000000",
+    /* other errors stay */
+    "raise 4200 08 = 085#0042090000000000",
+    "bus 1 = 085#2081190000000000",
+    "bus 0 = 085#0000090000000000",
+    "bus 4",
+    "state 127",
+    /* 1029:01 is 2, then 1, then 0 in a state that isn't operational */
+    "605#2F29100102000000 = 585#6029100100000000",
+    "000#0105",
+    "bus 2",
+    "state 4",
+    "000#0105",
+    "605#2F29100101000000 = 585#6029100100000000",
+    "bus 2",
+    "state 5",
+    "605#2F29100100000000 = 585#6029100100000000",
+    "000#0205",
+    "bus 2",
     "state 4",
     NULL
 };
@@ -402,6 +539,61 @@ static void test_ticks(void)
     check(bafokun_ticks(&node, 100000, &elapsed, frames, 3) == 0 && elapsed == 100000, "ticks", "nothing is due");
     bafokun_free(&node);
     check(bafokun_ticks(&node, 7, &elapsed, frames, 3) == 0 && elapsed == 7, "ticks", "of an empty place");
+    check(bafokun_idle(&node) == BAFOKUN_FOREVER, "ticks", "which is idle");
+}
+
+static bool is_entry(bafokun_node *node, size_t number, unsigned index, int type, int original, int access, size_t capacity,
+                     size_t length)
+{
+    bafokun_entry_info entry;
+    return bafokun_entry(node, number, &entry) && entry.index == index && entry.sub_index == 0 && entry.type == type
+        && entry.original_type == original && entry.access == access && entry.capacity == capacity && entry.length == length;
+}
+
+/* All entries of the sheet, by their numbers, and what the sheet says of them. */
+static void test_entries(void)
+{
+    static char text[65536];
+    bafokun_node node = BAFOKUN_EMPTY;
+    bafokun_fault fault;
+    bafokun_entry_info entry, before;
+    bafokun_frame frame;
+    const char *at = strstr(sheet, "[2001]\n"), *next = strstr(sheet, "[2002]\n");
+    char name[16];
+    size_t number, found = 77, length, unlike = 0;
+    at += strlen("[2001]\n");
+    next += strlen("[2002]\n");
+    sprintf(text, "%.*sParameterName = Device name\n%.*sOriginalDataType=8\n%s", (int)(at - sheet), sheet, (int)(next - at), at, next);
+    check(bafokun_build(&node, text, strlen(text), 5, &config, &fault), "entries", "build");
+    memset(&before, 0, sizeof before);
+    for (number = 0; bafokun_entry(&node, number, &entry); number++) {
+        uint8_t byte;
+        unlike += number > 0 && (before.index << 8 | before.sub_index) >= (entry.index << 8 | entry.sub_index);
+        unlike += !bafokun_find(&node, entry.index, entry.sub_index, &found) || found != number;
+        unlike += !bafokun_value(&node, entry.index, entry.sub_index, &byte, 0, &length) || length != entry.length;
+        before = entry;
+    }
+    check(number == 46, "entries", "all 46");
+    check(unlike == 0, "entries", "by increasing key, each is found, and has the length of its value");
+    check(entry.index == 0x2100, "entries", "past the last nothing is written");
+    check(is_entry(&node, 0, 0x1000, 0x07, 0x07, BAFOKUN_RO, 4, 4), "entries", "1000:00");
+    check(is_entry(&node, 41, 0x2001, 0x09, 0x09, BAFOKUN_RW, 16, 0), "entries", "2001:00, a VISIBLE_STRING");
+    check(is_entry(&node, 42, 0x2002, 0x07, 0x08, BAFOKUN_RW, 4, 4), "entries", "2002:00, that was a REAL32");
+    check(is_entry(&node, 43, 0x2003, 0x06, 0x06, BAFOKUN_RW, 2, 2), "entries", "2003:00, an UNSIGNED16");
+    check(is_entry(&node, 44, 0x2004, 0x06, 0x06, BAFOKUN_WO, 2, 2), "entries", "2004:00, write only");
+    check(is_entry(&node, 45, 0x2100, 0x0F, 0x0F, BAFOKUN_RW, 889, 0), "entries", "2100:00, a DOMAIN");
+    check(bafokun_write(&node, 0x2001, 0, (const uint8_t *)"ten", 3, &frame, 1) == 0, "entries", "write");
+    check(is_entry(&node, 41, 0x2001, 0x09, 0x09, BAFOKUN_RW, 16, 3), "entries", "2001:00 has three bytes");
+    check(!bafokun_find(&node, 0x2001, 1, &found) && found == 45, "entries", "no 2001:01");
+    memset(name, '#', sizeof name);
+    check(bafokun_entry_name(&node, 41, name, sizeof name) == 11 && memcmp(name, "Device name\0#", 13) == 0, "entries", "its name");
+    check(bafokun_entry_name(&node, 41, name, 4) == 11 && memcmp(name, "Dev\0ce", 6) == 0, "entries", "room for three");
+    check(bafokun_entry_name(&node, 42, name, 4) == 0 && name[0] == 0, "entries", "no name");
+    check(bafokun_entry_name(&node, SIZE_MAX, name + 1, 0) == 0 && name[1] == 'e', "entries", "no such entry");
+    bafokun_free(&node);
+    check(!bafokun_entry(&node, 0, &entry) && entry.index == 0x2100, "entries", "none of an empty place");
+    check(!bafokun_find(&node, 0x1000, 0, &found) && found == 45, "entries", "which has none to find");
+    check(bafokun_entry_name(&node, 41, name, 4) == 0 && name[0] == 0, "entries", "nor a name");
 }
 
 /* The words of the faults and abort codes: none is too long for the array, and an array with less room has a 0 at its end. */
@@ -455,6 +647,7 @@ static void test_empty_place(void)
     check(bafokun_changed(&node, 0x2001, 0, &frame, 1) == 0, "empty", "changed");
     check(bafokun_raise(&node, 0x1000, 1, none, &frame, 1) == 0, "empty", "raise");
     check(bafokun_clear(&node, 1, &frame, 1) == 0, "empty", "clear");
+    check(bafokun_bus(&node, BAFOKUN_BUS_OFF, &frame, 1) == 0, "empty", "bus");
     check(bafokun_sent(&node, 0, &frame, 1) == 0, "empty", "sent");
     check(!bafokun_value(&node, 0x1000, 0, &byte, 1, &length), "empty", "value");
     check(bafokun_answer(&node, &code) == BAFOKUN_NO_EVENT && code == 0, "empty", "answer");
@@ -492,6 +685,7 @@ int main(int argc, char **argv)
     check(sizeof(bafokun_frame) == 12, "layout", "frame");
     check(sizeof(bafokun_config) == 6, "layout", "config");
     check(sizeof(bafokun_fault) == 16, "layout", "fault");
+    check(sizeof(bafokun_entry_info) == 8 + 2 * sizeof(size_t), "layout", "entry");
     run("boot-up", "", boot_up);
     run("expedited upload", "", expedited_upload);
     run("segmented download", "", segmented_download);
@@ -501,10 +695,17 @@ int main(int argc, char **argv)
     run("lost heartbeat", "", lost_heartbeat);
     run("SYNC length and reset", "", sync_and_reset);
     run("application", "", application);
+    run("bus", "", bus);
+    run("idle", "", idle);
+    run("idle, an event timer", "1800sub5=50", idle_event_timer);
+    run("idle, an inhibit time", "1800sub3=1000", idle_inhibit_time);
+    run("idle, a synchronous TPDO", "1800sub2=0 1800sub5=50", idle_synchronous);
+    run("idle, emergencies", "1015=500", idle_emergencies);
     test_faults();
     test_reset();
     test_small_arrays();
     test_ticks();
+    test_entries();
     test_texts();
     test_empty_place();
     test_refused_memory();

@@ -15,13 +15,14 @@ from .bus import run, running
 from .entry import Entry
 from .faults import BuildFault, Fault, Refused, SheetFault
 from .frame import AnyFrame, Frame
-from .node import Node, State
+from .node import BusChange, Node, State
 from .values import DataType, Value
 from .version import __version__
 
 __all__ = [
     "AnyFrame",
     "BuildFault",
+    "BusChange",
     "DataType",
     "Entry",
     "Fault",

@@ -55,6 +55,11 @@ class Entry:
         return self._description.access
 
     @property
+    def capacity(self) -> int:
+        """How many bytes it has room for."""
+        return self._description.capacity
+
+    @property
     def bytes(self) -> bytes:
         """The bytes, least significant first. When they are set they are all of the entry's."""
         return self._node.read(self.index, self.sub_index)

@@ -43,7 +43,28 @@ class CFault(ctypes.Structure):
     ]
 
 
+class CEntry(ctypes.Structure):
+    """An entry of the object dictionary."""
+
+    _fields_ = [
+        ("index", c_uint16),
+        ("sub_index", c_uint8),
+        ("access", c_uint8),
+        ("type", c_uint16),
+        ("original_type", c_uint16),
+        ("capacity", c_size_t),
+        ("length", c_size_t),
+    ]
+
+
+ACCESS = {1: "ro", 2: "wo", 3: "rw", 4: "rwr", 5: "rww", 6: "const"}
+"""By the library's number the word of AccessType."""
+
+MOST_NAME = 512
+"""No line of a sheet is longer."""
+
 NO_FAULT, SHEET_FAULT, DEVICE_FAULT = 0, 1, 2
+FOREVER = 0xFFFFFFFF
 DONE, REFUSED = 1, 2
 
 _NODE = POINTER(CNode)
@@ -62,11 +83,15 @@ _CALLS = {
     "changed": (c_size_t, _NODE, *_KEY, *_FRAMES),
     "raise": (c_size_t, _NODE, c_uint16, c_uint8, c_char_p, *_FRAMES),
     "clear": (c_size_t, _NODE, c_uint8, *_FRAMES),
+    "bus": (c_size_t, _NODE, c_uint8, *_FRAMES),
     "value": (c_bool, _NODE, *_KEY, POINTER(c_uint8), c_size_t, POINTER(c_size_t)),
+    "entry": (c_bool, _NODE, c_size_t, POINTER(CEntry)),
+    "entry_name": (c_size_t, _NODE, c_size_t, c_char_p, c_size_t),
     "node_id": (c_uint8, _NODE),
     "state": (c_uint8, _NODE),
     "answer": (c_uint8, _NODE, POINTER(c_uint32)),
     "held": (c_size_t, _NODE, c_uint8),
+    "idle": (c_uint32, _NODE),
 }
 
 

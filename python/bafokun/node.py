@@ -14,8 +14,8 @@ from . import library as c
 from .entry import Entry
 from .faults import BuildFault, Refused, SheetFault
 from .frame import AnyFrame, Frame, frame_of
-from .sheet import descriptions, node_id_of
-from .values import Value
+from .sheet import Description, Sheet, node_id_of
+from .values import DataType, Value
 
 Key = Union[str, int, Tuple[int, int]]
 """An entry's name, "Object.Entry", an index, or an index and a sub-index."""
@@ -34,6 +34,17 @@ class State(IntEnum):
     STOPPED = 4
     OPERATIONAL = 5
     PRE_OPERATIONAL = 127
+
+
+class BusChange(IntEnum):
+    """Changes of a CAN controller."""
+
+    ACTIVE = 0
+    """Error active again, after error passive or once it has recovered."""
+    PASSIVE = 1
+    OFF = 2
+    RECOVERED = 3
+    """Recovered from bus-off; ACTIVE comes next."""
 
 
 def _checked(name: str, value: int, most: int) -> int:
@@ -88,7 +99,7 @@ class Node:
             raise BuildFault(fault.number, fault.index, fault.sub_index, path)
         # also where nobody closes it
         self._free = weakref.finalize(self, self._library.bafokun_free, self._handle)
-        self._entries = {(it.index, it.sub_index): Entry(self, it) for it in descriptions(sheet, self._has)}
+        self._entries = {(it.index, it.sub_index): Entry(self, it) for it in self._descriptions(Sheet(sheet))}
         self._names = self._named()
 
     @classmethod
@@ -115,6 +126,22 @@ class Node:
 
     def __exit__(self, *_: object) -> None:
         self.close()
+
+    def _descriptions(self, sheet: Sheet) -> Iterator[Description]:
+        """What the sheet says of all entries, by key."""
+        entry, name, number = c.CEntry(), ctypes.create_string_buffer(c.MOST_NAME + 1), 0
+        while self._call("entry", number, entry):
+            length = self._call("entry_name", number, name, len(name))
+            yield Description(
+                entry.index,
+                entry.sub_index,
+                name.raw[:length].decode(sheet.encoding),
+                sheet.object_name(entry.index),
+                DataType(entry.original_type),
+                c.ACCESS[entry.access],
+                entry.capacity,
+            )
+            number += 1
 
     def _named(self) -> Dict[str, List[Entry]]:
         names: Dict[str, List[Entry]] = {}
@@ -147,9 +174,6 @@ class Node:
             code = ctypes.c_uint32()
             if self._call("answer", code) == c.REFUSED:
                 raise Refused(code.value)
-
-    def _has(self, index: int, sub_index: int) -> bool:
-        return bool(self._call("value", index, sub_index, (ctypes.c_uint8 * 1)(), 0, ctypes.c_size_t()))
 
     # ---- the bus and the clock
 
@@ -214,6 +238,13 @@ class Node:
         """Errors have ended: these bits of the error register are cleared."""
         self._event("clear", _checked("bits", bits, 0xFF))
 
+    def bus_changed(self, change: BusChange) -> None:
+        """The CAN controller changed. PASSIVE raises the error 8120h, RECOVERED 8140h; ACTIVE clears them.
+
+        OFF leaves operational or stops, by the error behaviour of 1029:01, as a lost heartbeat does.
+        """
+        self._input("bus", BusChange(change))
+
     # ---- questions
 
     @property
@@ -225,6 +256,11 @@ class Node:
     def state(self) -> State:
         """The NMT state."""
         return State(self._call("state"))
+
+    def idle(self) -> Optional[int]:
+        """For at least so many ms it sends nothing, and neither an entry nor its state changes, if nothing is received. None: ever."""
+        ms = int(self._call("idle"))
+        return None if ms == c.FOREVER else ms
 
     def held(self, channel: int) -> int:
         """How many bytes are held for the transfer of an SDO channel."""

@@ -1,4 +1,4 @@
-"""The names, data types and access of a sheet's entries, which the library doesn't give.
+"""What a sheet says that the library doesn't give: the names of objects, and the node-ID.
 
 The library has accepted the sheet, so nothing is checked again. docs/SHEETS.md has what a sheet is.
 """
@@ -7,20 +7,11 @@ from __future__ import annotations
 
 import re
 from dataclasses import dataclass
-from typing import Callable, Dict, Iterator, List, Optional, Tuple
+from typing import Dict, List, Optional, Tuple
 
 from .values import DataType
 
-_HEADING = re.compile(r"([0-9a-f]{1,4})(?:sub([0-9a-f]{1,2}))?", re.ASCII | re.IGNORECASE)
-
-# what an adapted sheet has for types that the library doesn't know, and these
-_ADAPTED = {
-    DataType.REAL32: DataType.UNSIGNED32,
-    DataType.REAL64: DataType.UNSIGNED64,
-    DataType.UNICODE_STRING: DataType.OCTET_STRING,
-    DataType.TIME_OF_DAY: DataType.UNSIGNED48,
-    DataType.TIME_DIFFERENCE: DataType.UNSIGNED48,
-}
+_HEADING = re.compile(r"([0-9a-f]{1,4})", re.ASCII | re.IGNORECASE)
 
 _ARRAY, _RECORD = 8, 9
 
@@ -35,24 +26,26 @@ class Description:
     object_name: str
     type: DataType
     access: str
+    capacity: int
 
 
 Section = Dict[str, str]
 
 
-def _decoded(text: bytes) -> str:
+def _encoding(text: bytes) -> str:
     """Names are UTF-8, or Latin-1 where the text isn't UTF-8."""
-    text = text[3:] if text.startswith(b"\xef\xbb\xbf") else text
     try:
-        return text.decode("utf-8")
+        text.decode("utf-8")
     except UnicodeDecodeError:
-        return text.decode("latin-1")
+        return "latin-1"
+    return "utf-8"
 
 
 def _sections(text: bytes) -> List[Tuple[str, Section]]:
     """The sections in order: the name in lower case, and the keys in lower case with what they have, if it isn't empty."""
     sections: List[Tuple[str, Section]] = []
-    for line in _decoded(text).replace("\r\n", "\n").split("\n"):
+    text = text[3:] if text.startswith(b"\xef\xbb\xbf") else text
+    for line in text.decode(_encoding(text)).replace("\r\n", "\n").split("\n"):
         line = line.strip(" \t")
         if line.startswith("["):
             sections.append((line[1:].partition("]")[0].strip(" \t").lower(), {}))
@@ -69,38 +62,22 @@ def _number(text: Optional[str]) -> Optional[int]:
     return int(match[0], 16 if match[1] else 10) if match else None
 
 
-def _type(section: Section) -> DataType:
-    # a DOMAIN may leave it out
-    given = DataType(_number(section.get("datatype")) or DataType.DOMAIN)
-    original = _number(section.get("originaldatatype"))
-    if original in _ADAPTED and _ADAPTED[DataType(original)] is given:
-        return DataType(original)
-    return given
+class Sheet:
+    """What an accepted sheet says besides what the library gives."""
 
+    def __init__(self, text: bytes):
+        self.encoding = _encoding(text)
+        self._objects: Dict[int, Section] = {}
+        for heading, section in _sections(text):
+            match = _HEADING.fullmatch(heading)
+            if match:
+                self._objects[int(match[1], 16)] = section
 
-def descriptions(text: bytes, is_entry: Callable[[int, int], bool]) -> Iterator[Description]:
-    """What an accepted sheet says of the device's entries, by key. is_entry says which keys, index and sub-index, are entries."""
-    objects: Dict[int, Section] = {}
-    parts: Dict[int, Dict[int, Section]] = {}
-    for heading, section in _sections(text):
-        match = _HEADING.fullmatch(heading)
-        if match and match[2] is None:
-            objects[int(match[1], 16)] = section
-        elif match:
-            parts.setdefault(int(match[1], 16), {})[int(match[2], 16)] = section
-    for index, owner in sorted(objects.items(), key=lambda it: it[0]):
-        has_parts = _number(owner.get("objecttype")) in (_ARRAY, _RECORD)
-        entries = parts.get(index, {}) if has_parts else {0: owner}
-        for sub_index, section in sorted(entries.items(), key=lambda it: it[0]):
-            if is_entry(index, sub_index):
-                yield Description(
-                    index,
-                    sub_index,
-                    section.get("parametername", ""),
-                    owner.get("parametername", "") if has_parts else "",
-                    _type(section),
-                    section.get("accesstype", "rw").lower(),
-                )
+    def object_name(self, index: int) -> str:
+        """The ParameterName of an ARRAY or a RECORD; "" of a VAR and a DOMAIN."""
+        section = self._objects[index]
+        has_parts = _number(section.get("objecttype")) in (_ARRAY, _RECORD)
+        return section.get("parametername", "") if has_parts else ""
 
 
 def node_id_of(text: bytes) -> Optional[int]:

@@ -134,6 +134,7 @@ class Entries(unittest.TestCase):
         self.assertIs(node[0x6110, 1], entry)
         self.assertIs(node["AI sensor type 1"], entry)
         self.assertEqual((entry.object_name, node[0x1000].object_name), ("AI sensor type", ""))
+        self.assertEqual((entry.capacity, node[0x1000].capacity), (2, 4))
         self.assertEqual([it.index for it in node][:2], [0x1000, 0x1001])
         self.assertIn("Device type", node)
         for missing, text in [
@@ -274,6 +275,31 @@ class Inputs(unittest.TestCase):
         self.assertEqual(node[0x1001].raw, 0)
         self.assertEqual((node.node_id, node.held(0)), (8, 0))
 
+    def test_bus_changed(self):
+        """8120h and 8140h come and go (CiA 301, 7.2.7.1); at bus-off operational is left, by 1029:01 (7.5.2.32)."""
+        node = bafokun.Node.from_sheet(MODULE, 8)
+        node.take((0, b"\x01\x08"))
+        for change, frames, state in [
+            (bafokun.BusChange.PASSIVE, ["088#2081110000000000"], bafokun.State.OPERATIONAL),
+            (bafokun.BusChange.ACTIVE, ["088#0000000000000000"], bafokun.State.OPERATIONAL),
+            (bafokun.BusChange.OFF, [], bafokun.State.PRE_OPERATIONAL),
+            (bafokun.BusChange.RECOVERED, ["088#4081110000000000"], bafokun.State.PRE_OPERATIONAL),
+            (bafokun.BusChange.ACTIVE, ["088#0000000000000000"], bafokun.State.PRE_OPERATIONAL),
+        ]:
+            node.bus_changed(change)
+            self.assertEqual([str(it) for it in node.frames()], frames)
+            self.assertIs(node.state, state)
+
+    def test_idle(self):
+        """Nothing is due before the next heartbeat, and never where there is none (CiA 301, 7.2.8.3.2)."""
+        node = bafokun.Node.from_sheet(SENSOR, 5)
+        self.assertEqual(node.idle(), 999)
+        self.assertEqual((node.tick(400), node.idle()), ([], 599))
+        self.assertEqual((node.tick(599), node.idle()), ([], 0))
+        self.assertEqual([str(it) for it in node.tick()], ["705#7F"])
+        node.write(0x1017, 0, bytes(2))
+        self.assertIsNone(node.idle())
+
     def test_words_out_of_range(self):
         node = bafokun.Node.from_sheet(SENSOR, 5)
         for call in (
@@ -288,6 +314,7 @@ class Inputs(unittest.TestCase):
             lambda: node.raise_error(0x4200, 256),
             lambda: node.raise_error(0x4200, 8, b"1234"),
             lambda: node.held(256),
+            lambda: node.bus_changed(4),
             lambda: bafokun.Node.from_sheet(SENSOR, 261),
             lambda: bafokun.Node.from_sheet(SENSOR, 5, domains=65536),
         ):

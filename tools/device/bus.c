@@ -13,35 +13,32 @@
 #define CROWD 500     /* as many frames wait at most before nothing more is read from the bus */
 #define MOST_TAKEN 64 /* frames that are read in one turn of the loop */
 #define RETRY_MS 100  /* an interface that is down is looked at again */
-#define GENERIC 0x01  /* bits of the error register */
-#define COMMUNICATION 0x10
 #define PASSIVE_BITS (CAN_ERR_CRTL_RX_PASSIVE | CAN_ERR_CRTL_TX_PASSIVE)
 #define BETTER_BITS (CAN_ERR_CRTL_RX_WARNING | CAN_ERR_CRTL_TX_WARNING | CAN_ERR_CRTL_ACTIVE)
+
+static void change_bus(struct device *device, uint8_t change)
+{
+    send_frames(device, bafokun_bus(&device->node, change, FRAMES));
+}
 
 const char *const health_names[] = { "error active", "error passive", "bus-off", "down" };
 
 /*
- * The bus is now like this to a device; the first device of an interface says it. The node gets it as an error of the
- * application: 8120h is error passive, 8140h recovered from bus-off. Once it is active again, bit 4 of the error
- * register is cleared, and bit 0 with it where no other error is left.
+ * The bus is now like this to a device; the first device of an interface says it. An interface that was down has recovered, as from
+ * bus-off.
  */
 static void become(struct device *device, enum health health)
 {
-    static const uint8_t none[5];
     bool was_passive = device->health == PASSIVE;
-    uint16_t code = health == PASSIVE ? 0x8120 : health == ACTIVE && !was_passive ? 0x8140 : 0;
-    uint8_t errors = 0, cleared = COMMUNICATION;
-    size_t length;
     struct device *first = devices;
     if (health == device->health) return;
     device->health = health;
     while (strcmp(first->interface, device->interface) != 0) first++;
     if (first == device) fprintf(stderr, "%s: %s\n", device->interface, health_names[health]);
-    if (code != 0) send_frames(device, bafokun_raise(&device->node, code, COMMUNICATION, none, FRAMES));
-    if (health != ACTIVE) return;
-    bafokun_value(&device->node, 0x1001, 0, &errors, 1, &length);
-    if ((errors & ~(COMMUNICATION | GENERIC)) == 0) cleared |= GENERIC;
-    send_frames(device, bafokun_clear(&device->node, cleared, FRAMES));
+    if (health == PASSIVE) change_bus(device, BAFOKUN_BUS_PASSIVE);
+    if (health == BUS_OFF) change_bus(device, BAFOKUN_BUS_OFF);
+    if (health == ACTIVE && !was_passive) change_bus(device, BAFOKUN_BUS_RECOVERED);
+    if (health == ACTIVE) change_bus(device, BAFOKUN_BUS_ACTIVE);
 }
 
 /* ---- frames that are sent */
@@ -165,6 +162,13 @@ void open_bus(struct device *device)
     if (connect_bus(device)) return;
     if (errno != ENETDOWN) err(1, "%s", device->interface);
     become(device, DOWN);
+}
+
+/* For how many ms at least nothing is tried again: a frame that waits is each ms. */
+uint64_t bus_quiet_ms(const struct device *device)
+{
+    if (device->health == DOWN) return device->retry > elapsed ? device->retry - elapsed - 1 : 0;
+    return device->waiting > 0 ? 0 : DAY_MS;
 }
 
 /* At each turn of the loop: what waits is tried again, and so is an interface that is down. */

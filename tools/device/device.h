@@ -94,6 +94,7 @@ bool has_room(int fd, bool waits);
 extern const char *const health_names[];
 void open_bus(struct device *device);
 void tend_bus(struct device *device);
+uint64_t bus_quiet_ms(const struct device *device);
 void put_on_bus(struct device *device, const bafokun_frame *frame);
 bool is_crowded(const struct device *device);
 
@@ -101,6 +102,7 @@ bool is_crowded(const struct device *device);
 void take_stamped(struct client *client, char *line);
 bool is_due(const struct client *client, const char *line);
 bool is_playing(void);
+uint64_t play_quiet_ms(void);
 bool let_pass(const struct client *client, uint64_t ms);
 void print_frame(struct device *device, const bafokun_frame *frame);
 void deliver(void);

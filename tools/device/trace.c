@@ -110,6 +110,13 @@ bool is_due(const struct client *client, const char *line)
 /* Whether lines of --play wait, or more of them than have been read. */
 bool is_playing(void) { return !player.has_ended || player.used > 0 || due > elapsed; }
 
+/* For how many ms at least no line of --play is due. */
+uint64_t play_quiet_ms(void)
+{
+    uint64_t left = due > elapsed ? due - elapsed - 1 : 0;
+    return !is_playing() || left > DAY_MS ? DAY_MS : left;
+}
+
 /* So many ms pass by lines: those of --play wait, or time goes by stamps. False: it doesn't, or not so far. */
 bool let_pass(const struct client *client, uint64_t ms)
 {

@@ -1,4 +1,6 @@
 pub mod AsBox
+pub mod AsLoss
+pub mod GivenBus
 pub mod Nothing
 pub mod Terminated
 pub mod Ticks

@@ -1,11 +1,13 @@
 -- One more tick.
-use Rattle.std.proofs.Common.{◌≡◌, ◌≤◌, ◌+◌, ℕ, suc, Bool, true, false, ltb, ◌∷◌, refl, sym, subst, arith}
+use Rattle.std.proofs.Common.{◌≡◌, ◌<◌, ◌≤◌, ◌+◌, ℕ, zero, suc, Bool, true, false, ltb, [], ◌∷◌, refl, sym, subst, arith}
+use Rattle.std.proofs.lemmas.Bool.Decides.{nat_tests}
 use Rattle.co_node_model.specs.Inputs.{Inputs, Ticked}
 use Rattle.co_node_model.specs.Moments.{Constants}
 use Rattle.co_node_model.specs.Device.{prescribed}
 use Rattle.co_node.specs.declared.node.Node.{Node}
 use Rattle.co_node.specs.Nodes.{Stands}
-use Rattle.bafokun.specs.Ticks.{after_ticks, given_last}
+use Rattle.co_node_model.specs.Ticks.{IsQuietFor, after_ticks}
+use Rattle.bafokun.specs.Ticks.{AreTicks, given_last}
 
 plus_one : (n : ℕ) → suc n ≡ n + 1
 plus_one n = omega arith
@@ -26,3 +28,22 @@ up_to_next P m each last n below = by_test (ltb m n) refl
     by_test : (b : Bool) → ltb m n ≡ b → P n
     by_test true e = let same : n ≡ m + 1 = grind arith in subst P (sym same) last
     by_test false e = each n (grind arith)
+
+-- ---- ticks at which nothing is due
+
+quiet_frames : (k : Constants) (before : Inputs) (count n : ℕ) → IsQuietFor k before count → n ≤ count → given_last k before n ≡ []
+quiet_frames k before count zero q le = refl
+quiet_frames k before count (suc n) q le = q.frames n (omega arith)
+
+-- so many ticks at most all elapse, and the last gives no frame
+pub all_elapse : (k : Constants) (before : Inputs) (count most elapsed : ℕ) → IsQuietFor k before count → most ≤ count → AreTicks k before most elapsed → elapsed ≡ most
+all_elapse k before count most elapsed quiet le ticks = by_test (ltb elapsed most) refl
+  where
+    by_test : (b : Bool) → ltb elapsed most ≡ b → elapsed ≡ most
+    by_test true e =
+        let fewer : elapsed < most = grind (arith, nat_tests) in
+        absurd (ticks.early fewer (quiet_frames k before count elapsed quiet (omega arith)))
+    by_test false e =
+        let within : elapsed ≤ most = ticks.within in
+        let all : most ≤ elapsed = grind (arith, nat_tests) in
+        omega arith

@@ -11,16 +11,22 @@ use Rattle.co_dict_build.specs.declared.build_fault.BuildFault.TheVariants.{Node
 use Rattle.co_dict_build.specs.BuildFaultTexts.{fault_number}
 use Rattle.co_dict_build.specs.BuildFaults.{IsBuildFault, build_fault}
 use Rattle.co_dict_build.specs.Built.{Plan, plan_of, built_description}
+use Rattle.co_dict_build.specs.Capacities.{Limits}
 use Rattle.co_node.specs.Nodes.{Stands, node_constants}
 use Rattle.bafokun.specs.declared.build.Settings.{Settings}
 use Rattle.bafokun.specs.declared.build.Fault.{Fault}
 use Rattle.bafokun.specs.declared.held.Held.{Held}
 use Rattle.bafokun.specs.declared.handle.Handle.{Handle}
+use Rattle.co_sheet_originals.specs.Originals.{original_at}
+use Rattle.co_dict_table.specs.Entries.{contents_of_rows}
 
--- what a data sheet, a node-ID and settings say of a dictionary: no entry has a limit of its own
+-- the room of strings and of domains: no entry has a limit of its own
+abbrev pub limits_for : Settings → Limits
+limits_for settings = record { strings = settings.strings; domains = settings.domains; own = [] }
+
+-- what a data sheet, a node-ID and settings say of a dictionary
 abbrev pub plan_for : ℕ → Settings → SheetContent → Plan
-plan_for node settings sheet =
-    plan_of node (record { strings = settings.strings; domains = settings.domains; own = [] }) sheet
+plan_for node settings sheet = plan_of node (limits_for settings) sheet
 
 -- ---- faults as C has them
 
@@ -60,12 +66,13 @@ pub record IsBuiltOf (node : ℕ) (settings : Settings) (sheet : SheetContent) (
       → IsGreatestCapacity (built_description (plan_for node settings sheet)).rows greatest
       → Stands (node_constants (plan_for node settings sheet) greatest settings.time) held.node []
 
--- and of a text
+-- and of a text; it has what the text says of the entries
 pub record IsBuilt (text : List ℕ) (node : ℕ) (settings : Settings) (held : Held) : Type 0 where
   pub sheet : SheetContent
   pub is_sheet : IsSheet text sheet
   pub is_whole : IsWhole text sheet
   pub is_built : IsBuiltOf node settings sheet held
+  pub entries : held.entries ≡ contents_of_rows (original_at text) (limits_for settings) sheet.rows
 
 abbrev pub IsFilled : List ℕ → ℕ → Settings → Option Held → Type 0
 IsFilled text node settings None = ⊥

@@ -9,6 +9,7 @@ use Rattle.co_node.specs.Nodes.{Stands}
 use Rattle.bafokun.specs.declared.frames.CanFrame.{CanFrame}
 use Rattle.bafokun.specs.declared.held.Held.{Held}
 use Rattle.bafokun.specs.declared.handle.Handle.{Handle}
+use Rattle.co_dict_table.specs.Entries.{EntryContent}
 use Rattle.bafokun.specs.Frames.{ArePut}
 
 -- this held device stands after these inputs, the newest first
@@ -31,6 +32,14 @@ frames_of (Some held) = held.sent.items
 -- the frames that the last input of its device gave
 abbrev pub sent_of : Handle → List FrameContent
 sent_of place = frames_of place.seal.value
+
+abbrev pub entries_in : Option Held → List EntryContent
+entries_in None = []
+entries_in (Some held) = held.entries
+
+-- what the data sheet of its device says of the entries, in increasing key
+abbrev pub entries_of : Handle → List EntryContent
+entries_of place = entries_in place.seal.value
 
 -- after one more input
 pub record Gave (k : Constants) (before : Inputs) (input : InputView) (held : Held) : Type 0 where

@@ -1,6 +1,8 @@
 pub mod Answers
 pub mod Builds
+pub mod Bus
 pub mod Devices
+pub mod Entries
 pub mod Frames
 pub mod Seals
 pub mod Texts

@@ -1,20 +1,16 @@
 -- Many ticks by one call.
-use Rattle.std.specs.Prelude.{◌≡◌, ℕ, zero, suc, ◌<◌, ◌≤◌, List, [], ◌∷◌, length}
+use Rattle.std.specs.Prelude.{◌≡◌, ℕ, zero, suc, ◌<◌, ◌≤◌, List, [], length}
 use Rattle.co_frame.specs.FrameContent.{FrameContent}
 use Rattle.co_node_model.specs.Inputs.{Inputs, Ticked}
 use Rattle.co_node_model.specs.Moments.{Constants}
 use Rattle.co_node_model.specs.Device.{prescribed}
+use Rattle.co_node_model.specs.Ticks.{after_ticks}
 use Rattle.co_node.specs.Nodes.{Stands}
 use Rattle.bafokun.specs.declared.frames.CanFrame.{CanFrame}
 use Rattle.bafokun.specs.declared.held.Held.{Held}
 use Rattle.bafokun.specs.declared.handle.Handle.{Handle}
 use Rattle.bafokun.specs.Devices.{IsDevice, sent_of}
 use Rattle.bafokun.specs.Frames.{ArePut}
-
--- the inputs after so many ticks, the newest first
-abbrev pub after_ticks : ℕ → Inputs → Inputs
-after_ticks zero before = before
-after_ticks (suc n) before = Ticked ∷ after_ticks n before
 
 -- the frames that the last of so many ticks gives; none where there is no tick
 abbrev pub given_last : Constants → Inputs → ℕ → List FrameContent

@@ -7,6 +7,7 @@ ghost use Rattle.bafokun.specs.Devices.{IsEmpty};
 use crate::handle::Handle;
 use crate::held::Held;
 use co_dict_build::{BuildFault, Limits};
+use co_dict_table::EntryTable;
 use co_frame::Outbox;
 use co_node::{Config, Node};
 use co_sheet::{SheetFault, read};
@@ -96,21 +97,27 @@ fn build(alloc: Global, text: &[u8], node_id: u8, settings: &Settings) -> Result
         Ok(sheet) => sheet,
         Err(fault) => return Err(Fault::of_sheet(fault)),
     };
+    let limits = Limits {
+        strings: settings.strings,
+        domains: settings.domains,
+        own: &[],
+    };
     let config = Config {
-        limits: Limits {
-            strings: settings.strings,
-            domains: settings.domains,
-            own: &[],
-        },
+        limits,
         time: settings.time,
     };
     let node = match Node::build(alloc, &sheet, node_id, &config) {
         Ok(node) => node,
         Err(fault) => return Err(Fault::of_build(fault)),
     };
+    let entries = match EntryTable::of(alloc, node_id, &limits, text, sheet.entries()) {
+        Ok(entries) => entries,
+        Err(_) => return Err(Fault::of_build(BuildFault::Memory)),
+    };
     let held = Held {
         node,
         sent: Outbox::new(),
+        entries,
     };
     match Box::new(alloc, held) {
         Ok(held) => Ok(held),

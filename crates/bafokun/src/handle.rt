@@ -25,7 +25,7 @@ pub struct Handle {
 impl Handle {
     ghost use Rattle.co_node_model.specs.Inputs.{Inputs, Framed, Ticked, Applied, app_view};
     ghost use Rattle.co_node_model.specs.Moments.{Constants};
-    ghost use Rattle.bafokun.specs.Devices.{Gives, IsDevice, IsEmpty, IsQuiet};
+    ghost use Rattle.bafokun.specs.Devices.{Gives, IsDevice, IsEmpty, IsQuiet, entries_of};
     ghost use Rattle.bafokun.specs.Frames.{ArePut};
 
     fn empty(alloc: Global) -> Handle
@@ -92,6 +92,7 @@ impl Handle {
         ensures gives { (k : Constants) (before : Inputs) → IsDevice k self.old before →
             Gives k before (Framed frame.now) self.new frames.old frames.new result }
         ensures empty { IsEmpty self.old → IsQuiet self.new frames.old frames.new result }
+        ensures entries { entries_of self.new ≡ entries_of self.old }
     {
         match self.take(alloc) {
             Some(mut held) => {
@@ -108,6 +109,7 @@ impl Handle {
         ensures gives { (k : Constants) (before : Inputs) → IsDevice k self.old before →
             Gives k before Ticked self.new frames.old frames.new result }
         ensures empty { IsEmpty self.old → IsQuiet self.new frames.old frames.new result }
+        ensures entries { entries_of self.new ≡ entries_of self.old }
     {
         match self.take(alloc) {
             Some(mut held) => {
@@ -128,6 +130,7 @@ impl Handle {
         ensures gives { (k : Constants) (before : Inputs) → IsDevice k self.old before →
             Gives k before (Applied (app_view event.entry)) self.new frames.old frames.new result }
         ensures empty { IsEmpty self.old → IsQuiet self.new frames.old frames.new result }
+        ensures entries { entries_of self.new ≡ entries_of self.old }
     {
         match self.take(alloc) {
             Some(mut held) => {

@@ -13,7 +13,8 @@ ghost use Rattle.co_node_model.specs.Inputs.{
   Cleared,
 };
 ghost use Rattle.co_node_model.specs.Moments.{Constants};
-ghost use Rattle.bafokun.specs.Devices.{Gives, GivesBootUp, IsDevice, IsEmpty, IsQuiet};
+ghost use Rattle.bafokun.specs.Bus.{GivesBus, bus_input};
+ghost use Rattle.bafokun.specs.Devices.{Gives, GivesBootUp, IsDevice, IsEmpty, IsQuiet, entries_of};
 ghost use Rattle.bafokun.specs.Frames.{IsCan, content_of};
 ghost use Rattle.bafokun.specs.Ticks.{GivesTicks};
 
@@ -29,6 +30,7 @@ pub extern "C" fn bafokun_boot(alloc: Global, node: &mut Handle, frames: &mut [C
     ensures gives { (k : Constants) (before : Inputs) → IsDevice k node.old before →
         GivesBootUp k before node.new frames.old frames.new result }
     ensures empty { IsEmpty node.old → IsQuiet node.new frames.old frames.new result }
+    ensures entries { entries_of node.new ≡ entries_of node.old }
 {
     match node.take(alloc) {
         Some(mut held) => {
@@ -51,6 +53,7 @@ pub extern "C" fn bafokun_take(
     ensures gives { (k : Constants) (before : Inputs) → IsDevice k node.old before → IsCan frame.now →
         Gives k before (Framed (content_of frame.now)) node.new frames.old frames.new result }
     ensures empty { IsEmpty node.old → IsQuiet node.new frames.old frames.new result }
+    ensures entries { entries_of node.new ≡ entries_of node.old }
     ensures no_frame { (IsCan frame.now → ⊥) → node.new ≡ node.old }
     ensures nothing { (IsCan frame.now → ⊥) → result ≡ 0 }
     ensures untouched { (IsCan frame.now → ⊥) → frames.new ≡ frames.old }
@@ -69,6 +72,7 @@ pub extern "C" fn bafokun_tick(alloc: Global, node: &mut Handle, frames: &mut [C
     ensures gives { (k : Constants) (before : Inputs) → IsDevice k node.old before →
         Gives k before Ticked node.new frames.old frames.new result }
     ensures empty { IsEmpty node.old → IsQuiet node.new frames.old frames.new result }
+    ensures entries { entries_of node.new ≡ entries_of node.old }
 {
     node.tick(alloc, frames)
 }
@@ -88,6 +92,7 @@ pub extern "C" fn bafokun_ticks(
     ensures gives { (k : Constants) (before : Inputs) → IsDevice k node.old before →
         GivesTicks k before most elapsed.new node.new frames.old frames.new result }
     ensures empty { IsEmpty node.old → IsQuiet node.new frames.old frames.new result }
+    ensures entries { entries_of node.new ≡ entries_of node.old }
     ensures all { IsEmpty node.old → elapsed.new ≡ most }
 {
     match node.take(alloc) {
@@ -117,6 +122,7 @@ pub extern "C" fn bafokun_write(
         Gives k before (Applied (Written (record { index = index; sub = sub_index }) bytes.now))
         node.new frames.old frames.new result }
     ensures empty { IsEmpty node.old → IsQuiet node.new frames.old frames.new result }
+    ensures entries { entries_of node.new ≡ entries_of node.old }
 {
     let key = Key {
         index,
@@ -136,6 +142,7 @@ pub extern "C" fn bafokun_event(
     ensures gives { (k : Constants) (before : Inputs) → IsDevice k node.old before →
         Gives k before (Applied (EventOn tpdo)) node.new frames.old frames.new result }
     ensures empty { IsEmpty node.old → IsQuiet node.new frames.old frames.new result }
+    ensures entries { entries_of node.new ≡ entries_of node.old }
 {
     node.take_event(alloc, AppEvent::Event(tpdo), frames)
 }
@@ -153,6 +160,7 @@ pub extern "C" fn bafokun_changed(
         Gives k before (Applied (ChangedAt (record { index = index; sub = sub_index })))
         node.new frames.old frames.new result }
     ensures empty { IsEmpty node.old → IsQuiet node.new frames.old frames.new result }
+    ensures entries { entries_of node.new ≡ entries_of node.old }
 {
     let key = Key {
         index,
@@ -176,6 +184,7 @@ pub extern "C" fn bafokun_raise(
         Gives k before (Applied (Raised code bits manufacturer.now))
         node.new frames.old frames.new result }
     ensures empty { IsEmpty node.old → IsQuiet node.new frames.old frames.new result }
+    ensures entries { entries_of node.new ≡ entries_of node.old }
 {
     node.take_event(alloc, AppEvent::Raise(code, bits, *manufacturer), frames)
 }
@@ -191,6 +200,33 @@ pub extern "C" fn bafokun_clear(
     ensures gives { (k : Constants) (before : Inputs) → IsDevice k node.old before →
         Gives k before (Applied (Cleared bits)) node.new frames.old frames.new result }
     ensures empty { IsEmpty node.old → IsQuiet node.new frames.old frames.new result }
+    ensures entries { entries_of node.new ≡ entries_of node.old }
 {
     node.take_event(alloc, AppEvent::Clear(bits), frames)
+}
+
+/// A change of the CAN controller: 0 error active again, 1 error passive, 2 bus-off, 3 recovered from bus-off. Error passive and
+/// recovered raise the errors 8120h and 8140h with bit 4 of the error register, which 0 clears, with bit 0 where no other bit is
+/// left (CiA 301, 7.2.7.1); bus-off changes the NMT state as a lost heartbeat does, by 1029:01 (7.5.2.32). Of another number
+/// nothing happens. C owes what `bafokun_tick` says.
+#[tactic(auto, using(crate::proofs::GivenBus::given_bus))]
+#[unsafe(no_mangle)]
+pub extern "C" fn bafokun_bus(
+    alloc: Global,
+    node: &mut Handle,
+    change: u8,
+    frames: &mut [CanFrame],
+) -> usize
+    ensures gives { (k : Constants) (before : Inputs) → IsDevice k node.old before →
+        GivesBus k before (bus_input k before change) node.new frames.old frames.new result }
+    ensures empty { IsEmpty node.old → IsQuiet node.new frames.old frames.new result }
+    ensures entries { entries_of node.new ≡ entries_of node.old }
+{
+    match node.take(alloc) {
+        Some(mut held) => {
+            held.bus(change);
+            node.give(held, frames)
+        }
+        None => 0,
+    }
 }

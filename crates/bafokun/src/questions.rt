@@ -1,12 +1,14 @@
 //! What C asks of a device.
 
-ghost use Rattle.std.specs.Prelude.{◌≡◌, ◌≤◌, None, drop, length};
+ghost use Rattle.std.specs.Prelude.{◌≡◌, ℕ, ◌≤◌, None, drop, length};
 ghost use Rattle.co_node_model.specs.Inputs.{Inputs};
 ghost use Rattle.co_node_model.specs.Moments.{Constants};
+ghost use Rattle.co_node_model.specs.Ticks.{IsQuietFor};
 ghost use Rattle.co_node_model.specs.Device.{app_after, contents_of, held_of, room_of, state_of};
 ghost use Rattle.bafokun.specs.Answers.{IsCopied, IsRead, answer_code, refusal_code, state_code};
 ghost use Rattle.bafokun.specs.Devices.{IsDevice, IsEmpty, sent_of};
 ghost use Rattle.bafokun.specs.Frames.{ArePut};
+ghost use Rattle.bafokun.specs.Ticks.{AreTicks};
 
 use crate::frames::{CanFrame, put};
 use crate::handle::Handle;
@@ -108,6 +110,35 @@ pub extern "C" fn bafokun_node_id(alloc: Global, node: &mut Handle) -> u8
         None => 0,
     }
 }
+
+/// For at least so many ms the device sends nothing, and neither an entry nor its NMT state changes, if nothing is
+/// received: so many ticks, or fewer, may be made up for at once by `bafokun_ticks`. 4294967295 if it never does, and
+/// where there is no device. C owes what `bafokun_tick` says.
+#[unsafe(no_mangle)]
+pub extern "C" fn bafokun_idle(alloc: Global, node: &mut Handle) -> u32
+    ensures same { node.new.seal.value ≡ node.old.seal.value }
+    ensures idle { (k : Constants) (before : Inputs) → IsDevice k node.old before →
+        IsQuietFor k before result }
+    ensures empty { IsEmpty node.old → result ≡ 4294967295 }
+{
+    match node.take(alloc) {
+        Some(held) => {
+            let idle = held.node.idle();
+            *node = Handle::of(held);
+            idle
+        }
+        None => u32::MAX,
+    }
+}
+
+/// Of as many ticks at once as a device is idle for, or fewer, all elapse: `bafokun_ticks` ends with none of them. This is
+/// a law: a call of it changes nothing.
+#[tactic(auto, using(crate::proofs::Ticks::all_elapse))]
+pub fn idle_ticks_elapse()
+    ensures { (k : Constants) (before : Inputs) (count most elapsed : ℕ) →
+        IsQuietFor k before count → most ≤ count → AreTicks k before most elapsed →
+        elapsed ≡ most }
+{}
 
 /// The NMT state (CiA 301, 7.3.2), as the byte of a heartbeat: 4 stopped, 5 operational, 127 pre-operational; 0 where
 /// there is no device. C owes what `bafokun_tick` says.

@@ -31,7 +31,7 @@ pub extern "C" fn bafokun_abort_text(code: u32, text: &mut [u8]) -> usize
     ensures unknown { ((reason : AbortReason) → code_of reason ≡ code → ⊥) →
         IsText [] text.old text.new result }
 {
-    put_text(abort_text(code), text)
+    put_text(abort_text(code).as_bytes(), text)
 }
 
 /// What is wrong, of a fault of `bafokun_build`, as text by the rules of `bafokun_abort_text`; empty for no fault. C owes what
@@ -44,7 +44,7 @@ pub extern "C" fn bafokun_fault_text(fault: &Fault, text: &mut [u8]) -> usize
         IsText (build_meaning_of f) text.old text.new result }
     ensures none { fault.now ≡ no_fault → IsText [] text.old text.new result }
 {
-    put_text(meaning(fault), text)
+    put_text(meaning(fault).as_bytes(), text)
 }
 
 /// How a fault of `bafokun_build` is fixed, as text by the rules of `bafokun_abort_text`; empty for no fault. C owes what
@@ -57,7 +57,7 @@ pub extern "C" fn bafokun_fault_fix(fault: &Fault, text: &mut [u8]) -> usize
         IsText (build_fix_of f) text.old text.new result }
     ensures none { fault.now ≡ no_fault → IsText [] text.old text.new result }
 {
-    put_text(fix(fault), text)
+    put_text(fix(fault).as_bytes(), text)
 }
 
 fn meaning(fault: &Fault) -> &'static str
@@ -148,15 +148,14 @@ fn build_fault(number: u16) -> Option<BuildFault>
 
 // Words with a 0 after them, cut to the room of the array. It gives how long they are.
 #[tactic(auto, using(crate::proofs::Terminated::is_text))]
-fn put_text(words: &str, text: &mut [u8]) -> usize
+pub(crate) fn put_text(words: &[u8], text: &mut [u8]) -> usize
     ensures { IsText words.now text.old text.new result }
 {
-    let bytes = words.as_bytes();
     if text.is_empty() {
-        return bytes.len();
+        return words.len();
     }
-    let count = bytes.len().min(text.len() - 1);
-    copy(&bytes[..count], text);
+    let count = words.len().min(text.len() - 1);
+    copy(&words[..count], text);
     text[count] = 0;
-    bytes.len()
+    words.len()
 }

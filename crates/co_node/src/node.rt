@@ -33,6 +33,7 @@ ghost use Rattle.co_node_model.specs.AppEvents.{event_refusal};
 ghost use Rattle.co_node_model.specs.Inputs.{Applied, Framed, Inputs, Ticked, app_view, input_view};
 ghost use Rattle.co_node_model.specs.Moments.{Constants};
 ghost use Rattle.co_node_model.specs.Heartbeats.{boot_up};
+ghost use Rattle.co_node_model.specs.Ticks.{IsQuietFor};
 ghost use Rattle.co_node_model.specs.Device.{
   after_all,
   all_frames,
@@ -253,6 +254,15 @@ impl Node {
             (mapping_of side k.description (contents_of k before) number) compiled.now) }
     {
         self.device.compiled(side, number)
+    }
+
+    /// For at least so many ms the device sends nothing, and neither an entry nor the NMT state changes, if nothing is
+    /// received; `u32::MAX` if it never does.
+    pub fn idle(&self) -> u32
+        ensures { (k : Constants) (before : Inputs) → Stands k self.now before →
+            IsQuietFor k before result }
+    {
+        self.device.idle()
     }
 
     /// The answer to the last input, where that was an application event.

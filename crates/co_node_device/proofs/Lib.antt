@@ -9,3 +9,4 @@ mod Words
 mod Numbers
 mod Sent
 mod Steps
+pub mod Idles

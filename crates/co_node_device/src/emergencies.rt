@@ -139,7 +139,7 @@ pub(crate) fn emergency_event(mark: &Mark) -> EmergencyEvent
 
 /// Whether an emergency may be sent at the end of the input, in the state after it.
 #[inline(always)]
-fn may_send<S: ObjectStore>(mark: &Mark, store: &S, after: NodeState) -> bool
+pub(crate) fn may_send<S: ObjectStore>(mark: &Mark, store: &S, after: NodeState) -> bool
     ensures { result ≡ may_send mark.now after (S.contents store.now) }
 {
     after != NodeState::Stopped

@@ -8,6 +8,7 @@ mod device;
 mod emergencies;
 mod given;
 mod heartbeats;
+mod idle;
 mod mapping_table;
 mod mappings;
 mod nmt;

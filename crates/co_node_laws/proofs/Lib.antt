@@ -29,6 +29,7 @@ mod ChangesExamples
 mod DistanceExamples
 mod PartsExamples
 pub mod Kept
+pub mod Idles
 pub mod Changed
 pub mod Resets
 pub mod SetExactly

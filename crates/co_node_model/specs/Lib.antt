@@ -14,3 +14,4 @@ pub mod Addresses
 pub mod Mappings
 pub mod Device
 pub mod Loop
+pub mod Ticks

@@ -102,7 +102,7 @@ passed_kept (Heard node) sub c log passed s = refl
 passed_kept Tick sub c log passed s = ap (is_over_after (silence log)) (sym s.monitored ∙ passed) ∙ over_none (silence log)
 passed_kept Quiet sub c log passed s = refl
 
-lost_none : (p : ℕ → Bool) (b n : ℕ) → ((i : ℕ) → b ≤ i → i < b + n → p (i + 1) ≡ false) → filter p (range_with_len (b + 1) n) ≡ []
+pub lost_none : (p : ℕ → Bool) (b n : ℕ) → ((i : ℕ) → b ≤ i → i < b + n → p (i + 1) ≡ false) → filter p (range_with_len (b + 1) n) ≡ []
 lost_none p b zero e = refl
 lost_none p b (suc n) e =
     ap (λ t. cond t ((b + 1) ∷ filter p (range_with_len (b + 1 + 1) n)) (filter p (range_with_len (b + 1 + 1) n))) (e b (omega arith) (omega arith))

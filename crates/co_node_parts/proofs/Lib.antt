@@ -4,5 +4,6 @@ mod Entries
 mod Slots
 mod StateExamples
 mod HeartbeatExamples
+pub mod Idles
 mod EmergencyExamples
 mod SlotExamples

@@ -1,13 +1,13 @@
 -- The entries 1 to 127 of 1016h together, and which of them lose their heartbeat
 -- (CiA 301, 7.5.2.19).
-use Rattle.std.specs.Prelude.{◌≡◌, ℕ, ◌+◌, ◌-◌, ◌<◌, ◌≤◌, ◌==◌, if◌then◌else◌, None, List, length, map, slice_index}
+use Rattle.std.specs.Prelude.{◌≡◌, ℕ, zero, suc, ◌+◌, ◌-◌, ◌<◌, ◌≤◌, ◌==◌, if◌then◌else◌, None, List, [], ◌∷◌, length, map, slice_index}
 use Rattle.std.specs.List.{filter, range_with_len, slice_index_or}
 use Rattle.co_node_parts.specs.declared.heartbeat_consumer.ConsumerEvent.{ConsumerEvent}
 use Rattle.co_node_parts.specs.declared.heartbeat_consumer.ConsumerEvent.TheVariants as one
 use Rattle.co_node_parts.specs.declared.heartbeat_consumer.HeartbeatConsumer.{HeartbeatConsumer}
 use Rattle.co_node_parts.specs.declared.heartbeat_consumers.ConsumersEvent.{ConsumersEvent}
 use Rattle.co_node_parts.specs.declared.heartbeat_consumers.ConsumersEvent.TheVariants.{Begin, Heard, Tick, Quiet}
-use Rattle.co_node_parts.specs.Consumers.{ConsumerLog, ConsumerStands, is_lost}
+use Rattle.co_node_parts.specs.Consumers.{ConsumerLog, ConsumerStands, NotLostFor, is_lost}
 
 -- one call for all entries
 pub data ConsumersCall : Type 0 where
@@ -40,6 +40,15 @@ entry_subs = range_with_len 1 127
 abbrev pub lost_at : ConsumersEvent → ConsumersLog → List ℕ
 lost_at event log =
     filter (λ sub. is_lost (event_of sub (Noted event)) (entry_log sub log)) entry_subs
+
+-- at none of so many ticks one after another is a heartbeat lost
+abbrev pub NoneLostFor : ℕ → ConsumersLog → Type 0
+NoneLostFor zero log = Unit {0}
+NoneLostFor (suc n) log = (lost_at Tick log ≡ []) × NoneLostFor n (Noted Tick ∷ log)
+
+-- at none of so many ticks do the first entries lose theirs; the first has sub-index 1
+abbrev pub AreKeptFor : ℕ → ℕ → (ℕ → ConsumerLog) → Type 0
+AreKeptFor n count logs = (i : ℕ) → i < count → NotLostFor n (logs (i + 1))
 
 -- each of these entries counts what its log gives; the first has sub-index 1
 abbrev pub AllStand : List HeartbeatConsumer → (ℕ → ConsumerLog) → Type 0

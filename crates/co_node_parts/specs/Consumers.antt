@@ -1,6 +1,6 @@
 -- When the heartbeat of another node is lost, for one entry of 1016h (CiA 301, 7.2.8.3.2 and
 -- 7.5.2.19). A tick is 1 ms.
-use Rattle.std.specs.Prelude.{◌≡◌, ℕ, ◌+◌, ◌-◌, ◌/◌, ◌%◌, ◌==◌, ◌&&◌, Bool, false, nat_lt, nat_le, if◌then◌else◌, Option, Some, None, List, [], ◌∷◌}
+use Rattle.std.specs.Prelude.{◌≡◌, ℕ, zero, suc, ◌+◌, ◌-◌, ◌/◌, ◌%◌, ◌==◌, ◌&&◌, Bool, false, nat_lt, nat_le, if◌then◌else◌, Option, Some, None, List, [], ◌∷◌}
 use Rattle.co_node_parts.specs.declared.heartbeat_consumer.Monitored.{Monitored}
 use Rattle.co_node_parts.specs.declared.heartbeat_consumer.ConsumerEvent.{ConsumerEvent}
 use Rattle.co_node_parts.specs.declared.heartbeat_consumer.ConsumerEvent.TheVariants.{Begin, Heard, Tick, Quiet}
@@ -71,6 +71,11 @@ is_lost (Begin word) log = false
 is_lost (Heard node) log = false
 is_lost Tick log = is_over_after (silence log) (monitored_after log)
 is_lost Quiet log = false
+
+-- at none of so many ticks one after another is the heartbeat lost
+abbrev pub NotLostFor : ℕ → ConsumerLog → Type 0
+NotLostFor zero log = Unit {0}
+NotLostFor (suc n) log = (is_lost Tick log ≡ false) × NotLostFor n (Tick ∷ log)
 
 -- how much is left of the time of what is monitored, after so many ticks without a heartbeat; 0 where
 -- it doesn't run

@@ -1,6 +1,6 @@
 -- The queue of emergencies, and when its front is sent (CiA 301, 7.2.7, 7.5.2.17 and 7.5.2.18).
 -- A tick is 1 ms.
-use Rattle.std.specs.Prelude.{◌≡◌, ℕ, ◌+◌, ◌-◌, ◌&&◌, Bool, max, List, [], ◌∷◌, ◌++◌, drop, map, slice_get, Option, Some, None, if◌then◌else◌}
+use Rattle.std.specs.Prelude.{◌≡◌, ℕ, zero, suc, ◌+◌, ◌-◌, ◌&&◌, Bool, max, List, [], ◌∷◌, ◌++◌, drop, map, slice_get, Option, Some, None, if◌then◌else◌}
 use Rattle.std.specs.List.{list_all}
 use Rattle.circular_buffer.specs.Buffer.{keep_last}
 use Rattle.co_frame.specs.InhibitTimes.{in_ms, has_elapsed}
@@ -62,6 +62,11 @@ emergency_due may log = if may && is_inhibit_over log then slice_get (queue_of l
 abbrev pub with_sending : Option Emergency → ℕ → EmergencyLog → EmergencyLog
 with_sending None inhibit log = log
 with_sending (Some emergency) inhibit log = Sent inhibit ∷ log
+
+-- at none of so many ticks one after another is an emergency sent, where it may be or not
+abbrev pub NoneSentFor : Bool → ℕ → EmergencyLog → Type 0
+NoneSentFor may zero log = Unit {0}
+NoneSentFor may (suc n) log = (emergency_due may (Noted Tick ∷ log) ≡ None) × NoneSentFor may n (Noted Tick ∷ log)
 
 -- the log after several were queued, in order
 abbrev pub with_queued : List Emergency → EmergencyLog → EmergencyLog

@@ -1,6 +1,6 @@
 -- When the heartbeat producer is due, by the ticks of its log (CiA 301, 7.2.8.3.2 and 7.5.2.20).
 -- A tick is 1 ms.
-use Rattle.std.specs.Prelude.{◌≡◌, ℕ, ◌+◌, ◌-◌, ◌%◌, ◌==◌, ◌&&◌, Bool, false, nat_lt, List, [], ◌∷◌}
+use Rattle.std.specs.Prelude.{◌≡◌, ℕ, zero, suc, ◌+◌, ◌-◌, ◌%◌, ◌==◌, ◌&&◌, Bool, false, nat_lt, List, [], ◌∷◌}
 use Rattle.co_node_parts.specs.declared.heartbeat_producer.ProducerEvent.{ProducerEvent}
 use Rattle.co_node_parts.specs.declared.heartbeat_producer.ProducerEvent.TheVariants.{Begin, Tick, Quiet}
 
@@ -28,6 +28,11 @@ abbrev pub is_heartbeat_due : ProducerEvent → ProducerLog → Bool
 is_heartbeat_due (Begin period) log = false
 is_heartbeat_due Tick log = nat_lt 0 (period_of log) && (ticks log + 1) % period_of log == 0
 is_heartbeat_due Quiet log = false
+
+-- at none of so many ticks one after another is a heartbeat due
+abbrev pub NoneDueFor : ℕ → ProducerLog → Type 0
+NoneDueFor zero log = Unit {0}
+NoneDueFor (suc n) log = (is_heartbeat_due Tick log ≡ false) × NoneDueFor n (Tick ∷ log)
 
 -- what a producer counts: the period, and how many ticks are left to the next heartbeat
 pub record Producer : Type 0 where

@@ -1,10 +1,11 @@
 //! The emergencies that wait to be sent.
 
-ghost use Rattle.std.specs.Prelude.{◌≡◌, ◌++◌, List, [], ◌∷◌, Bool, false, None, IfOk};
+ghost use Rattle.std.specs.Prelude.{◌≡◌, ℕ, ◌≤◌, ◌++◌, List, [], ◌∷◌, Bool, false, None, IfOk};
 ghost use Rattle.co_node_parts.specs.EmergencyQueues.{
   EmergencyLog,
   Noted,
   EmergenciesStand,
+  NoneSentFor,
   emergency_due,
   with_sending,
   with_queued,
@@ -90,6 +91,18 @@ impl Emergencies {
             result ≡ false → emergency_due may log ≡ None }
     {
         self.left == 0 && !self.queue.is_empty()
+    }
+
+    /// For at least so many ticks none is sent, if nothing else happens and it stays so whether one may be; `u32::MAX` if none
+    /// ever is.
+    pub fn idle(&self, may: bool) -> u32
+        ensures { (log : EmergencyLog) (n : ℕ) → EmergenciesStand self.now log → n ≤ result →
+            NoneSentFor may n log }
+    {
+        if !may || self.queue.is_empty() {
+            return u32::MAX;
+        }
+        u32::from(self.left).saturating_sub(1)
     }
 
     /// Takes the emergency that is sent now, if one is: the oldest, where it may be sent and the

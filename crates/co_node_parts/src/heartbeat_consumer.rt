@@ -1,7 +1,13 @@
 //! The heartbeat of one other node: one entry of 1016h.
 
-ghost use Rattle.std.specs.Prelude.{◌≡◌, [], ◌∷◌};
-ghost use Rattle.co_node_parts.specs.Consumers.{ConsumerLog, ConsumerStands, is_lost, monitored_by};
+ghost use Rattle.std.specs.Prelude.{◌≡◌, ℕ, ◌≤◌, [], ◌∷◌};
+ghost use Rattle.co_node_parts.specs.Consumers.{
+  ConsumerLog,
+  ConsumerStands,
+  NotLostFor,
+  is_lost,
+  monitored_by,
+};
 
 /// What an entry that is used monitors.
 #[derive(Clone, Copy, Debug)]
@@ -89,5 +95,16 @@ impl HeartbeatConsumer {
             }
             ConsumerEvent::Quiet => false,
         }
+    }
+
+    /// For at least so many ticks its heartbeat isn't lost, if nothing else happens; `u32::MAX` if its time doesn't run.
+    pub(crate) fn idle(&self) -> u32
+        ensures { (log : ConsumerLog) (n : ℕ) → ConsumerStands self.now log → n ≤ result →
+            NotLostFor n log }
+    {
+        if self.left == 0 {
+            return u32::MAX;
+        }
+        u32::from(self.left) - 1
     }
 }

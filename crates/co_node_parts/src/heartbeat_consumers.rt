@@ -6,8 +6,10 @@ ghost use Rattle.co_node_parts.specs.declared.heartbeat_consumer.HeartbeatConsum
 ghost use Rattle.co_node_parts.specs.Consumers.{ConsumerLog, is_lost};
 ghost use Rattle.co_node_parts.specs.ConsumerTables.{
   AreIdleFrom,
+  AreKeptFor,
   ArePassedFrom,
   ConsumersLog,
+  NoneLostFor,
   Noted,
   AllBegun,
   ConsumersStand,
@@ -114,6 +116,18 @@ fn begin_each(entries: &mut [HeartbeatConsumer], words: &[u32])
     }
 }
 
+/// For at least so many ticks none of some entries loses its heartbeat; `u32::MAX` if no time runs.
+fn idle_among(entries: &[HeartbeatConsumer]) -> u32
+    ensures { (logs : ℕ → ConsumerLog) (n : ℕ) → AllStand entries.now logs → n ≤ result →
+        AreKeptFor n (length entries.now) logs }
+{
+    let mut least = u32::MAX;
+    for i in 0..entries.len() {
+        least = least.min(entries[i].idle());
+    }
+    least
+}
+
 /// The heartbeat consumers: which nodes are monitored by 1016h, and whose heartbeat is lost (CiA 301,
 /// 7.2.8.3.2 and 7.5.2.19). Monitoring begins with the first heartbeat after the entry began, and
 /// ends when the heartbeat is lost, until the next one.
@@ -176,5 +190,13 @@ impl HeartbeatConsumers {
                 note_all(&mut self.entries, self.used, event, lost);
             }
         }
+    }
+
+    /// For at least so many ticks no heartbeat is lost, if nothing else happens; `u32::MAX` if no time runs.
+    pub fn idle(&self) -> u32
+        ensures { (log : ConsumersLog) (n : ℕ) → ConsumersStand self.now log → n ≤ result →
+            NoneLostFor n log }
+    {
+        idle_among(&self.entries)
     }
 }

@@ -1,7 +1,12 @@
 //! The heartbeat producer.
 
-ghost use Rattle.std.specs.Prelude.{◌≡◌, [], ◌∷◌};
-ghost use Rattle.co_node_parts.specs.Producers.{ProducerLog, ProducerStands, is_heartbeat_due};
+ghost use Rattle.std.specs.Prelude.{◌≡◌, ℕ, ◌≤◌, [], ◌∷◌};
+ghost use Rattle.co_node_parts.specs.Producers.{
+  NoneDueFor,
+  ProducerLog,
+  ProducerStands,
+  is_heartbeat_due,
+};
 
 use std::marker::Model;
 
@@ -63,5 +68,16 @@ impl HeartbeatProducer {
             }
             ProducerEvent::Quiet => false,
         }
+    }
+
+    /// For at least so many ticks no heartbeat is due, if nothing else happens; `u32::MAX` if none ever is.
+    pub fn idle(&self) -> u32
+        ensures { (log : ProducerLog) (n : ℕ) → ProducerStands self.now log → n ≤ result →
+            NoneDueFor n log }
+    {
+        if self.period == 0 {
+            return u32::MAX;
+        }
+        u32::from(self.left).saturating_sub(1)
     }
 }

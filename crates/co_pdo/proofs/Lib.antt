@@ -4,6 +4,7 @@ mod Lists
 mod Built
 mod Numbers
 mod Histories
+pub mod Idles
 mod Words
 mod Parts
 mod Written

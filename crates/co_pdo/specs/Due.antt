@@ -1,5 +1,5 @@
 -- When a TPDO is due, by distances in its log (CiA 301, 7.2.2.2 to 7.2.2.4 and 7.5.2.37). A tick is 1 ms.
-use Rattle.std.specs.Prelude.{ℕ, ◌+◌, ◌%◌, ◌==◌, ◌&&◌, ◌||◌, Bool, true, false, not, nat_lt, Option, List, [], ◌∷◌, length, map, if◌then◌else◌}
+use Rattle.std.specs.Prelude.{◌≡◌, ℕ, zero, suc, ◌+◌, ◌%◌, ◌==◌, ◌&&◌, ◌||◌, Bool, true, false, not, nat_lt, Option, List, [], ◌∷◌, length, map, if◌then◌else◌}
 use Rattle.std.specs.List.{list_all, list_any}
 use Rattle.std.specs.Option.{option_map_or}
 use Rattle.co_profile.specs.TransmissionTypes.{is_synchronous, is_event_driven}
@@ -105,3 +105,8 @@ is_due s log (Sync overflow counter) =
     s.is_active && is_due_at_sync s.transmission_type.0 log (Happened (Sync overflow counter) s false)
 is_due s log Event = s.is_active && is_due_by_event s (Happened Event s false ∷ log)
 is_due s log Tick = s.is_active && is_due_by_event s (Happened Tick s false ∷ log)
+
+-- at none of so many ticks one after another is a TPDO due of which the dictionary says this meanwhile
+abbrev pub NotDueFor : Settings → ℕ → Log → Type 0
+NotDueFor s zero log = Unit {0}
+NotDueFor s (suc n) log = (is_due s log Tick ≡ false) × NotDueFor s n (Happened Tick s false ∷ log)

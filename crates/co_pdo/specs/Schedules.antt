@@ -1,5 +1,5 @@
 -- What a schedule was asked and answered, the newest first, and which TPDOs are due after that.
-use Rattle.std.specs.Prelude.{◌≡◌, ℕ, ◌<◌, ◌≤◌, ◌==◌, ◌&&◌, Bool, Option, List, [], ◌∷◌, ◌++◌, length, map, if◌then◌else◌}
+use Rattle.std.specs.Prelude.{◌≡◌, ℕ, zero, suc, ◌<◌, ◌≤◌, ◌==◌, ◌&&◌, Bool, Option, List, [], ◌∷◌, ◌++◌, length, map, if◌then◌else◌}
 use Rattle.std.specs.List.{filter, list_any, slice_index_or}
 use Rattle.co_dict.specs.Rows.{Contents, number_at}
 use Rattle.co_dict.specs.Stores.{Description}
@@ -13,7 +13,7 @@ use Rattle.co_pdo.specs.declared.places.Places.{Places}
 use Rattle.co_profile.specs.Keys.{counter_overflow_key}
 use Rattle.co_pdo.specs.Tpdos.{places_of, settings_of, tpdo_numbers, tpdos_of}
 use Rattle.co_pdo.specs.Log.{Log, Started, Happened}
-use Rattle.co_pdo.specs.Due.{is_due}
+use Rattle.co_pdo.specs.Due.{NotDueFor, is_due}
 use Rattle.co_pdo.specs.Countdowns.{IsAfter, IsCurrent}
 
 -- one call of a schedule
@@ -88,6 +88,16 @@ all_due contents history occasion = filter (λ k. is_tpdo_due contents history o
 -- the numbers of those among these that are due at an event, increasing
 abbrev pub all_due_among : List ℕ → Contents → History → List ℕ
 all_due_among numbers contents history = filter (λ k. is_among k numbers && is_tpdo_due contents history Event k) tpdo_numbers
+
+-- at none of so many ticks one after another is a TPDO due, where the dictionary has these contents meanwhile
+abbrev pub NoTpdoDueFor : Contents → ℕ → History → Type 0
+NoTpdoDueFor contents zero history = Unit {0}
+NoTpdoDueFor contents (suc n) history = (all_due contents history Tick ≡ []) × NoTpdoDueFor contents n (with_tick contents [] history)
+
+-- at none of them is one of the first TPDOs due
+abbrev pub AreNotDueFor : Contents → ℕ → ℕ → List Tpdo → (ℕ → Log) → Type 0
+AreNotDueFor contents n count tpdos logs = (i : ℕ) (e : Tpdo) → i < count →
+    NotDueFor (settings_of contents (slice_index_or tpdos i e).number) n (logs (slice_index_or tpdos i e).number)
 
 -- at most 512 TPDOs, with numbers up to 511
 pub record IsTable (tpdos : List Tpdo) : Type 0 where

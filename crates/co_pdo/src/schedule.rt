@@ -19,6 +19,7 @@ ghost use Rattle.co_pdo.specs.Schedules.{
   is_tpdo_due,
   all_due,
   all_due_among,
+  NoTpdoDueFor,
   IsScheduleAfter,
   IsCurrentOn,
   AllCurrent,
@@ -29,7 +30,8 @@ use crate::pdos::cob_id;
 use crate::places::Places;
 use crate::tpdo::{Occasion, Part, Tpdo};
 use crate::tpdos::{
-    Due, all_happen, all_happen_among, all_start, counter_overflow, place_of, places_in, tpdos_in,
+    Due, all_happen, all_happen_among, all_start, counter_overflow, idle_among, place_of,
+    places_in, tpdos_in,
 };
 use co_dict::{CobId, ObjectStore, Side};
 use std::alloc::{AllocError, Global};
@@ -228,5 +230,17 @@ impl Schedule {
         ensures size { length self.new.tpdos ≡ length self.old.tpdos }
     {
         all_happen(&mut self.tpdos, &self.places, Occasion::Tick, store, sent);
+    }
+
+    /// For at least so many ticks no TPDO is due, if nothing else happens; `u32::MAX` if none ever is.
+    pub fn idle<S: ObjectStore>(&self, store: &S) -> u32
+        ensures { (history : History) (n : ℕ) →
+            IsScheduleAfter (S.description store.now) self.now history →
+            AllCurrent (S.contents store.now) history →
+            n ≤ result → NoTpdoDueFor (S.contents store.now) n history }
+    {
+        let tpdos: &[Tpdo] = &self.tpdos;
+        let places: &[Places] = &self.places;
+        idle_among(tpdos, places, store)
     }
 }

@@ -1,10 +1,10 @@
 //! One TPDO: what is counted for it.
 
-ghost use Rattle.std.specs.Prelude.{◌≡◌, ◌<◌, ◌&&◌, [], ◌∷◌};
+ghost use Rattle.std.specs.Prelude.{◌≡◌, ℕ, ◌<◌, ◌≤◌, ◌&&◌, [], ◌∷◌};
 ghost use Rattle.co_pdo.specs.declared.settings.Settings.{Settings};
 ghost use Rattle.co_pdo.specs.Tpdos.{places_of, settings_of};
 ghost use Rattle.co_pdo.specs.Log.{Log, Started, Happened};
-ghost use Rattle.co_pdo.specs.Due.{is_due};
+ghost use Rattle.co_pdo.specs.Due.{NotDueFor, is_due};
 ghost use Rattle.co_pdo.specs.Countdowns.{IsAfter, IsCurrent};
 ghost use Rattle.co_pdo.specs.Schedules.{is_among, with_event_if};
 ghost use Rattle.co_pdo.specs.Steps.{counts, counted, passes_over, wants, marked};
@@ -220,6 +220,41 @@ impl Tpdo {
             self.mark_sent();
         }
         due
+    }
+
+    /// For at least so many ticks its countdowns don't make it due, if nothing else happens; `u32::MAX` if they never do.
+    fn ticks_left(&self) -> u32
+        ensures { (log : Log) (n : ℕ) (s : Settings) → IsAfter self.now log → IsCurrent s log →
+            n ≤ result → NotDueFor s n log }
+    {
+        let driven = self.transmission_type.is_event_driven();
+        let waits = self.event_waits;
+        let inhibit = u32::from(self.inhibit_left);
+        let timer = u32::from(self.timer_left);
+        if !driven {
+            return u32::MAX;
+        }
+        if waits {
+            return inhibit.saturating_sub(1);
+        }
+        if timer == 0 {
+            return u32::MAX;
+        }
+        timer.max(inhibit) - 1
+    }
+
+    /// For at least so many ticks it isn't due, if nothing else happens; `u32::MAX` if it never is.
+    pub(crate) fn idle<S: ObjectStore>(&self, store: &S, places: &Places) -> u32
+        requires { self.now.number < 512 }
+        ensures { places.now ≡ places_of (S.description store.now) self.now.number →
+            (log : Log) (n : ℕ) → let s = settings_of (S.contents store.now) self.now.number in
+            IsAfter self.now log → IsCurrent s log → n ≤ result → NotDueFor s n log }
+    {
+        let active = places.is_active(store);
+        if !active {
+            return u32::MAX;
+        }
+        self.ticks_left()
     }
 
     /// An event, if the TPDO's number is among these; answers whether the TPDO is sent.

@@ -12,6 +12,7 @@ ghost use Rattle.co_pdo.specs.Schedules.{
   ArePlaces,
   AllAfter,
   AllCurrentAfter,
+  AreNotDueFor,
   is_among,
   with_occasion,
   with_whole_start,
@@ -143,6 +144,24 @@ pub(crate) fn all_happen_among<S: ObjectStore>(
             sent.push(tpdo.number);
         }
     }
+}
+
+/// For at least so many ticks none of them is due, if nothing else happens; `u32::MAX` if none ever is.
+pub(crate) fn idle_among<S: ObjectStore>(tpdos: &[Tpdo], places: &[Places], store: &S) -> u32
+    requires table { IsTable tpdos.now }
+    requires places { length places.now ≡ length tpdos.now }
+    ensures { (logs : ℕ → Log) (n : ℕ) →
+        ArePlaces (S.description store.now) (map (λ t. t.number) tpdos.now) places.now →
+        AllAfter tpdos.now logs →
+        AllCurrentAfter (S.contents store.now) logs →
+        n ≤ result → AreNotDueFor (S.contents store.now) n (length tpdos.now) tpdos.now logs }
+{
+    let mut least = u32::MAX;
+    for i in 0..tpdos.len() {
+        let idle = tpdos[i].idle(store, &places[i]);
+        least = least.min(idle);
+    }
+    least
 }
 
 /// Starts each of them whole.

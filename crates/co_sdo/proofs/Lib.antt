@@ -11,3 +11,4 @@ pub mod BlockContinuations
 pub mod SubBlockLemmas
 pub mod RoomLemmas
 pub mod TakeLemmas
+pub mod Idles

@@ -1,5 +1,5 @@
 -- How far an open transfer is, and the bytes that are held for it (CiA 301, 7.2.4.3).
-use Rattle.std.specs.Prelude.{ℕ, ◌+◌, ◌&&◌, Bool, true, false, nat_lt, nat_le, is_some, List, [], ◌∷◌, length, Option, Some, None, if◌then◌else◌}
+use Rattle.std.specs.Prelude.{◌≡◌, ℕ, zero, suc, ◌+◌, ◌&&◌, Bool, true, false, nat_lt, nat_le, is_some, List, [], ◌∷◌, length, Option, Some, None, if◌then◌else◌}
 use Rattle.std.specs.List.{list_any}
 use Rattle.std.specs.Option.{option_map_or}
 use Rattle.co_value.specs.declared.key.Key.{Key}
@@ -9,7 +9,7 @@ use Rattle.co_frame.specs.declared.sdo_request.SdoRequest.TheVariants.{DownloadI
 use Rattle.co_frame.specs.declared.sdo_response.SdoResponse.TheVariants.{BlockUploadEnd as EndSent}
 use Rattle.co_sdo.specs.declared.stage.Stage.{Stage}
 use Rattle.co_sdo.specs.declared.stage.Stage.TheVariants.{Download, Upload as Uploading, SubBlock, LastTaken, BlockUploadInitiated, BlockUpload, BlockUploadEnded}
-use Rattle.co_sdo.specs.Log.{Answer, Response, Exchange, Log, requests, ticks_quiet}
+use Rattle.co_sdo.specs.Log.{Answer, Response, Exchange, Log, Ticked, requests, ticks_quiet}
 use Rattle.co_sdo.specs.SubBlocks.{sub_block, taken_segments, block_bytes, has_last}
 use Rattle.co_sdo.specs.Downloads.{is_odd, segments_joined}
 use Rattle.co_sdo.specs.Uploads.{value_at}
@@ -74,3 +74,8 @@ held_bytes log = bytes_held (opened_after log)
 -- a transfer is open and its time is over; time 0 is none
 abbrev pub is_time_over : ℕ → Log → Bool
 is_time_over time log = is_some (opened_after log) && (nat_lt 0 time && nat_le time (ticks_quiet log))
+
+-- after none of so many ticks one after another is it so
+abbrev pub NotOverFor : ℕ → ℕ → Log → Type 0
+NotOverFor time zero log = Unit {0}
+NotOverFor time (suc n) log = (is_time_over time (Ticked ∷ log) ≡ false) × NotOverFor time n (Ticked ∷ log)

@@ -1,12 +1,12 @@
 //! The time of a transfer, and what ends it from outside.
 
-ghost use Rattle.std.specs.Prelude.{◌≡◌, ◌+◌, ◌-◌, ◌≤◌, ◌++◌, ◌∷◌, Some, None, true};
+ghost use Rattle.std.specs.Prelude.{◌≡◌, ℕ, ◌+◌, ◌-◌, ◌≤◌, ◌++◌, ◌∷◌, Some, None, true};
 ghost use Rattle.arrayvec.specs.ArrayVec.{array_vec_len};
 ghost use Rattle.co_frame.specs.SegmentSizes.{segments_per_sub_block};
 ghost use Rattle.co_frame.specs.Outboxes.{HasRoomFor};
 ghost use Rattle.co_dict.specs.Stores.{Description};
 ghost use Rattle.co_sdo.specs.Log.{Log, Ticked, TimedOut, Dropped, frames_on};
-ghost use Rattle.co_sdo.specs.Opened.{held_bytes, bytes_held, is_time_over};
+ghost use Rattle.co_sdo.specs.Opened.{NotOverFor, held_bytes, bytes_held, is_time_over};
 ghost use Rattle.co_sdo.specs.Replies.{time_out_reply};
 ghost use Rattle.co_sdo.specs.Standing.{Stands, is_expired, room_after};
 
@@ -30,6 +30,18 @@ impl Channel {
             is_time_over self.now.time log }
     {
         self.current.is_some() && self.time > 0 && self.left == 0
+    }
+
+    /// For at least so many ticks the time of a transfer isn't over, if nothing else happens; `u32::MAX` if none is open, or its
+    /// time is 0.
+    pub fn idle(&self) -> u32
+        ensures { (d : Description) (log : Log) (n : ℕ) → Stands d self.now log → n ≤ result →
+            NotOverFor self.now.time n log }
+    {
+        if self.time == 0 || self.current.is_none() {
+            return u32::MAX;
+        }
+        u32::from(self.left).saturating_sub(1)
     }
 
     /// Gives up the transfer whose time is over, with an abort (05040000h, SDO protocol timed out).

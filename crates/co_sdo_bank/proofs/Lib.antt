@@ -5,3 +5,4 @@ mod Places
 mod Outcomes
 mod Permitted
 mod Examples
+pub mod Idles

@@ -3,6 +3,7 @@ use Rattle.std.specs.Prelude.{◌≡◌, ℕ, ◌<◌, ◌==◌, List, length, m
 use Rattle.std.specs.List.{range_with_len, slice_index_or}
 use Rattle.co_dict.specs.Stores.{Description}
 use Rattle.co_sdo.specs.Log.{Log}
+use Rattle.co_sdo.specs.Opened.{NotOverFor}
 use Rattle.co_sdo.specs.Standing.{Stands}
 use Rattle.co_sdo_bank.specs.declared.channels.NumberedChannel.{NumberedChannel}
 use Rattle.co_sdo_bank.specs.Channels.{ChannelSettings, AreInOrder}
@@ -26,6 +27,11 @@ pub record BankStands (d : Description) (channels : List ChannelSettings) (bank 
   pub settings : all_settings bank ≡ channels
   pub each : (i : ℕ) (e : NumberedChannel) → i < length bank →
       Stands d (slice_index_or bank i e).channel (logs (slice_index_or bank i e).number)
+
+-- after none of so many ticks is the time of one of the first channels over
+abbrev pub AreInTimeFor : ℕ → ℕ → List NumberedChannel → (ℕ → Log) → Type 0
+AreInTimeFor n count bank logs = (i : ℕ) (e : NumberedChannel) → i < count →
+    NotOverFor (slice_index_or bank i e).channel.time n (logs (slice_index_or bank i e).number)
 
 -- for each identifier below this the place of the first channel whose requests have it
 unfoldable pub places_below : ℕ → List ChannelSettings → List (Option ℕ)

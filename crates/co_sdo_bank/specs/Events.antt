@@ -1,12 +1,12 @@
 -- What one call does to all SDO channels: an event of one of them, or of each (CiA 301, 7.2.4.3).
-use Rattle.std.specs.Prelude.{ℕ, ◌==◌, List, [], ◌∷◌, length, Option, Some, None, option_map, if◌then◌else◌}
+use Rattle.std.specs.Prelude.{◌≡◌, ℕ, zero, suc, ◌==◌, List, [], ◌∷◌, length, Option, Some, None, option_map, if◌then◌else◌}
 use Rattle.std.specs.List.{find}
 use Rattle.std.specs.Option.{option_map_or}
 use Rattle.co_frame.specs.FrameContent.{FrameContent}
 use Rattle.co_dict.specs.Rows.{Contents}
 use Rattle.co_dict.specs.Stores.{Description}
 use Rattle.co_sdo.specs.Downloads.{Download}
-use Rattle.co_sdo.specs.Log.{Answer, Event, Exchanged, TimedOut, Log, frames_on}
+use Rattle.co_sdo.specs.Log.{Answer, Event, Exchanged, Ticked, TimedOut, Log, frames_on}
 use Rattle.co_sdo.specs.Completed.{set_by}
 use Rattle.co_sdo.specs.Opened.{held_bytes, is_time_over}
 use Rattle.co_sdo.specs.Replies.{reply_to, time_out_reply}
@@ -85,6 +85,12 @@ time_out_on c log = record { channel = c; event = TimedOut (time_out_reply log);
 -- the time-out after a tick: of the lowest channel whose time is over. The others stay open
 abbrev pub time_out_of : List ChannelSettings → (ℕ → Log) → Option ChannelEvent
 time_out_of channels logs = option_map (λ c. time_out_on c (logs c.number)) (expired_in channels logs)
+
+-- at none of so many ticks one after another is there one
+abbrev pub NoTimeOutFor : List ChannelSettings → ℕ → (ℕ → Log) → Type 0
+NoTimeOutFor channels zero logs = Unit {0}
+NoTimeOutFor channels (suc n) logs =
+    (time_out_of channels (with_each Ticked logs) ≡ None) × NoTimeOutFor channels n (with_each Ticked logs)
 
 -- ---- the bytes that are held
 

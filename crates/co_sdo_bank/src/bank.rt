@@ -13,6 +13,7 @@ ghost use Rattle.co_sdo.specs.Standing.{room_after};
 ghost use Rattle.co_sdo_bank.specs.Channels.{ChannelSettings, HaveRoom, channels_of};
 ghost use Rattle.co_sdo_bank.specs.Banks.{BankStands, all_settings};
 ghost use Rattle.co_sdo_bank.specs.Events.{
+  NoTimeOutFor,
   exchange_of,
   frames_at,
   held_on,
@@ -25,7 +26,8 @@ ghost use Rattle.co_sdo_bank.specs.Events.{
 };
 
 use crate::channels::{
-    NumberedChannel, drop_each, existing_channels, expired_place, place_of, places_by_id, tick_each,
+    NumberedChannel, drop_each, existing_channels, expired_place, idle_among, place_of,
+    places_by_id, tick_each,
 };
 use co_dict::ObjectStore;
 use co_frame::{Frame, Outbox};
@@ -185,6 +187,15 @@ impl Bank {
             }
             None => None,
         }
+    }
+
+    /// For at least so many ticks no transfer is given up, if nothing else happens; `u32::MAX` if no time runs.
+    pub fn idle(&self) -> u32
+        ensures { (d : Description) (channels : List ChannelSettings) (logs : ℕ → Log) (n : ℕ) →
+            BankStands d channels self.now logs → n ≤ result → NoTimeOutFor channels n logs }
+    {
+        let channels: &[NumberedChannel] = &self.channels;
+        idle_among(channels)
     }
 
     /// Drops the open transfer of every channel, without an abort.

@@ -5,7 +5,7 @@ ghost use Rattle.co_dict.specs.Stores.{Description};
 ghost use Rattle.co_sdo.specs.Log.{Log, Ticked, Dropped};
 ghost use Rattle.co_sdo.specs.Standing.{is_expired};
 ghost use Rattle.co_sdo_bank.specs.Channels.{ChannelSettings, channels_below, channels_of};
-ghost use Rattle.co_sdo_bank.specs.Banks.{BankStands, all_settings, places_below};
+ghost use Rattle.co_sdo_bank.specs.Banks.{AreInTimeFor, BankStands, all_settings, places_below};
 ghost use Rattle.co_sdo_bank.specs.Events.{with_each};
 
 use co_dict::{ObjectStore, sdo_channel};
@@ -78,6 +78,20 @@ pub(crate) fn tick_each(bank: &mut [NumberedChannel]) -> bool
         is_over |= numbered.channel.expired();
     }
     is_over
+}
+
+/// For at least so many ticks the time of none of them is over; `u32::MAX` if no time runs.
+pub(crate) fn idle_among(bank: &[NumberedChannel]) -> u32
+    ensures { (d : Description) (channels : List ChannelSettings) (logs : ℕ → Log) (n : ℕ) →
+        BankStands d channels bank.now logs → n ≤ result →
+        AreInTimeFor n (length bank.now) bank.now logs }
+{
+    let mut least = u32::MAX;
+    for numbered in bank.iter() {
+        let idle = numbered.channel.idle();
+        least = least.min(idle);
+    }
+    least
 }
 
 /// Drops the open transfer of each channel, without an abort.

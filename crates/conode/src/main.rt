@@ -7,17 +7,21 @@ use co_dict_build::Limits;
 use co_node::Config;
 use conode_adapt::{AdaptWords, LeadingZeros as ZerosRead, adapt_file};
 use conode_check::check_file;
+use conode_compare::{Asked, compare_files};
+use conode_compare_rules::Limits as CompareLimits;
 use conode_convert::{Form as RecordedForm, convert_file};
 use conode_decode::decode_files;
-use conode_explain::{Layout, StampForm, explain_files};
+use conode_explain::{ExplainOptions, LineFormat, StampForm, explain_files};
+use conode_explain_filter::FilterWords;
 use conode_io::{CmdFault, stopped};
 use conode_lint::{Checks, Form, LintOptions, lint_files};
 use conode_loop::loop_files;
 use conode_replay::{replay_files, replay_stored};
 use conode_show::{Form as ShownForm, Format as ShownFormat, show_file};
+use conode_stats::{StatsWords, stats_file};
 use conode_words::{
-    Colours, DeviceWords, DictionaryWords, Format, LeadingZeros, LintWords, LogForm, ShownAs,
-    Stamps, Task, VERSION, task,
+    Colours, DeviceWords, DictionaryWords, Format, LeadingZeros, LinesAs, LintWords, LogForm,
+    OnlyWords, ShownAs, Stamps, Task, VERSION, task,
 };
 use std::io::{BufWriter, IsTerminal, Write};
 use std::process::ExitCode;
@@ -68,6 +72,25 @@ fn recorded_form(form: LogForm) -> RecordedForm {
         LogForm::ScreenDelta => RecordedForm::Deltas,
         LogForm::Trc => RecordedForm::trc(),
         LogForm::Asc => RecordedForm::asc(),
+    }
+}
+
+/// How the lines of an explained recording are written.
+fn line_format(lines_as: LinesAs) -> LineFormat {
+    match lines_as {
+        LinesAs::Text => LineFormat::Text,
+        LinesAs::Json => LineFormat::Json,
+    }
+}
+
+/// Which lines of an explained recording are printed.
+fn filter_words(only: OnlyWords<'_>) -> FilterWords<'_> {
+    FilterWords {
+        of: only.of,
+        id: only.id,
+        kind: only.kind,
+        from: only.from,
+        to: only.to,
     }
 }
 
@@ -190,12 +213,57 @@ fn carry_out_task<O: Write, E: Write>(
             sheet,
             stamps,
             transfers,
+            changes,
+            lines_as,
+            form,
+            only,
         } => {
-            let form = Layout {
+            let options = ExplainOptions {
                 stamps: stamp_form(stamps),
                 transfers,
+                changes,
+                format: line_format(lines_as),
+                log: recorded_form(form),
+                filter: filter_words(only),
             };
-            explain_files(rt, trace, sheet, form, out, err)
+            explain_files(rt, trace, sheet, &options, out, err)
+        }
+        Task::Stats {
+            trace,
+            sheet,
+            bit_rate,
+            lines_as,
+            form,
+        } => {
+            let words = StatsWords {
+                sheet,
+                bit_rate,
+                json: lines_as == LinesAs::Json,
+                log: recorded_form(form),
+            };
+            stats_file(rt, trace, &words, out, err)
+        }
+        Task::Compare {
+            sheet,
+            trace,
+            node,
+            interface,
+            form,
+            timing,
+        } => {
+            let limits = CompareLimits {
+                tolerance: timing.tolerance,
+                drift: timing.drift,
+                answer: timing.answer,
+                boot: timing.boot,
+            };
+            let asked = Asked {
+                node,
+                limits,
+                interface,
+                form: recorded_form(form),
+            };
+            compare_files(rt, sheet, trace, asked, out, err)
         }
         Task::Convert { log, form } => convert_file(rt, log, recorded_form(form), out, err),
     }

@@ -45,8 +45,12 @@ direction_text None = []
 direction_text (Some Received) = codes " R"
 direction_text (Some Sent) = codes " T"
 
+-- the text of a frame
+unfoldable pub frame_text : LogFrame → List ℕ
+frame_text frame =
+    stamp_text frame.micros ++ codes " " ++ place_text frame.place ++ codes " " ++ id_text frame.id
+    ++ content_text frame.content ++ direction_text frame.direction
+
 -- the line of a frame
 unfoldable pub line_text : LogFrame → List ℕ
-line_text frame =
-    stamp_text frame.micros ++ codes " " ++ place_text frame.place ++ codes " " ++ id_text frame.id
-    ++ content_text frame.content ++ direction_text frame.direction ++ codes "\n"
+line_text frame = frame_text frame ++ codes "\n"

@@ -9,3 +9,4 @@ mod text;
 pub use conode_logs::Form;
 pub use converted::convert;
 pub use log_file::convert_file;
+pub use text::add_frame;

@@ -12,6 +12,7 @@ ghost use Rattle.conode_convert.specs.Printed.{
   length_text,
   content_text,
   direction_text,
+  frame_text,
   line_text,
 };
 
@@ -214,10 +215,10 @@ fn direction_text(direction: Option<Direction>) -> &'static [u8]
     }
 }
 
-/// Appends the line of a frame, with its line feed.
-#[tactic(auto, unfolding(crate::specs::Printed::line_text))]
-pub(crate) fn add_line(line: &mut Vec<u8>, frame: &LogFrame<'_>) -> Result<(), AllocError>
-    ensures { OnOk result (line.new.items ≡ line.old.items ++ line_text frame.now) }
+/// Appends the text of a frame, as `candump -L` writes it, without a line feed.
+#[tactic(auto, unfolding(crate::specs::Printed::frame_text))]
+pub fn add_frame(line: &mut Vec<u8>, frame: &LogFrame<'_>) -> Result<(), AllocError>
+    ensures { OnOk result (line.new.items ≡ line.old.items ++ frame_text frame.now) }
 {
     add_stamp(line, frame.micros)?;
     line.extend_from_slice(b" ")?;
@@ -225,6 +226,14 @@ pub(crate) fn add_line(line: &mut Vec<u8>, frame: &LogFrame<'_>) -> Result<(), A
     line.extend_from_slice(b" ")?;
     add_id(line, frame.id)?;
     add_content(line, &frame.content)?;
-    line.extend_from_slice(direction_text(frame.direction))?;
+    line.extend_from_slice(direction_text(frame.direction))
+}
+
+/// Appends the line of a frame, with its line feed.
+#[tactic(auto, unfolding(crate::specs::Printed::line_text))]
+pub(crate) fn add_line(line: &mut Vec<u8>, frame: &LogFrame<'_>) -> Result<(), AllocError>
+    ensures { OnOk result (line.new.items ≡ line.old.items ++ line_text frame.now) }
+{
+    add_frame(line, frame)?;
     line.extend_from_slice(b"\n")
 }

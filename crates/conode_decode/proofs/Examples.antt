@@ -19,7 +19,7 @@ use Rattle.conode_decode.specs.Texts.{nmt_text, sync_text, of_node, emergency_te
 
 -- the text of a frame without a data sheet
 abbrev no_names : Names
-no_names = record { sheet = None; only = None }
+no_names = record { sheet = None; only = None; originals = λ line. None }
 
 abbrev text_of : ℕ → List ℕ → List ℕ
 text_of id bytes = text_of_frame no_names (record { id = id; bytes = bytes })
@@ -409,8 +409,8 @@ sheet = record {
 }
 
 abbrev names_for : List ℕ → Names
-names_for [] = record { sheet = Some sheet; only = None }
-names_for (node ∷ nodes) = record { sheet = Some sheet; only = Some node }
+names_for [] = record { sheet = Some sheet; only = None; originals = λ line. None }
+names_for (node ∷ nodes) = record { sheet = Some sheet; only = Some node; originals = λ line. None }
 
 abbrev upload_of : ℕ → ℕ → FrameContent
 upload_of index sub = record { id = 0x605; bytes = 0x40 ∷ index % 256 ∷ index / 256 ∷ sub ∷ 0 ∷ 0 ∷ 0 ∷ 0 ∷ [] }

@@ -9,12 +9,12 @@ use Rattle.conode_io.specs.declared.fault.CmdFault.{CmdFault}
 use Rattle.conode_io.specs.declared.fault.CmdFault.TheVariants.{Read, Write, BadLine, Memory, NeverEnds}
 use Rattle.conode_io.specs.Written.{WritesFrontOrLines, WritesLines, WritesSome}
 use Rattle.conode_lines.specs.TraceTexts.{trace_in, FailsWithinLine}
-use Rattle.conode_decode.specs.Names.{Names}
+use Rattle.conode_decode.specs.Names.{Names, originals_in}
 use Rattle.conode_decode.specs.Texts.{decoded_line}
 
 -- the names of a data sheet, if there is one, for one node or for all
 abbrev pub names_in : Option SheetContent → Option ℕ → Names
-names_in sheet node = record { sheet = sheet; only = node }
+names_in sheet node = record { sheet = sheet; only = node; originals = originals_in None }
 
 -- a frame has a line; ticks and events have none
 abbrev pub input_lines : Names → ℕ → Input → List (List ℕ)

@@ -5,15 +5,27 @@ use Rattle.std.specs.Str.{is_utf8}
 use Rattle.co_value.specs.declared.key.Key.{Key}
 use Rattle.co_value.specs.Keys.{same_key}
 use Rattle.co_sheet.specs.Content.{Row, SheetContent}
+use Rattle.co_sheet_originals.specs.declared.originals.Originals.{Originals}
+use Rattle.co_sheet_originals.specs.Views.{text_at}
 use Rattle.conode_decode.specs.declared.names.Names.{Names as NamesOfCode}
 
--- where names come from: a data sheet, if there is one, for one node alone or for all
+-- the codes of original data types, by the line of an entry's section; none where a sheet wasn't adapted
+abbrev pub originals_in : Option Originals → ℕ → Option (List ℕ)
+originals_in None line = None
+originals_in (Some table) line = text_at table line
+
+-- where names come from: a data sheet, if there is one, for one node alone or for all, and its original data types
 pub record Names : Type 0 where
   pub sheet : Option SheetContent
   pub only : Option ℕ
+  pub originals : ℕ → Option (List ℕ)
 
 abbrev pub names_view : NamesOfCode → Names
-names_view names = record { sheet = option_copied names.sheet; only = names.only }
+names_view names = record {
+  sheet = option_copied names.sheet;
+  only = names.only;
+  originals = originals_in (option_copied names.originals);
+}
 
 -- a text if it is UTF-8
 abbrev pub if_utf8 : List ℕ → Option (List ℕ)
@@ -39,6 +51,10 @@ are_for only node = option_map_or (λ one. one == node) only true
 unfoldable pub entry_of : Names → ℕ → Key → Option Row
 entry_of names node key =
     if are_for names.only node then option_and_then (λ sheet. row_at sheet.rows key) names.sheet else None
+
+-- the code of an entry's original data type
+abbrev pub original_of : Names → Row → Option (List ℕ)
+original_of names row = names.originals row.line
 
 -- the name of a node's entry
 unfoldable pub name_of : Names → ℕ → Key → Option (List ℕ)

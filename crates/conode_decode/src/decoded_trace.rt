@@ -91,7 +91,11 @@ pub(crate) fn decode_from<R: Read, P: Waits<R>, W: Write>(
         Decoded (names_in (option_copied sheet.entry) node) (Some text) (Some [])
         (W.contents writer.old) (W.contents writer.new) result) }
 {
-    let names = Names { sheet, only: node };
+    let names = Names {
+        sheet,
+        only: node,
+        originals: None,
+    };
     let mut lines = LineReader::new();
     decode_all::<R, P, W>(alloc, &mut lines, reader, names, writer)
 }

@@ -4,10 +4,11 @@ ghost use Rattle.std.specs.Prelude.{◌≡◌, ◌++◌, OnOk, Option, Some, map
 ghost use Rattle.std.specs.Option.{option_copied};
 ghost use Rattle.co_value.specs.Keys.{is_key_before};
 ghost use Rattle.co_sheet.specs.SheetViews.{row_view};
-ghost use Rattle.conode_decode.specs.Names.{names_view, entry_of, if_utf8, row_at, name_at, name_of, name_text, shown_name};
+ghost use Rattle.conode_decode.specs.Names.{names_view, entry_of, if_utf8, original_of, row_at, name_at, name_of, name_text, shown_name};
 
 use crate::numbers::push_words;
 use co_sheet::{EntryRow, Sheet};
+use co_sheet_originals::Originals;
 use co_value::Key;
 use std::alloc::AllocError;
 use std::str;
@@ -19,6 +20,8 @@ pub struct Names<'s, 'a> {
     pub sheet: Option<&'s Sheet<'a>>,
     /// The node whose data sheet it is; `None`: the data sheet is that of each node.
     pub only: Option<u8>,
+    /// The original data types of the sheet's entries, where it was adapted; `None`: no entry has one.
+    pub originals: Option<&'s Originals>,
 }
 
 /// The row of a key among rows in increasing key.
@@ -67,6 +70,13 @@ impl<'s, 'a> Names<'s, 'a> {
             return None;
         }
         row_at(self.sheet?.entries(), key)
+    }
+
+    /// The code of an entry's original data type, as `0x0008`, where the data sheet was adapted (`OriginalDataType`).
+    pub fn original(self, row: &EntryRow<'_>) -> Option<&'static [u8]>
+        ensures { option_copied result ≡ original_of (names_view self.entry) (row_view row.now) }
+    {
+        self.originals?.at(row.line)
     }
 
     // the name of a node's entry

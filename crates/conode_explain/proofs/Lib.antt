@@ -1,3 +1,5 @@
 pub mod AbortLemmas
 pub mod Explaining
+pub mod LogLemmas
+pub mod ServiceLemmas
 pub mod WriteLemmas

@@ -1,14 +1,21 @@
--- Lines written one after the other.
-use Rattle.std.proofs.Common.{◌≡◌, ℕ, ◌+◌, ◌<◌, Bool, true, false, if◌then◌else◌, List, [], ◌∷◌, ◌++◌, length, take, get_or, Option, ap, subst, sym, ◌∙◌}
-use Rattle.std.specs.List.{flat_map}
+-- Lines that are written where they are asked for.
+use Rattle.std.proofs.Common.{◌≡◌, ℕ, Bool, true, false, if◌then◌else◌, ◌⊎◌, inl, inr, List, [], Option}
+use Rattle.std.proofs.KnownBytes.{Appends-nil}
 use Rattle.conode_io.specs.Written.{WritesLines}
-use Rattle.conode_io.proofs.WriteLemmas.{lines_after}
 
--- a line, where it isn't left out, and then others
-pub first_then : (old mid new : Option (List ℕ)) (left_out : Bool) (line : List ℕ) (others : List (List ℕ)) → left_out ≡ false
-    → WritesLines old mid (line ∷ []) → WritesLines mid new others → WritesLines old new ((if left_out then [] else line ∷ []) ++ others)
-first_then old mid new left_out line others shown first rest = rw shown (lines_after old mid new (line ∷ []) others first rest)
+-- lines, where they are shown
+pub are_shown : (old new : Option (List ℕ)) (shown : Bool) (lines : List (List ℕ)) → shown ≡ true → WritesLines old new lines
+    → WritesLines old new (if shown then lines else [])
+are_shown old new shown lines is written = rw is written
 
-pub none_then : (old new : Option (List ℕ)) (left_out : Bool) (line : List ℕ) (others : List (List ℕ)) → left_out ≡ true
-    → WritesLines old new others → WritesLines old new ((if left_out then [] else line ∷ []) ++ others)
-none_then old new left_out line others hidden rest = rw hidden rest
+pub are_hidden : (old : Option (List ℕ)) (shown : Bool) (lines : List (List ℕ)) → shown ≡ false → WritesLines old old (if shown then lines else [])
+are_hidden old shown lines is = rw is (Appends-nil old)
+
+-- ---- statuses
+
+pub or_two : (status : ℕ) → (status ≡ 0) ⊎ (status ≡ 1) → (status ≡ 0) ⊎ ((status ≡ 1) ⊎ (status ≡ 2))
+or_two status (inl none) = inl none
+or_two status (inr one) = inr (inl one)
+
+pub one_or_two : (status : ℕ) → (status ≡ 1) ⊎ (status ≡ 2) → (status ≡ 0) ⊎ ((status ≡ 1) ⊎ (status ≡ 2))
+one_or_two status h = inr h

@@ -1,11 +1,13 @@
--- What a recording is explained as: the lines of its frames, in order, each with that of the transfer that ended with it, and at the
--- end those of the transfers that are open. A bad line has none here, and is counted.
+-- What a log is explained as: the lines of its frames that are asked for, in order, each with that of the transfer that ended with it,
+-- and at the end those of the transfers that are open. A bad line has none here, and is counted.
 use Rattle.std.specs.Prelude.{ℕ, ◌+◌, Bool, true, false, nat_lt, ◌&&◌, ◌||◌, if◌then◌else◌, List, [], ◌∷◌, ◌++◌, length, Option, Some, None, Result, Ok, Err}
 use Rattle.std.specs.List.{flat_map}
 use Rattle.std.specs.Str.Lines.{lines}
 use Rattle.co_bounded_lines.specs.Founds.{is_closed}
 use Rattle.conode_decode.specs.Names.{Names}
-use Rattle.conode_record.specs.declared.bad_line.BadLine.{BadLine}
+use Rattle.conode_convert.specs.Converted.{at_start}
+use Rattle.conode_logs.specs.declared.log.Log.{Log}
+use Rattle.conode_logs.specs.Logs.{says}
 use Rattle.conode_record.specs.declared.content.Content.{Content}
 use Rattle.conode_record.specs.declared.content.Content.TheVariants.{Data}
 use Rattle.conode_record.specs.declared.fields.Identifier.{Identifier}
@@ -13,7 +15,6 @@ use Rattle.conode_record.specs.declared.fields.Identifier.TheVariants.{Base}
 use Rattle.conode_record.specs.declared.line.Record.{Record}
 use Rattle.conode_record.specs.declared.line.RecordLine.{RecordLine}
 use Rattle.conode_record.specs.declared.line.RecordLine.TheVariants.{Skipped, Frame}
-use Rattle.conode_record.specs.Lines.{line_in}
 use Rattle.conode_explain_channels.specs.declared.told.Told.{Told}
 use Rattle.conode_explain_channels.specs.declared.track.Track.{Track}
 use Rattle.conode_explain_channels.specs.Tellings.{telling}
@@ -21,18 +22,25 @@ use Rattle.conode_explain_channels.specs.Tracks.{Telling}
 use Rattle.conode_explain_transfers.specs.declared.ended.Ended.{Ended}
 use Rattle.conode_explain_transfers.specs.declared.ended.Ending.TheVariants.{Unfinished}
 use Rattle.conode_explain_transfers.specs.Followed.{closed}
-use Rattle.conode_explain_text.specs.declared.stamps.StampForm.{StampForm}
-use Rattle.conode_explain_text.specs.Lines.{line_parts, line_text, own_parts}
+use Rattle.conode_explain_changes.specs.Changes.{Said}
+use Rattle.conode_explain_filter.specs.declared.kind.Kind.{Kind}
+use Rattle.conode_explain_filter.specs.declared.kind.Kind.TheVariants.{Sdo}
+use Rattle.conode_explain_json.specs.JsonLines.{json_line}
+use Rattle.conode_explain_text.specs.Lines.{Part, line_parts, line_text, own_parts}
 use Rattle.conode_explain_text.specs.SoFar.{SoFar, nothing_seen, seen_with, shows_interface, times_at}
 use Rattle.conode_explain.specs.declared.progress.Progress.{Progress}
 use Rattle.conode_explain.specs.declared.progress.Layout.{Layout}
+use Rattle.conode_explain.specs.declared.progress.LineFormat.{LineFormat}
+use Rattle.conode_explain.specs.declared.progress.LineFormat.TheVariants.{Text, Json}
+use Rattle.conode_explain.specs.LogLines.{line_at}
+use Rattle.conode_explain.specs.Filtered.{is_news, lasts_told, shows_end, shows_frame, subject_in}
 use Rattle.conode_explain.specs.ToldWords.{ended_words, told_words}
 
 -- ---- the lines of frames
 
 -- nothing came
 abbrev pub nothing_known : Progress
-nothing_known = record { seen = nothing_seen; channels = [] }
+nothing_known = record { seen = nothing_seen; channels = []; lasts = [] }
 
 -- what is told of a frame, and the channels after it: frames of data with an identifier of 11 bits alone are followed
 abbrev pub telling_in : List Track → Record → Identifier → Content → Telling
@@ -42,86 +50,119 @@ telling_in channels frame _ _ = record { told = None; tracks = channels }
 unfoldable pub telling_of : List Track → Record → Telling
 telling_of channels frame = telling_in channels frame frame.id frame.content
 
--- the line of a frame
-abbrev pub frame_line : StampForm → Names → SoFar → Record → Option Told → List ℕ
-frame_line form names so_far frame told = line_text (line_parts form so_far frame (told_words names frame told))
+-- a line as text or as an object of JSON, of a kind and a node
+abbrev pub line_as : LineFormat → Kind → Option ℕ → List Part → List ℕ
+line_as Text kind whose parts = line_text parts
+line_as Json kind whose parts = json_line kind whose parts
 
--- the line of a transfer that ended, where one did
-abbrev pub ended_lines : StampForm → Names → SoFar → ℕ → List ℕ → ℕ → Option Ended → List (List ℕ)
+-- the line of a frame that says these words
+unfoldable pub frame_line : Layout → Names → SoFar → Record → List ℕ → List ℕ
+frame_line form names so_far frame words =
+    line_as form.format (subject_in names frame).kind (subject_in names frame).node (line_parts form.stamps so_far frame words)
+
+-- where it says something new
+abbrev pub news_lines : Layout → Names → SoFar → List Said → Record → List ℕ → List (List ℕ)
+news_lines form names so_far lasts frame words =
+    if is_news form names lasts frame words then frame_line form names so_far frame words ∷ [] else []
+
+-- and is asked for
+unfoldable pub shown_lines : Layout → Names → SoFar → List Said → Record → List ℕ → List (List ℕ)
+shown_lines form names so_far lasts frame words =
+    if shows_frame form names so_far frame then news_lines form names so_far lasts frame words else []
+
+-- what was said last after it: a frame whose line isn't asked for doesn't count
+unfoldable pub lasts_after : Layout → Names → SoFar → List Said → Record → List ℕ → List Said
+lasts_after form names so_far lasts frame words =
+    if shows_frame form names so_far frame then lasts_told form names lasts frame words else lasts
+
+-- the line of a transfer that ended, where one did and it is asked for
+unfoldable pub end_line : Layout → Names → SoFar → ℕ → List ℕ → ℕ → Ended → List ℕ
+end_line form names so_far micros interface node e =
+    line_as form.format Sdo (Some node)
+    (own_parts form.stamps (times_at so_far micros) (shows_interface so_far interface) interface (ended_words names node e))
+
+abbrev pub ended_lines : Layout → Names → SoFar → ℕ → List ℕ → ℕ → Option Ended → List (List ℕ)
 ended_lines form names so_far micros interface node None = []
 ended_lines form names so_far micros interface node (Some e) =
-    line_text (own_parts form (times_at so_far micros) (shows_interface so_far interface) interface (ended_words names node e)) ∷ []
+    if shows_end form so_far micros node then end_line form names so_far micros interface node e ∷ [] else []
 
-abbrev pub told_lines : StampForm → Names → SoFar → Record → Option Told → List (List ℕ)
+abbrev pub told_lines : Layout → Names → SoFar → Record → Option Told → List (List ℕ)
 told_lines form names so_far frame None = []
 told_lines form names so_far frame (Some told) = ended_lines form names so_far frame.micros frame.interface told.node told.ended
 
--- the line of a frame is left out where only the ends of transfers are asked for
-abbrev pub lines_told : Layout → Names → SoFar → Record → Option Told → List (List ℕ)
-lines_told form names so_far frame told =
-    (if form.transfers then [] else frame_line form.stamps names so_far frame told ∷ []) ++ told_lines form.stamps names so_far frame told
-
+-- the lines of a frame
 unfoldable pub frame_lines : Layout → Names → Progress → Record → List (List ℕ)
-frame_lines form names progress frame = lines_told form names progress.seen frame (telling_of progress.channels frame).told
+frame_lines form names progress frame =
+    let told = (telling_of progress.channels frame).told in
+    shown_lines form names progress.seen progress.lasts frame (told_words names frame told)
+    ++ told_lines form names progress.seen frame told
 
-unfoldable pub progress_with : Progress → Record → Progress
-progress_with progress frame = record {
-  seen = seen_with progress.seen frame.micros frame.interface;
-  channels = (telling_of progress.channels frame).tracks;
-}
+unfoldable pub progress_with : Layout → Names → Progress → Record → Progress
+progress_with form names progress frame =
+    let telling = telling_of progress.channels frame in
+    record {
+      seen = seen_with progress.seen frame.micros frame.interface;
+      channels = telling.tracks;
+      lasts = lasts_after form names progress.seen progress.lasts frame (told_words names frame telling.told);
+    }
 
 -- the lines of what a line says, if that is a frame
-abbrev pub said_lines : Layout → Names → Progress → Result RecordLine BadLine → List (List ℕ)
-said_lines form names progress (Ok (Frame frame)) = frame_lines form names progress frame
-said_lines form names progress (Ok Skipped) = []
-said_lines form names progress (Err bad) = []
+abbrev pub said_lines : Layout → Names → Progress → Option RecordLine → List (List ℕ)
+said_lines form names progress (Some (Frame frame)) = frame_lines form names progress frame
+said_lines form names progress (Some Skipped) = []
+said_lines form names progress None = []
 
 -- how far it is after it
-abbrev pub progress_after : Progress → Result RecordLine BadLine → Progress
-progress_after progress (Ok (Frame frame)) = progress_with progress frame
-progress_after progress (Ok Skipped) = progress
-progress_after progress (Err bad) = progress
+abbrev pub progress_after : Layout → Names → Progress → Option RecordLine → Progress
+progress_after form names progress (Some (Frame frame)) = progress_with form names progress frame
+progress_after form names progress (Some Skipped) = progress
+progress_after form names progress None = progress
 
 -- ---- the end
 
 -- a transfer that is open at the end, at the stamp of the last frame
-abbrev pub unfinished_in : StampForm → Names → SoFar → Track → List (List ℕ)
+abbrev pub unfinished_in : Layout → Names → SoFar → Track → List (List ℕ)
 unfinished_in form names so_far track =
     ended_lines form names so_far so_far.last track.interface.items track.node (closed track.channel.transfer so_far.last Unfinished)
 
 unfoldable pub unfinished_lines : Layout → Names → Progress → List (List ℕ)
-unfinished_lines form names progress = flat_map (unfinished_in form.stamps names progress.seen) progress.channels
+unfinished_lines form names progress = flat_map (unfinished_in form names progress.seen) progress.channels
 
 -- ---- all of it
 
--- lines explained, where it was so far before them; one of more than 512 bytes is bad
-unfoldable pub explained_from : Layout → Names → Progress → List (List ℕ) → List (List ℕ)
-explained_from form names progress [] = unfinished_lines form names progress
-explained_from form names progress (line ∷ more) =
-    if nat_lt 512 (length line) then explained_from form names progress more
-    else said_lines form names progress (line_in line) ++ explained_from form names (progress_after progress (line_in line)) more
+-- lines explained, where it was so far before them; one of more than 512 bytes is bad, and says nothing of the log
+unfoldable pub explained_from : Layout → Names → Log → Progress → List (List ℕ) → List (List ℕ)
+explained_from form names log progress [] = unfinished_lines form names progress
+explained_from form names log progress (line ∷ more) =
+    if nat_lt 512 (length line) then explained_from form names log progress more
+    else said_lines form names progress (line_at log line)
+    ++ explained_from form names (says log line).0 (progress_after form names progress (line_at log line)) more
 
--- a recording explained
+-- a log explained
 abbrev pub explained : Layout → Names → List ℕ → List (List ℕ)
-explained form names text = explained_from form names nothing_known (lines text)
+explained form names text = explained_from form names (at_start form.log) nothing_known (lines text)
 
 -- ---- how many lines are bad
 
--- 1 for what is wrong with a line
-abbrev pub faults_in : Result RecordLine BadLine → ℕ
-faults_in (Ok says) = 0
-faults_in (Err bad) = 1
+-- 1 for a line that is bad
+abbrev pub faults_in : Option RecordLine → ℕ
+faults_in (Some says) = 0
+faults_in None = 1
 
 -- 1 for a bad line that has its line feed
-abbrev pub faults_of : List ℕ → ℕ
-faults_of line = if nat_lt 512 (length line) then 1 else faults_in (line_in line)
+abbrev pub faults_of : Log → List ℕ → ℕ
+faults_of log line = if nat_lt 512 (length line) then 1 else faults_in (line_at log line)
+
+-- the log after a line
+abbrev pub log_after : Log → List ℕ → Log
+log_after log line = if nat_lt 512 (length line) then log else (says log line).0
 
 -- The last line counts only where it has its line feed, or is too long: whoever stops a recording cuts it off there.
-unfoldable pub bad_from : Bool → List (List ℕ) → ℕ
-bad_from closed [] = 0
-bad_from closed (line ∷ []) = if closed || nat_lt 512 (length line) then faults_of line else 0
-bad_from closed (line ∷ next ∷ more) = faults_of line + bad_from closed (next ∷ more)
+unfoldable pub bad_from : Bool → Log → List (List ℕ) → ℕ
+bad_from closed log [] = 0
+bad_from closed log (line ∷ []) = if closed || nat_lt 512 (length line) then faults_of log line else 0
+bad_from closed log (line ∷ next ∷ more) = faults_of log line + bad_from closed (log_after log line) (next ∷ more)
 
--- how many lines of a recording are bad
-abbrev pub bad_count : List ℕ → ℕ
-bad_count text = bad_from (is_closed text) (lines text)
+-- how many lines of a text are bad, from this log on
+abbrev pub bad_count : Log → List ℕ → ℕ
+bad_count log text = bad_from (is_closed text) log (lines text)

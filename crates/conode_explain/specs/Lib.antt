@@ -1,7 +1,9 @@
 pub mod AbortWords
 pub mod BadWords
 pub mod Explained
+pub mod Filtered
 pub mod FrameWords
+pub mod LogLines
 pub mod Taking
 pub mod ToldWords
 pub mod Transfers

@@ -14,7 +14,7 @@ use Rattle.co_frame.specs.SdoResponses.{response_in}
 use Rattle.co_sheet.specs.Content.{Row}
 use Rattle.conode_decode.specs.Names.{Names, entry_of, shown_name}
 use Rattle.conode_explain.specs.declared.transfer.Transfer.{Transfer}
-use Rattle.conode_explain_values.specs.declared.value_type.ValueType.TheVariants.{Plain}
+use Rattle.conode_explain_pdo.specs.Types.{type_in}
 use Rattle.conode_explain_values.specs.Values.{entry_text}
 
 -- ---- which frame is one
@@ -56,14 +56,14 @@ front_of transfer =
     if transfer.asked then service_text (codes "SDO request node ") transfer.node (codes " download: ")
     else service_text (codes "SDO answer node ") transfer.node (codes " upload: ")
 
--- the entry of a transfer with its value
-unfoldable pub transfer_text : Transfer → Row → List ℕ
-transfer_text transfer row =
+-- the entry of a transfer with its value, in its type
+unfoldable pub transfer_text : Names → Transfer → Row → List ℕ
+transfer_text names transfer row =
     let bytes = value_bytes row.data_type transfer.content in
-    front_of transfer ++ entry_text (shown_name row) transfer.key (Plain row.data_type) (8 * length bytes) bytes
+    front_of transfer ++ entry_text (shown_name row) transfer.key (type_in names row) (8 * length bytes) bytes
 
 -- what a frame says of the entry of an expedited transfer, where the sheet has it
 unfoldable pub transfer_words : Names → FrameContent → Option (List ℕ)
 transfer_words names frame =
-    option_and_then (λ transfer. option_map (transfer_text transfer) (entry_of names transfer.node transfer.key))
+    option_and_then (λ transfer. option_map (transfer_text names transfer) (entry_of names transfer.node transfer.key))
     (transfer_in frame)

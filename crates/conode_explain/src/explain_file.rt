@@ -4,12 +4,16 @@ ghost use Rattle.std.specs.Prelude.{◌≡◌, ◌⊎◌};
 ghost use Rattle.std.specs.Process.{exit_status};
 
 use crate::explained::explain;
-use crate::progress::Layout;
+use crate::progress::{Layout, LineFormat};
 use crate::writes::Settings;
-use co_sheet::read;
+use co_sheet::{FaultKind, GREATEST_SIZE, SheetFault, read};
+use co_sheet_originals::Originals;
 use co_text::decimal_in;
 use conode_decode::Names;
-use conode_io::{cannot_read, faulty_sheet, file_text, flushed, no_text, stopped};
+use conode_explain_filter::{Filter, FilterFault, FilterWords};
+use conode_explain_text::StampForm;
+use conode_io::{CmdFault, cannot_read, faulty_sheet, file_text, flushed, no_text, stopped};
+use conode_logs::Form;
 use std::alloc::Global;
 use std::fs;
 use std::io::{Input, Read, Write};
@@ -59,28 +63,49 @@ fn explain_path<R: Files + AllocGlobal + Input, O: Write, E: Write>(
     }
 }
 
+// the original data types of a sheet's entries, of a text that is one
+fn originals_in(alloc: Global, text: &[u8]) -> Result<Originals, SheetFault> {
+    if text.len() > GREATEST_SIZE {
+        return Err(SheetFault {
+            kind: FaultKind::TooLarge,
+            line: 0,
+        });
+    }
+    match Originals::in_text(alloc, text) {
+        Ok(originals) => Ok(originals),
+        Err(_) => Err(SheetFault {
+            kind: FaultKind::Memory,
+            line: 0,
+        }),
+    }
+}
+
 // explains the recording of a path with the names of a sheet, if the text is one
 fn explain_named<R: Files + AllocGlobal + Input, O: Write, E: Write>(
     rt: &R,
     path: &str,
     text: &[u8],
     node: Option<u8>,
-    form: Layout,
+    form: Layout<'_>,
     out: &mut O,
     err: &mut E,
 ) -> ExitCode
     ensures { (exit_status result ≡ 0) ⊎ (exit_status result ≡ 1) }
 {
-    match read(rt.alloc(), text) {
-        Ok(sheet) => {
-            let names = Names {
-                sheet: Some(&sheet),
-                only: node,
-            };
-            explain_path(rt, path, &Settings { form, names }, out, err)
-        }
-        Err(fault) => faulty_sheet(fault, out),
-    }
+    let sheet = match read(rt.alloc(), text) {
+        Ok(sheet) => sheet,
+        Err(fault) => return faulty_sheet(fault, out),
+    };
+    let originals = match originals_in(rt.alloc(), text) {
+        Ok(originals) => originals,
+        Err(fault) => return faulty_sheet(fault, out),
+    };
+    let names = Names {
+        sheet: Some(&sheet),
+        only: node,
+        originals: Some(&originals),
+    };
+    explain_path(rt, path, &Settings { form, names }, out, err)
 }
 
 // The node-ID that a sheet is for, and its path: `5=sensor.eds` is for node 5, and a word that doesn't begin with a
@@ -95,15 +120,12 @@ fn node_and_path(word: &str) -> (Option<u8>, &str) {
     }
 }
 
-/// Explains the recording of a path, or of standard input where that is `-`, with the names of a data sheet, where a
-/// word names one: a path, perhaps with the node-ID that the sheet is for before it, as `5=sensor.eds`. The sheet is read
-/// first: its fault goes to `out`. Bad lines, and a file that can't be read, are named on `err`. The status is 0 where
-/// all lines are good, else 1.
-pub fn explain_files<R: Files + AllocGlobal + Input, O: Write, E: Write>(
+// explains the recording of a path with the names of a data sheet, where a word names one
+fn explain_in<R: Files + AllocGlobal + Input, O: Write, E: Write>(
     rt: &R,
     recording: &str,
     sheet: Option<&str>,
-    form: Layout,
+    form: Layout<'_>,
     out: &mut O,
     err: &mut E,
 ) -> ExitCode
@@ -113,6 +135,7 @@ pub fn explain_files<R: Files + AllocGlobal + Input, O: Write, E: Write>(
         let names = Names {
             sheet: None,
             only: None,
+            originals: None,
         };
         return explain_path(rt, recording, &Settings { form, names }, out, err);
     };
@@ -120,5 +143,67 @@ pub fn explain_files<R: Files + AllocGlobal + Input, O: Write, E: Write>(
     match file_text(rt, path) {
         Ok(text) => explain_named(rt, recording, text.as_slice(), node, form, out, err),
         Err(fault) => no_text(fault, path, out, err),
+    }
+}
+
+/// What is asked for of a recording.
+#[derive(Clone, Copy)]
+pub struct ExplainOptions<'a> {
+    /// In which form stamps are written.
+    pub stamps: StampForm,
+    /// Whether only the SDO transfers that ended have lines.
+    pub transfers: bool,
+    /// Whether a PDO, a heartbeat and a SYNC have lines only where what they say changes.
+    pub changes: bool,
+    /// How lines are written.
+    pub format: LineFormat,
+    /// In which form the log is.
+    pub log: Form,
+    /// Which lines are printed.
+    pub filter: FilterWords<'a>,
+}
+
+// says which word of a filter is wrong
+fn bad_filter<O: Write, E: Write>(fault: FilterFault<'_>, out: &mut O, err: &mut E) -> ExitCode
+    ensures { (exit_status result ≡ 1) ⊎ (exit_status result ≡ 2) }
+{
+    match fault {
+        FilterFault::Word(option, word) => {
+            let _ = writeln!(err, "{}: {word} is not {}", option.name(), option.wanted());
+            ExitCode::from(2)
+        }
+        FilterFault::Memory => stopped(CmdFault::Memory, out, err).status(),
+    }
+}
+
+/// Explains the recording of a path, or of standard input where that is `-`, with the names of a data sheet, where a
+/// word names one: a path, perhaps with the node-ID that the sheet is for before it, as `5=sensor.eds`. The words of the
+/// filter are read first: the first that its option doesn't have is named on `err`, and the status is 2. Then the sheet is
+/// read: its fault goes to `out`. Bad lines, and a file that can't be read, are named on `err`. The status is 0 where all
+/// lines are good, else 1.
+#[tactic(auto, using(crate::proofs::WriteLemmas::or_two, crate::proofs::WriteLemmas::one_or_two))]
+pub fn explain_files<R: Files + AllocGlobal + Input, O: Write, E: Write>(
+    rt: &R,
+    recording: &str,
+    sheet: Option<&str>,
+    options: &ExplainOptions<'_>,
+    out: &mut O,
+    err: &mut E,
+) -> ExitCode
+    ensures { (exit_status result ≡ 0) ⊎ ((exit_status result ≡ 1) ⊎ (exit_status result ≡ 2)) }
+{
+    match Filter::read(rt.alloc(), &options.filter) {
+        Ok(filter) => {
+            let form = Layout {
+                stamps: options.stamps,
+                transfers: options.transfers,
+                changes: options.changes,
+                format: options.format,
+                log: options.log,
+                filter: &filter,
+            };
+            explain_in(rt, recording, sheet, form, out, err)
+        }
+        Err(fault) => bad_filter(fault, out, err),
     }
 }

@@ -12,8 +12,8 @@ use conode_io::CmdFault;
 use std::alloc::Global;
 use std::io::{Read, Write};
 
-/// Explains a recording as `candump -L` writes it, line by line and in constant memory: for each frame a line is
-/// written on `out`, with its times and what it says, and after it one for the SDO transfer that ended with it; at the end one
+/// Explains a log of the form that is given, or that its first lines show, line by line and in constant memory: for
+/// each frame a line is written on `out`, with its times and what it says, and after it one for the SDO transfer that ended with it; at the end one
 /// for each that is open. A bad line, or one of more than 512 bytes, is named on `err` with
 /// its number and what is wrong with it, and the rest goes on. Gives the number of bad lines; a last line that no line
 /// feed ends is counted only where it is too long, since whoever stops a recording cuts it off there.
@@ -40,7 +40,7 @@ pub fn explain<R: Read, W: Write, E: Write>(
         (W.contents out.old) (W.contents out.new) bad)) }
 {
     let pdos = sheet_pdos(alloc, settings.names)?;
-    let mut explaining = Explaining::new(alloc);
+    let mut explaining = Explaining::new(alloc, settings.form.log);
     let mut bad: u64 = 0;
     for number in 1..u64::MAX {
         explaining.let_out(out)?;

@@ -6,6 +6,7 @@ mod abort_words;
 mod bad_words;
 mod explain_file;
 mod explained;
+mod filtered;
 mod frame_words;
 mod progress;
 mod step;
@@ -14,7 +15,8 @@ mod transfer;
 mod writes;
 
 pub use conode_explain_text::StampForm;
-pub use explain_file::explain_files;
+pub use conode_logs::Form;
+pub use explain_file::{ExplainOptions, explain_files};
 pub use explained::explain;
-pub use progress::Layout;
+pub use progress::{Layout, LineFormat};
 pub use writes::Settings;

@@ -5,25 +5,46 @@ ghost use Rattle.conode_record.specs.Grammar.{IsIdentifier};
 ghost use Rattle.conode_explain.specs.Explained.{nothing_known, telling_of};
 
 use co_frame::Frame;
+use conode_explain_changes::Lasts;
 use conode_explain_channels::{Channels, Told};
+use conode_explain_filter::Filter;
 use conode_explain_text::{Seen, StampForm};
+use conode_logs::Form;
 use conode_record::{Content, Identifier, Record};
 use std::alloc::{AllocError, Global};
 
-/// In which form a recording is explained.
+/// How lines are written.
 #[derive(Clone, Copy, Debug, PartialEq, Eq)]
-pub struct Layout {
+pub enum LineFormat {
+    /// For people.
+    Text,
+    /// Each as an object of JSON.
+    Json,
+}
+
+/// In which form a recording is explained.
+#[derive(Clone, Copy)]
+pub struct Layout<'f> {
     /// In which form stamps are written.
     pub stamps: StampForm,
     /// Whether only the SDO transfers that ended have lines.
     pub transfers: bool,
+    /// Whether a PDO, a heartbeat and a SYNC have lines only where what they say changes.
+    pub changes: bool,
+    /// How lines are written.
+    pub format: LineFormat,
+    /// In which form the log is.
+    pub log: Form,
+    /// Which lines are printed.
+    pub filter: &'f Filter,
 }
 
-/// What a recording showed so far: its stamps and interfaces, and the SDO channels.
+/// What a recording showed so far: its stamps and interfaces, the SDO channels, and what was said last of identifiers.
 #[derive(Drop)]
 pub(crate) struct Progress {
     pub(crate) seen: Seen,
     pub(crate) channels: Channels,
+    pub(crate) lasts: Lasts,
 }
 
 impl Progress {
@@ -34,6 +55,7 @@ impl Progress {
         Progress {
             seen: Seen::new(),
             channels: Channels::new(alloc),
+            lasts: Lasts::new(alloc),
         }
     }
 
@@ -47,6 +69,7 @@ impl Progress {
         ensures channels { OnOk result
             (self.new.channels ≡ (telling_of self.old.channels frame.now).tracks) }
         ensures seen { self.new.seen ≡ self.old.seen }
+        ensures lasts { self.new.lasts ≡ self.old.lasts }
     {
         let Identifier::Base(id) = frame.id else {
             return Ok(None);

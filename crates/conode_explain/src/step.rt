@@ -1,4 +1,4 @@
-//! One line of a recording after another.
+//! One line of a log after another.
 
 ghost use Rattle.std.specs.Prelude.{◌≡◌, ◌⊎◌, ◌≤◌, OnOk, IfOk, IfErr, IfSome, IfNone};
 ghost use Rattle.std.specs.Io.KnownBytes.{Keeps, IsAtEnd};
@@ -7,6 +7,8 @@ ghost use Rattle.co_stream.specs.Readings.{Gave};
 ghost use Rattle.conode_decode.specs.Names.{names_view};
 ghost use Rattle.conode_explain_pdo.specs.Sheets.{sheet_pdos};
 ghost use Rattle.conode_io.specs.Written.{WritesLines};
+ghost use Rattle.conode_convert.specs.Converted.{at_start};
+ghost use Rattle.conode_logs.specs.Logs.{says};
 ghost use Rattle.conode_record.specs.Lines.{line_in};
 ghost use Rattle.conode_explain.specs.Explained.{
   faults_in,
@@ -15,14 +17,18 @@ ghost use Rattle.conode_explain.specs.Explained.{
   said_lines,
   unfinished_lines,
 };
+ghost use Rattle.conode_explain.specs.LogLines.{good, line_at};
 ghost use Rattle.conode_explain.specs.Taking.{Takes};
 
 use crate::bad_words::{TOO_LONG, bad_words};
 use crate::progress::Progress;
 use crate::writes::{Room, Settings, write_frame, write_unfinished};
 use co_bounded_lines::{BoundedLines, Found, ReadFault};
+use conode_convert::add_frame;
 use conode_explain_pdo::SheetPdo;
 use conode_io::{CmdFault, flush};
+use conode_log_parts::LogLine;
+use conode_logs::{Form, Log};
 use conode_record::RecordLine;
 use std::alloc::Global;
 use std::io::{Read, Write};
@@ -31,8 +37,10 @@ use std::io::{Read, Write};
 #[derive(Drop)]
 pub(crate) struct Explaining {
     lines: BoundedLines,
+    log: Log,
     progress: Progress,
     room: Room,
+    frame: Vec<u8>,
 }
 
 // Names a bad line. Where even this can't be written, the status alone tells of it.
@@ -48,8 +56,9 @@ fn read_fault(fault: ReadFault) -> CmdFault {
     }
 }
 
-// Writes the line of a line's frame, if it has one, and takes the frame in. 1 where the line is bad: then it is named.
-fn explain_line<W: Write, E: Write>(
+// Writes the line of the frame of a line as `candump -L` writes it, if it has one, and takes the frame in. 1 where the
+// line is bad: then it is named.
+fn explain_record<W: Write, E: Write>(
     room: &mut Room,
     progress: &mut Progress,
     settings: &Settings<'_, '_>,
@@ -62,10 +71,11 @@ fn explain_line<W: Write, E: Write>(
     requires { pdos.now ≡ sheet_pdos (names_view settings.now.names) }
     ensures lines { OnOk result (WritesLines (W.contents out.old) (W.contents out.new)
         (said_lines settings.now.form (names_view settings.now.names) progress.old
-        (line_in line.now))) }
+        (good (line_in line.now)))) }
     ensures progress { OnOk result
-        (progress.new ≡ progress_after progress.old (line_in line.now)) }
-    ensures bad { IfOk result (λ bad. bad ≡ faults_in (line_in line.now)) }
+        (progress.new ≡ progress_after settings.now.form (names_view settings.now.names)
+        progress.old (good (line_in line.now))) }
+    ensures bad { IfOk result (λ bad. bad ≡ faults_in (good (line_in line.now))) }
     ensures err { IfErr result (λ fault. (fault ≡ CmdFault.Write) ⊎ (fault ≡ CmdFault.Memory)) }
 {
     match RecordLine::read(line) {
@@ -81,16 +91,65 @@ fn explain_line<W: Write, E: Write>(
     }
 }
 
+// Writes the line of a line's frame, if it has one, and takes the frame in. 1 where the line is bad: then it is named.
+#[tactic(auto, unfolding(crate::specs::LogLines::line_at), using(crate::proofs::LogLemmas::candump_line, crate::proofs::LogLemmas::candump_log))]
+fn explain_line<W: Write, E: Write>(
+    room: &mut Room,
+    text: &mut Vec<u8>,
+    log: &mut Log,
+    progress: &mut Progress,
+    settings: &Settings<'_, '_>,
+    pdos: &[SheetPdo],
+    number: u64,
+    line: &[u8],
+    out: &mut W,
+    err: &mut E,
+) -> Result<u64, CmdFault>
+    requires { pdos.now ≡ sheet_pdos (names_view settings.now.names) }
+    ensures lines { OnOk result (WritesLines (W.contents out.old) (W.contents out.new)
+        (said_lines settings.now.form (names_view settings.now.names) progress.old
+        (line_at log.old line.now))) }
+    ensures log { OnOk result (log.new ≡ (says log.old line.now).0) }
+    ensures progress { OnOk result
+        (progress.new ≡ progress_after settings.now.form (names_view settings.now.names)
+        progress.old (line_at log.old line.now)) }
+    ensures bad { IfOk result (λ bad. bad ≡ faults_in (line_at log.old line.now)) }
+    ensures err { IfErr result (λ fault. (fault ≡ CmdFault.Write) ⊎ (fault ≡ CmdFault.Memory)) }
+{
+    if let Form::Candump = log.form {
+        return explain_record(room, progress, settings, pdos, number, line, out, err);
+    }
+    match log.read(line) {
+        Ok(LogLine::Skipped) => Ok(0),
+        Ok(LogLine::AsItIs) => {
+            explain_record(room, progress, settings, pdos, number, line, out, err)
+        }
+        Ok(LogLine::Frame(frame)) => {
+            text.clear();
+            add_frame(text, &frame)?;
+            let line = text.as_slice();
+            explain_record(room, progress, settings, pdos, number, line, out, err)
+        }
+        Err(bad) => {
+            name_bad_line(number, bad.words(), err);
+            Ok(1)
+        }
+    }
+}
+
 impl Explaining {
     /// No line was taken.
-    pub(crate) fn new(alloc: Global) -> Explaining
+    pub(crate) fn new(alloc: Global, form: Form) -> Explaining
         ensures lines { result.lines ≡ nothing_held }
+        ensures log { result.log ≡ at_start form }
         ensures progress { result.progress ≡ nothing_known }
     {
         Explaining {
             lines: BoundedLines::new(),
+            log: Log { form, clock: 0 },
             progress: Progress::new(alloc),
             room: Room::new(alloc),
+            frame: Vec::new(alloc),
         }
     }
 
@@ -119,7 +178,8 @@ impl Explaining {
         ensures line { IfOk result (λ next. IfSome next (λ bad.
             Takes settings.now.form (names_view settings.now.names)
             self.old.lines self.new.lines (R.remaining reader.old) (R.remaining reader.new)
-            self.old.progress self.new.progress (W.contents out.old) (W.contents out.new) bad)) }
+            self.old.log self.new.log self.old.progress self.new.progress
+            (W.contents out.old) (W.contents out.new) bad)) }
         ensures few { IfOk result (λ next. IfSome next (λ bad. bad ≤ 1)) }
         ensures end { IfOk result (λ next. IfNone next ((out.new ≡ out.old)
             × Gave self.old.lines.ended self.new.lines.ended
@@ -138,6 +198,8 @@ impl Explaining {
                 let line = self.lines.line();
                 let bad = explain_line(
                     &mut self.room,
+                    &mut self.frame,
+                    &mut self.log,
                     &mut self.progress,
                     settings,
                     pdos,
@@ -152,6 +214,8 @@ impl Explaining {
                 let line = self.lines.line();
                 explain_line(
                     &mut self.room,
+                    &mut self.frame,
+                    &mut self.log,
                     &mut self.progress,
                     settings,
                     pdos,

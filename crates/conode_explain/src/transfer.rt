@@ -2,6 +2,7 @@
 
 ghost use Rattle.std.specs.Prelude.{◌≡◌, ◌++◌, ◌≤◌, OnOk, length, string_bytes};
 ghost use Rattle.co_sheet.specs.SheetViews.{row_view};
+ghost use Rattle.conode_decode.specs.Names.{names_view};
 ghost use Rattle.conode_explain.specs.Transfers.{
   download_in,
   front_of,
@@ -18,8 +19,9 @@ use co_frame::{ExpeditedData, Frame, SdoRequest, SdoResponse};
 use co_sheet::EntryRow;
 use co_text::push_decimal;
 use co_value::{DataType, Key};
-use conode_decode::shown_name;
-use conode_explain_values::{ValueType, push_entry};
+use conode_decode::{Names, shown_name};
+use conode_explain_pdo::type_in;
+use conode_explain_values::push_entry;
 use std::alloc::AllocError;
 
 /// An expedited transfer, by the frame that has its value.
@@ -127,15 +129,16 @@ fn push_front(text: &mut String, transfer: &Transfer) -> Result<(), AllocError>
 #[tactic(auto, unfolding(crate::specs::Transfers::transfer_text))]
 pub(crate) fn push_transfer(
     text: &mut String,
+    names: Names<'_, '_>,
     transfer: &Transfer,
     row: &EntryRow<'_>,
 ) -> Result<(), AllocError>
     ensures { OnOk result (string_bytes text.new
-        ≡ string_bytes text.old ++ transfer_text transfer.now (row_view row.now)) }
+        ≡ string_bytes text.old ++ transfer_text (names_view names.entry) transfer.now (row_view row.now)) }
 {
     let bytes = value_bytes(row.data_type, &transfer.content);
     push_front(text, transfer)?;
-    let value_type = ValueType::Plain(row.data_type);
+    let value_type = type_in(names, row);
     push_entry(
         text,
         shown_name(row),

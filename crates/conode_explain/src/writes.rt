@@ -1,37 +1,48 @@
 //! The lines of frames, and of transfers that ended.
 
-ghost use Rattle.std.specs.Prelude.{◌≡◌, ◌⊎◌, [], ◌∷◌, OnOk, IfErr};
+ghost use Rattle.std.specs.Prelude.{◌≡◌, ◌⊎◌, ◌++◌, OnOk, IfErr};
 ghost use Rattle.conode_decode.specs.Names.{names_view};
 ghost use Rattle.conode_explain_pdo.specs.Sheets.{sheet_pdos};
 ghost use Rattle.conode_io.specs.Written.{WritesLines};
 ghost use Rattle.conode_record.specs.Grammar.{IsIdentifier};
+ghost use Rattle.conode_explain_text.specs.Lines.{own_parts};
+ghost use Rattle.conode_explain_text.specs.SoFar.{shows_interface, times_at};
 ghost use Rattle.conode_explain.specs.Explained.{
   ended_lines,
   frame_line,
   frame_lines,
-  lines_told,
+  lasts_after,
+  line_as,
+  news_lines,
   progress_with,
+  shown_lines,
   told_lines,
   unfinished_lines,
 };
+ghost use Rattle.conode_explain.specs.Filtered.{lasts_told};
+ghost use Rattle.conode_explain.specs.ToldWords.{told_words};
 
-use crate::progress::{Layout, Progress};
+use crate::filtered::{is_news, shows_end, shows_frame, subject_in};
+use crate::progress::{Layout, LineFormat, Progress};
 use crate::told_words::{set_ended_words, set_told_words};
 use conode_decode::Names;
+use conode_explain_changes::Lasts;
 use conode_explain_channels::Told;
+use conode_explain_filter::Kind;
+use conode_explain_json::{json_line, own_json_line};
 use conode_explain_pdo::SheetPdo;
 use conode_explain_text::{Seen, set_line, set_own_line};
 use conode_explain_transfers::Ended;
 use conode_io::{CmdFault, hand_over};
 use conode_record::Record;
-use std::alloc::Global;
+use std::alloc::{AllocError, Global};
 use std::io::Write;
 
 /// How a recording is explained.
 #[derive(Clone, Copy)]
 pub struct Settings<'s, 'a> {
     /// In which form.
-    pub form: Layout,
+    pub form: Layout<'s>,
     /// Where the names of entries come from.
     pub names: Names<'s, 'a>,
 }
@@ -39,6 +50,7 @@ pub struct Settings<'s, 'a> {
 /// Room for the work on a line, which is used again for each.
 #[derive(Drop)]
 pub(crate) struct Room {
+    alloc: Global,
     said: String,
     text: String,
     line: Vec<u8>,
@@ -47,6 +59,7 @@ pub(crate) struct Room {
 impl Room {
     pub(crate) fn new(alloc: Global) -> Room {
         Room {
+            alloc,
             said: String::new(alloc),
             text: String::new(alloc),
             line: Vec::new(alloc),
@@ -54,11 +67,70 @@ impl Room {
     }
 }
 
-// Writes the line of a frame, with what is told of it.
-#[tactic(auto, using(conode_io::proofs::WriteLemmas::line_alone))]
-fn write_frame_line<W: Write>(
+// Makes `line` the line of a frame that says these words.
+#[tactic(auto, unfolding(crate::specs::Explained::frame_line))]
+fn set_frame_line(
+    alloc: Global,
+    line: &mut Vec<u8>,
+    text: &mut String,
+    seen: &Seen,
+    settings: &Settings<'_, '_>,
+    pdos: &[SheetPdo],
+    frame: &Record<'_>,
+    words: &[u8],
+) -> Result<(), AllocError>
+    requires id { IsIdentifier frame.now.id }
+    requires pdos { pdos.now ≡ sheet_pdos (names_view settings.now.names) }
+    ensures { OnOk result (line.new.items ≡ frame_line settings.now.form
+        (names_view settings.now.names) seen.now frame.now words.now) }
+{
+    let stamps = settings.form.stamps;
+    match settings.form.format {
+        LineFormat::Text => set_line(line, text, stamps, seen, frame, words),
+        LineFormat::Json => {
+            let subject = subject_in(settings.names, pdos, frame);
+            let (kind, node) = (subject.kind, subject.node);
+            *line = json_line(alloc, stamps, seen, frame, words, kind, node)?;
+            Ok(())
+        }
+    }
+}
+
+// Writes the line of a frame that says these words, if they are new.
+#[tactic(auto, using(conode_io::proofs::WriteLemmas::line_alone, crate::proofs::WriteLemmas::are_shown, crate::proofs::WriteLemmas::are_hidden))]
+fn write_said<W: Write>(
+    alloc: Global,
+    line: &mut Vec<u8>,
+    text: &mut String,
+    seen: &Seen,
+    lasts: &mut Lasts,
+    settings: &Settings<'_, '_>,
+    pdos: &[SheetPdo],
+    frame: &Record<'_>,
+    words: &[u8],
+    out: &mut W,
+) -> Result<(), CmdFault>
+    requires id { IsIdentifier frame.now.id }
+    requires pdos { pdos.now ≡ sheet_pdos (names_view settings.now.names) }
+    ensures lines { OnOk result (WritesLines (W.contents out.old) (W.contents out.new)
+        (news_lines settings.now.form (names_view settings.now.names) seen.now lasts.old frame.now
+        words.now)) }
+    ensures lasts { OnOk result (lasts.new ≡ lasts_told settings.now.form
+        (names_view settings.now.names) lasts.old frame.now words.now) }
+    ensures err { IfErr result (λ fault. (fault ≡ CmdFault.Write) ⊎ (fault ≡ CmdFault.Memory)) }
+{
+    if !is_news(lasts, settings, pdos, frame, words)? {
+        return Ok(());
+    }
+    set_frame_line(alloc, line, text, seen, settings, pdos, frame, words)?;
+    hand_over(line.as_slice(), out)
+}
+
+// Writes the line of a frame that is asked for, with what is told of it, if it says something new.
+fn write_news<W: Write>(
     room: &mut Room,
     seen: &Seen,
+    lasts: &mut Lasts,
     settings: &Settings<'_, '_>,
     pdos: &[SheetPdo],
     frame: &Record<'_>,
@@ -68,24 +140,87 @@ fn write_frame_line<W: Write>(
     requires id { IsIdentifier frame.now.id }
     requires pdos { pdos.now ≡ sheet_pdos (names_view settings.now.names) }
     ensures lines { OnOk result (WritesLines (W.contents out.old) (W.contents out.new)
-        (frame_line settings.now.form.stamps (names_view settings.now.names) seen.now frame.now
-        told.now ∷ [])) }
+        (news_lines settings.now.form (names_view settings.now.names) seen.now lasts.old frame.now
+        (told_words (names_view settings.now.names) frame.now told.now))) }
+    ensures lasts { OnOk result (lasts.new ≡ lasts_told settings.now.form
+        (names_view settings.now.names) lasts.old frame.now
+        (told_words (names_view settings.now.names) frame.now told.now)) }
     ensures err { IfErr result (λ fault. (fault ≡ CmdFault.Write) ⊎ (fault ≡ CmdFault.Memory)) }
 {
     set_told_words(&mut room.said, settings.names, pdos, frame, told)?;
-    set_line(
+    write_said(
+        room.alloc,
         &mut room.line,
         &mut room.text,
-        settings.form.stamps,
         seen,
+        lasts,
+        settings,
+        pdos,
         frame,
         room.said.as_bytes(),
-    )?;
-    hand_over(room.line.as_slice(), out)
+        out,
+    )
 }
 
-// Writes the line of a transfer that ended, if there is one, with the stamp of the frame that ended it and its interface.
-#[tactic(auto, using(conode_io::proofs::WriteLemmas::line_alone))]
+// Writes the line of a frame, if it is asked for, and says something new.
+#[tactic(auto, unfolding(crate::specs::Explained::shown_lines, crate::specs::Explained::lasts_after), using(crate::proofs::WriteLemmas::are_shown, crate::proofs::WriteLemmas::are_hidden))]
+fn write_shown<W: Write>(
+    room: &mut Room,
+    seen: &Seen,
+    lasts: &mut Lasts,
+    settings: &Settings<'_, '_>,
+    pdos: &[SheetPdo],
+    frame: &Record<'_>,
+    told: &Option<Told>,
+    out: &mut W,
+) -> Result<(), CmdFault>
+    requires id { IsIdentifier frame.now.id }
+    requires pdos { pdos.now ≡ sheet_pdos (names_view settings.now.names) }
+    ensures lines { OnOk result (WritesLines (W.contents out.old) (W.contents out.new)
+        (shown_lines settings.now.form (names_view settings.now.names) seen.now lasts.old
+        frame.now (told_words (names_view settings.now.names) frame.now told.now))) }
+    ensures lasts { OnOk result (lasts.new ≡ lasts_after settings.now.form
+        (names_view settings.now.names) seen.now lasts.old frame.now
+        (told_words (names_view settings.now.names) frame.now told.now)) }
+    ensures err { IfErr result (λ fault. (fault ≡ CmdFault.Write) ⊎ (fault ≡ CmdFault.Memory)) }
+{
+    if !shows_frame(settings, pdos, seen, frame) {
+        return Ok(());
+    }
+    write_news(room, seen, lasts, settings, pdos, frame, told, out)
+}
+
+// Makes `line` that of a transfer that ended, of which these words are said.
+fn set_end_line(
+    alloc: Global,
+    line: &mut Vec<u8>,
+    text: &mut String,
+    seen: &Seen,
+    form: &Layout<'_>,
+    micros: u64,
+    interface: &[u8],
+    node: u8,
+    words: &[u8],
+) -> Result<(), AllocError>
+    ensures { OnOk result (line.new.items ≡ line_as form.now.format Kind.Sdo (Some node)
+        (own_parts form.now.stamps (times_at seen.now micros)
+        (shows_interface seen.now interface.now) interface.now words.now)) }
+{
+    let times = seen.times(micros);
+    let shows = seen.shows_interface(interface);
+    let stamps = form.stamps;
+    match form.format {
+        LineFormat::Text => set_own_line(line, text, stamps, times, shows, interface, words),
+        LineFormat::Json => {
+            let (kind, of) = (Kind::Sdo, Some(node));
+            *line = own_json_line(alloc, stamps, times, shows, interface, words, kind, of)?;
+            Ok(())
+        }
+    }
+}
+
+// Writes the line of a transfer that ended, if there is one and it is asked for, with the stamp of the frame that ended it and its interface.
+#[tactic(auto, unfolding(crate::specs::Explained::end_line), using(conode_io::proofs::WriteLemmas::line_alone, crate::proofs::WriteLemmas::are_shown, crate::proofs::WriteLemmas::are_hidden))]
 fn write_end<W: Write>(
     room: &mut Room,
     seen: &Seen,
@@ -97,21 +232,26 @@ fn write_end<W: Write>(
     out: &mut W,
 ) -> Result<(), CmdFault>
     ensures lines { OnOk result (WritesLines (W.contents out.old) (W.contents out.new)
-        (ended_lines settings.now.form.stamps (names_view settings.now.names) seen.now micros
+        (ended_lines settings.now.form (names_view settings.now.names) seen.now micros
         interface.now node ended.now)) }
     ensures err { IfErr result (λ fault. (fault ≡ CmdFault.Write) ⊎ (fault ≡ CmdFault.Memory)) }
 {
     let Some(ended) = ended else {
         return Ok(());
     };
+    if !shows_end(&settings.form, seen, micros, node) {
+        return Ok(());
+    }
     set_ended_words(&mut room.said, settings.names, node, ended)?;
-    set_own_line(
+    set_end_line(
+        room.alloc,
         &mut room.line,
         &mut room.text,
-        settings.form.stamps,
-        seen.times(micros),
-        seen.shows_interface(interface),
+        seen,
+        &settings.form,
+        micros,
         interface,
+        node,
         room.said.as_bytes(),
     )?;
     hand_over(room.line.as_slice(), out)
@@ -126,7 +266,7 @@ fn write_told_end<W: Write>(
     out: &mut W,
 ) -> Result<(), CmdFault>
     ensures lines { OnOk result (WritesLines (W.contents out.old) (W.contents out.new)
-        (told_lines settings.now.form.stamps (names_view settings.now.names) seen.now frame.now
+        (told_lines settings.now.form (names_view settings.now.names) seen.now frame.now
         told.now)) }
     ensures err { IfErr result (λ fault. (fault ≡ CmdFault.Write) ⊎ (fault ≡ CmdFault.Memory)) }
 {
@@ -146,11 +286,12 @@ fn write_told_end<W: Write>(
     )
 }
 
-// Writes the line of a frame, unless only the ends of transfers are asked for, and that of the transfer that ended with it.
-#[tactic(auto, using(crate::proofs::WriteLemmas::first_then, crate::proofs::WriteLemmas::none_then))]
+// Writes the line of a frame and that of the transfer that ended with it, those that are asked for.
+#[tactic(auto, using(conode_io::proofs::WriteLemmas::lines_after))]
 fn write_told<W: Write>(
     room: &mut Room,
     seen: &Seen,
+    lasts: &mut Lasts,
     settings: &Settings<'_, '_>,
     pdos: &[SheetPdo],
     frame: &Record<'_>,
@@ -160,13 +301,16 @@ fn write_told<W: Write>(
     requires id { IsIdentifier frame.now.id }
     requires pdos { pdos.now ≡ sheet_pdos (names_view settings.now.names) }
     ensures lines { OnOk result (WritesLines (W.contents out.old) (W.contents out.new)
-        (lines_told settings.now.form (names_view settings.now.names) seen.now frame.now
+        (shown_lines settings.now.form (names_view settings.now.names) seen.now lasts.old
+        frame.now (told_words (names_view settings.now.names) frame.now told.now)
+        ++ told_lines settings.now.form (names_view settings.now.names) seen.now frame.now
         told.now)) }
+    ensures lasts { OnOk result (lasts.new ≡ lasts_after settings.now.form
+        (names_view settings.now.names) seen.now lasts.old frame.now
+        (told_words (names_view settings.now.names) frame.now told.now)) }
     ensures err { IfErr result (λ fault. (fault ≡ CmdFault.Write) ⊎ (fault ≡ CmdFault.Memory)) }
 {
-    if !settings.form.transfers {
-        write_frame_line(room, seen, settings, pdos, frame, told, out)?;
-    }
+    write_shown(room, seen, lasts, settings, pdos, frame, told, out)?;
     write_told_end(room, seen, settings, frame, told, out)
 }
 
@@ -184,11 +328,21 @@ pub(crate) fn write_frame<W: Write>(
     requires pdos { pdos.now ≡ sheet_pdos (names_view settings.now.names) }
     ensures lines { OnOk result (WritesLines (W.contents out.old) (W.contents out.new)
         (frame_lines settings.now.form (names_view settings.now.names) progress.old frame.now)) }
-    ensures progress { OnOk result (progress.new ≡ progress_with progress.old frame.now) }
+    ensures progress { OnOk result (progress.new ≡ progress_with settings.now.form
+        (names_view settings.now.names) progress.old frame.now) }
     ensures err { IfErr result (λ fault. (fault ≡ CmdFault.Write) ⊎ (fault ≡ CmdFault.Memory)) }
 {
     let told = progress.tell(frame)?;
-    write_told(room, &progress.seen, settings, pdos, frame, &told, out)?;
+    write_told(
+        room,
+        &progress.seen,
+        &mut progress.lasts,
+        settings,
+        pdos,
+        frame,
+        &told,
+        out,
+    )?;
     progress.seen.add(frame);
     Ok(())
 }

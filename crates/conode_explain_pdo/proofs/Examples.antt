@@ -1,11 +1,11 @@
 -- The data of PDOs, evaluated on both sides of each edge.
 use Rattle.std.proofs.Common.{◌≡◌, ℕ, true, false, [], ◌∷◌, ◌++◌, List, Some, None, refl, pos}
-use Rattle.std.specs.Prelude.{codes, replicate}
+use Rattle.std.specs.Prelude.{codes, replicate, ◌==◌, if◌then◌else◌}
 use Rattle.std.specs.Fmt.{digits}
 use Rattle.std.specs.Str.{is_utf8, chars}
 use lib.Utf8.{encode}
 use Rattle.co_value.specs.declared.data_type.DataType.{DataType}
-use Rattle.co_value.specs.declared.data_type.DataType.TheVariants.{Boolean, Integer16, Unsigned8, Unsigned16, Unsigned32}
+use Rattle.co_value.specs.declared.data_type.DataType.TheVariants.{Boolean, Integer16, Unsigned8, Unsigned16, Unsigned32, OctetString}
 use Rattle.co_frame.specs.FrameContent.{FrameContent}
 use Rattle.co_profile.specs.declared.access.Access.TheVariants.{Rw}
 use Rattle.co_sheet.specs.Limits.{Default, absent, number, node_id}
@@ -13,6 +13,7 @@ use Rattle.co_sheet.specs.Content.{Row, SheetContent}
 use Rattle.co_text.specs.Printed.{digits_text}
 use Rattle.conode_decode.specs.Names.{Names, entry_of}
 use Rattle.conode_explain_values.specs.Numbers.{number_text}
+use Rattle.conode_explain_values.specs.Unicode.{characters_text}
 use Rattle.conode_explain_values.specs.Values.{entry_text, value_text}
 use Rattle.conode_explain_pdo.specs.declared.cob_id.SheetCobId.{SheetCobId}
 use Rattle.conode_explain_pdo.specs.Content.{Mapping}
@@ -62,6 +63,7 @@ abbrev names_with : List Row → Names
 names_with rows = record {
   sheet = Some (record { objects = []; rows = rows; sections = []; notes = []; dummies = []; node_id = None });
   only = None;
+  originals = λ line. None;
 }
 
 abbrev names : Names
@@ -75,6 +77,12 @@ data_of words bytes = mapped_text names 5 words bytes
 two_values : data_of (0x20010110 ∷ 0x20010210 ∷ []) (0xE8 ∷ 0x03 ∷ 0x10 ∷ 0x27 ∷ []) ≡ codes "T 2001:01 = 1000; H 2001:02 = 10000"
 unfolding mapped_text parts_text more_parts part_text part_bytes short_text more_text bytes_words entry_of entry_text value_text number_text digits digits_text is_utf8 chars encode
 two_values = refl
+
+-- of a sheet that was adapted: a letter of a UNICODE_STRING
+original : mapped_text (record (names_with (row 0x2003 0 OctetString absent (codes "U") ∷ [])) { originals = λ line. if line == 1 then Some (codes "0x000B") else None }) 5
+    (0x20030010 ∷ []) (0x41 ∷ 0x00 ∷ []) ≡ codes "U 2003:00 = \"A\""
+unfolding mapped_text parts_text more_parts part_text part_bytes short_text more_text bytes_words entry_of entry_text value_text characters_text digits digits_text is_utf8 chars encode
+original = refl
 
 -- a bit, a gap of seven, and a number over the bounds of bytes
 bits_and_gap : data_of (0x20020001 ∷ 0x00050007 ∷ 0x20010108 ∷ []) (0x01 ∷ 0xFF ∷ []) ≡ codes "B 2002:00 = true; -; T 2001:01 = FF (8 of 16 bits)"

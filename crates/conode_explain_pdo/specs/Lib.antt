@@ -3,3 +3,4 @@ pub mod Content
 pub mod Mappings
 pub mod Pdos
 pub mod Sheets
+pub mod Types

@@ -8,9 +8,9 @@ use Rattle.co_value.specs.KeyTexts.{key_text}
 use Rattle.co_value.specs.Numbers.{low_bytes, unsigned_of}
 use Rattle.co_sheet.specs.Content.{Row}
 use Rattle.conode_decode.specs.Names.{Names, entry_of, shown_name}
-use Rattle.conode_explain_values.specs.declared.value_type.ValueType.TheVariants.{Plain}
 use Rattle.conode_explain_values.specs.Values.{entry_text}
 use Rattle.conode_explain_pdo.specs.Content.{Mapping}
+use Rattle.conode_explain_pdo.specs.Types.{type_in}
 
 -- ---- a word of a mapping: index, sub-index and length in bits
 
@@ -44,15 +44,15 @@ abbrev pub is_gap : Key → Bool
 is_gap key = (nat_lt 0 key.index && nat_lt key.index 0x20) && (key.sub == 0)
 
 -- an entry of the sheet with the bits at the offset
-abbrev pub value_part : Key → List ℕ → ℕ → ℕ → Row → List ℕ
-value_part key bytes offset bits row =
-    entry_text (shown_name row) key (Plain row.data_type) bits (part_bytes bytes offset bits)
+abbrev pub value_part : Names → Key → List ℕ → ℕ → ℕ → Row → List ℕ
+value_part names key bytes offset bits row =
+    entry_text (shown_name row) key (type_in names row) bits (part_bytes bytes offset bits)
 
 -- what a word says of the data from an offset on
 unfoldable pub part_text : Names → ℕ → List ℕ → ℕ → ℕ → List ℕ
 part_text names node bytes offset word =
     if is_gap (word_key word) then codes "-"
-    else option_map_or (value_part (word_key word) bytes offset (word_bits word))
+    else option_map_or (value_part names (word_key word) bytes offset (word_bits word))
     (entry_of names node (word_key word)) (key_text (word_key word) ++ codes " (not in sheet)")
 
 -- the parts one after another from an offset on, each after a semicolon

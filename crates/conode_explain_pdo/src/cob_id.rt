@@ -98,7 +98,7 @@ impl SheetCobId {
 
     /// The node whose PDO has an identifier; `only` is the node that the data sheet is for.
     #[tactic(auto, unfolding(crate::specs::CobIds::node_with))]
-    pub(crate) fn node_with(self, only: Option<u8>, id: u16) -> Option<u8>
+    pub fn node_with(self, only: Option<u8>, id: u16) -> Option<u8>
         ensures { result ≡ node_with only self id }
     {
         let node = self.node_for(only, id);

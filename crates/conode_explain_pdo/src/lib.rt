@@ -5,8 +5,10 @@ mod cob_id;
 mod mapping;
 mod pdo;
 mod sheet;
+mod value_type;
 
 pub use cob_id::SheetCobId;
 pub use mapping::{Mapping, push_data};
 pub use pdo::{is_pdo, push_pdos};
 pub use sheet::{SheetPdo, sheet_pdos};
+pub use value_type::type_in;

@@ -26,12 +26,13 @@ ghost use Rattle.conode_explain_pdo.specs.Mappings.{
   word_key,
 };
 
+use crate::value_type::type_in;
 use arrayvec::ArrayVec;
 use co_sheet::EntryRow;
 use co_text::{push_bytes, push_decimal};
 use co_value::{Key, read_u16, unsigned_of};
 use conode_decode::{Names, shown_name};
-use conode_explain_values::{ValueType, push_entry};
+use conode_explain_values::push_entry;
 use std::alloc::AllocError;
 use std::marker::Model;
 
@@ -124,6 +125,7 @@ fn part_bytes(bytes: &[u8], offset: usize, bits: usize) -> ArrayVec<u8, 8>
 
 fn push_value_part(
     text: &mut String,
+    names: Names<'_, '_>,
     row: &EntryRow<'_>,
     key: Key,
     bytes: &[u8],
@@ -133,10 +135,11 @@ fn push_value_part(
     requires few { length bytes.now ≤ 8 }
     requires within { offset + bits ≤ 64 }
     ensures { OnOk result (string_bytes text.new
-        ≡ string_bytes text.old ++ value_part key bytes.now offset bits (row_view row.now)) }
+        ≡ string_bytes text.old
+        ++ value_part (names_view names.entry) key bytes.now offset bits (row_view row.now)) }
 {
     let part = part_bytes(bytes, offset, bits);
-    let value_type = ValueType::Plain(row.data_type);
+    let value_type = type_in(names, row);
     push_entry(
         text,
         shown_name(row),
@@ -167,7 +170,7 @@ fn push_part(
         return text.push_str("-");
     }
     match names.entry(node, key) {
-        Some(row) => push_value_part(text, row, key, bytes, offset, word_bits(word)),
+        Some(row) => push_value_part(text, names, row, key, bytes, offset, word_bits(word)),
         None => {
             text.push_str(key.text().as_str())?;
             text.push_str(" (not in sheet)")

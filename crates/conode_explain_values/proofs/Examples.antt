@@ -1,5 +1,5 @@
 -- The text of values, evaluated on both sides of each edge.
-use Rattle.std.proofs.Common.{◌≡◌, ℕ, true, false, List, [], ◌∷◌, refl}
+use Rattle.std.proofs.Common.{◌≡◌, ℕ, true, false, List, [], ◌∷◌, refl, Some, None, map}
 use Rattle.std.specs.Prelude.{codes}
 use Rattle.std.specs.Fmt.{digits}
 use lib.Utf8.{encode}
@@ -10,9 +10,18 @@ use Rattle.conode_explain_text.specs.Stamps.{date_text, time_of_day_text}
 use Rattle.conode_explain_values.specs.declared.value_type.ValueType.TheVariants.{Plain, Real32, Real64, UnicodeString, TimeOfDay, TimeDifference}
 use Rattle.conode_explain_values.specs.Numbers.{number_text}
 use Rattle.conode_explain_values.specs.Times.{difference_text, moment_text, ms_text}
-use Rattle.conode_explain_values.specs.Types.{is_whole, is_real}
+use Rattle.conode_explain_values.specs.Types.{is_whole, is_real, type_of}
 use Rattle.conode_explain_values.specs.Unicode.{characters_text}
 use Rattle.conode_explain_values.specs.Values.{is_determined, value_text}
+
+-- ---- types
+
+originals : map (λ code. type_of (Some code) Unsigned64) (codes "0x000B" ∷ codes "0x000C" ∷ codes "0x000D" ∷ codes "0x0008" ∷ codes "0xB" ∷ [])
+    ≡ UnicodeString ∷ TimeOfDay ∷ TimeDifference ∷ Plain Unsigned64 ∷ Plain Unsigned64 ∷ []
+originals = refl
+
+of_the_sheet : type_of None Integer8 ≡ Plain Integer8
+of_the_sheet = refl
 
 -- ---- numbers
 

@@ -1,7 +1,9 @@
 //! The data types of values.
 
-ghost use Rattle.std.specs.Prelude.{◌≡◌};
-ghost use Rattle.conode_explain_values.specs.Types.{is_boolean_type, type_bits, is_whole};
+ghost use Rattle.std.specs.Prelude.{◌≡◌, ℕ, true};
+ghost use Rattle.std.specs.Option.{option_copied};
+ghost use Rattle.conode_explain_values.specs.Types.{is_boolean_type, original_type, type_bits, type_of, is_whole};
+ghost use Rattle.conode_explain_values.specs.Values.{is_determined};
 
 use co_value::DataType;
 
@@ -25,7 +27,34 @@ pub enum ValueType {
     TimeDifference,
 }
 
+// the type that the code of an original type says
+fn original_type(code: &[u8]) -> Option<ValueType>
+    ensures { result ≡ original_type code.now }
+{
+    if code == b"0x000B".as_slice() {
+        Some(ValueType::UnicodeString)
+    } else if code == b"0x000C".as_slice() {
+        Some(ValueType::TimeOfDay)
+    } else if code == b"0x000D".as_slice() {
+        Some(ValueType::TimeDifference)
+    } else {
+        None
+    }
+}
+
 impl ValueType {
+    /// The type of an entry's values: its original one, by the code that a sheet which was adapted has for it in
+    /// `OriginalDataType`, as `0x000C`; else that of the sheet, as for a REAL, whose bits are a number there.
+    pub fn of(original: Option<&[u8]>, data_type: DataType) -> ValueType
+        ensures value_type { result ≡ type_of (option_copied original.entry) data_type }
+        ensures determined { (bits : ℕ) → is_determined result bits ≡ true }
+    {
+        let Some(code) = original else {
+            return ValueType::Plain(data_type);
+        };
+        original_type(code).unwrap_or(ValueType::Plain(data_type))
+    }
+
     /// How many bits a value of the type has; `None` where it may have any number of bytes.
     pub(crate) fn bits(self) -> Option<usize>
         ensures { result ≡ type_bits self }

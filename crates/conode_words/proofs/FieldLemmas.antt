@@ -9,8 +9,9 @@ use Rattle.clap.specs.Words.{Row, Text, first_of}
 use Rattle.conode_words.specs.declared.tasks.DeviceWords.{DeviceWords}
 use Rattle.conode_words.specs.declared.tasks.DictionaryWords.{DictionaryWords}
 use Rattle.conode_words.specs.declared.tasks.Task.{Task}
-use Rattle.conode_words.specs.Fields.{AsksFor, GivesDevice, GivesDictionary}
-use Rattle.conode_words.specs.Tasks.{Asked, AskedAdapt, AskedCheck, AskedConvert, AskedDecode, AskedExplain, AskedLint, AskedLoop, AskedReplay, AskedShow, adapt, asked_adapt, asked_by, asked_check, asked_convert, asked_decode, asked_device, asked_dictionary, asked_explain, asked_in, asked_lint, asked_lint_of, asked_loop, asked_of, asked_other, asked_replay, asked_show, check, colours_for, colours_of, convert, decode, explain, format_for, format_of, lint, log_form_for, log_form_of, loop_back, mode_for, mode_of, number_for, number_of_bits, replay, show, shown_as, shown_for, stamps_for, stamps_of, zeros_for, zeros_of}
+use Rattle.conode_words.specs.declared.tasks.TimingWords.{TimingWords}
+use Rattle.conode_words.specs.Fields.{AsksFor, GivesDevice, GivesDictionary, GivesTiming}
+use Rattle.conode_words.specs.Tasks.{Asked, AskedAdapt, AskedCheck, AskedCompare, AskedConvert, AskedDecode, AskedExplain, AskedLint, AskedLoop, AskedReplay, AskedShow, AskedStats, adapt, asked_adapt, asked_by, asked_check, asked_compare, asked_convert, asked_decode, asked_device, asked_dictionary, asked_explain, asked_in, asked_lint, asked_lint_of, asked_loop, asked_of, asked_other, asked_replay, asked_show, asked_stats, asked_timing, check, colours_for, colours_of, compare, convert, decode, explain, format_for, format_of, lines_as_for, lines_as_of, lint, log_form_for, log_form_of, loop_back, mode_for, mode_of, number_for, number_of_bits, replay, show, shown_as, shown_for, stamps_for, stamps_of, stats, zeros_for, zeros_of}
 
 -- a value that is made of another
 mapped : {A B P : Type 0} (f : A → B) (o : Option A) (b : B) → option_map f o ≡ Some b → ((a : A) → o ≡ Some a → f a ≡ b → P) → P
@@ -136,11 +137,23 @@ adapt_fields rows a e =
     subst (AsksFor (codes "adapt") rows) is (refl, e0, chosen_if_used zeros_of (first_of (codes "leading-zeros") rows) zeros e1, refl)))
 
 explain_fields : (rows : List Row) (a : Asked) → asked_explain rows ≡ Some a → AsksFor (codes "explain") rows a
-unfolding asked_explain stamps_for
+unfolding asked_explain stamps_for lines_as_for log_form_for
 explain_fields rows a e =
     option_and_then_some _ (first_of (codes "TRACE") rows) a e (λ trace e0 f0.
-    mapped _ (stamps_for rows) a f0 (λ stamps e1 is.
-    subst (AsksFor (codes "explain") rows) is (refl, e0, refl, chosen stamps_of (first_of (codes "stamps") rows) stamps e1, refl)))
+    option_and_then_some _ (stamps_for rows) a f0 (λ stamps e1 f1.
+    option_and_then_some _ (lines_as_for rows) a f1 (λ lines_as e2 f2.
+    mapped _ (log_form_for rows) a f2 (λ form e3 is.
+    subst (AsksFor (codes "explain") rows) is (
+      refl,
+      e0,
+      refl,
+      chosen stamps_of (first_of (codes "stamps") rows) stamps e1,
+      refl,
+      refl,
+      chosen lines_as_of (first_of (codes "format") rows) lines_as e2,
+      chosen log_form_of (first_of (codes "log") rows) form e3,
+      refl,
+    )))))
 
 convert_fields : (rows : List Row) (a : Asked) → asked_convert rows ≡ Some a → AsksFor (codes "convert") rows a
 unfolding asked_convert log_form_for
@@ -148,6 +161,52 @@ convert_fields rows a e =
     option_and_then_some _ (first_of (codes "LOG") rows) a e (λ log e0 f0.
     mapped _ (log_form_for rows) a f0 (λ form e1 is.
     subst (AsksFor (codes "convert") rows) is (refl, e0, chosen log_form_of (first_of (codes "log") rows) form e1)))
+
+stats_fields : (rows : List Row) (a : Asked) → asked_stats rows ≡ Some a → AsksFor (codes "stats") rows a
+unfolding asked_stats lines_as_for log_form_for
+stats_fields rows a e =
+    option_and_then_some _ (first_of (codes "TRACE") rows) a e (λ trace e0 f0.
+    option_and_then_some _ (lines_as_for rows) a f0 (λ lines_as e1 f1.
+    mapped _ (log_form_for rows) a f1 (λ form e2 is.
+    subst (AsksFor (codes "stats") rows) is (
+      refl,
+      e0,
+      refl,
+      refl,
+      chosen lines_as_of (first_of (codes "format") rows) lines_as e1,
+      chosen log_form_of (first_of (codes "log") rows) form e2,
+    ))))
+
+timing_fields : (rows : List Row) (t : TimingWords) → asked_timing rows ≡ Some t → GivesTiming rows t
+unfolding asked_timing number_for
+timing_fields rows t e =
+    option_and_then_some _ (number_for 32 (codes "tolerance") rows) t e (λ tolerance e0 f0.
+    option_and_then_some _ (number_for 8 (codes "drift") rows) t f0 (λ drift e1 f1.
+    option_and_then_some _ (number_for 32 (codes "answer") rows) t f1 (λ answer e2 f2.
+    mapped _ (number_for 32 (codes "boot") rows) t f2 (λ boot e3 is.
+    subst (GivesTiming rows) is (record {
+      tolerance = chosen (number_of_bits 32) (first_of (codes "tolerance") rows) tolerance e0;
+      drift = chosen (number_of_bits 8) (first_of (codes "drift") rows) drift e1;
+      answer = chosen (number_of_bits 32) (first_of (codes "answer") rows) answer e2;
+      boot = chosen (number_of_bits 32) (first_of (codes "boot") rows) boot e3;
+    })))))
+
+compare_fields : (rows : List Row) (a : Asked) → asked_compare rows ≡ Some a → AsksFor (codes "compare") rows a
+unfolding asked_compare log_form_for
+compare_fields rows a e =
+    option_and_then_some _ (first_of (codes "SHEET") rows) a e (λ sheet e0 f0.
+    option_and_then_some _ (first_of (codes "TRACE") rows) a f0 (λ trace e1 f1.
+    option_and_then_some _ (log_form_for rows) a f1 (λ form e2 f2.
+    mapped _ (asked_timing rows) a f2 (λ timing e3 is.
+    subst (AsksFor (codes "compare") rows) is (
+      refl,
+      e0,
+      e1,
+      refl,
+      refl,
+      chosen log_form_of (first_of (codes "log") rows) form e2,
+      timing_fields rows timing e3,
+    )))))
 
 at_name : (name known : Text) (rows : List Row) (a : Asked) → bytes_eq name known ≡ true → AsksFor known rows a → AsksFor name rows a
 at_name name known rows a same h = subst (λ (n : Text). AsksFor n rows a) (sym (named name known same)) h
@@ -171,7 +230,9 @@ other_fields name rows a e =
     either_way _ _ _ a f (λ y f. at_name name (codes "adapt") rows a y (adapt_fields rows a f)) (λ _ f.
     either_way _ _ _ a f (λ y f. at_name name (codes "explain") rows a y (explain_fields rows a f)) (λ _ f.
     either_way _ _ _ a f (λ y f. at_name name (codes "convert") rows a y (convert_fields rows a f)) (λ _ f.
-    absurd (none_is a f)))))))))
+    either_way _ _ _ a f (λ y f. at_name name (codes "stats") rows a y (stats_fields rows a f)) (λ _ f.
+    either_way _ _ _ a f (λ y f. at_name name (codes "compare") rows a y (compare_fields rows a f)) (λ _ f.
+    absurd (none_is a f)))))))))))
 
 pub fields_of : (name : Text) (rows : List Row) (a : Asked) → asked_in name rows ≡ Some a → AsksFor name rows a
 unfolding asked_in
@@ -240,6 +301,14 @@ named_convert : (rows : List Row) → asked_in (codes "convert") rows ≡ asked_
 unfolding asked_in asked_other
 named_convert rows = refl
 
+named_stats : (rows : List Row) → asked_in (codes "stats") rows ≡ asked_stats rows
+unfolding asked_in asked_other
+named_stats rows = refl
+
+named_compare : (rows : List Row) → asked_in (codes "compare") rows ≡ asked_compare rows
+unfolding asked_in asked_other
+named_compare rows = refl
+
 check_is : (rows : List Row) (a : AskedCheck) → AsksFor (codes "check") rows (check a) → asked_check rows ≡ Some (check a)
 unfolding asked_check
 check_is rows a (name_is, sheet, d) =
@@ -285,16 +354,41 @@ adapt_is rows a (name_is, sheet, z, force) =
     rw (sheet, zeros, ← force) refl
 
 explain_is : (rows : List Row) (a : AskedExplain) → AsksFor (codes "explain") rows (explain a) → asked_explain rows ≡ Some (explain a)
-unfolding asked_explain stamps_for
-explain_is rows a (name_is, trace, sheet, s, transfers) =
+unfolding asked_explain stamps_for lines_as_for log_form_for
+explain_is rows a (name_is, trace, sheet, s, transfers, changes, l, f, only) =
     let stamps = choice_is stamps_of (first_of (codes "stamps") rows) a.stamps s in
-    rw (trace, stamps, ← sheet, ← transfers) refl
+    let lines_as = choice_is lines_as_of (first_of (codes "format") rows) a.lines_as l in
+    let form = choice_is log_form_of (first_of (codes "log") rows) a.form f in
+    rw (trace, stamps, lines_as, form, ← sheet, ← transfers, ← changes, ← only) refl
 
 convert_is : (rows : List Row) (a : AskedConvert) → AsksFor (codes "convert") rows (convert a) → asked_convert rows ≡ Some (convert a)
 unfolding asked_convert log_form_for
 convert_is rows a (name_is, log, f) =
     let form = choice_is log_form_of (first_of (codes "log") rows) a.form f in
     rw (log, form) refl
+
+stats_is : (rows : List Row) (a : AskedStats) → AsksFor (codes "stats") rows (stats a) → asked_stats rows ≡ Some (stats a)
+unfolding asked_stats lines_as_for log_form_for
+stats_is rows a (name_is, trace, sheet, rate, l, f) =
+    let lines_as = choice_is lines_as_of (first_of (codes "format") rows) a.lines_as l in
+    let form = choice_is log_form_of (first_of (codes "log") rows) a.form f in
+    rw (trace, lines_as, form, ← sheet, ← rate) refl
+
+timing_is : (rows : List Row) (t : TimingWords) → GivesTiming rows t → asked_timing rows ≡ Some t
+unfolding asked_timing number_for
+timing_is rows t h =
+    let tolerance = choice_is (number_of_bits 32) (first_of (codes "tolerance") rows) t.tolerance h.tolerance in
+    let drift = choice_is (number_of_bits 8) (first_of (codes "drift") rows) t.drift h.drift in
+    let answer = choice_is (number_of_bits 32) (first_of (codes "answer") rows) t.answer h.answer in
+    let boot = choice_is (number_of_bits 32) (first_of (codes "boot") rows) t.boot h.boot in
+    rw (tolerance, drift, answer, boot) refl
+
+compare_is : (rows : List Row) (a : AskedCompare) → AsksFor (codes "compare") rows (compare a) → asked_compare rows ≡ Some (compare a)
+unfolding asked_compare log_form_for
+compare_is rows a (name_is, sheet, trace, node, interface, f, t) =
+    let form = choice_is log_form_of (first_of (codes "log") rows) a.form f in
+    let timing = timing_is rows a.timing t in
+    rw (sheet, trace, form, timing, ← node, ← interface) refl
 
 pub only_asked : (name : Text) (rows : List Row) (a : Asked) → AsksFor name rows a → asked_in name rows ≡ Some a
 only_asked name rows (check a) h = ap (λ (n : Text). asked_in n rows) h.0 ∙ named_check rows ∙ check_is rows a (subst (λ (n : Text). AsksFor n rows (check a)) h.0 h)
@@ -306,3 +400,5 @@ only_asked name rows (show a) h = ap (λ (n : Text). asked_in n rows) h.0 ∙ na
 only_asked name rows (adapt a) h = ap (λ (n : Text). asked_in n rows) h.0 ∙ named_adapt rows ∙ adapt_is rows a (subst (λ (n : Text). AsksFor n rows (adapt a)) h.0 h)
 only_asked name rows (explain a) h = ap (λ (n : Text). asked_in n rows) h.0 ∙ named_explain rows ∙ explain_is rows a (subst (λ (n : Text). AsksFor n rows (explain a)) h.0 h)
 only_asked name rows (convert a) h = ap (λ (n : Text). asked_in n rows) h.0 ∙ named_convert rows ∙ convert_is rows a (subst (λ (n : Text). AsksFor n rows (convert a)) h.0 h)
+only_asked name rows (stats a) h = ap (λ (n : Text). asked_in n rows) h.0 ∙ named_stats rows ∙ stats_is rows a (subst (λ (n : Text). AsksFor n rows (stats a)) h.0 h)
+only_asked name rows (compare a) h = ap (λ (n : Text). asked_in n rows) h.0 ∙ named_compare rows ∙ compare_is rows a (subst (λ (n : Text). AsksFor n rows (compare a)) h.0 h)

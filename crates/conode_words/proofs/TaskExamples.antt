@@ -8,6 +8,7 @@ use Rattle.clap.specs.declared.error.kind.ErrorKind.TheVariants as kind
 use Rattle.co_sdo_client.specs.declared.mode.Mode.TheVariants.{Plain, Segmented, Block}
 use Rattle.conode_words.specs.declared.tasks.DeviceWords.{DeviceWords}
 use Rattle.conode_words.specs.declared.tasks.DictionaryWords.{DictionaryWords}
+use Rattle.conode_words.specs.declared.tasks.LinesAs.TheVariants as lines
 use Rattle.conode_words.specs.declared.tasks.LogForm.TheVariants as log_form
 use Rattle.conode_words.specs.declared.tasks.ShownAs.TheVariants.{Columns, Markdown}
 use Rattle.conode_words.specs.declared.tasks.ShownAs.TheVariants as shown_form
@@ -15,8 +16,8 @@ use Rattle.conode_words.specs.declared.tasks.LeadingZeros.TheVariants.{Octal, De
 use Rattle.conode_words.specs.declared.tasks.Stamps.TheVariants.{Relative, Absolute, Delta, Date}
 use Rattle.conode_words.specs.declared.tasks.Colours.TheVariants.{Auto, Always, Never}
 use Rattle.conode_words.specs.declared.tasks.Format.TheVariants.{Json, Sarif, Text as AsText}
-use Rattle.conode_words.specs.Commands.{adapt_command, check_command, conode_command, convert_command, decode_command, domains_option, explain_command, lint_command, loop_command, node_option, replay_command, show_command, strings_option, time_option}
-use Rattle.conode_words.specs.Tasks.{Asked, check, lint, decode, replay, loop_back, show, adapt, explain, convert, asked_in, asked_of, colours_of, format_of, log_form_of, mode_of, shown_as, stamps_of, word_fault, zeros_of}
+use Rattle.conode_words.specs.Commands.{adapt_command, check_command, compare_command, conode_command, convert_command, decode_command, domains_option, explain_command, lint_command, loop_command, node_option, replay_command, show_command, stats_command, strings_option, time_option}
+use Rattle.conode_words.specs.Tasks.{AskedLines, Asked, check, lint, decode, replay, loop_back, show, adapt, explain, convert, stats, compare, asked_in, asked_of, colours_of, format_of, lines_as_of, log_form_of, mode_of, shown_as, stamps_of, word_fault, zeros_of}
 use Rattle.conode_words.proofs.OnLiterals.{words_on_literals}
 
 -- what all words ask for, by the program's command; and those after the name of a subcommand, by that alone, which is computed
@@ -212,14 +213,40 @@ adapt_without_sheet : fault_after adapt_command (codes "adapt") [] ≡ kind.Miss
 unfolding words_on_literals
 adapt_without_sheet = refl
 
-explain_of_a_trace : asked_after explain_command (codes "explain") (codes "t" ∷ []) ≡ Some (explain (record { trace = codes "t"; sheet = None; stamps = Relative; transfers = false }))
+abbrev all_lines : AskedLines
+all_lines = record { of = None; id = None; kind = None; from = None; to = None }
+
+explain_of_a_trace : asked_after explain_command (codes "explain") (codes "t" ∷ []) ≡ Some (explain (record { trace = codes "t"; sheet = None; stamps = Relative; transfers = false; changes = false; lines_as = lines.Text; form = log_form.Auto; only = all_lines }))
 unfolding words_on_literals
 explain_of_a_trace = refl
 
-explain_with_options : asked_after explain_command (codes "explain") (codes "-t" ∷ codes "A" ∷ codes "-" ∷ codes "--transfers" ∷ codes "--sheet" ∷ codes "5=s" ∷ [])
-    ≡ Some (explain (record { trace = codes "-"; sheet = Some (codes "5=s"); stamps = Date; transfers = true }))
+explain_with_options : asked_after explain_command (codes "explain")
+    (codes "-t" ∷ codes "A" ∷ codes "-" ∷ codes "--transfers" ∷ codes "--changes" ∷ codes "--format=json" ∷ codes "--log" ∷ codes "trc" ∷ codes "--sheet" ∷ codes "5=s" ∷ [])
+    ≡ Some (explain (record { trace = codes "-"; sheet = Some (codes "5=s"); stamps = Date; transfers = true; changes = true; lines_as = lines.Json; form = log_form.Trc; only = all_lines }))
 unfolding words_on_literals
 explain_with_options = refl
+
+explain_some_lines : asked_after explain_command (codes "explain") (codes "t" ∷ codes "--of=5" ∷ codes "--id" ∷ codes "185" ∷ codes "--kind" ∷ codes "pdo" ∷ codes "--from" ∷ codes "1" ∷ codes "--to" ∷ codes "2" ∷ [])
+    ≡ Some (explain (record {
+      trace = codes "t";
+      sheet = None;
+      stamps = Relative;
+      transfers = false;
+      changes = false;
+      lines_as = lines.Text;
+      form = log_form.Auto;
+      only = record { of = Some (codes "5"); id = Some (codes "185"); kind = Some (codes "pdo"); from = Some (codes "1"); to = Some (codes "2") };
+    }))
+unfolding words_on_literals
+explain_some_lines = refl
+
+explain_in_another_format : fault_after explain_command (codes "explain") (codes "t" ∷ codes "--format=xml" ∷ []) ≡ kind.InvalidValue ∷ []
+unfolding words_on_literals
+explain_in_another_format = refl
+
+formats_of_explain : map lines_as_of (codes "text" ∷ codes "json" ∷ codes "Json" ∷ codes "sarif" ∷ []) ≡ Some lines.Text ∷ Some lines.Json ∷ None ∷ None ∷ []
+unfolding words_on_literals
+formats_of_explain = refl
 
 explain_in_other_stamps : fault_after explain_command (codes "explain") (codes "t" ∷ codes "--stamps=zero" ∷ []) ≡ kind.InvalidValue ∷ []
 unfolding words_on_literals
@@ -247,9 +274,51 @@ forms_of_logs : map log_form_of (codes "candump" ∷ codes "screen" ∷ codes "s
 unfolding words_on_literals
 forms_of_logs = refl
 
+stats_of_a_recording : asked_after stats_command (codes "stats") (codes "t" ∷ [])
+    ≡ Some (stats (record { trace = codes "t"; sheet = None; bit_rate = None; lines_as = lines.Text; form = log_form.Auto }))
+unfolding words_on_literals
+stats_of_a_recording = refl
+
+stats_with_options : asked_after stats_command (codes "stats") (codes "--bitrate" ∷ codes "500k" ∷ codes "-" ∷ codes "--sheet=5=s" ∷ codes "--format=json" ∷ codes "--log" ∷ codes "asc" ∷ [])
+    ≡ Some (stats (record { trace = codes "-"; sheet = Some (codes "5=s"); bit_rate = Some (codes "500k"); lines_as = lines.Json; form = log_form.Asc }))
+unfolding words_on_literals
+stats_with_options = refl
+
+stats_in_another_format : fault_after stats_command (codes "stats") (codes "t" ∷ codes "--format=xml" ∷ []) ≡ kind.InvalidValue ∷ []
+unfolding words_on_literals
+stats_in_another_format = refl
+
+compare_with_a_sheet : asked_after compare_command (codes "compare") (codes "s" ∷ codes "t" ∷ [])
+    ≡ Some (compare (record {
+      sheet = codes "s";
+      trace = codes "t";
+      node = None;
+      interface = None;
+      form = log_form.Auto;
+      timing = record { tolerance = 10; drift = 1; answer = 1000; boot = 10000 };
+    }))
+unfolding words_on_literals
+compare_with_a_sheet = refl
+
+compare_with_options : asked_after compare_command (codes "compare") (codes "s" ∷ codes "--node=5" ∷ codes "t" ∷ codes "--interface" ∷ codes "can0" ∷ codes "--log=trc" ∷ codes "--tolerance" ∷ codes "0" ∷ codes "--drift=100" ∷ codes "--answer=4294967295" ∷ codes "--boot=1" ∷ [])
+    ≡ Some (compare (record {
+      sheet = codes "s";
+      trace = codes "t";
+      node = Some 5;
+      interface = Some (codes "can0");
+      form = log_form.Trc;
+      timing = record { tolerance = 0; drift = 100; answer = 4294967295; boot = 1 };
+    }))
+unfolding words_on_literals
+compare_with_options = refl
+
+compare_with_too_much_drift : fault_of compare_command (codes "compare" ∷ codes "s" ∷ codes "t" ∷ codes "--drift=101" ∷ []) ≡ kind.ValueValidation ∷ []
+unfolding words_on_literals
+compare_with_too_much_drift = refl
+
 -- ---- the program's command
 
-commands_by_name : map (λ (s : Shape). s.name) conode_command.subs ≡ codes "check" ∷ codes "lint" ∷ codes "decode" ∷ codes "replay" ∷ codes "loop" ∷ codes "show" ∷ codes "adapt" ∷ codes "explain" ∷ codes "convert" ∷ []
+commands_by_name : map (λ (s : Shape). s.name) conode_command.subs ≡ codes "check" ∷ codes "lint" ∷ codes "decode" ∷ codes "replay" ∷ codes "loop" ∷ codes "show" ∷ codes "adapt" ∷ codes "explain" ∷ codes "convert" ∷ codes "stats" ∷ codes "compare" ∷ []
 unfolding words_on_literals
 commands_by_name = refl
 

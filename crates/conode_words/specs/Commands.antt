@@ -62,6 +62,12 @@ with_limits app = with_rule (with_rule app strings_option) domains_option
 abbrev pub with_rooms : App → App
 with_rooms app = with_rule (with_limits app) time_option
 
+-- a command with the options that choose which lines are printed
+abbrev pub with_filters : App → App
+with_filters app =
+    with_rule (with_rule (with_rule (with_rule (with_rule app (valued (codes "of"))) (valued (codes "id"))) (valued (codes "kind")))
+    (valued (codes "from"))) (valued (codes "to"))
+
 -- ---- the commands
 
 -- `check SHEET [--node N] [--strings N] [--domains N]`
@@ -112,19 +118,47 @@ adapt_command =
     with_rule (with_rule (with_rule (new_app (codes "adapt")) (wanted (codes "SHEET")))
     (valued (codes "leading-zeros"))) (flag (codes "force"))
 
--- `explain TRACE [--sheet SHEET] [--stamps FORM|-t FORM] [--transfers]`
+-- `--log FORM`, of `explain` and `convert`
+abbrev pub log_option : Rule
+log_option = worded (codes "log") (codes "auto")
+
+-- `explain TRACE [--sheet SHEET] [--stamps FORM|-t FORM] [--transfers] [--changes] [--format FORMAT] [--log FORM]
+-- [--of NODES] [--id IDS] [--kind KINDS] [--from TIME] [--to TIME]`
 abbrev pub stamps_option : Rule
 stamps_option = record (worded (codes "stamps") (codes "relative")) { short = Some 116 }
 
 unfoldable pub explain_command : App
 explain_command =
-    with_rule (with_rule (with_rule (with_rule (new_app (codes "explain")) (wanted (codes "TRACE")))
-    (valued (codes "sheet"))) stamps_option) (flag (codes "transfers"))
+    with_filters (with_rule (with_rule (with_rule (with_rule (with_rule (with_rule (with_rule (new_app (codes "explain"))
+    (wanted (codes "TRACE"))) (valued (codes "sheet"))) stamps_option) (flag (codes "transfers"))) (flag (codes "changes")))
+    (worded (codes "format") (codes "text"))) log_option)
 
 -- `convert LOG [--log FORM]`
 unfoldable pub convert_command : App
 convert_command =
-    with_rule (with_rule (new_app (codes "convert")) (wanted (codes "LOG"))) (worded (codes "log") (codes "auto"))
+    with_rule (with_rule (new_app (codes "convert")) (wanted (codes "LOG"))) log_option
+
+-- `stats TRACE [--sheet SHEET] [--bitrate RATE] [--format FORMAT] [--log FORM]`
+unfoldable pub stats_command : App
+stats_command =
+    with_rule (with_rule (with_rule (with_rule (with_rule (new_app (codes "stats")) (wanted (codes "TRACE")))
+    (valued (codes "sheet"))) (valued (codes "bitrate"))) (worded (codes "format") (codes "text"))) log_option
+
+-- a command with how far times may be off, in ms and percent
+abbrev pub most_ms : ℕ
+most_ms = 4294967295
+
+abbrev pub with_timing : App → App
+with_timing app =
+    with_rule (with_rule (with_rule (with_rule app (numbered (codes "tolerance") 0 most_ms (codes "10" ∷ [])))
+    (numbered (codes "drift") 0 100 (codes "1" ∷ []))) (numbered (codes "answer") 0 most_ms (codes "1000" ∷ [])))
+    (numbered (codes "boot") 0 most_ms (codes "10000" ∷ []))
+
+-- `compare SHEET TRACE [--node N] [--interface NAME] [--log FORM] [--tolerance MS] [--drift PERCENT] [--answer MS] [--boot MS]`
+unfoldable pub compare_command : App
+compare_command =
+    with_timing (with_rule (with_rule (with_rule (with_rule (with_rule (new_app (codes "compare")) (wanted (codes "SHEET")))
+    (wanted (codes "TRACE"))) node_option) (valued (codes "interface"))) log_option)
 
 -- a command with `--version`
 abbrev pub versioned : App → App
@@ -134,6 +168,6 @@ versioned app = record app { top = record app.top { has_version = true } }
 unfoldable pub conode_command : App
 conode_command =
     with_subcommand (with_subcommand (with_subcommand (with_subcommand (with_subcommand (with_subcommand
-    (with_subcommand (with_subcommand (with_subcommand (versioned (new_app (codes "conode"))) check_command.top)
+    (with_subcommand (with_subcommand (with_subcommand (with_subcommand (with_subcommand (versioned (new_app (codes "conode"))) check_command.top)
     lint_command.top) decode_command.top) replay_command.top) loop_command.top) show_command.top)
-    adapt_command.top) explain_command.top) convert_command.top
+    adapt_command.top) explain_command.top) convert_command.top) stats_command.top) compare_command.top

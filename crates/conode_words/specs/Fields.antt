@@ -3,7 +3,8 @@ use Rattle.std.specs.Prelude.{◌≡◌, ℕ, List, codes, Option, Some, IsSomeA
 use Rattle.clap.specs.Words.{Row, Text, first_of}
 use Rattle.conode_words.specs.declared.tasks.DeviceWords.{DeviceWords}
 use Rattle.conode_words.specs.declared.tasks.DictionaryWords.{DictionaryWords}
-use Rattle.conode_words.specs.Tasks.{Asked, check, lint, decode, replay, loop_back, show, adapt, explain, convert, colours_of, format_of, is_used, log_form_of, mode_of, number_for, number_of_bits, shown_as, stamps_of, words_for, zeros_of}
+use Rattle.conode_words.specs.declared.tasks.TimingWords.{TimingWords}
+use Rattle.conode_words.specs.Tasks.{Asked, check, lint, decode, replay, loop_back, show, adapt, explain, convert, stats, compare, asked_lines, colours_of, format_of, is_used, lines_as_of, log_form_of, mode_of, number_for, number_of_bits, shown_as, stamps_of, words_for, zeros_of}
 
 -- the word, or the value of an option, is this one
 abbrev pub IsWord : Text → List Row → Text → Type 0
@@ -12,6 +13,10 @@ IsWord name rows word = first_of name rows ≡ Some word
 -- it is a number of 16 bits
 abbrev pub IsNumber : Text → List Row → ℕ → Type 0
 IsNumber name rows number = IsSomeAnd (first_of name rows) (λ word. number_of_bits 16 word ≡ Some number)
+
+-- it is a number of so many bits
+abbrev pub IsNumberOf : ℕ → Text → List Row → ℕ → Type 0
+IsNumberOf bits name rows number = IsSomeAnd (first_of name rows) (λ word. number_of_bits bits word ≡ Some number)
 
 -- it names this choice
 abbrev pub IsChoice : {A : Type 0} → (Text → Option A) → Text → List Row → A → Type 0
@@ -36,6 +41,13 @@ pub record GivesDictionary (rows : List Row) (d : DictionaryWords) : Type 0 wher
 pub record GivesDevice (rows : List Row) (d : DeviceWords) : Type 0 where
   pub dictionary : GivesDictionary rows d.dictionary
   pub time : IsNumber (codes "time") rows d.time
+
+-- `--tolerance`, `--drift`, `--answer` and `--boot`
+pub record GivesTiming (rows : List Row) (t : TimingWords) : Type 0 where
+  pub tolerance : IsNumberOf 32 (codes "tolerance") rows t.tolerance
+  pub drift : IsNumberOf 8 (codes "drift") rows t.drift
+  pub answer : IsNumberOf 32 (codes "answer") rows t.answer
+  pub boot : IsNumberOf 32 (codes "boot") rows t.boot
 
 -- the words after the name of a subcommand ask for this
 abbrev pub AsksFor : Text → List Row → Asked → Type 0
@@ -66,6 +78,16 @@ AsksFor name rows (adapt a) =
 AsksFor name rows (explain a) =
     (name ≡ codes "explain") × IsWord (codes "TRACE") rows a.trace
     × (a.sheet ≡ first_of (codes "sheet") rows) × IsChoice stamps_of (codes "stamps") rows a.stamps
-    × (a.transfers ≡ is_used (codes "transfers") rows)
+    × (a.transfers ≡ is_used (codes "transfers") rows) × (a.changes ≡ is_used (codes "changes") rows)
+    × IsChoice lines_as_of (codes "format") rows a.lines_as × IsChoice log_form_of (codes "log") rows a.form
+    × (a.only ≡ asked_lines rows)
 AsksFor name rows (convert a) =
     (name ≡ codes "convert") × IsWord (codes "LOG") rows a.log × IsChoice log_form_of (codes "log") rows a.form
+AsksFor name rows (stats a) =
+    (name ≡ codes "stats") × IsWord (codes "TRACE") rows a.trace × (a.sheet ≡ first_of (codes "sheet") rows)
+    × (a.bit_rate ≡ first_of (codes "bitrate") rows) × IsChoice lines_as_of (codes "format") rows a.lines_as
+    × IsChoice log_form_of (codes "log") rows a.form
+AsksFor name rows (compare a) =
+    (name ≡ codes "compare") × IsWord (codes "SHEET") rows a.sheet × IsWord (codes "TRACE") rows a.trace
+    × IsNode rows a.node × (a.interface ≡ first_of (codes "interface") rows)
+    × IsChoice log_form_of (codes "log") rows a.form × GivesTiming rows a.timing

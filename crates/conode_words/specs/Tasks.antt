@@ -1,5 +1,5 @@
 -- What the words of a command line ask for.
-use Rattle.std.specs.Prelude.{◌^◌, ◌&&◌, ◌||◌, true, false, ℕ, Bool, List, [], ◌∷◌, map, codes, Option, Some, None, nat_lt, is_none, option_map, option_and_then, if◌then◌else◌}
+use Rattle.std.specs.Prelude.{◌^◌, ◌&&◌, ◌||◌, false, ℕ, Bool, List, [], ◌∷◌, map, codes, Option, Some, None, nat_lt, is_none, option_map, option_and_then, if◌then◌else◌}
 use Rattle.std.specs.Option.{option_copied, option_map_or}
 use Rattle.std.specs.Str.{bytes_eq}
 use Rattle.std.specs.Str.Parse.{digits_value, without_leading_plus}
@@ -17,11 +17,15 @@ use Rattle.conode_words.specs.declared.tasks.Colours.TheVariants.{Auto, Always, 
 use Rattle.conode_words.specs.declared.tasks.Format.{Format}
 use Rattle.conode_words.specs.declared.tasks.Format.TheVariants as format
 use Rattle.conode_words.specs.declared.tasks.Task.{Task}
-use Rattle.conode_words.specs.declared.tasks.Task.TheVariants.{Check, Lint, Decode, Replay, LoopBack, Show, Adapt, Explain, Convert}
+use Rattle.conode_words.specs.declared.tasks.Task.TheVariants.{Check, Lint, Decode, Replay, LoopBack, Show, Adapt, Explain, Convert, Stats, Compare}
 use Rattle.conode_words.specs.declared.tasks.LeadingZeros.{LeadingZeros}
 use Rattle.conode_words.specs.declared.tasks.LeadingZeros.TheVariants.{Octal, Decimal}
+use Rattle.conode_words.specs.declared.tasks.LinesAs.{LinesAs}
+use Rattle.conode_words.specs.declared.tasks.LinesAs.TheVariants as lines
+use Rattle.conode_words.specs.declared.tasks.OnlyWords.{OnlyWords}
 use Rattle.conode_words.specs.declared.tasks.Stamps.{Stamps}
 use Rattle.conode_words.specs.declared.tasks.Stamps.TheVariants.{Relative, Absolute, Delta, Date}
+use Rattle.conode_words.specs.declared.tasks.TimingWords.{TimingWords}
 use Rattle.conode_words.specs.declared.tasks.LogForm.{LogForm}
 use Rattle.conode_words.specs.declared.tasks.LogForm.TheVariants as log_form
 use Rattle.conode_words.specs.declared.tasks.ShownAs.{ShownAs}
@@ -75,17 +79,46 @@ pub record AskedAdapt : Type 0 where
   pub leading_zeros : Option LeadingZeros
   pub force : Bool
 
+-- which lines are asked for
+pub record AskedLines : Type 0 where
+  pub of : Option Text
+  pub id : Option Text
+  pub kind : Option Text
+  pub from : Option Text
+  pub to : Option Text
+
 -- what the words after `explain` ask for
 pub record AskedExplain : Type 0 where
   pub trace : Text
   pub sheet : Option Text
   pub stamps : Stamps
   pub transfers : Bool
+  pub changes : Bool
+  pub lines_as : LinesAs
+  pub form : LogForm
+  pub only : AskedLines
 
 -- what the words after `convert` ask for
 pub record AskedConvert : Type 0 where
   pub log : Text
   pub form : LogForm
+
+-- what the words after `stats` ask for
+pub record AskedStats : Type 0 where
+  pub trace : Text
+  pub sheet : Option Text
+  pub bit_rate : Option Text
+  pub lines_as : LinesAs
+  pub form : LogForm
+
+-- what the words after `compare` ask for
+pub record AskedCompare : Type 0 where
+  pub sheet : Text
+  pub trace : Text
+  pub node : Option ℕ
+  pub interface : Option Text
+  pub form : LogForm
+  pub timing : TimingWords
 
 -- what the words ask for
 pub data Asked : Type 0 where
@@ -98,6 +131,18 @@ pub data Asked : Type 0 where
   adapt : AskedAdapt → Asked
   explain : AskedExplain → Asked
   convert : AskedConvert → Asked
+  stats : AskedStats → Asked
+  compare : AskedCompare → Asked
+
+-- which lines words ask for
+abbrev pub lines_by : OnlyWords → AskedLines
+lines_by words = record {
+  of = option_copied words.of;
+  id = option_copied words.id;
+  kind = option_copied words.kind;
+  from = option_copied words.from;
+  to = option_copied words.to;
+}
 
 -- what a task asks for
 abbrev pub asked_by : Task → Asked
@@ -121,9 +166,35 @@ asked_by (LoopBack sheet key bytes mode device) =
 asked_by (Show sheet node form) = show (record { sheet = sheet.now; node = node; shown_as = form })
 asked_by (Adapt sheet zeros force) =
     adapt (record { sheet = sheet.now; leading_zeros = zeros; force = force })
-asked_by (Explain trace sheet stamps transfers) =
-    explain (record { trace = trace.now; sheet = option_copied sheet; stamps = stamps; transfers = transfers })
+asked_by (Explain trace sheet stamps transfers changes lines_as form only) =
+    explain (record {
+      trace = trace.now;
+      sheet = option_copied sheet;
+      stamps = stamps;
+      transfers = transfers;
+      changes = changes;
+      lines_as = lines_as;
+      form = form;
+      only = lines_by only;
+    })
 asked_by (Convert log form) = convert (record { log = log.now; form = form })
+asked_by (Stats trace sheet bit_rate lines_as form) =
+    stats (record {
+      trace = trace.now;
+      sheet = option_copied sheet;
+      bit_rate = option_copied bit_rate;
+      lines_as = lines_as;
+      form = form;
+    })
+asked_by (Compare sheet trace node interface form timing) =
+    compare (record {
+      sheet = sheet.now;
+      trace = trace.now;
+      node = node;
+      interface = option_copied interface;
+      form = form;
+      timing = timing;
+    })
 
 -- the number that a word is, of so many bits: decimal digits, perhaps after a plus
 unfoldable pub number_of_bits : ℕ → Text → Option ℕ
@@ -285,17 +356,14 @@ stamps_of word =
 unfoldable pub stamps_for : List Row → Option Stamps
 stamps_for rows = option_and_then stamps_of (first_of (codes "stamps") rows)
 
--- what the matches of `explain` ask for
-unfoldable pub asked_explain : List Row → Option Asked
-asked_explain rows =
-    option_and_then (λ trace. option_map (λ stamps.
-    explain (record {
-      trace = trace;
-      sheet = first_of (codes "sheet") rows;
-      stamps = stamps;
-      transfers = is_used (codes "transfers") rows;
-    }))
-    (stamps_for rows)) (first_of (codes "TRACE") rows)
+-- how a word says that lines are written
+unfoldable pub lines_as_of : Text → Option LinesAs
+lines_as_of word =
+    if bytes_eq word (codes "text") then Some lines.Text
+    else (if bytes_eq word (codes "json") then Some lines.Json else None)
+
+unfoldable pub lines_as_for : List Row → Option LinesAs
+lines_as_for rows = option_and_then lines_as_of (first_of (codes "format") rows)
 
 -- the form of log that a word names
 unfoldable pub log_form_of : Text → Option LogForm
@@ -311,11 +379,72 @@ log_form_of word =
 unfoldable pub log_form_for : List Row → Option LogForm
 log_form_for rows = option_and_then log_form_of (first_of (codes "log") rows)
 
+-- which lines the matches ask for
+unfoldable pub asked_lines : List Row → AskedLines
+asked_lines rows = record {
+  of = first_of (codes "of") rows;
+  id = first_of (codes "id") rows;
+  kind = first_of (codes "kind") rows;
+  from = first_of (codes "from") rows;
+  to = first_of (codes "to") rows;
+}
+
+-- what the matches of `explain` ask for
+unfoldable pub asked_explain : List Row → Option Asked
+asked_explain rows =
+    option_and_then (λ trace. option_and_then (λ stamps. option_and_then (λ lines_as. option_map (λ form.
+    explain (record {
+      trace = trace;
+      sheet = first_of (codes "sheet") rows;
+      stamps = stamps;
+      transfers = is_used (codes "transfers") rows;
+      changes = is_used (codes "changes") rows;
+      lines_as = lines_as;
+      form = form;
+      only = asked_lines rows;
+    }))
+    (log_form_for rows)) (lines_as_for rows)) (stamps_for rows)) (first_of (codes "TRACE") rows)
+
 -- what the matches of `convert` ask for
 unfoldable pub asked_convert : List Row → Option Asked
 asked_convert rows =
     option_and_then (λ log. option_map (λ form. convert (record { log = log; form = form })) (log_form_for rows))
     (first_of (codes "LOG") rows)
+
+-- what the matches of `stats` ask for
+unfoldable pub asked_stats : List Row → Option Asked
+asked_stats rows =
+    option_and_then (λ trace. option_and_then (λ lines_as. option_map (λ form.
+    stats (record {
+      trace = trace;
+      sheet = first_of (codes "sheet") rows;
+      bit_rate = first_of (codes "bitrate") rows;
+      lines_as = lines_as;
+      form = form;
+    }))
+    (log_form_for rows)) (lines_as_for rows)) (first_of (codes "TRACE") rows)
+
+-- how far times may be off, by the matches
+unfoldable pub asked_timing : List Row → Option TimingWords
+asked_timing rows =
+    option_and_then (λ tolerance. option_and_then (λ drift. option_and_then (λ answer. option_map (λ boot.
+    record { tolerance = tolerance; drift = drift; answer = answer; boot = boot })
+    (number_for 32 (codes "boot") rows)) (number_for 32 (codes "answer") rows)) (number_for 8 (codes "drift") rows))
+    (number_for 32 (codes "tolerance") rows)
+
+-- what the matches of `compare` ask for
+unfoldable pub asked_compare : List Row → Option Asked
+asked_compare rows =
+    option_and_then (λ sheet. option_and_then (λ trace. option_and_then (λ form. option_map (λ timing.
+    compare (record {
+      sheet = sheet;
+      trace = trace;
+      node = number_for 8 (codes "node") rows;
+      interface = first_of (codes "interface") rows;
+      form = form;
+      timing = timing;
+    }))
+    (asked_timing rows)) (log_form_for rows)) (first_of (codes "TRACE") rows)) (first_of (codes "SHEET") rows)
 
 -- what the matches of a subcommand other than `lint` ask for
 unfoldable pub asked_other : Text → List Row → Option Asked
@@ -327,7 +456,9 @@ asked_other name rows =
     else (if bytes_eq name (codes "show") then asked_show rows
     else (if bytes_eq name (codes "adapt") then asked_adapt rows
     else (if bytes_eq name (codes "explain") then asked_explain rows
-    else (if bytes_eq name (codes "convert") then asked_convert rows else None)))))))
+    else (if bytes_eq name (codes "convert") then asked_convert rows
+    else (if bytes_eq name (codes "stats") then asked_stats rows
+    else (if bytes_eq name (codes "compare") then asked_compare rows else None)))))))))
 
 -- what the matches of a subcommand ask for
 unfoldable pub asked_in : Text → List Row → Option Asked
@@ -338,15 +469,17 @@ unfoldable pub asked_of : Option (Text × List Row) → Option Asked
 asked_of matches = option_and_then (λ m. asked_in m.0 m.1) matches
 
 -- the matches of a subcommand have a word that is none of those that it takes: the mode of `loop`, the format and
--- the colours of `lint`, the form of `show`, the leading zeros of `adapt`, the stamps of `explain`, the form of `convert`
+-- the colours of `lint`, the form of `show`, the leading zeros of `adapt`, the stamps, the format
+-- and the log's form of `explain`, the form of `convert`, the format and the log's form of `stats`, the log's form of `compare`
 unfoldable pub is_other : Text → List Row → Bool
 is_other name rows =
     if bytes_eq name (codes "loop") then is_none (mode_for rows)
     else (if bytes_eq name (codes "lint") then is_none (format_for rows) || is_none (colours_for rows)
     else (if bytes_eq name (codes "show") then is_none (shown_for rows)
     else (if bytes_eq name (codes "adapt") then is_none (zeros_for rows)
-    else (if bytes_eq name (codes "explain") then is_none (stamps_for rows)
-    else (if bytes_eq name (codes "convert") then is_none (log_form_for rows) else false)))))
+    else (if bytes_eq name (codes "explain") then is_none (stamps_for rows) || (is_none (lines_as_for rows) || is_none (log_form_for rows))
+    else (if bytes_eq name (codes "stats") then is_none (lines_as_for rows) || is_none (log_form_for rows)
+    else (if bytes_eq name (codes "convert") || bytes_eq name (codes "compare") then is_none (log_form_for rows) else false))))))
 
 unfoldable pub has_other_word : Option (Text × List Row) → Bool
 has_other_word matches = option_map_or (λ m. is_other m.0 m.1) matches false

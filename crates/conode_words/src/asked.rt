@@ -7,23 +7,30 @@ ghost use Rattle.conode_words.specs.Tasks.{
   asked_adapt,
   asked_by,
   asked_check,
+  asked_compare,
   asked_convert,
   asked_decode,
   asked_device,
   asked_dictionary,
   asked_explain,
   asked_in,
+  asked_lines,
   asked_lint,
   asked_lint_of,
   asked_loop,
   asked_other,
   asked_replay,
   asked_show,
+  asked_stats,
+  asked_timing,
   colours_for,
   colours_of,
   format_for,
   format_of,
   is_used,
+  lines_as_for,
+  lines_as_of,
+  lines_by,
   log_form_for,
   log_form_of,
   mode_for,
@@ -39,8 +46,8 @@ ghost use Rattle.conode_words.specs.Tasks.{
 };
 
 use crate::tasks::{
-    Colours, DeviceWords, DictionaryWords, Format, LeadingZeros, LintWords, LogForm, ShownAs,
-    Stamps, Task,
+    Colours, DeviceWords, DictionaryWords, Format, LeadingZeros, LinesAs, LintWords, LogForm,
+    OnlyWords, ShownAs, Stamps, Task, TimingWords,
 };
 use clap::ArgMatches;
 use co_sdo_client::Mode;
@@ -391,6 +398,41 @@ pub(crate) fn stamps_for(found: &ArgMatches<'_>) -> Option<Stamps>
     stamps_of(word_for(found, "stamps")?)
 }
 
+// how a word says that lines are written
+#[tactic(auto, unfolding(crate::specs::Tasks::lines_as_of))]
+fn lines_as_of(word: &str) -> Option<LinesAs>
+    ensures { result ≡ lines_as_of word.now }
+{
+    if is(word, "text") {
+        Some(LinesAs::Text)
+    } else if is(word, "json") {
+        Some(LinesAs::Json)
+    } else {
+        None
+    }
+}
+
+#[tactic(auto, unfolding(crate::specs::Tasks::lines_as_for))]
+pub(crate) fn lines_as_for(found: &ArgMatches<'_>) -> Option<LinesAs>
+    ensures { result ≡ lines_as_for (rows_of (found_of found.now)) }
+{
+    lines_as_of(word_for(found, "format")?)
+}
+
+// which lines the words ask for
+#[tactic(auto, unfolding(crate::specs::Tasks::asked_lines))]
+fn only_words<'a>(found: &ArgMatches<'a>) -> OnlyWords<'a>
+    ensures { lines_by result ≡ asked_lines (rows_of (found_of found.now)) }
+{
+    OnlyWords {
+        of: word_for(found, "of"),
+        id: word_for(found, "id"),
+        kind: word_for(found, "kind"),
+        from: word_for(found, "from"),
+        to: word_for(found, "to"),
+    }
+}
+
 // what the words after `explain` ask for
 #[tactic(auto, unfolding(crate::specs::Tasks::asked_explain))]
 fn asked_explain<'a>(found: &ArgMatches<'a>) -> Option<Task<'a>>
@@ -398,11 +440,17 @@ fn asked_explain<'a>(found: &ArgMatches<'a>) -> Option<Task<'a>>
 {
     let trace = word_for(found, "TRACE")?;
     let stamps = stamps_for(found)?;
+    let lines_as = lines_as_for(found)?;
+    let form = log_form_for(found)?;
     Some(Task::Explain {
         trace,
         sheet: word_for(found, "sheet"),
         stamps,
         transfers: is_used(found, "transfers"),
+        changes: is_used(found, "changes"),
+        lines_as,
+        form,
+        only: only_words(found),
     })
 }
 
@@ -445,6 +493,67 @@ fn asked_convert<'a>(found: &ArgMatches<'a>) -> Option<Task<'a>>
     Some(Task::Convert { log, form })
 }
 
+// what the words after `stats` ask for
+#[tactic(auto, unfolding(crate::specs::Tasks::asked_stats))]
+fn asked_stats<'a>(found: &ArgMatches<'a>) -> Option<Task<'a>>
+    ensures { option_map asked_by result ≡ asked_stats (rows_of (found_of found.now)) }
+{
+    let trace = word_for(found, "TRACE")?;
+    let lines_as = lines_as_for(found)?;
+    let form = log_form_for(found)?;
+    Some(Task::Stats {
+        trace,
+        sheet: word_for(found, "sheet"),
+        bit_rate: word_for(found, "bitrate"),
+        lines_as,
+        form,
+    })
+}
+
+// the number of an option, of 32 bits
+#[tactic(auto, using(crate::proofs::TaskLemmas::number_read), unfolding(crate::specs::Tasks::number_for))]
+fn number_u32(found: &ArgMatches<'_>, name: &str) -> Option<u32>
+    ensures { result ≡ number_for 32 name.now (rows_of (found_of found.now)) }
+{
+    word_for(found, name)?.parse().ok()
+}
+
+// how far the words say that times may be off
+#[tactic(auto, unfolding(crate::specs::Tasks::asked_timing))]
+fn timing_words(found: &ArgMatches<'_>) -> Option<TimingWords>
+    ensures { result ≡ asked_timing (rows_of (found_of found.now)) }
+{
+    let tolerance = number_u32(found, "tolerance")?;
+    let drift = number_u8(found, "drift")?;
+    let answer = number_u32(found, "answer")?;
+    let boot = number_u32(found, "boot")?;
+    Some(TimingWords {
+        tolerance,
+        drift,
+        answer,
+        boot,
+    })
+}
+
+// what the words after `compare` ask for
+#[tactic(auto, unfolding(crate::specs::Tasks::asked_compare))]
+fn asked_compare<'a>(found: &ArgMatches<'a>) -> Option<Task<'a>>
+    ensures { option_map asked_by result ≡ asked_compare (rows_of (found_of found.now)) }
+{
+    let sheet = word_for(found, "SHEET")?;
+    let trace = word_for(found, "TRACE")?;
+    let form = log_form_for(found)?;
+    let timing = timing_words(found)?;
+    Some(Task::Compare {
+        sheet,
+        trace,
+        node: number_u8(found, "node"),
+        interface: word_for(found, "interface"),
+        form,
+        timing,
+    })
+}
+
 // what the words after the name of a subcommand other than `lint` ask for
 #[tactic(auto, unfolding(crate::specs::Tasks::asked_other))]
 fn asked_other<'a>(name: &str, found: &ArgMatches<'a>) -> Option<Task<'a>>
@@ -466,6 +575,10 @@ fn asked_other<'a>(name: &str, found: &ArgMatches<'a>) -> Option<Task<'a>>
         asked_explain(found)
     } else if is(name, "convert") {
         asked_convert(found)
+    } else if is(name, "stats") {
+        asked_stats(found)
+    } else if is(name, "compare") {
+        asked_compare(found)
     } else {
         None
     }

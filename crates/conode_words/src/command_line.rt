@@ -14,7 +14,8 @@ ghost use Rattle.conode_words.specs.Tasks.{
 };
 
 use crate::asked::{
-    asked_in, colours_for, format_for, is, log_form_for, mode_for, shown_for, stamps_for, zeros_for,
+    asked_in, colours_for, format_for, is, lines_as_for, log_form_for, mode_for, shown_for,
+    stamps_for, zeros_for,
 };
 use crate::commands::conode_command;
 use crate::help;
@@ -51,7 +52,20 @@ fn other_of(name: &str, found: &ArgMatches<'_>) -> Option<&'static str>
         if stamps_for(found).is_none() {
             return Some(help::STAMPS);
         }
-    } else if is(name, "convert") && log_form_for(found).is_none() {
+        if lines_as_for(found).is_none() {
+            return Some(help::LINES_AS);
+        }
+        if log_form_for(found).is_none() {
+            return Some(help::LOG_FORMS);
+        }
+    } else if is(name, "stats") {
+        if lines_as_for(found).is_none() {
+            return Some(help::LINES_AS);
+        }
+        if log_form_for(found).is_none() {
+            return Some(help::LOG_FORMS);
+        }
+    } else if (is(name, "convert") || is(name, "compare")) && log_form_for(found).is_none() {
         return Some(help::LOG_FORMS);
     }
     None

@@ -1,31 +1,39 @@
 //! The program's commands, a function each.
 
 ghost use Rattle.std.specs.Prelude.{◌≡◌, IfOk, codes, false};
-ghost use Rattle.clap.specs.Words.{new_app, rule_of};
+ghost use Rattle.clap.specs.Words.{App, new_app, rule_of};
 ghost use Rattle.conode_words.specs.Commands.{
   IsCommand,
   adapt_command,
   check_command,
+  compare_command,
   conode_command,
   convert_command,
   decode_command,
   explain_command,
   lint_command,
   lint_of_sheets,
+  log_option,
   loop_command,
   replay_command,
   show_command,
   stamps_option,
+  stats_command,
   versioned,
+  with_filters,
+  with_timing,
 };
 
 use crate::help;
 use crate::options::{
-    flag, many_wanted, new_command, node_arg, repeated, valued, wanted, with_arg, with_command,
-    with_limits, with_rooms, worded,
+    flag, many_wanted, new_command, node_arg, numbered_to, repeated, valued, wanted, with_arg,
+    with_command, with_limits, with_rooms, worded,
 };
 use clap::{Arg, Command};
 use std::alloc::{AllocError, Global};
+
+/// The most ms that an option takes.
+const MOST_MS: u64 = 4_294_967_295;
 
 fn check_command<'a>(alloc: Global) -> Result<Command<'a>, AllocError>
     ensures { IfOk result (λ command. IsCommand command check_command) }
@@ -250,6 +258,41 @@ fn stamps_arg<'a>(alloc: Global) -> Arg<'a>
     .short('t')
 }
 
+// the form of a log
+fn log_arg<'a>(alloc: Global, help: &'a str) -> Arg<'a>
+    ensures rule { rule_of result ≡ log_option }
+    ensures local { result.global ≡ false }
+{
+    worded(alloc, "log", "FORM", "auto", help)
+}
+
+// the command with the options that choose which lines are printed
+fn with_filters<'a>(alloc: Global, command: Command<'a>) -> Result<Command<'a>, AllocError>
+    ensures { IfOk result (λ r. (app : App) → IsCommand command.entry app
+        → IsCommand r (with_filters app)) }
+{
+    let of = valued(alloc, "of", "NODES", "Only lines of these nodes, as 5,8");
+    let command = with_arg(command, of)?;
+    let id = valued(alloc, "id", "IDS", "Only these identifiers, as 180-1FF,705");
+    let command = with_arg(command, id)?;
+    let kind = valued(
+        alloc,
+        "kind",
+        "KINDS",
+        "sdo, pdo, emcy, nmt, heartbeat, sync, other",
+    );
+    let command = with_arg(command, kind)?;
+    let from = valued(
+        alloc,
+        "from",
+        "TIME",
+        "From this second on, as 12.5, or stamp, @N",
+    );
+    let command = with_arg(command, from)?;
+    let to = valued(alloc, "to", "TIME", "Up to this second or stamp");
+    with_arg(command, to)
+}
+
 fn explain_command<'a>(alloc: Global) -> Result<Command<'a>, AllocError>
     ensures { IfOk result (λ command. IsCommand command explain_command) }
 {
@@ -259,7 +302,11 @@ fn explain_command<'a>(alloc: Global) -> Result<Command<'a>, AllocError>
         "Explains a recording: each frame with its times and what it says",
         help::EXPLAINED,
     );
-    let trace = wanted(alloc, "TRACE", "The recording, as `candump -L` writes it");
+    let trace = wanted(
+        alloc,
+        "TRACE",
+        "The recording, in a form that `convert` takes",
+    );
     let command = with_arg(command, trace)?;
     let sheet = valued(
         alloc,
@@ -275,7 +322,18 @@ fn explain_command<'a>(alloc: Global) -> Result<Command<'a>, AllocError>
         "transfers",
         "Only a line for each SDO transfer that ended",
     );
-    with_arg(command, transfers)
+    let command = with_arg(command, transfers)?;
+    let changes = flag(
+        alloc,
+        "changes",
+        "PDOs, heartbeats, SYNCs only where they change",
+    );
+    let command = with_arg(command, changes)?;
+    let format = worded(alloc, "format", "FORMAT", "text", "Form: text or json");
+    let command = with_arg(command, format)?;
+    let form = log_arg(alloc, "The recording's form, as for `convert`");
+    let command = with_arg(command, form)?;
+    with_filters(alloc, command)
 }
 
 fn convert_command<'a>(alloc: Global) -> Result<Command<'a>, AllocError>
@@ -293,14 +351,84 @@ fn convert_command<'a>(alloc: Global) -> Result<Command<'a>, AllocError>
         "What candump shows, a .trc of PCAN-View or a .asc of Vector",
     );
     let command = with_arg(command, log)?;
-    let form = worded(
-        alloc,
-        "log",
-        "FORM",
-        "auto",
-        "The form of the log, as named below",
-    );
+    let form = log_arg(alloc, "The form of the log, as named below");
     with_arg(command, form)
+}
+
+fn stats_command<'a>(alloc: Global) -> Result<Command<'a>, AllocError>
+    ensures { IfOk result (λ command. IsCommand command stats_command) }
+{
+    let command = new_command(
+        alloc,
+        "stats",
+        "Says on one page what a bus does, what looks wrong first",
+        help::COUNTED,
+    );
+    let trace = wanted(
+        alloc,
+        "TRACE",
+        "The recording, in a form that `convert` takes",
+    );
+    let command = with_arg(command, trace)?;
+    let sheet = valued(
+        alloc,
+        "sheet",
+        "SHEET",
+        "A data sheet with its PDOs; 5=SHEET: of node 5",
+    );
+    let command = with_arg(command, sheet)?;
+    let rate = valued(
+        alloc,
+        "bitrate",
+        "RATE",
+        "Bits per second, for the load: 500k, 1M, 125000",
+    );
+    let command = with_arg(command, rate)?;
+    let format = worded(alloc, "format", "FORMAT", "text", "Form: text or json");
+    let command = with_arg(command, format)?;
+    let form = log_arg(alloc, "The recording's form, as for `convert`");
+    with_arg(command, form)
+}
+
+// the command with how far times may be off
+fn with_timing<'a>(alloc: Global, command: Command<'a>) -> Result<Command<'a>, AllocError>
+    ensures { IfOk result (λ r. (app : App) → IsCommand command.entry app
+        → IsCommand r (with_timing app)) }
+{
+    let tolerance = numbered_to(alloc, "tolerance", MOST_MS, "10", "By so many ms");
+    let command = with_arg(command, tolerance)?;
+    let drift = numbered_to(alloc, "drift", 100, "1", "And so many percent");
+    let command = with_arg(command, drift)?;
+    let answer = numbered_to(alloc, "answer", MOST_MS, "1000", "ms until an answer");
+    let command = with_arg(command, answer)?;
+    let boot = numbered_to(alloc, "boot", MOST_MS, "10000", "ms until a boot-up");
+    with_arg(command, boot)
+}
+
+fn compare_command<'a>(alloc: Global) -> Result<Command<'a>, AllocError>
+    ensures { IfOk result (λ command. IsCommand command compare_command) }
+{
+    let command = new_command(
+        alloc,
+        "compare",
+        "Says what a recorded device does otherwise than CiA 301 prescribes",
+        help::COMPARED,
+    );
+    let sheet = wanted(alloc, "SHEET", "The device's data sheet (EDS, CiA 306)");
+    let command = with_arg(command, sheet)?;
+    let trace = wanted(
+        alloc,
+        "TRACE",
+        "The recording, in a form that `convert` takes",
+    );
+    let command = with_arg(command, trace)?;
+    let node = node_arg(alloc, "The device's node-ID; if not given, the sheet's");
+    let command = with_arg(command, node)?;
+    let interface = valued(alloc, "interface", "NAME", "The interface that it is on");
+    let command = with_arg(command, interface)?;
+    let form = log_arg(alloc, "The recording's form, as for `convert`");
+    let command = with_arg(command, form)?;
+    with_timing(alloc, command)
 }
 
 // the command without the commands below it
@@ -329,5 +457,7 @@ pub(crate) fn conode_command<'a>(alloc: Global) -> Result<Command<'a>, AllocErro
     let command = with_command(command, show_command(alloc)?)?;
     let command = with_command(command, adapt_command(alloc)?)?;
     let command = with_command(command, explain_command(alloc)?)?;
-    with_command(command, convert_command(alloc)?)
+    let command = with_command(command, convert_command(alloc)?)?;
+    let command = with_command(command, stats_command(alloc)?)?;
+    with_command(command, compare_command(alloc)?)
 }

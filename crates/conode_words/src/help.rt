@@ -220,6 +220,9 @@ pub const LEADING_ZEROS: &str = "invalid value for '--leading-zeros <BASE>': oct
 /// What is said of a form of stamps that is none.
 pub const STAMPS: &str = "invalid value for '--stamps <FORM>': relative, absolute, delta or date";
 
+/// What is said of a format of `explain` that is none.
+pub const LINES_AS: &str = "invalid value for '--format <FORMAT>': text or json";
+
 /// What `explain` prints.
 pub const EXPLAINED: &str = "\
 Prints a line for each frame of a recording, of every kind: its stamp, the time
@@ -234,7 +237,13 @@ After the last frame of an SDO transfer a line says how it went:
 
      0.012780  node 5  SDO upload 1008:00 9 bytes in 6 frames, 0.009 s: done
 
-With --transfers there are these lines alone.
+With --transfers there are these lines alone. The filters choose which lines are
+printed, not what is followed: --of by nodes, --id by identifiers, --kind by
+services, --from and --to by times, in seconds since the first frame, or after
+`@` as the recording has them. A line has to fit each option that is used. With
+--changes a PDO, a heartbeat or a SYNC has a line only where its data or what it
+says aren't those of the last one on its identifier and interface. --format json
+writes each line as an object of JSON.
 
 With --sheet entries have their names, and their values in expedited SDO
 transfers and in PDOs, which are taken apart by the sheet's mapping.
@@ -242,7 +251,8 @@ transfers and in PDOs, which are taken apart by the sheet's mapping.
 event lines (`!`) print nothing. A bad line is named on standard error, with its
 number and what is wrong, and the rest goes on. `-` as TRACE is standard input;
 each line is out before the next read that could wait. The stamps' forms have
-the letters z, a, d and A too, those of candump.
+the letters z, a, d and A too, those of candump. Logs of other recorders are
+read as `convert` reads them: see `conode convert --help` for --log.
 
   candump -L can0 | conode explain - --sheet 5=sensor.eds
 
@@ -252,6 +262,32 @@ it; 1 if a line is bad or the recording can't be read; 2 if the words are wrong.
 /// What is said of a form of logs that is none.
 pub const LOG_FORMS: &str =
     "invalid value for '--log <FORM>': auto, candump, screen, screen-delta, trc or asc";
+
+/// What `stats` prints.
+pub const COUNTED: &str = "\
+Counts the frames of a recording and prints one page: what looks wrong, the
+load, and the frames by interface and identifier, with their gaps. `-` as TRACE
+is standard input.
+
+  conode stats drive.log --bitrate 500k
+
+--bitrate is a number of bits per second, also with k (times 1,000) or M (times
+1,000,000), from 1000 to 1000000. --format json writes one object.
+
+Status: 0 if all lines are good, 1 if a line is bad or the recording can't be
+read; 2 if the words are wrong.";
+
+/// What `compare` prints.
+pub const COMPARED: &str = "\
+Compares a recorded device with what CiA 301 prescribes for its data sheet, and
+prints what differs. Without --node the device has the node-ID of the sheet, a
+device configuration file (DCF). `-` as TRACE is standard input. Times may be
+off by --tolerance and --drift together; --answer and --boot bound a wait.
+
+  conode compare sensor.eds drive.log --node 5
+
+Status: 0 if nothing differs, 1 if something does or the recording can't be
+read; 2 if the words are wrong.";
 
 /// What `convert` prints.
 pub const CONVERTED: &str = "\

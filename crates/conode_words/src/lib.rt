@@ -11,6 +11,6 @@ mod tasks;
 pub use command_line::task;
 pub use help::VERSION;
 pub use tasks::{
-    Colours, DeviceWords, DictionaryWords, Format, LeadingZeros, LintWords, LogForm, ShownAs,
-    Stamps, Task,
+    Colours, DeviceWords, DictionaryWords, Format, LeadingZeros, LinesAs, LintWords, LogForm,
+    OnlyWords, ShownAs, Stamps, Task, TimingWords,
 };

@@ -130,6 +130,21 @@ fn numbered_or<'a>(alloc: Global, name: &'a str, default: &'a str, help: &'a str
     numbered(alloc, name, 0, 65_535, help).default_value(default)
 }
 
+/// An option with a number up to `high`, and what stands for it where it isn't used.
+pub(crate) fn numbered_to<'a>(
+    alloc: Global,
+    name: &'a str,
+    high: u64,
+    default: &'a str,
+    help: &'a str,
+) -> Arg<'a>
+    ensures rule { rule_of result
+        ≡ numbered name.entry.now 0 high (default.entry.now ∷ []) }
+    ensures local { result.global ≡ false }
+{
+    numbered(alloc, name, 0, high, help).default_value(default)
+}
+
 /// The option with a node-ID.
 pub(crate) fn node_arg<'a>(alloc: Global, help: &'a str) -> Arg<'a>
     ensures rule { rule_of result ≡ node_option }

@@ -70,6 +70,28 @@ pub enum LogForm {
     Asc,
 }
 
+/// How far the times of a recorded device may be off what is prescribed.
+#[derive(Clone, Copy, Debug, PartialEq, Eq)]
+pub struct TimingWords {
+    /// By so many ms.
+    pub tolerance: u32,
+    /// And so many percent.
+    pub drift: u8,
+    /// In ms, how long an answer may take.
+    pub answer: u32,
+    /// In ms, how long a boot-up may take.
+    pub boot: u32,
+}
+
+/// How `explain` and `stats` write.
+#[derive(Clone, Copy, Debug, PartialEq, Eq)]
+pub enum LinesAs {
+    /// For people.
+    Text,
+    /// Each as an object of JSON.
+    Json,
+}
+
 /// How `lint` writes what it finds.
 #[derive(Clone, Copy, Debug, PartialEq, Eq)]
 pub enum Format {
@@ -105,6 +127,21 @@ pub struct LintWords<'a> {
     pub strict: bool,
     /// Whether the warnings are given too that are left out otherwise.
     pub all: bool,
+}
+
+/// Which lines `explain` prints: the words of options, as they are; `None` where one isn't used.
+#[derive(Clone, Copy, Debug)]
+pub struct OnlyWords<'a> {
+    /// Of which nodes.
+    pub of: Option<&'a str>,
+    /// With which identifiers.
+    pub id: Option<&'a str>,
+    /// Of which kinds.
+    pub kind: Option<&'a str>,
+    /// From when on.
+    pub from: Option<&'a str>,
+    /// Until when.
+    pub to: Option<&'a str>,
 }
 
 /// What the program is asked to do.
@@ -179,6 +216,42 @@ pub enum Task<'a> {
         stamps: Stamps,
         /// Whether only the SDO transfers that ended have lines.
         transfers: bool,
+        /// Whether a PDO, a heartbeat and a SYNC have lines only where what they say changes.
+        changes: bool,
+        /// How lines are written.
+        lines_as: LinesAs,
+        /// In which form the recording is.
+        form: LogForm,
+        /// Which lines are printed.
+        only: OnlyWords<'a>,
+    },
+    /// To say on one page what a bus does.
+    Stats {
+        /// The recording's path, `-` for standard input.
+        trace: &'a str,
+        /// The path of a data sheet, perhaps with the node-ID that it is for, as `5=sensor.eds`.
+        sheet: Option<&'a str>,
+        /// The word for the bits per second of the bus, as it is; `None`: they aren't known.
+        bit_rate: Option<&'a str>,
+        /// How the page is written.
+        lines_as: LinesAs,
+        /// In which form the recording is.
+        form: LogForm,
+    },
+    /// To compare a recorded device with what its data sheet prescribes.
+    Compare {
+        /// The sheet's path.
+        sheet: &'a str,
+        /// The recording's path, `-` for standard input.
+        trace: &'a str,
+        /// The device's node-ID, 1 to 127; `None`: the sheet's.
+        node: Option<u8>,
+        /// The interface that it is on; `None`: each.
+        interface: Option<&'a str>,
+        /// In which form the recording is.
+        form: LogForm,
+        /// How far times may be off.
+        timing: TimingWords,
     },
     /// To convert a log of another recorder.
     Convert {

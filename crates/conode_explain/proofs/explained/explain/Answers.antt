@@ -2,6 +2,7 @@
 use Rattle.std.proofs.Common.{arith}
 use Rattle.co_bounded_lines.specs.Held.{nothing_held}
 use Rattle.conode_decode.specs.Names.{names_view}
+use Rattle.conode_convert.specs.Converted.{at_start}
 use Rattle.conode_explain.specs.Explained.{nothing_known}
 use Rattle.conode_explain.proofs.Explaining.{explained_any, explained_known, takes_flushed, takes_more, takes_none}
 use Rattle.conode_explain.proofs.explained.explain.Goals as goal
@@ -11,8 +12,8 @@ loop-number-init g c =
     let form = c.args.settings.now.form in
     let names = names_view c.args.settings.now.names in
     record {
-      taken = rw (c.new-explaining.ensures.lines, c.new-explaining.ensures.progress)
-          (takes_none form names nothing_held (g.R.Read.remaining c.args.reader.now) nothing_known (g.W.Write.contents c.args.out.now));
+      taken = rw (c.new-explaining.ensures.lines, c.new-explaining.ensures.log, c.new-explaining.ensures.progress)
+          (takes_none form names nothing_held (g.R.Read.remaining c.args.reader.now) (at_start form.log) nothing_known (g.W.Write.contents c.args.out.now));
       few = omega arith;
     }
 
@@ -28,12 +29,12 @@ returns-in-None-clause-known g c =
     let out = g.W.Write.contents c.let_out.new.out in
     let so_far = c.loop-number.explaining in
     let bad = c.loop-number.bad in
-    let taken = takes_flushed form names nothing_held so_far.lines before between nothing_known so_far.progress old now bad c.loop-number.invariant.taken out c.let_out.ensures.text in
+    let taken = takes_flushed form names nothing_held so_far.lines before between (at_start form.log) so_far.log nothing_known so_far.progress old now bad c.loop-number.invariant.taken out c.let_out.ensures.text in
     let ended = rw c.in-None.is at c.in_ok-more.ensures.end in
     let same = rw c.in-None.is at c.in_ok-more.ensures.progress_kept in
     let last = g.W.Write.contents c.finish.new.out in
     let rest = rw (ended.0, same) at c.in_ok-finish-in-None.ensures.lines in
-    explained_known form names so_far.lines c.take_line.new.self.lines before between after so_far.progress old out last bad taken rest ended.1
+    explained_known form names so_far.lines c.take_line.new.self.lines before between after so_far.log so_far.progress old out last bad taken rest ended.1
 
 pub returns-in-None-clause-any_reader : goal.returns-in-None-clause-any_reader
 returns-in-None-clause-any_reader g c =
@@ -47,12 +48,12 @@ returns-in-None-clause-any_reader g c =
     let out = g.W.Write.contents c.let_out.new.out in
     let so_far = c.loop-number.explaining in
     let bad = c.loop-number.bad in
-    let taken = takes_flushed form names nothing_held so_far.lines before between nothing_known so_far.progress old now bad c.loop-number.invariant.taken out c.let_out.ensures.text in
+    let taken = takes_flushed form names nothing_held so_far.lines before between (at_start form.log) so_far.log nothing_known so_far.progress old now bad c.loop-number.invariant.taken out c.let_out.ensures.text in
     let ended = rw c.in-None.is at c.in_ok-more.ensures.end in
     let same = rw c.in-None.is at c.in_ok-more.ensures.progress_kept in
     let last = g.W.Write.contents c.finish.new.out in
     let rest = rw (ended.0, same) at c.in_ok-finish-in-None.ensures.lines in
-    explained_any form names so_far.lines c.take_line.new.self.lines before between after so_far.progress old out last bad taken rest ended.1
+    explained_any form names so_far.lines c.take_line.new.self.lines before between after so_far.log so_far.progress old out last bad taken rest ended.1
 
 pub loop-number-preserved : goal.loop-number-preserved
 loop-number-preserved g c =
@@ -68,10 +69,10 @@ loop-number-preserved g c =
     let so_far = c.loop-number.explaining in
     let next = c.take_line.new.self in
     let bad = c.loop-number.bad in
-    let taken = takes_flushed form names nothing_held so_far.lines before between nothing_known so_far.progress old now bad c.loop-number.invariant.taken out c.let_out.ensures.text in
+    let taken = takes_flushed form names nothing_held so_far.lines before between (at_start form.log) so_far.log nothing_known so_far.progress old now bad c.loop-number.invariant.taken out c.let_out.ensures.text in
     let more = rw c.in-Some.is at c.in_ok-more.ensures.line in
     let one = rw c.in-Some.is at c.in_ok-more.ensures.few in
     record {
-      taken = takes_more form names nothing_held so_far.lines before between nothing_known so_far.progress old out bad taken next.lines after next.progress new c.in-Some.more more;
+      taken = takes_more form names nothing_held so_far.lines before between (at_start form.log) so_far.log nothing_known so_far.progress old out bad taken next.lines after next.log next.progress new c.in-Some.more more;
       few = omega (arith, one, c.loop-number.invariant.few);
     }

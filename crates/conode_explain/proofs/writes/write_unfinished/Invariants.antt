@@ -9,4 +9,4 @@ use Rattle.conode_explain.proofs.writes.write_unfinished.Given as goal
 abbrev pub invariant-loop-track : goal.invariant-loop-track
 invariant-loop-track g l =
     WritesLines (g.W.Write.contents l.fn.out) (g.W.Write.contents l.out)
-    (flat_map (unfinished_in l.settings.form.stamps (names_view l.settings.names) l.progress.seen) (take l.track-index l.progress.channels))
+    (flat_map (unfinished_in l.settings.form (names_view l.settings.names) l.progress.seen) (take l.track-index l.progress.channels))

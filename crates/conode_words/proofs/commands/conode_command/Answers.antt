@@ -13,4 +13,6 @@ returns c =
     let six = c.in_ok-command-6.ensures _ _ five c.in_ok-show_command.ensures in
     let seven = c.in_ok-command-7.ensures _ _ six c.in_ok-adapt_command.ensures in
     let eight = c.in_ok-command-8.ensures _ _ seven c.in_ok-explain_command.ensures in
-    IfOk-weaker c.with_command-9.result _ _ (λ r h. h _ _ eight c.in_ok-convert_command.ensures) c.with_command-9.ensures
+    let nine = c.in_ok-command-9.ensures _ _ eight c.in_ok-convert_command.ensures in
+    let ten = c.in_ok-command-10.ensures _ _ nine c.in_ok-stats_command.ensures in
+    IfOk-weaker c.with_command-11.result _ _ (λ r h. h _ _ ten c.in_ok-compare_command.ensures) c.with_command-11.ensures

@@ -6,4 +6,4 @@ pub returns : goal.returns
 unfolding convert_command
 returns c =
     let one = c.in_ok-command.ensures _ _ c.new_command-command.ensures c.wanted-log.ensures.rule c.wanted-log.ensures.local in
-    IfOk-weaker c.with_arg-2.result _ _ (λ r h. h _ _ one c.worded-form.ensures.rule c.worded-form.ensures.local) c.with_arg-2.ensures
+    IfOk-weaker c.with_arg-2.result _ _ (λ r h. h _ _ one c.log_arg-form.ensures.rule c.log_arg-form.ensures.local) c.with_arg-2.ensures

@@ -1,13 +1,14 @@
 use Rattle.std.proofs.Common.{◌≡◌, ◌+◌, true, false, [], sym, ◌∙◌, rules, arith}
-use Rattle.bafokun.specs.Ticks.{after_ticks, given_last}
+use Rattle.co_node_model.specs.Ticks.{after_ticks}
+use Rattle.bafokun.specs.Ticks.{given_last}
 use Rattle.bafokun.proofs.Ticks.{one_more_given, one_more_stands, up_to_next}
 use Rattle.bafokun.proofs.held.Held.ticks.Goals as goal
 
-pub returns-then-has_sent : goal.returns-then-has_sent
-returns-then-has_sent c = λ k before stands.
+pub returns-then-has_sent-clause-gave : goal.returns-then-has_sent-clause-gave
+returns-then-has_sent-clause-gave c = λ k before stands.
     let inv = c.loop-i.invariant in
     let yes : c.has_sent.result ≡ true = search rules in
-    let gave = c.tick.ensures k (after_ticks c.loop-i.i before) (inv.stands k before stands) in
+    let gave = c.tick.ensures.gave k (after_ticks c.loop-i.i before) (inv.stands k before stands) in
     let sent : c.tick.new.self.sent.items ≡ given_last k before (c.loop-i.i + 1) =
     gave.sent ∙ sym (one_more_given k before c.loop-i.i) in
     record {
@@ -27,9 +28,10 @@ loop-i-preserved c =
     let empty : c.tick.new.self.sent.items ≡ [] = c.has_sent.ensures.no no in
     record {
       empty = empty;
+      entries = c.tick.ensures.entries ∙ inv.entries;
       stands = λ k before stands. one_more_stands k before c.loop-i.i c.tick.new.self.node
-          (c.tick.ensures k (after_ticks c.loop-i.i before) (inv.stands k before stands)).stands;
+          (c.tick.ensures.gave k (after_ticks c.loop-i.i before) (inv.stands k before stands)).stands;
       quiet = λ k before stands. up_to_next (λ n. given_last k before n ≡ []) c.loop-i.i (inv.quiet k before stands)
           (one_more_given k before c.loop-i.i
-          ∙ sym (c.tick.ensures k (after_ticks c.loop-i.i before) (inv.stands k before stands)).sent ∙ empty);
+          ∙ sym (c.tick.ensures.gave k (after_ticks c.loop-i.i before) (inv.stands k before stands)).sent ∙ empty);
     }

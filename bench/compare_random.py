@@ -1,0 +1,94 @@
+#!/usr/bin/env python3
+"""compare_random.py [COUNT [SEED [PROGRAM]]]: random sessions of a device that keeps to the standard, compared with its data sheet.
+
+A session is a random trace for the sensor or the I/O module of examples/: SDO requests of every kind, also broken ones, NMT commands to
+the device, to others and to all, SYNCs, RPDOs, another node's heartbeats. What `conode replay` says that the device sends is put into the
+trace behind the input that it follows. Such a recording has no difference: `conode compare` has to find none.
+"""
+import os
+import random
+import subprocess
+import sys
+import tempfile
+
+COUNT = int(sys.argv[1]) if len(sys.argv) > 1 else 400
+SEED = int(sys.argv[2]) if len(sys.argv) > 2 else random.randrange(10**6)
+PROGRAM = sys.argv[3].split() if len(sys.argv) > 3 else ["bin/conode"]
+
+SHEETS = [("examples/temperature-sensor.eds", 5), ("examples/io-module.eds", 8)]
+KEYS = [(0x1000, 0), (0x1001, 0), (0x1003, 0), (0x1008, 0), (0x1014, 0), (0x1015, 0), (0x1017, 0), (0x1018, 0), (0x1018, 1)]
+KEYS += [(0x1800, 1), (0x1800, 2), (0x1A00, 0), (0x2000, 0), (0x2001, 1), (0x1234, 0)]
+
+
+def data_of(it, node):
+    """The identifier and the data of a random frame."""
+    index, sub = it.choice(KEYS)
+    key = index.to_bytes(2, "little") + bytes([sub])
+    kind = it.random()
+    if kind < 0.4:
+        return 0x600 + node, b"\x40" + key + bytes(4)
+    if kind < 0.55:
+        value = it.choice([0, 1, 100, 500, 1000, 2000])
+        return 0x600 + node, bytes([it.choice([0x2F, 0x2B, 0x23])]) + key + value.to_bytes(4, "little")
+    if kind < 0.6:
+        return 0x600 + node, bytes(it.randrange(256) for _ in range(8))
+    if kind < 0.65:
+        return 0x600 + node, bytes([it.choice([0x60, 0x70])]) + bytes(7)
+    if kind < 0.8:
+        return 0, bytes([it.choice([1, 2, 0x80, 0x81, 0x82]), it.choice([0, node, 9])])
+    if kind < 0.85:
+        return 0x80, b""
+    if kind < 0.9:
+        return 0x701, b"\x05"
+    return 0x200 + node, bytes(it.randrange(256) for _ in range(it.randrange(9)))
+
+
+def line(stamp, identifier, data):
+    return f"({stamp:.6f}) can0 {identifier:03X}#{data.hex().upper()}"
+
+
+def stamp_of(text):
+    return float(text[1 : text.index(")")])
+
+
+def recording(it, sheet, node, folder):
+    """The lines of a session, with what the device sends."""
+    stamp, inputs = 1000.0, []
+    for _ in range(it.randrange(5, 120)):
+        stamp += it.choice([0.001, 0.003, 0.01, 0.1, 0.5, 1.0, 1.5, 3.0])
+        inputs.append(line(stamp, *data_of(it, node)))
+    with open(f"{folder}/inputs.log", "w", encoding="ascii") as file:
+        file.write("\n".join(inputs) + "\n")
+    words = [*PROGRAM, "replay", sheet, f"{folder}/inputs.log", "--node", str(node)]
+    sent = [it for it in subprocess.run(words, capture_output=True, text=True, check=True).stdout.splitlines() if it[0] == "("]
+    # the boot-up comes before the first input
+    lines, sent = [line(stamp_of(inputs[0]) - 0.0005, 0x700 + node, b"\x00")], sent[1:]
+    for text in inputs:
+        while sent and stamp_of(sent[0]) < stamp_of(text):
+            lines.append(sent.pop(0))
+        lines.append(text)
+        while sent and stamp_of(sent[0]) == stamp_of(text):
+            lines.append(sent.pop(0))
+    return lines + sent
+
+
+def main():
+    different = 0
+    with tempfile.TemporaryDirectory() as folder:
+        for number in range(COUNT):
+            it = random.Random(SEED * 1_000_000 + number)
+            sheet, node = it.choice(SHEETS)
+            file = f"{folder}/session.log"
+            with open(file, "w", encoding="ascii") as recorded:
+                recorded.write("\n".join(recording(it, sheet, node, folder)) + "\n")
+            ran = subprocess.run([*PROGRAM, "compare", sheet, file, "--node", str(node)], capture_output=True, text=True, check=False)
+            if ran.returncode:
+                different += 1
+                print(f"session {number} of seed {SEED}: status {ran.returncode}\n{ran.stdout}{ran.stderr}")
+    print(f"{COUNT} sessions of seed {SEED}, {different} with a difference")
+    return different > 0
+
+
+if __name__ == "__main__":
+    os.chdir(os.path.dirname(os.path.dirname(os.path.realpath(__file__))))
+    sys.exit(main())

@@ -1,0 +1,44 @@
+-- An entry of a device, as C has it.
+use Rattle.std.specs.Prelude.{◌≡◌, ℕ, Bool, true, false, length, Option, Some, None}
+use Rattle.std.specs.Option.{option_map_or}
+use Rattle.co_value.specs.Types.{code_of}
+use Rattle.co_profile.specs.declared.access.Access.{Access}
+use Rattle.co_profile.specs.declared.access.Access.TheVariants.{Ro, Wo, Rw, Rwr, Rww, Constant}
+use Rattle.co_dict.specs.Rows.{Contents}
+use Rattle.co_dict_table.specs.Entries.{EntryContent}
+use Rattle.bafokun.specs.declared.entries.Entry.{Entry}
+
+-- an access as a number
+abbrev pub access_code : Access → ℕ
+access_code Ro = 1
+access_code Wo = 2
+access_code Rw = 3
+access_code Rwr = 4
+access_code Rww = 5
+access_code Constant = 6
+
+-- how many bytes an entry has
+abbrev pub length_in : Contents → EntryContent → ℕ
+length_in contents e = option_map_or (λ bytes. length bytes) (contents e.facts.key) 0
+
+-- an entry as C has it, with so many bytes
+abbrev pub c_entry : EntryContent → ℕ → Entry
+c_entry e size = record {
+  index = e.facts.key.index;
+  sub_index = e.facts.key.sub;
+  access = access_code e.facts.access;
+  data_type = code_of e.facts.data_type;
+  original_type = e.facts.original;
+  capacity = e.facts.capacity;
+  length = size;
+}
+
+-- where there is a number it is given; else nothing changes
+abbrev pub IsNumber : Option ℕ → ℕ → ℕ → Bool → Type 0
+IsNumber None before after found = (after ≡ before) × (found ≡ false)
+IsNumber (Some number) before after found = (after ≡ number) × (found ≡ true)
+
+-- where there is an entry it is given, with the number of the bytes that it has among these; else nothing changes
+abbrev pub IsEntry : Option EntryContent → Contents → Entry → Entry → Bool → Type 0
+IsEntry None contents before after found = (after ≡ before) × (found ≡ false)
+IsEntry (Some e) contents before after found = (after ≡ c_entry e (length_in contents e)) × (found ≡ true)

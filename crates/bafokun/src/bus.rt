@@ -1,0 +1,112 @@
+//! What changes of the CAN controller are to a device: bus-off, error passive, and their ends (CiA 301, 7.2.7.1 and 7.5.2.32).
+
+ghost use Rattle.std.specs.Prelude.{◌≡◌, option_map, slice_index_or};
+ghost use Rattle.co_profile.specs.Keys.{error_behaviour_key};
+ghost use Rattle.co_node_parts.specs.NmtStates.{after_loss, reaction_with};
+ghost use Rattle.co_node_model.specs.Inputs.{Inputs, input_view};
+ghost use Rattle.co_node_model.specs.Moments.{Constants};
+ghost use Rattle.co_node_model.specs.Device.{contents_of, state_of};
+ghost use Rattle.co_node.specs.Nodes.{Stands};
+ghost use Rattle.bafokun.specs.Bus.{
+  after_bus,
+  byte_of,
+  bus_error,
+  bus_input,
+  by_reaction,
+  command_to_all,
+  ended_bits,
+};
+
+use co_frame::{NmtCommand, NmtService};
+use co_node::{AppEvent, Input, Node, NodeState};
+use co_node_laws::state_by_kind;
+use co_node_parts::LossReaction;
+use co_profile::keys;
+use co_value::Key;
+
+// The first byte, 0 where there is none.
+fn first_of(bytes: &[u8]) -> u8
+    ensures { result ≡ slice_index_or bytes.now 0 0 }
+{
+    match bytes.first() {
+        Some(byte) => *byte,
+        None => 0,
+    }
+}
+
+// The byte of an entry that has one; 0 where there is no such entry.
+fn byte_at(node: &Node, key: Key) -> u8
+    ensures { (k : Constants) (before : Inputs) → Stands k node.now before →
+        result ≡ byte_of (contents_of k before key) }
+{
+    match node.value(key) {
+        Some(bytes) => first_of(bytes),
+        None => 0,
+    }
+}
+
+// An error of communication.
+fn bus_error(code: u16) -> Input<'static>
+    ensures { input_view result ≡ bus_error code }
+{
+    Input::App(AppEvent::Raise(code, 0x10, [0; 5]))
+}
+
+// A command to all nodes.
+fn command_to_all(service: NmtService) -> Input<'static>
+    ensures { input_view result ≡ command_to_all service }
+{
+    let command = NmtCommand { service, node: 0 };
+    Input::Frame(command.write())
+}
+
+// The bits that end: bit 4, and bit 0 where no other one is left.
+fn ended_bits(register: u8) -> u8
+    ensures { result ≡ ended_bits register }
+{
+    if register & 0xEE == 0 { 0x11 } else { 0x10 }
+}
+
+// The command that leads where a lost heartbeat does, in a state, by a value of 1029:01.
+fn by_reaction(code: u8, state: NodeState) -> Option<Input<'static>>
+    ensures { option_map input_view result ≡ by_reaction (reaction_with code) state }
+{
+    match LossReaction::from_code(code) {
+        LossReaction::EnterStopped => Some(command_to_all(NmtService::Stop)),
+        LossReaction::NoChange => None,
+        LossReaction::LeaveOperational => match state {
+            NodeState::Operational => Some(command_to_all(NmtService::EnterPreOperational)),
+            NodeState::PreOperational | NodeState::Stopped => None,
+        },
+    }
+}
+
+/// The input that a change of the CAN controller is to a device; `None` where it is none: 0 error active again, 1 error
+/// passive, 2 bus-off, 3 recovered from bus-off.
+pub(crate) fn bus_input(node: &Node, change: u8) -> Option<Input<'static>>
+    ensures { (k : Constants) (before : Inputs) → Stands k node.now before →
+        option_map input_view result ≡ bus_input k before change }
+{
+    match change {
+        0 => {
+            let register = byte_at(node, keys::ERROR_REGISTER);
+            Some(Input::App(AppEvent::Clear(ended_bits(register))))
+        }
+        1 => Some(bus_error(0x8120)),
+        2 => by_reaction(byte_at(node, keys::COMMUNICATION_ERROR), node.state()),
+        3 => Some(bus_error(0x8140)),
+        _ => None,
+    }
+}
+
+/// After bus-off the NMT state is that after a lost heartbeat, by the error behaviour of 1029:01 (CiA 301, 7.5.2.32). This is a
+/// law: a call of it changes nothing.
+#[tactic(auto, using(crate::proofs::AsLoss::as_loss))]
+pub fn bus_off_as_lost_heartbeat()
+    ensures { (k : Constants) (before : Inputs) →
+        state_of k (after_bus (bus_input k before 2) before)
+        ≡ after_loss (reaction_with (byte_of (contents_of k before error_behaviour_key)))
+        (state_of k before) }
+{
+    state_by_kind();
+}

@@ -1,0 +1,111 @@
+//! What C asks of the entries of a device: each, by its number, from 0 on by increasing key.
+
+ghost use Rattle.std.specs.Prelude.{◌≡◌, false};
+ghost use Rattle.co_node_model.specs.Inputs.{Inputs};
+ghost use Rattle.co_node_model.specs.Moments.{Constants};
+ghost use Rattle.co_node_model.specs.Device.{contents_of};
+ghost use Rattle.bafokun.specs.Devices.{IsDevice, IsEmpty, entries_of};
+ghost use Rattle.co_dict_table.specs.Entries.{entry_at, name_at, number_of};
+ghost use Rattle.bafokun.specs.Entries.{IsEntry, IsNumber};
+ghost use Rattle.bafokun.specs.Texts.{IsText};
+
+use crate::entries::Entry;
+use crate::handle::Handle;
+use crate::texts::put_text;
+use co_value::Key;
+use std::alloc::Global;
+
+/// Whether there is an entry with a number, from 0 on by increasing key: so a loop from 0 until there is none comes to all.
+/// What it is goes into `entry`. C owes what `bafokun_tick` says, and an entry.
+#[unsafe(no_mangle)]
+pub extern "C" fn bafokun_entry(
+    alloc: Global,
+    node: &mut Handle,
+    number: usize,
+    entry: &mut Entry,
+) -> bool
+    ensures same { node.new.seal.value ≡ node.old.seal.value }
+    ensures entry { (k : Constants) (before : Inputs) → IsDevice k node.old before →
+        IsEntry (entry_at (entries_of node.old) number) (contents_of k before)
+        entry.old entry.new result }
+    ensures empty { IsEmpty node.old → result ≡ false }
+    ensures untouched { IsEmpty node.old → entry.new ≡ entry.old }
+{
+    match node.take(alloc) {
+        Some(held) => {
+            let found = match held.entries.get(number) {
+                Some(described) => {
+                    let length = match held.node.value(described.facts.key) {
+                        Some(bytes) => bytes.len(),
+                        None => 0,
+                    };
+                    *entry = Entry::of(&described, length);
+                    true
+                }
+                None => false,
+            };
+            *node = Handle::of(held);
+            found
+        }
+        None => false,
+    }
+}
+
+/// The name of the entry with a number, its ParameterName, as text by the rules of `bafokun_abort_text`; empty where it has none,
+/// and where there is no such entry. C owes what `bafokun_tick` says, and an array of as many bytes as it says.
+#[unsafe(no_mangle)]
+pub extern "C" fn bafokun_entry_name(
+    alloc: Global,
+    node: &mut Handle,
+    number: usize,
+    text: &mut [u8],
+) -> usize
+    ensures same { node.new.seal.value ≡ node.old.seal.value }
+    ensures name { IsText (name_at (entries_of node.old) number) text.old text.new result }
+{
+    match node.take(alloc) {
+        Some(held) => {
+            let count = match held.entries.get(number) {
+                Some(described) => put_text(described.name, text),
+                None => put_text(&[], text),
+            };
+            *node = Handle::of(held);
+            count
+        }
+        None => put_text(&[], text),
+    }
+}
+
+/// Whether there is an entry with a key. If so its number goes into `number`. C owes what `bafokun_tick` says.
+#[unsafe(no_mangle)]
+pub extern "C" fn bafokun_find(
+    alloc: Global,
+    node: &mut Handle,
+    index: u16,
+    sub_index: u8,
+    number: &mut usize,
+) -> bool
+    ensures same { node.new.seal.value ≡ node.old.seal.value }
+    ensures number { IsNumber
+        (number_of (entries_of node.old) (record { index = index; sub = sub_index }))
+        number.old number.new result }
+{
+    let key = Key {
+        index,
+        sub: sub_index,
+    };
+    match node.take(alloc) {
+        Some(held) => {
+            let found = match held.entries.number(key) {
+                Some(at) => {
+                    *number = at;
+                    true
+                }
+                None => false,
+            };
+            *node = Handle::of(held);
+            found
+        }
+        None => false,
+    }
+}

@@ -1,0 +1,58 @@
+//! An entry as C has it.
+
+ghost use Rattle.std.specs.Prelude.{◌≡◌};
+ghost use Rattle.co_dict_table.specs.Tables.{described_view};
+ghost use Rattle.bafokun.specs.Entries.{access_code, c_entry};
+
+use co_dict_table::DescribedEntry;
+use co_profile::Access;
+
+/// An entry of a device, without padding, 24 bytes where a size has 8: `struct bafokun_entry_info`.
+#[repr(C)]
+#[derive(Clone, Copy)]
+pub struct Entry {
+    /// Its key.
+    pub index: u16,
+    pub sub_index: u8,
+    /// 1 ro, 2 wo, 3 rw, 4 rwr, 5 rww, 6 const.
+    pub access: u8,
+    /// The code of its data type (CiA 301, 7.4.7.1).
+    pub data_type: u16,
+    /// That of the original one, where the sheet was adapted and says so; else the same.
+    pub original_type: u16,
+    /// How many bytes it has room for.
+    pub capacity: usize,
+    /// How many bytes it has now.
+    pub length: usize,
+}
+
+impl Entry {
+    /// Of an entry that has so many bytes.
+    pub(crate) fn of(described: &DescribedEntry<'_>, length: usize) -> Entry
+        ensures { result ≡ c_entry (described_view described.now) length }
+    {
+        let facts = described.facts;
+        Entry {
+            index: facts.key.index,
+            sub_index: facts.key.sub,
+            access: access_code(facts.access),
+            data_type: facts.data_type.code(),
+            original_type: facts.original,
+            capacity: usize::from(facts.capacity),
+            length,
+        }
+    }
+}
+
+fn access_code(access: Access) -> u8
+    ensures { result ≡ access_code access }
+{
+    match access {
+        Access::Ro => 1,
+        Access::Wo => 2,
+        Access::Rw => 3,
+        Access::Rwr => 4,
+        Access::Rww => 5,
+        Access::Constant => 6,
+    }
+}

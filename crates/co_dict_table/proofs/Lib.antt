@@ -1,0 +1,3 @@
+pub mod Appended
+mod Examples
+pub mod Faultless

@@ -1,0 +1,2 @@
+pub mod LineLoop
+pub mod WriteLemmas

@@ -1,0 +1,129 @@
+-- What is written of a recording that is compared: a line for each difference, in order; and what is known of it at its end.
+use Rattle.std.specs.Prelude.{ℕ, ◌+◌, ◌==◌, Bool, true, false, nat_lt, ◌||◌, if◌then◌else◌, List, [], ◌∷◌, ◌++◌, length, Option, Some, None, is_none}
+use Rattle.std.specs.Option.{option_map_or}
+use Rattle.std.specs.Str.{bytes_eq}
+use Rattle.std.specs.Str.Lines.{lines}
+use Rattle.arrayvec.specs.ArrayVec.{ArrayVec}
+use Rattle.co_bounded_lines.specs.Founds.{is_closed}
+use Rattle.co_sheet.specs.Content.{Row}
+use Rattle.conode_convert.specs.Converted.{at_start}
+use Rattle.conode_explain.specs.LogLines.{line_at}
+use Rattle.conode_logs.specs.declared.log.Form.{Form}
+use Rattle.conode_logs.specs.declared.log.Log.{Log}
+use Rattle.conode_logs.specs.Logs.{says}
+use Rattle.conode_record.specs.declared.line.Record.{Record}
+use Rattle.conode_record.specs.declared.line.RecordLine.{RecordLine}
+use Rattle.conode_record.specs.declared.line.RecordLine.TheVariants.{Skipped, Frame}
+use Rattle.conode_compare_rules.specs.declared.finding.Finding.{Finding}
+use Rattle.conode_compare_rules.specs.declared.limits.Subject.{Subject}
+use Rattle.conode_compare_rules.specs.declared.verdict.Findings.{Findings}
+use Rattle.conode_compare_rules.specs.FrameKinds.{kind_of}
+use Rattle.conode_compare_rules.specs.Progresses.{before_recording, findings_at, progress_with}
+use Rattle.conode_compare_text.specs.FindingTexts.{finding_line}
+use Rattle.conode_compare_text.specs.Tallies.{no_frames, tally_with}
+use Rattle.conode_compare.specs.declared.comparing.Comparing.{Comparing}
+
+-- what is compared: a device, the entries of its data sheet, the name of the recording, and the interface, if it is named
+pub record Comparison : Type 0 where
+  pub subject : Subject
+  pub rows : List Row
+  pub recording : List ℕ
+  pub interface : Option (List ℕ)
+
+-- ---- lines
+
+abbrev pub listed : List ℕ → ℕ → Option Finding → List (List ℕ)
+listed recording number None = []
+listed recording number (Some finding) = finding_line recording number finding ∷ []
+
+unfoldable pub findings_lines : List ℕ → ℕ → Findings → List (List ℕ)
+findings_lines recording number found =
+    listed recording number found.boot ++ (listed recording number found.heartbeat ++ (listed recording number found.answer ++ listed recording number found.frame))
+
+-- ---- frames
+
+-- no frame came
+abbrev pub nothing_compared : Subject → Comparing
+nothing_compared subject = record { progress = before_recording subject; tally = no_frames; first = record { items = [] }; several = false }
+
+-- a frame of the interface that is compared: the one that is named, else that of the first frame
+abbrev pub is_first : List ℕ → Bool
+is_first first = length first == 0
+
+abbrev pub is_compared : Option (List ℕ) → List ℕ → List ℕ → Bool
+is_compared interface first name = option_map_or (λ wanted. bytes_eq wanted name) interface (is_first first || bytes_eq first name)
+
+abbrev pub found_at : Comparison → Comparing → Record → Findings
+found_at c so_far frame = findings_at c.subject c.rows so_far.progress frame.micros (kind_of c.subject.node frame.id frame.content)
+
+abbrev pub frame_lines : Comparison → ℕ → Comparing → Record → List (List ℕ)
+frame_lines c number so_far frame =
+    if is_compared c.interface so_far.first.items frame.interface then findings_lines c.recording number (found_at c so_far frame) else []
+
+abbrev pub first_with : ArrayVec ℕ → List ℕ → ArrayVec ℕ
+first_with first name = if is_first first.items then record { items = name } else first
+
+unfoldable pub frame_taken : Comparison → Comparing → Record → Comparing
+frame_taken c so_far frame = record {
+  progress = progress_with c.subject so_far.progress frame.micros (kind_of c.subject.node frame.id frame.content);
+  tally = tally_with so_far.tally (found_at c so_far frame).verdict;
+  first = first_with so_far.first frame.interface;
+  several = so_far.several;
+}
+
+-- where none is named, there is another one
+abbrev pub other_seen : Option (List ℕ) → Comparing → Comparing
+other_seen interface so_far = record so_far { several = so_far.several || is_none interface }
+
+abbrev pub frame_with : Comparison → Comparing → Record → Comparing
+frame_with c so_far frame =
+    if is_compared c.interface so_far.first.items frame.interface then frame_taken c so_far frame else other_seen c.interface so_far
+
+-- ---- lines of the recording
+
+-- how far a recording is compared
+pub record SoFar : Type 0 where
+  pub log : Log
+  pub comparing : Comparing
+
+abbrev pub said_lines : Comparison → ℕ → Comparing → Option RecordLine → List (List ℕ)
+said_lines c number so_far (Some (Frame frame)) = frame_lines c number so_far frame
+said_lines c number so_far (Some Skipped) = []
+said_lines c number so_far None = []
+
+abbrev pub said_with : Comparison → Comparing → Option RecordLine → Comparing
+said_with c so_far (Some (Frame frame)) = frame_with c so_far frame
+said_with c so_far (Some Skipped) = so_far
+said_with c so_far None = so_far
+
+-- one of more than 512 bytes says nothing
+abbrev pub line_lines : Comparison → ℕ → SoFar → List ℕ → List (List ℕ)
+line_lines c number so_far line =
+    if nat_lt 512 (length line) then [] else said_lines c number so_far.comparing (line_at so_far.log line)
+
+abbrev pub line_with : Comparison → SoFar → List ℕ → SoFar
+line_with c so_far line =
+    if nat_lt 512 (length line) then so_far
+    else record { log = (says so_far.log line).0; comparing = said_with c so_far.comparing (line_at so_far.log line) }
+
+-- Lines from this number on. The last line counts only where it has its line feed: whoever stops a recording cuts it off there.
+unfoldable pub compared_from : Comparison → Bool → ℕ → SoFar → List (List ℕ) → List (List ℕ)
+compared_from c closed number so_far [] = []
+compared_from c closed number so_far (line ∷ []) = if closed then line_lines c number so_far line else []
+compared_from c closed number so_far (line ∷ next ∷ more) =
+    line_lines c number so_far line ++ compared_from c closed (number + 1) (line_with c so_far line) (next ∷ more)
+
+unfoldable pub so_far_after : Comparison → Bool → SoFar → List (List ℕ) → SoFar
+so_far_after c closed so_far [] = so_far
+so_far_after c closed so_far (line ∷ []) = if closed then line_with c so_far line else so_far
+so_far_after c closed so_far (line ∷ next ∷ more) = so_far_after c closed (line_with c so_far line) (next ∷ more)
+
+abbrev pub at_first : Comparison → Form → SoFar
+at_first c form = record { log = at_start form; comparing = nothing_compared c.subject }
+
+-- a recording compared: its lines of differences, and what is known at its end
+abbrev pub compared : Comparison → Form → List ℕ → List (List ℕ)
+compared c form text = compared_from c (is_closed text) 1 (at_first c form) (lines text)
+
+abbrev pub comparing_after : Comparison → Form → List ℕ → Comparing
+comparing_after c form text = (so_far_after c (is_closed text) (at_first c form) (lines text)).comparing

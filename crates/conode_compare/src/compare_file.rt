@@ -1,0 +1,213 @@
+//! The file of a recording, compared with the data sheet of a device.
+
+ghost use Rattle.std.specs.Prelude.{◌≡◌, ◌⊎◌, ◌≤◌, true};
+ghost use Rattle.std.specs.List.{AllPairs};
+ghost use Rattle.std.specs.Process.{exit_status};
+ghost use Rattle.co_value.specs.Keys.{is_key_before};
+ghost use Rattle.conode_compare.specs.Verdicts.{no_frame, verdict_status};
+
+use crate::compared::compare;
+use crate::comparing::Comparing;
+use crate::writes::Settings;
+use co_sheet::{Sheet, read};
+use conode_compare_rules::{Limits, Subject, facts_of};
+use conode_compare_text::{Tally, set_summary};
+use conode_io::{
+    CmdFault, cannot_read, faulty_sheet, file_text, flushed, hand_over, no_node_id, no_text,
+    stopped,
+};
+use conode_logs::Form;
+use std::alloc::Global;
+use std::fs;
+use std::io::{Input, Read, Write};
+use std::process::ExitCode;
+use std::rt::Files;
+
+/// The path that stands for standard input.
+const STANDARD_INPUT: &str = "-";
+
+/// The status of a comparison that can't be made.
+const NOT_COMPARED: u8 = 2;
+
+/// What is asked for.
+#[derive(Clone, Copy)]
+pub struct Asked<'s> {
+    /// The node-ID; `None`: that of the data sheet.
+    pub node: Option<u8>,
+    /// How exactly the device is judged.
+    pub limits: Limits,
+    /// The interface whose frames are compared; `None`: the only one that there is.
+    pub interface: Option<&'s str>,
+    /// In which form the log is.
+    pub form: Form,
+}
+
+// whether no frame of the device came
+fn no_frame(tally: Tally) -> bool
+    ensures { result ≡ no_frame tally }
+{
+    tally.prescribed == 0 && tally.different == 0 && tally.unjudged == 0
+}
+
+// The status of a comparison: 2 where the device isn't seen, or it isn't said on which interface it is; 1 where there is a
+// difference; else 0.
+fn verdict_status(tally: Tally, several: bool) -> u8
+    ensures { result ≡ verdict_status tally several }
+{
+    if several || no_frame(tally) {
+        2
+    } else if tally.different > 0 {
+        1
+    } else {
+        0
+    }
+}
+
+// says on `err` why the status is 2, if it is
+fn say_why<E: Write>(node: u8, tally: Tally, several: bool, err: &mut E) {
+    if several {
+        let _ = writeln!(err, "several interfaces: name one with --interface");
+    } else if no_frame(tally) {
+        let _ = writeln!(err, "no frame of node {node}");
+    }
+}
+
+// writes the last line
+fn write_summary<O: Write>(
+    alloc: Global,
+    node: u8,
+    tally: Tally,
+    out: &mut O,
+) -> Result<(), CmdFault> {
+    let mut text = String::new(alloc);
+    set_summary(&mut text, node, tally)?;
+    hand_over(text.as_bytes(), out)
+}
+
+// what is known at the end, once its last line is written
+fn summed<O: Write>(
+    alloc: Global,
+    node: u8,
+    outcome: Result<Comparing, CmdFault>,
+    out: &mut O,
+) -> Result<(Tally, bool), CmdFault> {
+    let comparing = outcome?;
+    let (tally, several) = comparing.ends();
+    write_summary(alloc, node, tally, out)?;
+    Ok((tally, several))
+}
+
+// compares an input
+fn compare_input<R: Read, O: Write, E: Write>(
+    alloc: Global,
+    input: &mut R,
+    settings: &Settings<'_, '_>,
+    form: Form,
+    out: &mut O,
+    err: &mut E,
+) -> ExitCode
+    requires { AllPairs (λ e f. is_key_before e.key f.key ≡ true) settings.now.rows.now }
+    ensures { exit_status result ≤ 2 }
+{
+    let outcome = compare(alloc, input, settings, form, out, err);
+    let node = settings.subject.node;
+    let outcome = summed(alloc, node, outcome, out);
+    match flushed(out, outcome) {
+        Ok((tally, several)) => {
+            say_why(node, tally, several, err);
+            ExitCode::from(verdict_status(tally, several))
+        }
+        Err(fault) => {
+            let _ = stopped(fault, out, err);
+            ExitCode::from(NOT_COMPARED)
+        }
+    }
+}
+
+// compares the recording of a path, or where that is `-` standard input
+fn compare_path<R: Files + AllocGlobal + Input, O: Write, E: Write>(
+    rt: &R,
+    settings: &Settings<'_, '_>,
+    form: Form,
+    out: &mut O,
+    err: &mut E,
+) -> ExitCode
+    requires { AllPairs (λ e f. is_key_before e.key f.key ≡ true) settings.now.rows.now }
+    ensures { exit_status result ≤ 2 }
+{
+    let path = settings.recording;
+    if path == STANDARD_INPUT {
+        return compare_input(rt.alloc(), &mut rt.reader(), settings, form, out, err);
+    }
+    match fs::open(rt, path) {
+        Ok(mut file) => compare_input(rt.alloc(), &mut file, settings, form, out, err),
+        Err(_) => {
+            let _ = cannot_read(path, err);
+            ExitCode::from(NOT_COMPARED)
+        }
+    }
+}
+
+// compares the recording of a path with a data sheet
+fn compare_sheet<R: Files + AllocGlobal + Input, O: Write, E: Write>(
+    rt: &R,
+    sheet: &Sheet<'_>,
+    recording: &str,
+    asked: Asked<'_>,
+    out: &mut O,
+    err: &mut E,
+) -> ExitCode
+    ensures { exit_status result ≤ 2 }
+{
+    let Some(node) = asked.node.or(sheet.node_id()) else {
+        return no_node_id(err);
+    };
+    let rows = sheet.entries();
+    let configured = sheet.node_id().is_some();
+    let subject = Subject {
+        node,
+        limits: asked.limits,
+        facts: facts_of(rows, node, configured),
+    };
+    let interface = match asked.interface {
+        Some(name) => Some(name.as_bytes()),
+        None => None,
+    };
+    let settings = Settings {
+        subject,
+        rows,
+        recording,
+        interface,
+    };
+    compare_path(rt, &settings, asked.form, out, err)
+}
+
+/// Compares the recording of a path, or of standard input where that is `-`, with the data sheet of a path: each difference
+/// has a line on `out`, and the last line counts the device's frames by verdict. The status is 0 where there is no difference,
+/// 1 where there is one, and 2 where nothing can be compared: a file that can't be read, a sheet with a fault, no node-ID, no
+/// frame of the node, frames of several interfaces and none of them named.
+pub fn compare_files<R: Files + AllocGlobal + Input, O: Write, E: Write>(
+    rt: &R,
+    sheet: &str,
+    recording: &str,
+    asked: Asked<'_>,
+    out: &mut O,
+    err: &mut E,
+) -> ExitCode
+    ensures { exit_status result ≤ 2 }
+{
+    let text = match file_text(rt, sheet) {
+        Ok(text) => text,
+        Err(fault) => {
+            let _ = no_text(fault, sheet, out, err);
+            return ExitCode::from(NOT_COMPARED);
+        }
+    };
+    match read(rt.alloc(), text.as_slice()) {
+        Ok(sheet) => compare_sheet(rt, &sheet, recording, asked, out, err),
+        Err(fault) => {
+            let _ = faulty_sheet(fault, out);
+            ExitCode::from(NOT_COMPARED)
+        }
+    }
+}

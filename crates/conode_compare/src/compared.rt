@@ -1,0 +1,54 @@
+//! A recording compared with the data sheet of a device.
+
+ghost use Rattle.std.specs.Prelude.{◌≡◌, IfOk, IfSome, true};
+ghost use Rattle.std.specs.List.{AllPairs};
+ghost use Rattle.co_value.specs.Keys.{is_key_before};
+ghost use Rattle.conode_lines.specs.TraceTexts.{GaveText};
+ghost use Rattle.conode_compare.specs.Taking.{Compares};
+ghost use Rattle.conode_compare.specs.Views.{comparison_view};
+
+use crate::comparing::Comparing;
+use crate::line::Lines;
+use crate::writes::Settings;
+use conode_io::CmdFault;
+use conode_logs::Form;
+use std::alloc::Global;
+use std::io::{Read, Write};
+
+/// Compares a log of the form that is given, or that its first lines show, line by line and in constant memory: for each
+/// difference a line is written on `out`. A bad line, or one of more than 512 bytes, is named on `err`, and the rest goes on.
+/// Gives what is known at the end.
+///
+/// `out` is flushed before each read, and not while a whole line is held.
+///
+/// * `Read`: the reader failed. `NeverEnds`: there are 2^64 - 1 lines.
+/// * `Write`: `out` failed. `Memory`: memory ran out.
+pub fn compare<R: Read, W: Write, E: Write>(
+    alloc: Global,
+    reader: &mut R,
+    settings: &Settings<'_, '_>,
+    form: Form,
+    out: &mut W,
+    err: &mut E,
+) -> Result<Comparing, CmdFault>
+    requires { AllPairs (λ e f. is_key_before e.key f.key ≡ true) settings.now.rows.now }
+    // The lines of all differences are written, and this is known at the end.
+    ensures known { IfOk result (λ comparing. IfSome (R.remaining reader.old)
+        (Compares (comparison_view settings.now) form
+        (W.contents out.old) (W.contents out.new) comparing)) }
+    // Whatever the reader: it gave a text, and this is so of that text.
+    ensures any_reader { IfOk result (λ comparing.
+        GaveText (R.remaining reader.old) (R.remaining reader.new)
+        (Compares (comparison_view settings.now) form
+        (W.contents out.old) (W.contents out.new) comparing)) }
+{
+    let mut lines = Lines::new(alloc, settings, form);
+    for number in 1..u64::MAX {
+        lines.let_out(out)?;
+        match lines.take_line(reader, settings, number, out, err)? {
+            Some(()) => {}
+            None => return Ok(lines.into_comparing()),
+        }
+    }
+    Err(CmdFault::NeverEnds)
+}

@@ -1,0 +1,134 @@
+//! Frames of a recording, compared one after another.
+
+ghost use Rattle.std.specs.Prelude.{◌≡◌, ◌⊎◌, ◌≤◌, length, OnOk, IfErr, true};
+ghost use Rattle.std.specs.List.{AllPairs};
+ghost use Rattle.std.specs.Option.{option_copied};
+ghost use Rattle.co_value.specs.Keys.{is_key_before};
+ghost use Rattle.conode_io.specs.Written.{WritesLines};
+ghost use Rattle.conode_record.specs.Grammar.{IsIdentifier};
+ghost use Rattle.conode_compare.specs.Compared.{
+  first_with,
+  found_at,
+  frame_lines,
+  frame_taken,
+  frame_with,
+  is_compared,
+  nothing_compared,
+  other_seen,
+};
+ghost use Rattle.conode_compare.specs.Views.{comparison_view};
+
+use crate::writes::{Settings, write_findings};
+use arrayvec::ArrayVec;
+use conode_compare_rules::{Findings, Progress, Subject, kind_of};
+use conode_compare_text::Tally;
+use conode_io::CmdFault;
+use conode_record::Record;
+use std::io::Write;
+
+/// How far a recording is compared.
+#[derive(Drop)]
+pub struct Comparing {
+    pub(crate) progress: Progress,
+    pub(crate) tally: Tally,
+    /// The name of the first interface; empty before the first frame.
+    pub(crate) first: ArrayVec<u8, 15>,
+    /// Whether frames came on another one, where none is named.
+    pub(crate) several: bool,
+}
+
+// whether a frame is of the interface that is compared: the one that is named, else that of the first frame
+fn is_compared(interface: Option<&[u8]>, first: &[u8], name: &[u8]) -> bool
+    ensures { result ≡ is_compared (option_copied interface.entry) first.now name.now }
+{
+    match interface {
+        Some(wanted) => wanted == name,
+        None => first.is_empty() || first == name,
+    }
+}
+
+impl Comparing {
+    /// No frame came.
+    pub(crate) fn new(subject: &Subject) -> Comparing
+        ensures { result ≡ nothing_compared subject.now }
+    {
+        Comparing {
+            progress: Progress::new(subject),
+            tally: Tally::new(),
+            first: ArrayVec::new(),
+            several: false,
+        }
+    }
+
+    /// How many frames of the device have which verdict, and whether there were frames of another interface, where none was named.
+    pub fn ends(&self) -> (Tally, bool)
+        ensures { result ≡ (self.now.tally, self.now.several) }
+    {
+        (self.tally, self.several)
+    }
+
+    // takes note of the interface of the first frame
+    fn note_first(&mut self, name: &[u8])
+        requires { length name.now ≤ 15 }
+        ensures { self.new ≡ record self.old { first = first_with self.old.first name.now } }
+    {
+        if self.first.is_empty() {
+            self.first.clear();
+            self.first.try_extend_from_slice(name).unwrap();
+        }
+    }
+
+    // takes note of a frame of another interface
+    fn note_other(&mut self, interface: Option<&[u8]>)
+        ensures { self.new ≡ other_seen (option_copied interface.entry) self.old }
+    {
+        if interface.is_none() {
+            self.several = true;
+        }
+    }
+
+    // what is found at a frame of the interface
+    #[tactic(auto, unfolding(crate::specs::Compared::frame_taken))]
+    fn take(&mut self, settings: &Settings<'_, '_>, frame: &Record<'_>) -> Findings
+        requires rows { AllPairs (λ e f. is_key_before e.key f.key ≡ true) settings.now.rows.now }
+        requires id { IsIdentifier frame.now.id }
+        ensures found { result ≡ found_at
+            (comparison_view settings.now) self.old frame.now }
+        ensures next { self.new ≡ frame_taken (comparison_view settings.now) self.old frame.now }
+    {
+        let kind = kind_of(settings.subject.node, frame.id, &frame.content);
+        let found = self
+            .progress
+            .take(&settings.subject, settings.rows, frame.micros, &kind);
+        self.tally.count(found.verdict);
+        self.note_first(frame.interface.bytes());
+        found
+    }
+
+    /// Takes a frame, and writes the lines of what is found at it.
+    pub(crate) fn take_frame<W: Write>(
+        &mut self,
+        text: &mut String,
+        settings: &Settings<'_, '_>,
+        number: u64,
+        frame: &Record<'_>,
+        out: &mut W,
+    ) -> Result<(), CmdFault>
+        requires rows { AllPairs (λ e f. is_key_before e.key f.key ≡ true) settings.now.rows.now }
+        requires id { IsIdentifier frame.now.id }
+        ensures lines { OnOk result (WritesLines (W.contents out.old) (W.contents out.new)
+            (frame_lines (comparison_view settings.now) number self.old frame.now)) }
+        ensures next { OnOk result
+            (self.new ≡ frame_with (comparison_view settings.now) self.old frame.now) }
+        ensures err { IfErr result
+            (λ fault. (fault ≡ CmdFault.Write) ⊎ (fault ≡ CmdFault.Memory)) }
+    {
+        let name = frame.interface.bytes();
+        if !is_compared(settings.interface, self.first.as_slice(), name) {
+            self.note_other(settings.interface);
+            return Ok(());
+        }
+        let found = self.take(settings, frame);
+        write_findings(text, settings.recording, number, found, out)
+    }
+}

@@ -1,0 +1,13 @@
+//! A recording of a device compared with its data sheet.
+#![tactic(auto)]
+
+mod compare_file;
+mod compared;
+mod comparing;
+mod line;
+mod writes;
+
+pub use compare_file::{Asked, compare_files};
+pub use compared::compare;
+pub use comparing::Comparing;
+pub use writes::Settings;

@@ -1,0 +1,5 @@
+//! Tests of recordings of a device compared with its data sheet.
+#![tactic(auto)]
+
+#[cfg(test)]
+mod rules;

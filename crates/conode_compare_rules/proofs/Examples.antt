@@ -1,0 +1,330 @@
+-- What is a difference and what isn't, on both sides of each edge, computed from the definitions.
+use Rattle.std.proofs.Common.{◌≡◌, ℕ, true, false, List, [], ◌∷◌, Some, None, refl}
+use Rattle.std.specs.Prelude.{pos}
+use Rattle.co_frame.specs.declared.nmt.NmtService.TheVariants.{Start, ResetNode}
+use Rattle.co_profile.specs.declared.access.Access.{Access}
+use Rattle.co_profile.specs.declared.access.Access.TheVariants.{Ro, Wo, Rw, Constant}
+use Rattle.co_sheet.specs.Content.{Row}
+use Rattle.co_sheet.specs.Limits.{Default, absent, number, node_id}
+use Rattle.co_value.specs.declared.data_type.DataType.{DataType}
+use Rattle.co_value.specs.declared.data_type.DataType.TheVariants.{Unsigned8, Unsigned16, Unsigned32, Unsigned40, VisibleString}
+use Rattle.co_value.specs.declared.key.Key.{Key}
+use Rattle.conode_compare_rules.specs.declared.entries.Entries.{Entries}
+use Rattle.conode_compare_rules.specs.declared.finding.Finding.TheVariants.{BootMissing, SecondBootUp, NoState, WrongState, HeartbeatLate, EmergencyStopped, EmergencyRegister, EmergencyInhibit, ValueLength, ValueConst, ReadRefused, Written}
+use Rattle.conode_compare_rules.specs.declared.finding.NmtState.TheVariants.{Unknown, Initialising, PreOperational, Operational, Stopped}
+use Rattle.conode_compare_rules.specs.declared.heartbeats.Heartbeats.{Heartbeats}
+use Rattle.conode_compare_rules.specs.declared.limits.Limits.{Limits}
+use Rattle.conode_compare_rules.specs.declared.nmt.Nmt.{Nmt}
+use Rattle.conode_compare_rules.specs.EmergencyRules.{emergency_finding}
+use Rattle.conode_compare_rules.specs.EntriesInForce.{facts_of, initial_entries, sheet_entries}
+use Rattle.conode_compare_rules.specs.Heartbeats.{late_finding, overdue_by, is_gap}
+use Rattle.conode_compare_rules.specs.SheetValues.{refused_finding, upload_finding, written_finding}
+use Rattle.conode_compare_rules.specs.States.{after_boot_up, after_command, after_other, awaits_boot_up, boot_finding, is_settled, second_boot_up, state_finding}
+
+-- 10 ms, 1 %, 1 s and 10 s
+abbrev limits : Limits
+limits = record { tolerance = 10; drift = 1; answer = 1000; boot = 10000 }
+
+-- ---- heartbeats
+
+abbrev pulse : Heartbeats
+pulse = record { guarded = false; since = Some 5 }
+
+-- late after 1000 ms, 10 ms and 1 %
+in_time : late_finding limits (Some 1000) pulse 1020005 ≡ None
+unfolding late_finding overdue_by
+in_time = refl
+
+late : late_finding limits (Some 1000) pulse 1020006 ≡ Some (HeartbeatLate 1020001 1000)
+unfolding late_finding overdue_by
+late = refl
+
+-- with a period of 0, or an unknown one, none is
+none_sent : late_finding limits (Some 0) pulse 9000000 ≡ None
+unfolding late_finding overdue_by
+none_sent = refl
+
+unknown_period : late_finding limits None pulse 9000000 ≡ None
+unfolding late_finding overdue_by
+unknown_period = refl
+
+-- of a device whose node guarding was asked for, and before the first one, none is
+guarded_late : late_finding limits (Some 1000) (record pulse { guarded = true }) 9000000 ≡ None
+unfolding late_finding overdue_by
+guarded_late = refl
+
+not_since : late_finding limits (Some 1000) (record pulse { since = None }) 9000000 ≡ None
+unfolding late_finding overdue_by
+not_since = refl
+
+-- more than three periods without a frame are a gap
+no_gap : is_gap limits (Some 1000) 7 3000007 ≡ false
+no_gap = refl
+
+gap : is_gap limits (Some 1000) 7 3000008 ≡ true
+gap = refl
+
+no_gap_unknown : is_gap limits None 7 1000007 ≡ false
+no_gap_unknown = refl
+
+gap_unknown : is_gap limits (Some 0) 7 1000008 ≡ true
+gap_unknown = refl
+
+-- ---- states
+
+state_05 : state_finding false PreOperational 5 ≡ Some (WrongState Operational PreOperational)
+unfolding state_finding
+state_05 = refl
+
+-- NMT startup (1F80h) may say so
+starts_itself : state_finding true PreOperational 5 ≡ None
+unfolding state_finding
+starts_itself = refl
+
+leaves_stopped : state_finding true Stopped 127 ≡ Some (WrongState PreOperational Stopped)
+unfolding state_finding
+leaves_stopped = refl
+
+-- at a failure a device falls back by itself
+falls_back : state_finding false Operational 127 ≡ None
+unfolding state_finding
+falls_back = refl
+
+stops : state_finding false Operational 4 ≡ None
+unfolding state_finding
+stops = refl
+
+unknown_state : state_finding false Unknown 5 ≡ None
+unfolding state_finding
+unknown_state = refl
+
+no_state : state_finding false Unknown 6 ≡ Some (NoState 6)
+unfolding state_finding
+no_state = refl
+
+no_state_awaiting : state_finding false Initialising 6 ≡ None
+unfolding state_finding
+no_state_awaiting = refl
+
+-- a state is settled after the tolerance
+unsettled : is_settled limits 0 (Some (record { service = Start; micros = 100000 })) 110000 ≡ false
+unfolding is_settled
+unsettled = refl
+
+settled : is_settled limits 0 (Some (record { service = Start; micros = 100000 })) 110001 ≡ true
+unfolding is_settled
+settled = refl
+
+unsettled_begin : is_settled limits 100000 None 110000 ≡ false
+unfolding is_settled
+unsettled_begin = refl
+
+-- ---- boot-ups
+
+abbrev reset_at : ℕ → Nmt
+reset_at micros = record { state = Initialising; commanded = Some (record { service = ResetNode; micros = micros }); booted = None }
+
+awaited : boot_finding limits (reset_at 1) 10000001 ≡ None
+unfolding boot_finding awaits_boot_up
+awaited = refl
+
+missing : boot_finding limits (reset_at 1) 10000002 ≡ Some (BootMissing 10000001)
+unfolding boot_finding awaits_boot_up
+missing = refl
+
+-- said once
+said_once : boot_finding limits (after_other limits (reset_at 1) 10000002) 20000000 ≡ None
+unfolding boot_finding awaits_boot_up after_other
+said_once = refl
+
+second : second_boot_up (Some 0) 1000000 ≡ Some (SecondBootUp 1000000)
+unfolding second_boot_up
+second = refl
+
+again : second_boot_up (Some 0) 1000001 ≡ None
+unfolding second_boot_up
+again = refl
+
+-- a Start shortly before a boot-up may have been taken
+boots_unknown : (after_boot_up limits (record { state = Unknown; commanded = Some (record { service = Start; micros = 0 }); booted = None }) 10000000).state ≡ Unknown
+unfolding after_boot_up
+boots_unknown = refl
+
+boots_known_after : (after_boot_up limits (record { state = Unknown; commanded = Some (record { service = Start; micros = 0 }); booted = None }) 10000001).state ≡ PreOperational
+unfolding after_boot_up
+boots_known_after = refl
+
+boots_after_reset : (after_boot_up limits (reset_at 0) 5).state ≡ PreOperational
+unfolding after_boot_up
+boots_after_reset = refl
+
+-- while it is initialising it takes no Start
+start_initialising : (after_command (reset_at 0) Start 5).state ≡ Initialising
+unfolding after_command
+start_initialising = refl
+
+start : (after_command (record { state = PreOperational; commanded = None; booted = Some 0 }) Start 5).state ≡ Operational
+unfolding after_command
+start = refl
+
+-- ---- EMCY
+
+abbrev entries : Entries
+entries = record { period = None; emergencies = true; inhibit = Some 1000 }
+
+emergency : emergency_finding limits entries PreOperational true None 0 0x8130 0x11 ≡ None
+unfolding emergency_finding
+emergency = refl
+
+no_bit_0 : emergency_finding limits entries PreOperational true None 0 0x8130 0x10 ≡ Some (EmergencyRegister 0x8130 0x10)
+unfolding emergency_finding
+no_bit_0 = refl
+
+reset_error : emergency_finding limits entries PreOperational true None 0 0xFF 0 ≡ None
+unfolding emergency_finding
+reset_error = refl
+
+code_alone : emergency_finding limits entries PreOperational true None 0 0x100 0 ≡ Some (EmergencyRegister 0x100 0)
+unfolding emergency_finding
+code_alone = refl
+
+while_stopped : emergency_finding limits entries Stopped true None 0 0 0 ≡ Some EmergencyStopped
+unfolding emergency_finding
+while_stopped = refl
+
+stopped_just_now : emergency_finding limits entries Stopped false None 0 0 0 ≡ None
+unfolding emergency_finding
+stopped_just_now = refl
+
+while_initialising : emergency_finding limits entries Initialising true None 0 0x8130 0 ≡ None
+unfolding emergency_finding
+while_initialising = refl
+
+other_identifier : emergency_finding limits (record entries { emergencies = false }) Stopped true None 0 0x8130 0 ≡ None
+unfolding emergency_finding
+other_identifier = refl
+
+-- 100 ms less 10 ms and 1 %
+inhibited : emergency_finding limits entries PreOperational true (Some 1) 89000 0 0 ≡ Some (EmergencyInhibit 88999 1000)
+unfolding emergency_finding
+inhibited = refl
+
+not_inhibited : emergency_finding limits entries PreOperational true (Some 1) 89001 0 0 ≡ None
+unfolding emergency_finding
+not_inhibited = refl
+
+-- ---- values
+
+abbrev row : ℕ → ℕ → DataType → Access → Default → Row
+row index sub data_type access default = record {
+  key = record { index = index; sub = sub };
+  data_type = data_type;
+  access = access;
+  low = None;
+  high = None;
+  default = default;
+  mappable = false;
+  name = None;
+  line = 1;
+}
+
+abbrev key : ℕ → ℕ → Key
+key index sub = record { index = index; sub = sub }
+
+same_const : upload_finding 5 (row 0x2000 0 Unsigned16 Constant (number (pos 258))) true (2 ∷ 1 ∷ []) ≡ None
+unfolding upload_finding
+same_const = refl
+
+other_const : upload_finding 5 (row 0x2000 0 Unsigned16 Constant (number (pos 258))) true (3 ∷ 1 ∷ []) ≡ Some (ValueConst (key 0x2000 0) 259 258)
+unfolding upload_finding
+other_const = refl
+
+-- without its size the first bytes count
+no_size : upload_finding 5 (row 0x2000 0 Unsigned16 Constant (number (pos 258))) false (2 ∷ 1 ∷ 9 ∷ 9 ∷ []) ≡ None
+unfolding upload_finding
+no_size = refl
+
+other_length : upload_finding 5 (row 0x2000 0 Unsigned16 Rw absent) true (2 ∷ 1 ∷ 0 ∷ 0 ∷ []) ≡ Some (ValueLength (key 0x2000 0) 4 2)
+unfolding upload_finding
+other_length = refl
+
+wide : upload_finding 5 (row 0x2000 0 Unsigned40 Rw absent) false (1 ∷ 0 ∷ 0 ∷ 0 ∷ []) ≡ Some (ValueLength (key 0x2000 0) 4 5)
+unfolding upload_finding
+wide = refl
+
+text : upload_finding 5 (row 0x1008 0 VisibleString Constant absent) true (65 ∷ []) ≡ None
+unfolding upload_finding
+text = refl
+
+not_const : upload_finding 5 (row 0x2000 0 Unsigned8 Rw (number (pos 1))) true (2 ∷ []) ≡ None
+unfolding upload_finding
+not_const = refl
+
+node_added : upload_finding 5 (row 0x2000 0 Unsigned8 Constant (node_id 1)) true (6 ∷ []) ≡ None
+unfolding upload_finding
+node_added = refl
+
+device_type : upload_finding 5 (row 0x1000 0 Unsigned8 Ro (number (pos 1))) true (2 ∷ []) ≡ Some (ValueConst (key 0x1000 0) 2 1)
+unfolding upload_finding
+device_type = refl
+
+product : upload_finding 5 (row 0x1018 2 Unsigned8 Ro (number (pos 1))) true (2 ∷ []) ≡ Some (ValueConst (key 0x1018 2) 2 1)
+unfolding upload_finding
+product = refl
+
+revision : upload_finding 5 (row 0x1018 3 Unsigned8 Constant (number (pos 1))) true (2 ∷ []) ≡ None
+unfolding upload_finding
+revision = refl
+
+-- ---- refusals
+
+refused : refused_finding false (row 0x2000 0 Unsigned8 Ro absent) (record { 0 = 0x06020000 }) ≡ Some (ReadRefused (key 0x2000 0) (record { 0 = 0x06020000 }))
+refused = refl
+
+refused_sub : refused_finding false (row 0x2000 1 Unsigned8 Ro absent) (record { 0 = 0x06020000 }) ≡ None
+refused_sub = refl
+
+write_only_sub : refused_finding false (row 0x2000 1 Unsigned8 Rw absent) (record { 0 = 0x06010001 }) ≡ Some (ReadRefused (key 0x2000 1) (record { 0 = 0x06010001 }))
+write_only_sub = refl
+
+is_write_only : refused_finding false (row 0x2000 1 Unsigned8 Wo absent) (record { 0 = 0x06010001 }) ≡ None
+is_write_only = refl
+
+for_now : refused_finding false (row 0x2000 0 Unsigned8 Ro absent) (record { 0 = 0x08000022 }) ≡ None
+for_now = refl
+
+of_modules : refused_finding true (row 0x2000 0 Unsigned8 Ro absent) (record { 0 = 0x06020000 }) ≡ None
+of_modules = refl
+
+written : written_finding (row 0x2000 0 Unsigned8 Ro absent) ≡ Some (Written (key 0x2000 0))
+written = refl
+
+writeable : written_finding (row 0x2000 0 Unsigned8 Rw absent) ≡ None
+writeable = refl
+
+-- ---- what a data sheet says
+
+abbrev rows : List Row
+rows = row 0x1014 0 Unsigned32 Rw (node_id 0x80) ∷ row 0x1017 0 Unsigned16 Rw (number (pos 500)) ∷ []
+
+plain_sheet : facts_of rows 5 false ≡ record {
+  before = record { period = None; emergencies = false; inhibit = Some 0 };
+  booted = record { period = Some 500; emergencies = true; inhibit = Some 0 };
+  starts_itself = false;
+  modular = false;
+}
+unfolding facts_of initial_entries sheet_entries
+plain_sheet = refl
+
+-- where parameters are stored, and of a configuration, a boot-up shows no more
+storing_sheet : (facts_of (row 0x1010 0 Unsigned8 Constant absent ∷ rows) 5 false).booted ≡ record { period = None; emergencies = false; inhibit = Some 0 }
+unfolding facts_of initial_entries sheet_entries
+storing_sheet = refl
+
+configuration : (facts_of rows 5 true).booted ≡ record { period = None; emergencies = false; inhibit = Some 0 }
+unfolding facts_of initial_entries sheet_entries
+configuration = refl
+
+constant_sheet : (facts_of (row 0x1017 0 Unsigned16 Constant (number (pos 500)) ∷ []) 5 true).before.period ≡ Some 500
+unfolding facts_of initial_entries sheet_entries
+constant_sheet = refl

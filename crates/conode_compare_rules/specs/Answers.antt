@@ -1,0 +1,111 @@
+-- Answers of a device on its default SDO channel (CiA 301, 7.2.4.3).
+use Rattle.std.specs.Prelude.{ℕ, ◌-◌, ◌/◌, ◌%◌, ◌==◌, nat_le, Bool, true, false, not, ◌&&◌, if◌then◌else◌, List, Option, Some, None, option_map, option_and_then}
+use Rattle.co_frame.specs.FrameContent.{FrameContent}
+use Rattle.co_profile.specs.Indices.{store_parameters, restore_parameters}
+use Rattle.co_sheet.specs.Content.{Row}
+use Rattle.co_value.specs.declared.key.Key.{Key}
+use Rattle.co_value.specs.Keys.{same_key}
+use Rattle.conode_explain_transfers.specs.declared.ended.Ended.{Ended}
+use Rattle.conode_explain_transfers.specs.declared.kinds.What.{What}
+use Rattle.conode_explain_transfers.specs.declared.kinds.What.TheVariants.{Part, Overtaken, Unexpected, Stray}
+use Rattle.conode_compare_rules.specs.declared.dialogue.Asked.{Asked}
+use Rattle.conode_compare_rules.specs.declared.dialogue.Dialogue.{Dialogue}
+use Rattle.conode_compare_rules.specs.declared.dialogue.Exchange.{Exchange}
+use Rattle.conode_compare_rules.specs.declared.finding.Finding.{Finding}
+use Rattle.conode_compare_rules.specs.declared.finding.Finding.TheVariants.{NoAnswer, Unasked, AnswerKey, AnswerForm}
+use Rattle.conode_compare_rules.specs.declared.finding.NmtState.{NmtState}
+use Rattle.conode_compare_rules.specs.declared.finding.NmtState.TheVariants.{PreOperational, Operational}
+use Rattle.conode_compare_rules.specs.declared.limits.Limits.{Limits}
+use Rattle.conode_compare_rules.specs.declared.limits.Subject.{Subject}
+use Rattle.conode_compare_rules.specs.declared.nmt.Nmt.{Nmt}
+use Rattle.conode_compare_rules.specs.Dialogues.{byte_at, is_certain, key_in}
+use Rattle.conode_compare_rules.specs.SheetValues.{end_finding}
+use Rattle.conode_compare_rules.specs.States.{is_settled}
+use Rattle.conode_compare_rules.specs.Times.{is_past}
+
+-- storing and restoring parameters, and what a program is loaded by (1F00h to 1FFFh, CiA 302), may take long
+abbrev pub is_timed : Key → Bool
+is_timed key =
+    not (key.index == store_parameters) && (not (key.index == restore_parameters) && not (nat_le 0x1F00 key.index && nat_le key.index 0x1FFF))
+
+-- abort SDO transfer, cs = 4
+abbrev pub is_abort : FrameContent → Bool
+is_abort frame = byte_at frame 0 / 32 == 4
+
+-- s = 1
+abbrev pub is_indicated : FrameContent → Bool
+is_indicated frame = byte_at frame 0 % 2 == 1
+
+-- `no-answer`: a request isn't answered in time
+abbrev pub late_after : Limits → Asked → ℕ → Option Finding
+late_after limits asked micros =
+    if is_timed asked.key && is_past asked.micros limits.answer micros then Some (NoAnswer asked.key (micros - asked.micros)) else None
+
+abbrev pub late_answer : Limits → Option Asked → ℕ → Option Finding
+late_answer limits asked micros = option_and_then (λ a. late_after limits a micros) asked
+
+-- `second-sender`: an answer without a request; a server may abort what has timed out
+abbrev pub unasked_finding : FrameContent → Option Finding
+unasked_finding frame = if is_abort frame then None else Some Unasked
+
+-- `answer-key`: the multiplexer isn't that of the request
+abbrev pub key_finding : Option Asked → Option Finding
+key_finding asked = option_map (λ a. AnswerKey a.key) asked
+
+-- `answer-form`: the protocol of the request has no such answer
+abbrev pub form_finding : Option Asked → Option Finding
+form_finding asked = option_map (λ a. AnswerForm a.key) asked
+
+-- an abort of another entry, whose request came earlier
+abbrev pub refuses_other : FrameContent → Ended → Bool
+refuses_other frame ended = is_abort frame && not (same_key (key_in frame) ended.key)
+
+abbrev pub known_finding : Subject → List Row → FrameContent → Ended → Option Finding
+known_finding subject rows frame ended =
+    if refuses_other frame ended then None else end_finding subject rows (is_indicated frame) ended
+
+-- by the end of the transfer
+abbrev pub ended_finding : Subject → List Row → FrameContent → Option Ended → Option Finding
+ended_finding subject rows frame ended = option_and_then (known_finding subject rows frame) ended
+
+abbrev pub finding_of : Subject → List Row → Exchange → FrameContent → What → Option Finding
+finding_of subject rows exchange frame Stray = unasked_finding frame
+finding_of subject rows exchange frame Overtaken = key_finding exchange.asked
+finding_of subject rows exchange frame Unexpected = form_finding exchange.asked
+finding_of subject rows exchange frame Part = ended_finding subject rows frame exchange.heard.ended
+finding_of subject rows exchange frame what = None
+
+unfoldable pub what_finding : Subject → List Row → Exchange → FrameContent → Option Finding
+what_finding subject rows exchange frame = finding_of subject rows exchange frame exchange.heard.what
+
+-- the first of the two
+abbrev pub first_of : Option Finding → Option Finding → Option Finding
+first_of (Some finding) other = Some finding
+first_of None other = other
+
+-- the difference of an answer, where no earlier request can be answered
+unfoldable pub answer_finding : Subject → List Row → ℕ → Exchange → FrameContent → Option Finding
+answer_finding subject rows micros exchange frame =
+    if exchange.certain then first_of (late_answer subject.limits exchange.asked micros) (what_finding subject rows exchange frame)
+    else None
+
+-- ---- no answer at all
+
+-- a device answers while pre-operational and operational
+abbrev pub answers_in : NmtState → Bool
+answers_in PreOperational = true
+answers_in Operational = true
+answers_in other = false
+
+abbrev pub could_answer : Limits → ℕ → Nmt → Dialogue → Asked → Bool
+could_answer limits started nmt dialogue asked =
+    answers_in nmt.state && (is_settled limits started nmt.commanded asked.micros && is_certain limits started dialogue.doubted asked.micros)
+
+-- `no-answer`, by a heartbeat: the device lives, and could have answered since it was asked
+abbrev pub silence_of : Limits → ℕ → Nmt → Dialogue → Option Asked → ℕ → Option Finding
+silence_of limits started nmt dialogue None micros = None
+silence_of limits started nmt dialogue (Some asked) micros =
+    if could_answer limits started nmt dialogue asked then late_after limits asked micros else None
+
+unfoldable pub silence_finding : Limits → ℕ → Nmt → Dialogue → ℕ → Option Finding
+silence_finding limits started nmt dialogue micros = silence_of limits started nmt dialogue dialogue.asked micros

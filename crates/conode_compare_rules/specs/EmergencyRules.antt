@@ -1,0 +1,44 @@
+-- EMCY messages (CiA 301, 7.2.7, 7.5.2.2 and 7.5.2.18).
+use Rattle.std.specs.Prelude.{ℕ, ◌-◌, ◌*◌, ◌/◌, ◌%◌, ◌==◌, nat_lt, Bool, true, false, not, ◌&&◌, ◌||◌, if◌then◌else◌, Option, Some, None}
+use Rattle.conode_compare_rules.specs.declared.entries.Entries.{Entries}
+use Rattle.conode_compare_rules.specs.declared.finding.Finding.{Finding}
+use Rattle.conode_compare_rules.specs.declared.finding.Finding.TheVariants.{EmergencyLength, EmergencyStopped, EmergencyRegister, EmergencyInhibit}
+use Rattle.conode_compare_rules.specs.declared.finding.NmtState.{NmtState}
+use Rattle.conode_compare_rules.specs.declared.finding.NmtState.TheVariants.{Stopped}
+use Rattle.conode_compare_rules.specs.declared.limits.Limits.{Limits}
+use Rattle.conode_compare_rules.specs.States.{is_initialising}
+use Rattle.conode_compare_rules.specs.Times.{micros_of, drift_of}
+
+-- bit 0 of the error register is set; or no bit is, and the code is one of "error reset or no error", 00xxh
+abbrev pub has_register : ℕ → ℕ → Bool
+has_register code register = (register % 2 == 1) || ((register == 0) && nat_lt code 0x100)
+
+-- how many microseconds two EMCY are apart at least, with an inhibit time in 100 µs
+abbrev pub least_gap : Limits → ℕ → ℕ
+least_gap limits inhibit = (inhibit * 100 - micros_of limits.tolerance) - drift_of limits (inhibit / 10)
+
+abbrev pub gap_finding : Limits → ℕ → ℕ → Option Finding
+gap_finding limits inhibit passed = if nat_lt passed (least_gap limits inhibit) then Some (EmergencyInhibit passed inhibit) else None
+
+-- `emcy-inhibit`: a second EMCY within the inhibit time
+abbrev pub inhibit_finding : Limits → Option ℕ → Option ℕ → ℕ → Option Finding
+inhibit_finding limits None last micros = None
+inhibit_finding limits (Some inhibit) None micros = None
+inhibit_finding limits (Some inhibit) (Some last) micros = gap_finding limits inhibit (micros - last)
+
+abbrev pub is_stopped : NmtState → Bool
+is_stopped Stopped = true
+is_stopped other = false
+
+-- `emcy-state`, once the state is settled, `emcy-register`, `emcy-inhibit`: the first of them. None where the identifier may not
+-- be that of its EMCY, and none while the boot-up is awaited.
+unfoldable pub emergency_finding : Limits → Entries → NmtState → Bool → Option ℕ → ℕ → ℕ → ℕ → Option Finding
+emergency_finding limits entries state settled last micros code register =
+    if not entries.emergencies || is_initialising state then None
+    else (if settled && is_stopped state then Some EmergencyStopped
+    else (if not (has_register code register) then Some (EmergencyRegister code register)
+    else inhibit_finding limits entries.inhibit last micros))
+
+-- `emcy-length`
+abbrev pub length_finding : Entries → ℕ → Option Finding
+length_finding entries length = if entries.emergencies then Some (EmergencyLength length) else None

@@ -1,0 +1,124 @@
+-- The entries that say what a device sends by itself: by its data sheet (CiA 301, 7.5.2.17, 7.5.2.18 and 7.5.2.20), and by
+-- what a recording shows.
+use Rattle.std.specs.Prelude.{ℕ, ◌+◌, ◌*◌, ◌^◌, ◌==◌, nat_lt, Bool, true, false, not, ◌&&◌, ◌||◌, if◌then◌else◌, pos, List, [], ◌∷◌, Option, Some, None, is_some, option_and_then}
+use Rattle.std.specs.Option.{option_map_or}
+use Rattle.co_profile.specs.declared.access.Access.{Access}
+use Rattle.co_profile.specs.declared.access.Access.TheVariants.{Constant}
+use Rattle.co_profile.specs.Indices.{store_parameters}
+use Rattle.co_profile.specs.Keys.{producer_key, emergency_key, emergency_inhibit_key}
+use Rattle.co_sheet.specs.Content.{Row}
+use Rattle.co_sheet.specs.Limits.{Default, number, node_id}
+use Rattle.co_value.specs.declared.key.Key.{Key}
+use Rattle.co_value.specs.Keys.{same_key}
+use Rattle.conode_decode.specs.Names.{row_at}
+use Rattle.conode_explain_transfers.specs.declared.ended.Ended.{Ended}
+use Rattle.conode_explain_transfers.specs.declared.ended.Ending.{Ending}
+use Rattle.conode_explain_transfers.specs.declared.ended.Ending.TheVariants.{Done}
+use Rattle.conode_explain_transfers.specs.declared.kinds.Protocol.{Protocol}
+use Rattle.conode_explain_transfers.specs.declared.kinds.Protocol.TheVariants.{Expedited}
+use Rattle.conode_compare_rules.specs.declared.entries.Entries.{Entries}
+use Rattle.conode_compare_rules.specs.declared.entries.Facts.{Facts}
+
+-- ---- a data sheet
+
+-- the number that a value is, for a node
+abbrev pub number_of : ℕ → Default → Option ℕ
+number_of node (number (pos n)) = if nat_lt n (2 ^ 32) then Some n else None
+number_of node (node_id n) = if nat_lt n (2 ^ 32) then Some (n + node) else None
+number_of node other = None
+
+-- the number, where it has 16 bits
+abbrev pub small : Option ℕ → Option ℕ
+small (Some n) = if nat_lt n (2 ^ 16) then Some n else None
+small None = None
+
+-- an object that has a sub-index 0
+abbrev pub has_object : List Row → ℕ → Bool
+has_object rows index = is_some (row_at rows (record { index = index; sub = 0 }))
+
+-- the number that an entry begins with
+abbrev pub preset_at : List Row → ℕ → Key → Option ℕ
+preset_at rows node key = option_and_then (λ row. number_of node row.default) (row_at rows key)
+
+abbrev pub is_constant_access : Access → Bool
+is_constant_access Constant = true
+is_constant_access other = false
+
+-- an entry that isn't there doesn't change either
+abbrev pub is_constant : List Row → Key → Bool
+is_constant rows key = option_map_or (λ row. is_constant_access row.access) (row_at rows key) true
+
+-- without an entry 1015:00 no time is kept between EMCY
+abbrev pub inhibit_of : List Row → ℕ → Option ℕ
+inhibit_of rows node = option_map_or (λ row. small (number_of node row.default)) (row_at rows emergency_inhibit_key) (Some 0)
+
+abbrev pub is_number : Option ℕ → ℕ → Bool
+is_number (Some n) other = n == other
+is_number None other = false
+
+-- what a data sheet has, where nothing was stored
+unfoldable pub sheet_entries : List Row → ℕ → Entries
+sheet_entries rows node = record {
+  period = small (preset_at rows node producer_key);
+  emergencies = is_number (preset_at rows node emergency_key) (0x80 + node);
+  inhibit = inhibit_of rows node;
+}
+
+-- what of it never changes
+unfoldable pub initial_entries : List Row → Entries → Entries
+initial_entries rows sheet = record {
+  period = if is_constant rows producer_key then sheet.period else None;
+  emergencies = is_constant rows emergency_key && sheet.emergencies;
+  inhibit = if is_constant rows emergency_inhibit_key then sheet.inhibit else None;
+}
+
+-- NMT startup (CiA 302-2)
+abbrev pub nmt_startup : ℕ
+nmt_startup = 0x1F80
+
+-- the module list
+abbrev pub module_list : ℕ
+module_list = 0x1027
+
+-- Before a boot-up only what never changes is known. After one what the data sheet has is; but where the device can store
+-- parameters, it may have stored others, and the values of a configuration (DCF) are written by a master, or not yet.
+unfoldable pub facts_of : List Row → ℕ → Bool → Facts
+facts_of rows node configured =
+    let sheet = sheet_entries rows node in
+    record {
+      before = initial_entries rows sheet;
+      booted = if has_object rows store_parameters || configured then initial_entries rows sheet else sheet;
+      starts_itself = has_object rows nmt_startup;
+      modular = has_object rows module_list;
+    }
+
+-- ---- a recording
+
+-- between a request to write and its answer both values may hold
+unfoldable pub asked_to_write : Entries → Key → Entries
+asked_to_write entries key = record {
+  period = if same_key key producer_key then None else entries.period;
+  emergencies = not (same_key key emergency_key) && entries.emergencies;
+  inhibit = if same_key key emergency_inhibit_key then None else entries.inhibit;
+}
+
+-- the number of two bytes, or of the first two of four
+abbrev pub first_word : List ℕ → Option ℕ
+first_word (low ∷ high ∷ []) = Some (low + high * 256)
+first_word (low ∷ high ∷ c ∷ d ∷ []) = Some (low + high * 256)
+first_word other = None
+
+-- an expedited transfer of 1017:00 that is done shows what it has
+abbrev pub done_word : Protocol → Ending → List ℕ → Option ℕ
+done_word Expedited (Done crc) bytes = first_word bytes
+done_word protocol ending bytes = None
+
+unfoldable pub shown_period : Ended → Option ℕ
+shown_period ended = if same_key ended.key producer_key then done_word ended.protocol ended.ending ended.first.items else None
+
+abbrev pub with_period : Entries → Option ℕ → Entries
+with_period entries (Some period) = record entries { period = Some period }
+with_period entries None = entries
+
+abbrev pub ended_entries : Entries → Ended → Entries
+ended_entries entries ended = with_period entries (shown_period ended)

@@ -1,0 +1,267 @@
+-- What a recording shows of a device, frame by frame, and what it does otherwise than CiA 301 prescribes.
+use Rattle.std.specs.Prelude.{ℕ, ◌==◌, nat_lt, Bool, true, false, not, ◌&&◌, ◌||◌, if◌then◌else◌, List, Option, Some, None, is_some}
+use Rattle.std.specs.Option.{option_map_or}
+use Rattle.co_frame.specs.FrameContent.{FrameContent}
+use Rattle.co_frame.specs.declared.nmt.NmtService.{NmtService}
+use Rattle.co_sheet.specs.Content.{Row}
+use Rattle.conode_explain_transfers.specs.declared.ended.Ended.{Ended}
+use Rattle.conode_explain_transfers.specs.declared.kinds.Side.{Side}
+use Rattle.conode_explain_transfers.specs.declared.kinds.Side.TheVariants.{Client, Server}
+use Rattle.conode_explain_transfers.specs.declared.kinds.What.{What}
+use Rattle.conode_explain_transfers.specs.declared.kinds.What.TheVariants.{Part}
+use Rattle.conode_explain_transfers.specs.Followed.{followed}
+use Rattle.conode_compare_rules.specs.declared.progress.Progress.{Progress}
+use Rattle.conode_compare_rules.specs.declared.dialogue.Asked.{Asked}
+use Rattle.conode_compare_rules.specs.declared.dialogue.Exchange.{Exchange}
+use Rattle.conode_compare_rules.specs.declared.entries.Entries.{Entries}
+use Rattle.conode_compare_rules.specs.declared.finding.Finding.{Finding}
+use Rattle.conode_compare_rules.specs.declared.finding.Finding.TheVariants.{HeartbeatLength}
+use Rattle.conode_compare_rules.specs.declared.finding.NmtState.{NmtState}
+use Rattle.conode_compare_rules.specs.declared.finding.NmtState.TheVariants.{Unknown, Initialising}
+use Rattle.conode_compare_rules.specs.declared.dialogue.Dialogue.{Dialogue}
+use Rattle.conode_compare_rules.specs.declared.limits.Limits.{Limits}
+use Rattle.conode_compare_rules.specs.declared.limits.Subject.{Subject}
+use Rattle.conode_compare_rules.specs.declared.kind.FrameKind.{FrameKind}
+use Rattle.conode_compare_rules.specs.declared.kind.FrameKind.TheVariants.{Command, Guarding, Control, OddControl, Emergency, OddEmergency, Sdo, Fault, Other}
+use Rattle.conode_compare_rules.specs.declared.verdict.Findings.{Findings}
+use Rattle.conode_compare_rules.specs.Answers.{answer_finding, silence_finding}
+use Rattle.conode_compare_rules.specs.Dialogues.{dialogue_heard, given_up, interrupted, nothing_asked, exchange_in}
+use Rattle.conode_compare_rules.specs.EmergencyRules.{emergency_finding, length_finding}
+use Rattle.conode_compare_rules.specs.EntriesInForce.{asked_to_write, ended_entries, shown_period}
+use Rattle.conode_compare_rules.specs.Heartbeats.{after_byte, late_finding, no_heartbeat, is_gap}
+use Rattle.conode_compare_rules.specs.States as states
+use Rattle.conode_compare_rules.specs.States.{boot_finding, control_finding, is_reset, is_settled, nothing_commanded}
+use Rattle.conode_compare_rules.specs.Times.{is_past}
+use Rattle.conode_compare_rules.specs.Verdicts.{found, nothing_found}
+
+-- ---- the begin of a recording, and gaps in it
+
+abbrev pub before_recording : Subject → Progress
+before_recording subject = record {
+  newest = None;
+  started = 0;
+  nmt = nothing_commanded;
+  heartbeats = no_heartbeat;
+  entries = subject.facts.before;
+  emergency = None;
+  dialogue = nothing_asked;
+}
+
+-- a recording begins anew at its first frame, where a stamp steps back, and where the recorder may have rested
+abbrev pub anew_after : Limits → Option ℕ → Option ℕ → ℕ → Bool
+anew_after limits period None micros = true
+anew_after limits period (Some newest) micros = nat_lt micros newest || is_gap limits period newest micros
+
+abbrev pub begins_anew : Limits → Progress → ℕ → Bool
+begins_anew limits progress micros = anew_after limits progress.entries.period progress.newest micros
+
+-- nothing was recorded for longer than an answer may take: the recorder may have missed it
+abbrev pub was_quiet : Limits → Progress → ℕ → Bool
+was_quiet limits progress micros = option_map_or (λ newest. is_past newest limits.answer micros) progress.newest false
+
+abbrev pub with_quiet : Limits → Progress → ℕ → Dialogue
+with_quiet limits progress micros = if was_quiet limits progress micros then interrupted progress.dialogue micros else progress.dialogue
+
+-- then nothing is known; where it was quiet, no request is
+unfoldable pub begun : Subject → Progress → ℕ → Progress
+begun subject progress micros =
+    if begins_anew subject.limits progress micros then record (before_recording subject) { newest = Some micros; started = micros }
+    else record progress { newest = Some micros; dialogue = with_quiet subject.limits progress micros }
+
+-- what is open isn't known any more: after a reset, a boot-up, and an error frame
+unfoldable pub with_gap : Progress → ℕ → Progress
+with_gap progress micros = record progress {
+  heartbeats = record progress.heartbeats { since = None };
+  emergency = None;
+  dialogue = interrupted progress.dialogue micros;
+}
+
+-- an error frame: what came with it may be missing in the recording
+unfoldable pub after_fault : Progress → ℕ → Progress
+after_fault progress micros = record (with_gap progress micros) { nmt = nothing_commanded; started = micros }
+
+-- ---- commands and node guarding
+
+unfoldable pub after_command : Progress → NmtService → ℕ → Progress
+after_command progress service micros =
+    let commanded = record progress { nmt = states.after_command progress.nmt service micros } in
+    if is_reset service then with_gap commanded micros else commanded
+
+abbrev pub after_guarding : Progress → Progress
+after_guarding progress = record progress { heartbeats = record progress.heartbeats { guarded = true } }
+
+-- ---- boot-ups
+
+unfoldable pub boot_findings : Subject → Progress → ℕ → Findings
+boot_findings subject progress micros =
+    found None None None (control_finding subject progress.started progress.heartbeats.guarded progress.nmt micros 0) true
+
+-- the entries have what the data sheet says, as far as that is known, and the next heartbeat is awaited
+unfoldable pub booted : Subject → Progress → ℕ → Progress
+booted subject progress micros = record progress {
+  nmt = states.after_control subject.limits progress.started progress.nmt micros 0;
+  heartbeats = record progress.heartbeats { since = Some micros };
+  entries = subject.facts.booted;
+  emergency = None;
+  dialogue = interrupted progress.dialogue micros;
+}
+
+-- ---- heartbeats
+
+abbrev pub is_known : NmtState → Bool
+is_known Unknown = false
+is_known Initialising = false
+is_known state = true
+
+-- a heartbeat is judged where the state is known, and settled
+unfoldable pub control_judged : Subject → Progress → ℕ → Bool
+control_judged subject progress micros =
+    (not progress.heartbeats.guarded && is_known progress.nmt.state) && is_settled subject.limits progress.started progress.nmt.commanded micros
+
+unfoldable pub heartbeat_findings : Subject → Progress → Option Finding → ℕ → ℕ → Findings
+heartbeat_findings subject progress answer micros byte =
+    found (boot_finding subject.limits progress.nmt micros)
+    (late_finding subject.limits progress.entries.period progress.heartbeats micros)
+    answer
+    (control_finding subject progress.started progress.heartbeats.guarded progress.nmt micros byte)
+    (control_judged subject progress micros)
+
+abbrev pub silence_at : Subject → Progress → ℕ → Option Finding
+silence_at subject progress micros = silence_finding subject.limits progress.started progress.nmt progress.dialogue micros
+
+unfoldable pub control_findings : Subject → Progress → ℕ → ℕ → Findings
+control_findings subject progress micros byte = heartbeat_findings subject progress (silence_at subject progress micros) micros byte
+
+unfoldable pub after_control : Subject → Progress → ℕ → ℕ → Progress
+after_control subject progress micros byte = record progress {
+  nmt = states.after_control subject.limits progress.started progress.nmt micros byte;
+  heartbeats = after_byte progress.heartbeats micros byte;
+  dialogue = if is_some (silence_at subject progress micros) then given_up progress.dialogue micros else progress.dialogue;
+}
+
+-- of another number of bytes than one
+unfoldable pub odd_control_findings : Subject → Progress → ℕ → ℕ → Findings
+odd_control_findings subject progress micros length =
+    found (boot_finding subject.limits progress.nmt micros)
+    (late_finding subject.limits progress.entries.period progress.heartbeats micros)
+    None
+    (Some (HeartbeatLength length))
+    true
+
+unfoldable pub after_odd_control : Subject → Progress → ℕ → Progress
+after_odd_control subject progress micros = record progress {
+  nmt = states.after_other subject.limits progress.nmt micros;
+  heartbeats = record progress.heartbeats { since = Some micros };
+}
+
+-- ---- EMCY
+
+unfoldable pub emergency_findings : Subject → Progress → ℕ → ℕ → ℕ → Findings
+emergency_findings subject progress micros code register =
+    let settled = is_settled subject.limits progress.started progress.nmt.commanded micros in
+    found None None None
+    (emergency_finding subject.limits progress.entries progress.nmt.state settled progress.emergency micros code register)
+    progress.entries.emergencies
+
+unfoldable pub odd_emergency_findings : Progress → ℕ → Findings
+odd_emergency_findings progress length = found None None None (length_finding progress.entries length) progress.entries.emergencies
+
+unfoldable pub after_emergency : Progress → ℕ → Progress
+after_emergency progress micros = record progress { nmt = record progress.nmt { booted = None }; emergency = Some micros }
+
+-- ---- the SDO channel
+
+-- a download to 1017:00 starts the period anew; with an upload of it the wait begins anew too
+abbrev pub restarts : Ended → Bool
+restarts ended = is_some (shown_period ended)
+
+abbrev pub since_heard : Option ℕ → Option Ended → ℕ → Option ℕ
+since_heard since ended micros = if option_map_or restarts ended false then Some micros else since
+
+-- what a transfer that ended shows, and what a request asks to write
+abbrev pub entries_ended : Entries → Option Ended → Entries
+entries_ended entries None = entries
+entries_ended entries (Some ended) = ended_entries entries ended
+
+abbrev pub entries_asked : Entries → Option Asked → Entries
+entries_asked entries None = entries
+entries_asked entries (Some asked) = if asked.writes then asked_to_write entries asked.key else entries
+
+abbrev pub entries_heard : Entries → Option Ended → Option Asked → Entries
+entries_heard entries ended asked = entries_asked (entries_ended entries ended) asked
+
+unfoldable pub exchange_at : Subject → Progress → ℕ → Side → FrameContent → Exchange
+exchange_at subject progress micros side frame = exchange_in subject.limits progress.started progress.dialogue micros side frame.bytes
+
+unfoldable pub after_sdo : Progress → ℕ → Side → FrameContent → Progress
+after_sdo progress micros side frame =
+    let next = dialogue_heard progress.dialogue micros side frame in
+    let ended = (followed progress.dialogue.channel micros side frame.bytes).says.ended in
+    record progress {
+      heartbeats = record progress.heartbeats { since = since_heard progress.heartbeats.since ended micros };
+      entries = entries_heard progress.entries ended next.asked;
+      dialogue = next;
+    }
+
+-- an answer comes: where a heartbeat was late, it isn't said again
+unfoldable pub late_noted : Subject → Progress → Bool → ℕ → Progress
+late_noted subject progress late micros = record progress {
+  nmt = states.after_other subject.limits progress.nmt micros;
+  heartbeats = record progress.heartbeats { since = if late then None else progress.heartbeats.since };
+}
+
+abbrev pub late_at : Subject → Progress → ℕ → Option Finding
+late_at subject progress micros = late_finding subject.limits progress.entries.period progress.heartbeats micros
+
+abbrev pub answer_noted : Subject → Progress → ℕ → Progress
+answer_noted subject progress micros = late_noted subject progress (is_some (late_at subject progress micros)) micros
+
+-- an answer is judged where it follows its initiate request, and answers that
+abbrev pub is_part : What → Bool
+is_part Part = true
+is_part other = false
+
+abbrev pub is_judged : Exchange → Bool
+is_judged exchange = exchange.certain && (is_some exchange.asked && is_part exchange.heard.what)
+
+unfoldable pub answer_findings : Subject → List Row → Progress → ℕ → FrameContent → Findings
+answer_findings subject rows progress micros frame =
+    let exchange = exchange_at subject (answer_noted subject progress micros) micros Server frame in
+    found (boot_finding subject.limits progress.nmt micros) (late_at subject progress micros) None
+    (answer_finding subject rows micros exchange frame) (is_judged exchange)
+
+unfoldable pub after_answer : Subject → Progress → ℕ → FrameContent → Progress
+after_answer subject progress micros frame = after_sdo (answer_noted subject progress micros) micros Server frame
+
+-- ---- every frame
+
+-- what is found at a frame, by what it is to the device, once the recording is begun
+abbrev pub findings_in : Subject → List Row → Progress → ℕ → FrameKind → Findings
+findings_in subject rows progress micros (Control byte) =
+    if byte == 0 then boot_findings subject progress micros else control_findings subject progress micros byte
+findings_in subject rows progress micros (OddControl length) = odd_control_findings subject progress micros length
+findings_in subject rows progress micros (Emergency code register) = emergency_findings subject progress micros code register
+findings_in subject rows progress micros (OddEmergency length) = odd_emergency_findings progress length
+findings_in subject rows progress micros (Sdo Server frame) = answer_findings subject rows progress micros frame
+findings_in subject rows progress micros _ = nothing_found
+
+-- what the recording shows of the device then
+abbrev pub after_frame : Subject → Progress → ℕ → FrameKind → Progress
+after_frame subject progress micros (Control byte) =
+    if byte == 0 then booted subject progress micros else after_control subject progress micros byte
+after_frame subject progress micros (OddControl length) = after_odd_control subject progress micros
+after_frame subject progress micros (Emergency code register) = after_emergency progress micros
+after_frame subject progress micros (OddEmergency length) = after_emergency progress micros
+after_frame subject progress micros (Sdo Server frame) = after_answer subject progress micros frame
+after_frame subject progress micros (Sdo Client frame) = after_sdo progress micros Client frame
+after_frame subject progress micros (Command service) = after_command progress service micros
+after_frame subject progress micros Guarding = after_guarding progress
+after_frame subject progress micros Fault = after_fault progress micros
+after_frame subject progress micros Other = progress
+
+-- what is found at a frame, after what the recording shows before it
+unfoldable pub findings_at : Subject → List Row → Progress → ℕ → FrameKind → Findings
+findings_at subject rows progress micros kind = findings_in subject rows (begun subject progress micros) micros kind
+
+unfoldable pub progress_with : Subject → Progress → ℕ → FrameKind → Progress
+progress_with subject progress micros kind = after_frame subject (begun subject progress micros) micros kind

@@ -1,0 +1,145 @@
+-- The NMT state of a device, as commands and its own frames have it (CiA 301, 7.3.2.2), and what it does otherwise.
+use Rattle.std.specs.Prelude.{ℕ, ◌-◌, ◌==◌, Bool, true, false, not, ◌&&◌, ◌||◌, if◌then◌else◌, Option, Some, None, is_some, option_map}
+use Rattle.std.specs.Option.{option_map_or}
+use Rattle.co_frame.specs.declared.nmt.NmtService.{NmtService}
+use Rattle.co_frame.specs.declared.nmt.NmtService.TheVariants.{Start, Stop, EnterPreOperational, ResetNode, ResetCommunication}
+use Rattle.conode_compare_rules.specs.declared.finding.Finding.{Finding}
+use Rattle.conode_compare_rules.specs.declared.finding.Finding.TheVariants.{BootMissing, SecondBootUp, NoState, WrongState}
+use Rattle.conode_compare_rules.specs.declared.finding.NmtState.{NmtState}
+use Rattle.conode_compare_rules.specs.declared.finding.NmtState.TheVariants.{Unknown, Initialising, PreOperational, Operational, Stopped}
+use Rattle.conode_compare_rules.specs.declared.limits.Limits.{Limits}
+use Rattle.conode_compare_rules.specs.declared.limits.Subject.{Subject}
+use Rattle.conode_compare_rules.specs.declared.nmt.Commanded.{Commanded}
+use Rattle.conode_compare_rules.specs.declared.nmt.Nmt.{Nmt}
+use Rattle.conode_compare_rules.specs.Times.{is_past}
+
+abbrev pub nothing_commanded : Nmt
+nothing_commanded = record { state = Unknown; commanded = None; booted = None }
+
+-- ---- commands
+
+abbrev pub is_reset : NmtService → Bool
+is_reset ResetNode = true
+is_reset ResetCommunication = true
+is_reset other = false
+
+-- the state that a device goes to
+abbrev pub goes_to : NmtService → NmtState
+goes_to Start = Operational
+goes_to Stop = Stopped
+goes_to EnterPreOperational = PreOperational
+goes_to ResetNode = Initialising
+goes_to ResetCommunication = Initialising
+
+-- while it is initialising it takes no other command than a reset
+abbrev pub state_commanded : NmtService → NmtState → NmtState
+state_commanded service Unknown = if is_reset service then Initialising else Unknown
+state_commanded service Initialising = Initialising
+state_commanded service state = goes_to service
+
+unfoldable pub after_command : Nmt → NmtService → ℕ → Nmt
+after_command nmt service micros = record {
+  state = state_commanded service nmt.state;
+  commanded = Some (record { service = service; micros = micros });
+  booted = if is_reset service then None else nmt.booted;
+}
+
+-- ---- boot-ups
+
+-- A boot-up is overdue after a reset command: since then so much time has passed.
+abbrev pub overdue_since : Limits → Commanded → ℕ → Option ℕ
+overdue_since limits command micros =
+    if is_reset command.service && is_past command.micros limits.boot micros then Some (micros - command.micros) else None
+
+abbrev pub overdue_with : Limits → Option Commanded → ℕ → Option ℕ
+overdue_with limits None micros = None
+overdue_with limits (Some command) micros = overdue_since limits command micros
+
+abbrev pub overdue_in : Limits → NmtState → Option Commanded → ℕ → Option ℕ
+overdue_in limits Initialising command micros = overdue_with limits command micros
+overdue_in limits state command micros = None
+
+unfoldable pub awaits_boot_up : Limits → Nmt → ℕ → Option ℕ
+awaits_boot_up limits nmt micros = overdue_in limits nmt.state nmt.commanded micros
+
+-- `boot-missing`: a frame of the device that is no boot-up, where one is overdue
+unfoldable pub boot_finding : Limits → Nmt → ℕ → Option Finding
+boot_finding limits nmt micros = option_map (λ waited. BootMissing waited) (awaits_boot_up limits nmt micros)
+
+-- `second-sender`: another boot-up within a second, and nothing between them. A device that is switched off and on by hand
+-- takes longer.
+unfoldable pub second_boot_up : Option ℕ → ℕ → Option Finding
+second_boot_up None micros = None
+second_boot_up (Some booted) micros = if is_past booted 1000 micros then None else Some (SecondBootUp (micros - booted))
+
+-- After a boot-up a device is pre-operational. Where another command than a reset came shortly before, it may have taken it.
+abbrev pub boots_known : Limits → Option Commanded → ℕ → Bool
+boots_known limits commanded micros = option_map_or (λ c. is_reset c.service || is_past c.micros limits.boot micros) commanded true
+
+unfoldable pub after_boot_up : Limits → Nmt → ℕ → Nmt
+after_boot_up limits nmt micros = record {
+  state = if boots_known limits nmt.commanded micros then PreOperational else Unknown;
+  commanded = nmt.commanded;
+  booted = Some micros;
+}
+
+-- another frame of the device; after a boot-up that is missing its state is unknown
+unfoldable pub after_other : Limits → Nmt → ℕ → Nmt
+after_other limits nmt micros = record {
+  state = if is_some (awaits_boot_up limits nmt micros) then Unknown else nmt.state;
+  commanded = nmt.commanded;
+  booted = None;
+}
+
+-- ---- heartbeats
+
+-- the tolerance is over since the recording began, and since the newest command
+unfoldable pub is_settled : Limits → ℕ → Option Commanded → ℕ → Bool
+is_settled limits started commanded micros =
+    is_past started limits.tolerance micros && option_map_or (λ c. is_past c.micros limits.tolerance micros) commanded true
+
+-- a state with its toggle bit set: an answer of node guarding, whether its remote frame was recorded or not
+abbrev pub is_guarded_state : ℕ → Bool
+is_guarded_state byte = (byte == 0x84) || ((byte == 0x85) || (byte == 0xFF))
+
+abbrev pub is_state : ℕ → Bool
+is_state byte = (byte == 4) || ((byte == 5) || (byte == 127))
+
+abbrev pub state_of : ℕ → NmtState
+state_of byte = if byte == 4 then Stopped else (if byte == 5 then Operational else (if byte == 127 then PreOperational else Unknown))
+
+-- A device becomes operational by a command alone, unless its NMT startup (1F80h) may say otherwise, and leaves stopped by a
+-- command alone. From operational it may fall back by itself, at a failure (1029h).
+abbrev pub is_wrong : Bool → NmtState → NmtState → Bool
+is_wrong starts_itself PreOperational Operational = not starts_itself
+is_wrong starts_itself Stopped Operational = true
+is_wrong starts_itself Stopped PreOperational = true
+is_wrong starts_itself state shown = false
+
+abbrev pub is_initialising : NmtState → Bool
+is_initialising Initialising = true
+is_initialising other = false
+
+-- `heartbeat-state`: a state that it can't be in, or a byte that is no state
+unfoldable pub state_finding : Bool → NmtState → ℕ → Option Finding
+state_finding starts_itself state byte =
+    if is_state byte then (if is_wrong starts_itself state (state_of byte) then Some (WrongState (state_of byte) state) else None)
+    else (if is_initialising state then None else Some (NoState byte))
+
+-- the difference of a byte of error control; answers of node guarding aren't judged
+unfoldable pub control_finding : Subject → ℕ → Bool → Nmt → ℕ → ℕ → Option Finding
+control_finding subject started guarded nmt micros byte =
+    if byte == 0 then second_boot_up nmt.booted micros
+    else (if guarded || (is_guarded_state byte || not (is_settled subject.limits started nmt.commanded micros)) then None
+    else state_finding subject.facts.starts_itself nmt.state byte)
+
+-- a heartbeat shows the state, once it is settled, and unless the boot-up is awaited
+abbrev pub shows_state : Limits → ℕ → Nmt → ℕ → ℕ → Bool
+shows_state limits started nmt micros byte =
+    is_settled limits started nmt.commanded micros && (is_state byte && not (is_initialising nmt.state))
+
+unfoldable pub after_control : Limits → ℕ → Nmt → ℕ → ℕ → Nmt
+after_control limits started nmt micros byte =
+    if byte == 0 then after_boot_up limits nmt micros
+    else (if shows_state limits started nmt micros byte then record (after_other limits nmt micros) { state = state_of byte }
+    else after_other limits nmt micros)

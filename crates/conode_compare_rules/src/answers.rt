@@ -1,0 +1,184 @@
+//! Answers of a device on its default SDO channel (CiA 301, 7.2.4.3).
+
+ghost use Rattle.std.specs.Prelude.{◌≡◌, true, map};
+ghost use Rattle.std.specs.List.{AllPairs};
+ghost use Rattle.co_sheet.specs.SheetViews.{row_view};
+ghost use Rattle.co_value.specs.Keys.{is_key_before};
+ghost use Rattle.conode_compare_rules.specs.Answers.{
+  answer_finding,
+  ended_finding,
+  form_finding,
+  is_abort,
+  is_indicated,
+  is_timed,
+  key_finding,
+  late_answer,
+  refuses_other,
+  silence_finding,
+  unasked_finding,
+  what_finding,
+};
+
+use crate::dialogue::{Asked, Dialogue, Exchange, byte_at, key_in};
+use crate::finding::{Finding, NmtState};
+use crate::limits::{Limits, Subject, is_past};
+use crate::nmt::Nmt;
+use crate::values::end_finding;
+use co_frame::Frame;
+use co_profile::{RESTORE_PARAMETERS, STORE_PARAMETERS};
+use co_sheet::EntryRow;
+use co_value::Key;
+use conode_explain_transfers::{Ended, What};
+
+// Storing, restoring, and what a program is loaded by (1F00h to 1FFFh, CiA 302) may take long.
+fn is_timed(key: Key) -> bool
+    ensures { result ≡ is_timed key }
+{
+    key.index != STORE_PARAMETERS
+        && key.index != RESTORE_PARAMETERS
+        && !(0x1F00 <= key.index && key.index <= 0x1FFF)
+}
+
+// an abort (CiA 301, 7.2.4.3.17)
+fn is_abort(frame: &Frame) -> bool
+    ensures { result ≡ is_abort frame.now }
+{
+    byte_at(frame, 0) / 32 == 4
+}
+
+// whether an answer has the size of its data
+fn is_indicated(frame: &Frame) -> bool
+    ensures { result ≡ is_indicated frame.now }
+{
+    byte_at(frame, 0) % 2 == 1
+}
+
+// the difference of an answer that took too long
+fn late_answer(limits: &Limits, asked: Option<Asked>, micros: u64) -> Option<Finding>
+    ensures { result ≡ late_answer limits.now asked micros }
+{
+    match asked {
+        Some(asked) if is_timed(asked.key) && is_past(asked.micros, limits.answer, micros) => {
+            Some(Finding::NoAnswer(asked.key, micros.saturating_sub(asked.micros)))
+        }
+        _ => None,
+    }
+}
+
+fn unasked_finding(frame: &Frame) -> Option<Finding>
+    ensures { result ≡ unasked_finding frame.now }
+{
+    if is_abort(frame) {
+        None
+    } else {
+        Some(Finding::Unasked)
+    }
+}
+
+fn key_finding(asked: Option<Asked>) -> Option<Finding>
+    ensures { result ≡ key_finding asked }
+{
+    match asked {
+        Some(asked) => Some(Finding::AnswerKey(asked.key)),
+        None => None,
+    }
+}
+
+fn form_finding(asked: Option<Asked>) -> Option<Finding>
+    ensures { result ≡ form_finding asked }
+{
+    match asked {
+        Some(asked) => Some(Finding::AnswerForm(asked.key)),
+        None => None,
+    }
+}
+
+// an abort of another entry, whose request came earlier
+fn refuses_other(frame: &Frame, ended: &Ended) -> bool
+    ensures { result ≡ refuses_other frame.now ended.now }
+{
+    is_abort(frame) && key_in(frame) != ended.key
+}
+
+fn ended_finding(
+    subject: &Subject,
+    rows: &[EntryRow<'_>],
+    frame: &Frame,
+    ended: &Option<Ended>,
+) -> Option<Finding>
+    requires { AllPairs (λ e f. is_key_before e.key f.key ≡ true) rows.now }
+    ensures { result ≡ ended_finding subject.now (map row_view rows.now) frame.now ended.now }
+{
+    match ended {
+        Some(ended) if !refuses_other(frame, ended) => {
+            end_finding(subject, rows, is_indicated(frame), ended)
+        }
+        _ => None,
+    }
+}
+
+// by what the answer is in the transfers of the channel
+#[tactic(auto, unfolding(crate::specs::Answers::what_finding))]
+fn what_finding(
+    subject: &Subject,
+    rows: &[EntryRow<'_>],
+    exchange: &Exchange,
+    frame: &Frame,
+) -> Option<Finding>
+    requires { AllPairs (λ e f. is_key_before e.key f.key ≡ true) rows.now }
+    ensures { result ≡ what_finding subject.now (map row_view rows.now) exchange.now frame.now }
+{
+    match exchange.heard.what {
+        What::Stray => unasked_finding(frame),
+        What::Overtaken => key_finding(exchange.asked),
+        What::Unexpected => form_finding(exchange.asked),
+        What::Part => ended_finding(subject, rows, frame, &exchange.heard.ended),
+        _ => None,
+    }
+}
+
+/// The difference of an answer, where no earlier request can be answered.
+#[tactic(auto, unfolding(crate::specs::Answers::answer_finding))]
+pub(crate) fn answer_finding(
+    subject: &Subject,
+    rows: &[EntryRow<'_>],
+    micros: u64,
+    exchange: &Exchange,
+    frame: &Frame,
+) -> Option<Finding>
+    requires { AllPairs (λ e f. is_key_before e.key f.key ≡ true) rows.now }
+    ensures { result ≡ answer_finding subject.now (map row_view rows.now) micros exchange.now frame.now }
+{
+    if !exchange.certain {
+        return None;
+    }
+    match late_answer(&subject.limits, exchange.asked, micros) {
+        Some(late) => Some(late),
+        None => what_finding(subject, rows, exchange, frame),
+    }
+}
+
+/// The difference of a heartbeat while a request isn't answered in time: the device lives, and could have answered since it was
+/// asked.
+#[tactic(auto, unfolding(crate::specs::Answers::silence_finding))]
+pub(crate) fn silence_finding(
+    limits: &Limits,
+    started: u64,
+    nmt: &Nmt,
+    dialogue: &Dialogue,
+    micros: u64,
+) -> Option<Finding>
+    ensures { result
+        ≡ silence_finding limits.now started nmt.now dialogue.now micros }
+{
+    let asked = dialogue.asked?;
+    if !matches!(nmt.state, NmtState::PreOperational | NmtState::Operational) {
+        return None;
+    }
+    if !nmt.is_settled(limits, started, asked.micros)
+        || !dialogue.is_certain(limits, started, asked.micros)
+    {
+        return None;
+    }
+    late_answer(limits, Some(asked), micros)
+}

@@ -1,0 +1,88 @@
+//! EMCY messages (CiA 301, 7.2.7).
+
+ghost use Rattle.std.specs.Prelude.{◌≡◌};
+ghost use Rattle.conode_compare_rules.specs.EmergencyRules.{
+  emergency_finding,
+  has_register,
+  inhibit_finding,
+  length_finding,
+  least_gap,
+};
+
+use crate::entries::Entries;
+use crate::finding::{Finding, NmtState};
+use crate::limits::{Limits, drift_of, micros_of};
+
+// The error register has bit 0 wherever another bit is set, and while the code isn't one of "error reset or no error".
+fn has_register(code: u16, register: u8) -> bool
+    ensures { result ≡ has_register code register }
+{
+    register % 2 == 1 || (register == 0 && code < 0x100)
+}
+
+// how many microseconds two EMCY are apart at least
+fn least_gap(limits: &Limits, inhibit: u16) -> u64
+    ensures { result ≡ least_gap limits.now inhibit }
+{
+    (u64::from(inhibit) * 100)
+        .saturating_sub(micros_of(limits.tolerance))
+        .saturating_sub(drift_of(limits, inhibit / 10))
+}
+
+// the time since the last one, where that is within the inhibit time
+fn inhibit_finding(
+    limits: &Limits,
+    inhibit: Option<u16>,
+    last: Option<u64>,
+    micros: u64,
+) -> Option<Finding>
+    ensures { result ≡ inhibit_finding limits.now inhibit last micros }
+{
+    let inhibit = inhibit?;
+    let last = last?;
+    let passed = micros.saturating_sub(last);
+    if passed < least_gap(limits, inhibit) {
+        Some(Finding::EmergencyInhibit(passed, inhibit))
+    } else {
+        None
+    }
+}
+
+/// The difference of an EMCY of eight bytes: the first of its state, once that is settled, its error register and its inhibit
+/// time.
+#[tactic(auto, unfolding(crate::specs::EmergencyRules::emergency_finding))]
+pub(crate) fn emergency_finding(
+    limits: &Limits,
+    entries: &Entries,
+    state: NmtState,
+    settled: bool,
+    last: Option<u64>,
+    micros: u64,
+    code: u16,
+    register: u8,
+) -> Option<Finding>
+    ensures { result
+        ≡ emergency_finding limits.now entries.now state settled last micros code register }
+{
+    if !entries.emergencies || matches!(state, NmtState::Initialising) {
+        return None;
+    }
+    if settled && matches!(state, NmtState::Stopped) {
+        return Some(Finding::EmergencyStopped);
+    }
+    if !has_register(code, register) {
+        return Some(Finding::EmergencyRegister(code, register));
+    }
+    inhibit_finding(limits, entries.inhibit, last, micros)
+}
+
+/// The difference of an EMCY of another number of bytes.
+pub(crate) fn length_finding(entries: &Entries, length: u8) -> Option<Finding>
+    ensures { result ≡ length_finding entries.now length }
+{
+    if entries.emergencies {
+        Some(Finding::EmergencyLength(length))
+    } else {
+        None
+    }
+}

@@ -1,0 +1,229 @@
+//! The entries that say what a device sends by itself: what its data sheet has, and what is in force.
+
+ghost use Rattle.std.specs.Prelude.{◌≡◌, ◌<◌, ◌≤◌, ◌^◌, true, map, IfSome};
+ghost use Rattle.std.specs.List.{AllPairs};
+ghost use Rattle.co_sheet.specs.SheetViews.{row_view};
+ghost use Rattle.co_sheet.specs.Views.{default_view};
+ghost use Rattle.co_value.specs.Keys.{is_key_before};
+ghost use Rattle.conode_compare_rules.specs.EntriesInForce.{
+  asked_to_write,
+  ended_entries,
+  facts_of,
+  first_word,
+  has_object,
+  initial_entries,
+  inhibit_of,
+  is_constant,
+  number_of,
+  preset_at,
+  sheet_entries,
+  shown_period,
+  small,
+};
+
+use co_profile::keys::{EMERGENCY_COB_ID, EMERGENCY_INHIBIT_TIME, PRODUCER_HEARTBEAT};
+use co_profile::{Access, STORE_PARAMETERS};
+use co_sheet::{EntryRow, Preset};
+use co_value::Key;
+use conode_decode::row_at;
+use conode_explain_transfers::{Ended, Ending, Protocol};
+
+/// What is known of the entries that say what a device sends by itself.
+#[derive(Clone, Copy)]
+pub struct Entries {
+    /// 1017:00, the period of its heartbeats in ms; 0: none.
+    pub period: Option<u16>,
+    /// Whether its EMCY have the default identifier, 80h + node-ID (1014:00).
+    pub emergencies: bool,
+    /// 1015:00, the inhibit time of EMCY in 100 µs.
+    pub inhibit: Option<u16>,
+}
+
+/// What a data sheet says of what a device sends by itself.
+#[derive(Clone, Copy)]
+pub struct Facts {
+    /// What is known before its first boot-up in the recording: entries that never change.
+    pub before: Entries,
+    /// What is known after each boot-up; nothing more where it can store parameters (1010h), and of a configuration (DCF), which a
+    /// master may have written or not.
+    pub booted: Entries,
+    /// Whether it may enter operational by itself: it has the entry NMT startup, 1F80h (CiA 302-2).
+    pub starts_itself: bool,
+    /// Whether modules decide which entries it has: it has the module list, 1027h.
+    pub modular: bool,
+}
+
+// one more than the greatest number of 32 bits
+const BOUND: u64 = 0x1_0000_0000;
+
+// NMT startup (CiA 302-2)
+const NMT_STARTUP: u16 = 0x1F80;
+
+// the module list (CiA 301, 7.5.2.30)
+const MODULES: u16 = 0x1027;
+
+// the number that a value is, for a node
+pub(crate) fn number_of(node: u8, default: Preset<'_>) -> Option<u64>
+    ensures { result ≡ number_of node (default_view default.entry) }
+{
+    match default {
+        Preset::Number(number) if 0 <= number && number < i128::from(BOUND) => Some(number as u64),
+        Preset::NodeId(number) if number < BOUND => Some(number + u64::from(node)),
+        _ => None,
+    }
+}
+
+// the number, where it has 16 bits
+fn small(number: Option<u64>) -> Option<u16>
+    ensures { result ≡ small number }
+{
+    match number {
+        Some(number) if number < 0x1_0000 => Some(number as u16),
+        _ => None,
+    }
+}
+
+fn has_object(rows: &[EntryRow<'_>], index: u16) -> bool
+    requires { AllPairs (λ e f. is_key_before e.key f.key ≡ true) rows.now }
+    ensures { result ≡ has_object (map row_view rows.now) index }
+{
+    row_at(rows, Key { index, sub: 0 }).is_some()
+}
+
+// the number that an entry begins with
+fn preset_at(rows: &[EntryRow<'_>], node: u8, key: Key) -> Option<u64>
+    requires { AllPairs (λ e f. is_key_before e.key f.key ≡ true) rows.now }
+    ensures { result ≡ preset_at (map row_view rows.now) node key }
+{
+    match row_at(rows, key) {
+        Some(row) => number_of(node, row.default),
+        None => None,
+    }
+}
+
+fn is_constant(rows: &[EntryRow<'_>], key: Key) -> bool
+    requires { AllPairs (λ e f. is_key_before e.key f.key ≡ true) rows.now }
+    ensures { result ≡ is_constant (map row_view rows.now) key }
+{
+    match row_at(rows, key) {
+        Some(row) => matches!(row.access, Access::Constant),
+        None => true,
+    }
+}
+
+// the inhibit time of EMCY; none where there is no such entry
+fn inhibit_of(rows: &[EntryRow<'_>], node: u8) -> Option<u16>
+    requires { AllPairs (λ e f. is_key_before e.key f.key ≡ true) rows.now }
+    ensures { result ≡ inhibit_of (map row_view rows.now) node }
+{
+    match row_at(rows, EMERGENCY_INHIBIT_TIME) {
+        Some(row) => small(number_of(node, row.default)),
+        None => Some(0),
+    }
+}
+
+// what a data sheet has, where nothing was stored
+#[tactic(auto, unfolding(crate::specs::EntriesInForce::sheet_entries))]
+fn sheet_entries(rows: &[EntryRow<'_>], node: u8) -> Entries
+    requires { AllPairs (λ e f. is_key_before e.key f.key ≡ true) rows.now }
+    ensures { result ≡ sheet_entries (map row_view rows.now) node }
+{
+    Entries {
+        period: small(preset_at(rows, node, PRODUCER_HEARTBEAT)),
+        emergencies: preset_at(rows, node, EMERGENCY_COB_ID) == Some(0x80 + u64::from(node)),
+        inhibit: inhibit_of(rows, node),
+    }
+}
+
+// what of it never changes
+#[tactic(auto, unfolding(crate::specs::EntriesInForce::initial_entries))]
+fn initial_entries(rows: &[EntryRow<'_>], sheet: Entries) -> Entries
+    requires { AllPairs (λ e f. is_key_before e.key f.key ≡ true) rows.now }
+    ensures { result ≡ initial_entries (map row_view rows.now) sheet }
+{
+    let period = is_constant(rows, PRODUCER_HEARTBEAT);
+    let inhibit = is_constant(rows, EMERGENCY_INHIBIT_TIME);
+    Entries {
+        period: if period { sheet.period } else { None },
+        emergencies: is_constant(rows, EMERGENCY_COB_ID) && sheet.emergencies,
+        inhibit: if inhibit { sheet.inhibit } else { None },
+    }
+}
+
+/// What a data sheet, whose entries are in increasing key, says of what the device with a node-ID sends by itself; and whether
+/// it is the configuration of one device (DCF), whose values a master writes.
+#[tactic(auto, unfolding(crate::specs::EntriesInForce::facts_of))]
+pub fn facts_of(rows: &[EntryRow<'_>], node: u8, configured: bool) -> Facts
+    requires { AllPairs (λ e f. is_key_before e.key f.key ≡ true) rows.now }
+    ensures { result ≡ facts_of (map row_view rows.now) node configured }
+{
+    let sheet = sheet_entries(rows, node);
+    let before = initial_entries(rows, sheet);
+    let stores = has_object(rows, STORE_PARAMETERS);
+    Facts {
+        before,
+        booted: if stores || configured { before } else { sheet },
+        modular: has_object(rows, MODULES),
+        starts_itself: has_object(rows, NMT_STARTUP),
+    }
+}
+
+impl Entries {
+    /// A download to this entry is requested: what it has is unknown until that is answered.
+    #[tactic(auto, unfolding(crate::specs::EntriesInForce::asked_to_write))]
+    pub(crate) fn asked_to_write(self, key: Key) -> Entries
+        ensures { result ≡ asked_to_write self key }
+    {
+        Entries {
+            period: if key == PRODUCER_HEARTBEAT {
+                None
+            } else {
+                self.period
+            },
+            emergencies: key != EMERGENCY_COB_ID && self.emergencies,
+            inhibit: if key == EMERGENCY_INHIBIT_TIME {
+                None
+            } else {
+                self.inhibit
+            },
+        }
+    }
+
+    /// A transfer ended: one of 1017:00 shows what it has, if it was expedited and is done.
+    pub(crate) fn ended(self, ended: &Ended) -> Entries
+        ensures { result ≡ ended_entries self ended.now }
+    {
+        match shown_period(ended) {
+            Some(period) => Entries {
+                period: Some(period),
+                emergencies: self.emergencies,
+                inhibit: self.inhibit,
+            },
+            None => self,
+        }
+    }
+}
+
+// the number of 16 bits that two bytes are, or the first two of four
+fn first_word(bytes: &[u8]) -> Option<u16>
+    ensures { result ≡ first_word bytes.now }
+{
+    match bytes {
+        [low, high] | [low, high, _, _] => Some(u16::from(*low) + u16::from(*high) * 256),
+        _ => None,
+    }
+}
+
+/// What a transfer that ended shows of 1017:00.
+#[tactic(auto, unfolding(crate::specs::EntriesInForce::shown_period))]
+pub(crate) fn shown_period(ended: &Ended) -> Option<u16>
+    ensures { result ≡ shown_period ended.now }
+{
+    if ended.key != PRODUCER_HEARTBEAT {
+        return None;
+    }
+    match (ended.protocol, ended.ending) {
+        (Protocol::Expedited, Ending::Done { crc: _ }) => first_word(ended.first.as_slice()),
+        _ => None,
+    }
+}

@@ -1,0 +1,57 @@
+//! The kinds of differences.
+
+use co_frame::AbortCode;
+use co_value::Key;
+
+/// The NMT state that a device is in, as commands and its own frames have it (CiA 301, 7.3.2.2).
+#[derive(Clone, Copy)]
+pub enum NmtState {
+    /// Nothing shows it.
+    Unknown,
+    /// A reset was commanded, and the boot-up hasn't come.
+    Initialising,
+    PreOperational,
+    Operational,
+    Stopped,
+}
+
+/// A difference between what a device did and what CiA 301 prescribes for its data sheet.
+#[derive(Clone, Copy)]
+pub enum Finding {
+    /// `boot-missing`: after a reset command it sends other frames than a boot-up, so many microseconds after the command.
+    BootMissing(u64),
+    /// `second-sender`: two boot-ups in exchange, so many microseconds apart.
+    SecondBootUp(u64),
+    /// `heartbeat-length`: a heartbeat of so many bytes, not of one.
+    HeartbeatLength(u8),
+    /// `heartbeat-state`: a heartbeat with a byte that is no NMT state.
+    NoState(u8),
+    /// `heartbeat-state`: a heartbeat with this state, which the device can't have reached from the other one.
+    WrongState(NmtState, NmtState),
+    /// `heartbeat-late`: so many microseconds since the last heartbeat, and 1017:00 has so many ms.
+    HeartbeatLate(u64, u16),
+    /// `emcy-length`: an EMCY of so many bytes, not of eight.
+    EmergencyLength(u8),
+    /// `emcy-state`: an EMCY while stopped.
+    EmergencyStopped,
+    /// `emcy-register`: an EMCY with this code and an error register without bit 0.
+    EmergencyRegister(u16, u8),
+    /// `emcy-inhibit`: two EMCY so many microseconds apart, and 1015:00 has so many 100 µs.
+    EmergencyInhibit(u64, u16),
+    /// `no-answer`: a request for this entry isn't answered in time; since it so many microseconds passed.
+    NoAnswer(Key, u64),
+    /// `second-sender`: an answer without a request.
+    Unasked,
+    /// `answer-key`: the answer to the request for this entry has another multiplexer.
+    AnswerKey(Key),
+    /// `answer-form`: the answer to the request for this entry is of no form that its protocol has there.
+    AnswerForm(Key),
+    /// `value-length`: an upload of this entry has so many bytes, and its type has so many.
+    ValueLength(Key, u8, u8),
+    /// `value-const`: an upload of this entry gives the first number, and the data sheet has the second.
+    ValueConst(Key, u64, u64),
+    /// `access-read`: an upload of this entry, which the data sheet has as readable, is refused with this code.
+    ReadRefused(Key, AbortCode),
+    /// `access-write`: a download to this entry, which the data sheet has as read only, is acknowledged.
+    Written(Key),
+}

@@ -1,0 +1,97 @@
+//! Heartbeats that are late (CiA 301, 7.2.8.3.2).
+
+ghost use Rattle.std.specs.Prelude.{◌≡◌};
+ghost use Rattle.conode_compare_rules.specs.Heartbeats.{
+  after_byte,
+  allowance,
+  late_finding,
+  no_heartbeat,
+  overdue_by,
+  is_gap,
+};
+
+use crate::entries::Entries;
+use crate::finding::Finding;
+use crate::limits::{Limits, drift_of, is_past, micros_of};
+use crate::nmt::is_guarded_state;
+
+/// What a recording shows of a device's heartbeats.
+#[derive(Clone, Copy)]
+pub(crate) struct Heartbeats {
+    /// Whether its node guarding was asked for.
+    pub(crate) guarded: bool,
+    /// Since when the next one is awaited.
+    pub(crate) since: Option<u64>,
+}
+
+/// After how many microseconds a heartbeat is late.
+fn allowance(limits: &Limits, period: u16) -> u64
+    ensures { result ≡ allowance limits.now period }
+{
+    micros_of(u32::from(period)) + micros_of(limits.tolerance) + drift_of(limits, period)
+}
+
+/// Whether nothing at all was recorded for longer than three periods; where none is known, or no heartbeat is sent, for longer
+/// than an answer may take.
+pub(crate) fn is_gap(limits: &Limits, period: Option<u16>, newest: u64, micros: u64) -> bool
+    ensures { result ≡ is_gap limits.now period newest micros }
+{
+    match period {
+        Some(period) if period > 0 => {
+            micros.saturating_sub(newest) > 3 * micros_of(u32::from(period))
+        }
+        _ => is_past(newest, limits.answer, micros),
+    }
+}
+
+impl Heartbeats {
+    /// No heartbeat came.
+    pub(crate) fn new() -> Heartbeats
+        ensures { result ≡ no_heartbeat }
+    {
+        Heartbeats {
+            guarded: false,
+            since: None,
+        }
+    }
+
+    /// A heartbeat came, or an answer of node guarding.
+    pub(crate) fn after_control(self, micros: u64, byte: u8) -> Heartbeats
+        ensures { result ≡ after_byte self micros byte }
+    {
+        Heartbeats {
+            guarded: self.guarded || is_guarded_state(byte),
+            since: Some(micros),
+        }
+    }
+
+    // how late the next heartbeat is, where it is, and the period
+    #[tactic(auto, unfolding(crate::specs::Heartbeats::overdue_by))]
+    fn overdue_by(&self, limits: &Limits, entries: &Entries, micros: u64) -> Option<(u64, u16)>
+        ensures { result ≡ overdue_by limits.now entries.now.period self.now micros }
+    {
+        let period = entries.period?;
+        let since = self.since?;
+        let passed = micros.saturating_sub(since);
+        if self.guarded || period == 0 || passed <= allowance(limits, period) {
+            return None;
+        }
+        Some((passed, period))
+    }
+
+    /// The difference of a frame of the device that is no boot-up, where a heartbeat is late.
+    #[tactic(auto, unfolding(crate::specs::Heartbeats::late_finding))]
+    pub(crate) fn late_finding(
+        &self,
+        limits: &Limits,
+        entries: &Entries,
+        micros: u64,
+    ) -> Option<Finding>
+        ensures { result ≡ late_finding limits.now entries.now.period self.now micros }
+    {
+        match self.overdue_by(limits, entries, micros) {
+            Some((passed, period)) => Some(Finding::HeartbeatLate(passed, period)),
+            None => None,
+        }
+    }
+}

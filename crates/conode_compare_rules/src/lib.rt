@@ -1,0 +1,23 @@
+//! What a device did otherwise than CiA 301 prescribes for its data sheet, frame by frame of a recording: each kind of
+//! difference by a rule of its own, and what can't be judged.
+#![tactic(auto)]
+
+mod answers;
+mod dialogue;
+mod emergencies;
+mod entries;
+mod finding;
+mod heartbeats;
+mod kind;
+mod limits;
+mod nmt;
+mod progress;
+mod values;
+mod verdict;
+
+pub use entries::{Entries, Facts, facts_of};
+pub use finding::{Finding, NmtState};
+pub use kind::{FrameKind, kind_of};
+pub use limits::{Limits, Subject};
+pub use progress::Progress;
+pub use verdict::{Findings, Verdict};

@@ -1,0 +1,50 @@
+//! How exactly a device is judged, and the device itself.
+
+ghost use Rattle.std.specs.Prelude.{◌≡◌};
+ghost use Rattle.conode_compare_rules.specs.Times.{is_past, micros_of, drift_of};
+
+use crate::entries::Facts;
+
+/// How exactly a device is judged.
+#[derive(Clone, Copy)]
+pub struct Limits {
+    /// How much later than prescribed a frame may be in the recording, in ms.
+    pub tolerance: u32,
+    /// How much the device's clock may differ from that of the recorder, in percent.
+    pub drift: u8,
+    /// How long the answer to a request may take, in ms.
+    pub answer: u32,
+    /// How long the device may take from a reset command to its boot-up, in ms.
+    pub boot: u32,
+}
+
+/// The device that is compared.
+#[derive(Clone, Copy)]
+pub struct Subject {
+    /// Its node-ID, 1 to 127.
+    pub node: u8,
+    pub limits: Limits,
+    /// What its data sheet says of what it sends by itself.
+    pub facts: Facts,
+}
+
+/// Milliseconds in microseconds.
+pub(crate) fn micros_of(millis: u32) -> u64
+    ensures { result ≡ micros_of millis }
+{
+    u64::from(millis) * 1000
+}
+
+/// By how many microseconds the clocks may differ after so many ms.
+pub(crate) fn drift_of(limits: &Limits, millis: u16) -> u64
+    ensures { result ≡ drift_of limits.now millis }
+{
+    u64::from(u32::from(millis) * u32::from(limits.drift)) * 10
+}
+
+/// Whether a stamp is more than so many ms after another one.
+pub(crate) fn is_past(from: u64, millis: u32, micros: u64) -> bool
+    ensures { result ≡ is_past from millis micros }
+{
+    micros.saturating_sub(from) > micros_of(millis)
+}

@@ -1,0 +1,297 @@
+//! The NMT state of a device, as commands and its own frames have it (CiA 301, 7.3.2.2).
+
+ghost use Rattle.std.specs.Prelude.{◌≡◌};
+ghost use Rattle.conode_compare_rules.specs.States.{
+  after_boot_up,
+  after_command,
+  after_control,
+  after_other,
+  awaits_boot_up,
+  boot_finding,
+  boots_known,
+  control_finding,
+  is_guarded_state,
+  is_reset,
+  is_settled,
+  is_state,
+  is_wrong,
+  state_commanded,
+  state_of,
+  nothing_commanded,
+  second_boot_up,
+  state_finding,
+};
+
+use crate::finding::{Finding, NmtState};
+use crate::limits::{Limits, Subject, is_past};
+use co_frame::NmtService;
+
+// two boot-ups within so many ms are those of two devices
+const SECOND_BOOT_UP: u32 = 1000;
+
+/// An NMT command with its stamp.
+#[derive(Clone, Copy)]
+pub(crate) struct Commanded {
+    pub(crate) service: NmtService,
+    pub(crate) micros: u64,
+}
+
+/// What a recording shows of a device's NMT state.
+#[derive(Clone, Copy)]
+pub(crate) struct Nmt {
+    pub(crate) state: NmtState,
+    /// The newest command.
+    pub(crate) commanded: Option<Commanded>,
+    /// The stamp of its newest boot-up, where it sent nothing since and no reset was commanded.
+    pub(crate) booted: Option<u64>,
+}
+
+/// Whether a command is a reset.
+pub(crate) fn is_reset(service: NmtService) -> bool
+    ensures { result ≡ is_reset service }
+{
+    matches!(
+        service,
+        NmtService::ResetNode | NmtService::ResetCommunication
+    )
+}
+
+// the state after a command
+fn state_commanded(service: NmtService, state: NmtState) -> NmtState
+    ensures { result ≡ state_commanded service state }
+{
+    if is_reset(service) {
+        return NmtState::Initialising;
+    }
+    if matches!(state, NmtState::Unknown | NmtState::Initialising) {
+        return state;
+    }
+    match service {
+        NmtService::Start => NmtState::Operational,
+        NmtService::Stop => NmtState::Stopped,
+        _ => NmtState::PreOperational,
+    }
+}
+
+// the state that a heartbeat's byte names
+fn state_of(byte: u8) -> NmtState
+    ensures { result ≡ state_of byte }
+{
+    match byte {
+        4 => NmtState::Stopped,
+        5 => NmtState::Operational,
+        127 => NmtState::PreOperational,
+        _ => NmtState::Unknown,
+    }
+}
+
+/// Whether a byte of error control can only be an answer of node guarding: a state with its toggle bit set.
+pub(crate) fn is_guarded_state(byte: u8) -> bool
+    ensures { result ≡ is_guarded_state byte }
+{
+    byte == 0x84 || byte == 0x85 || byte == 0xFF
+}
+
+fn is_state(byte: u8) -> bool
+    ensures { result ≡ is_state byte }
+{
+    byte == 4 || byte == 5 || byte == 127
+}
+
+// a state that a device can't have reached by itself
+fn is_wrong(starts_itself: bool, state: NmtState, shown: NmtState) -> bool
+    ensures { result ≡ is_wrong starts_itself state shown }
+{
+    match (state, shown) {
+        (NmtState::PreOperational, NmtState::Operational) => !starts_itself,
+        (NmtState::Stopped, NmtState::Operational | NmtState::PreOperational) => true,
+        _ => false,
+    }
+}
+
+impl Nmt {
+    /// Nothing is known.
+    pub(crate) fn new() -> Nmt
+        ensures { result ≡ nothing_commanded }
+    {
+        Nmt {
+            state: NmtState::Unknown,
+            commanded: None,
+            booted: None,
+        }
+    }
+
+    /// Whether the tolerance is over since the recording began and since the newest command.
+    #[tactic(auto, unfolding(crate::specs::States::is_settled))]
+    pub(crate) fn is_settled(&self, limits: &Limits, started: u64, micros: u64) -> bool
+        ensures { result ≡ is_settled limits.now started self.now.commanded micros }
+    {
+        if !is_past(started, limits.tolerance, micros) {
+            return false;
+        }
+        match self.commanded {
+            Some(command) => is_past(command.micros, limits.tolerance, micros),
+            None => true,
+        }
+    }
+
+    // whether the boot-up that a reset command asks for is overdue
+    #[tactic(auto, unfolding(crate::specs::States::awaits_boot_up))]
+    fn awaits_boot_up(&self, limits: &Limits, micros: u64) -> Option<u64>
+        ensures { result ≡ awaits_boot_up limits.now self.now micros }
+    {
+        let NmtState::Initialising = self.state else {
+            return None;
+        };
+        match self.commanded {
+            Some(command)
+                if is_reset(command.service) && is_past(command.micros, limits.boot, micros) => {
+                Some(micros.saturating_sub(command.micros))
+            }
+            _ => None,
+        }
+    }
+
+    /// The difference of a frame of the device that is no boot-up, where one is overdue.
+    #[tactic(auto, unfolding(crate::specs::States::boot_finding))]
+    pub(crate) fn boot_finding(&self, limits: &Limits, micros: u64) -> Option<Finding>
+        ensures { result ≡ boot_finding limits.now self.now micros }
+    {
+        match self.awaits_boot_up(limits, micros) {
+            Some(waited) => Some(Finding::BootMissing(waited)),
+            None => None,
+        }
+    }
+
+    // the difference of a boot-up
+    #[tactic(auto, unfolding(crate::specs::States::second_boot_up))]
+    fn second_boot_up(&self, micros: u64) -> Option<Finding>
+        ensures { result ≡ second_boot_up self.now.booted micros }
+    {
+        match self.booted {
+            Some(booted) if !is_past(booted, SECOND_BOOT_UP, micros) => {
+                Some(Finding::SecondBootUp(micros.saturating_sub(booted)))
+            }
+            _ => None,
+        }
+    }
+
+    // the difference of a heartbeat's byte, once it is settled
+    #[tactic(auto, unfolding(crate::specs::States::state_finding))]
+    fn state_finding(&self, starts_itself: bool, byte: u8) -> Option<Finding>
+        ensures { result ≡ state_finding starts_itself self.now.state byte }
+    {
+        if is_state(byte) {
+            let shown = state_of(byte);
+            return if is_wrong(starts_itself, self.state, shown) {
+                Some(Finding::WrongState(shown, self.state))
+            } else {
+                None
+            };
+        }
+        match self.state {
+            NmtState::Initialising => None,
+            _ => Some(Finding::NoState(byte)),
+        }
+    }
+
+    /// The difference of a byte of error control. Of a device whose node guarding was asked for only boot-ups are judged.
+    #[tactic(auto, unfolding(crate::specs::States::control_finding))]
+    pub(crate) fn control_finding(
+        &self,
+        subject: &Subject,
+        started: u64,
+        guarded: bool,
+        micros: u64,
+        byte: u8,
+    ) -> Option<Finding>
+        ensures { result
+            ≡ control_finding subject.now started guarded self.now micros byte }
+    {
+        if byte == 0 {
+            return self.second_boot_up(micros);
+        }
+        if guarded || is_guarded_state(byte) || !self.is_settled(&subject.limits, started, micros) {
+            return None;
+        }
+        self.state_finding(subject.facts.starts_itself, byte)
+    }
+
+    // whether the state after a boot-up is pre-operational
+    fn boots_known(&self, limits: &Limits, micros: u64) -> bool
+        ensures { result ≡ boots_known limits.now self.now.commanded micros }
+    {
+        match self.commanded {
+            Some(command) => {
+                is_reset(command.service) || is_past(command.micros, limits.boot, micros)
+            }
+            None => true,
+        }
+    }
+
+    /// A command came.
+    #[tactic(auto, unfolding(crate::specs::States::after_command))]
+    pub(crate) fn after_command(self, service: NmtService, micros: u64) -> Nmt
+        ensures { result ≡ after_command self service micros }
+    {
+        Nmt {
+            state: state_commanded(service, self.state),
+            commanded: Some(Commanded { service, micros }),
+            booted: if is_reset(service) { None } else { self.booted },
+        }
+    }
+
+    // a boot-up came
+    #[tactic(auto, unfolding(crate::specs::States::after_boot_up))]
+    fn after_boot_up(self, limits: &Limits, micros: u64) -> Nmt
+        ensures { result ≡ after_boot_up limits.now self micros }
+    {
+        let known = self.boots_known(limits, micros);
+        Nmt {
+            state: if known {
+                NmtState::PreOperational
+            } else {
+                NmtState::Unknown
+            },
+            commanded: self.commanded,
+            booted: Some(micros),
+        }
+    }
+
+    /// Another frame of the device came.
+    #[tactic(auto, unfolding(crate::specs::States::after_other))]
+    pub(crate) fn after_other(self, limits: &Limits, micros: u64) -> Nmt
+        ensures { result ≡ after_other limits.now self micros }
+    {
+        let overdue = self.awaits_boot_up(limits, micros).is_some();
+        Nmt {
+            state: if overdue {
+                NmtState::Unknown
+            } else {
+                self.state
+            },
+            commanded: self.commanded,
+            booted: None,
+        }
+    }
+
+    /// A byte of error control came.
+    #[tactic(auto, unfolding(crate::specs::States::after_control))]
+    pub(crate) fn after_control(self, limits: &Limits, started: u64, micros: u64, byte: u8) -> Nmt
+        ensures { result ≡ after_control limits.now started self micros byte }
+    {
+        if byte == 0 {
+            return self.after_boot_up(limits, micros);
+        }
+        let settled = self.is_settled(limits, started, micros);
+        let next = self.after_other(limits, micros);
+        if !settled || !is_state(byte) || matches!(self.state, NmtState::Initialising) {
+            return next;
+        }
+        Nmt {
+            state: state_of(byte),
+            commanded: next.commanded,
+            booted: next.booted,
+        }
+    }
+}

@@ -1,0 +1,420 @@
+//! What a recording shows of a device, frame by frame, and what it does otherwise than prescribed.
+
+ghost use Rattle.std.specs.Prelude.{◌≡◌, true, map};
+ghost use Rattle.std.specs.List.{AllPairs};
+ghost use Rattle.co_sheet.specs.SheetViews.{row_view};
+ghost use Rattle.co_value.specs.Keys.{is_key_before};
+ghost use Rattle.conode_compare_rules.specs.Progresses.{
+  after_answer,
+  after_command,
+  after_control,
+  after_emergency,
+  after_fault,
+  after_odd_control,
+  after_sdo,
+  answer_findings,
+  before_recording,
+  begins_anew,
+  begun,
+  boot_findings,
+  booted,
+  control_findings,
+  control_judged,
+  progress_with,
+  emergency_findings,
+  entries_heard,
+  findings_at,
+  findings_in,
+  heartbeat_findings,
+  is_judged,
+  odd_control_findings,
+  odd_emergency_findings,
+  with_gap,
+  since_heard,
+  after_frame,
+  exchange_at,
+  late_noted,
+  was_quiet,
+};
+
+use crate::answers::{answer_finding, silence_finding};
+use crate::dialogue::{Asked, Dialogue, Exchange};
+use crate::emergencies::{emergency_finding, length_finding};
+use crate::entries::{Entries, shown_period};
+use crate::finding::{Finding, NmtState};
+use crate::heartbeats::{Heartbeats, is_gap};
+use crate::kind::FrameKind;
+use crate::limits::{Limits, Subject, is_past};
+use crate::nmt::{Nmt, is_reset};
+use crate::verdict::Findings;
+use co_frame::{Frame, NmtService};
+use co_sheet::EntryRow;
+use conode_explain_transfers::{Ended, Side, What};
+
+/// What a recording shows of a device.
+#[derive(Drop)]
+pub struct Progress {
+    /// The stamp of the newest frame.
+    pub(crate) newest: Option<u64>,
+    /// The stamp of the first frame, or of the first one after a gap.
+    pub(crate) started: u64,
+    pub(crate) nmt: Nmt,
+    pub(crate) heartbeats: Heartbeats,
+    pub(crate) entries: Entries,
+    /// The stamp of its newest EMCY.
+    pub(crate) emergency: Option<u64>,
+    pub(crate) dialogue: Dialogue,
+}
+
+// Since when the next heartbeat is awaited after a transfer ended: one of 1017:00 starts the wait anew.
+fn since_heard(since: Option<u64>, ended: &Option<Ended>, micros: u64) -> Option<u64>
+    ensures { result ≡ since_heard since ended.now micros }
+{
+    match ended {
+        Some(ended) if shown_period(ended).is_some() => Some(micros),
+        _ => since,
+    }
+}
+
+// the entries after a frame of the SDO channel
+fn entries_heard(entries: Entries, ended: &Option<Ended>, asked: Option<Asked>) -> Entries
+    ensures { result ≡ entries_heard entries ended.now asked }
+{
+    let entries = match ended {
+        Some(ended) => entries.ended(ended),
+        None => entries,
+    };
+    match asked {
+        Some(asked) if asked.writes => entries.asked_to_write(asked.key),
+        _ => entries,
+    }
+}
+
+// whether an answer is judged: it follows its initiate request, and answers that
+fn is_judged(exchange: &Exchange) -> bool
+    ensures { result ≡ is_judged exchange.now }
+{
+    exchange.certain && exchange.asked.is_some() && matches!(exchange.heard.what, What::Part)
+}
+
+impl Progress {
+    /// No frame came.
+    pub fn new(subject: &Subject) -> Progress
+        ensures { result ≡ before_recording subject.now }
+    {
+        Progress {
+            newest: None,
+            started: 0,
+            nmt: Nmt::new(),
+            heartbeats: Heartbeats::new(),
+            entries: subject.facts.before,
+            emergency: None,
+            dialogue: Dialogue::new(),
+        }
+    }
+
+    // Whether the recording begins anew: a stamp steps back, or the recorder may have rested.
+    fn begins_anew(&self, limits: &Limits, micros: u64) -> bool
+        ensures { result ≡ begins_anew limits.now self.now micros }
+    {
+        match self.newest {
+            Some(newest) => {
+                micros < newest || is_gap(limits, self.entries.period, newest, micros)
+            }
+            None => true,
+        }
+    }
+
+    // Whether nothing was recorded for longer than an answer may take.
+    fn was_quiet(&self, limits: &Limits, micros: u64) -> bool
+        ensures { result ≡ was_quiet limits.now self.now micros }
+    {
+        match self.newest {
+            Some(newest) => is_past(newest, limits.answer, micros),
+            None => false,
+        }
+    }
+
+    // A frame comes. Where the recording begins anew, nothing is known; where it was quiet, no request is.
+    #[tactic(auto, unfolding(crate::specs::Progresses::begun))]
+    fn begin(&mut self, subject: &Subject, micros: u64)
+        ensures { self.new ≡ begun subject.now self.old micros }
+    {
+        if self.begins_anew(&subject.limits, micros) {
+            *self = Progress::new(subject);
+            self.started = micros;
+        } else if self.was_quiet(&subject.limits, micros) {
+            self.dialogue.interrupt(micros);
+        }
+        self.newest = Some(micros);
+    }
+
+    // What is open isn't known any more.
+    #[tactic(auto, unfolding(crate::specs::Progresses::with_gap))]
+    fn break_off(&mut self, micros: u64)
+        ensures { self.new ≡ with_gap self.old micros }
+    {
+        self.heartbeats.since = None;
+        self.emergency = None;
+        self.dialogue.interrupt(micros);
+    }
+
+    #[tactic(auto, unfolding(crate::specs::Progresses::after_command))]
+    fn take_command(&mut self, service: NmtService, micros: u64)
+        ensures { self.new ≡ after_command self.old service micros }
+    {
+        self.nmt = self.nmt.after_command(service, micros);
+        if is_reset(service) {
+            self.break_off(micros);
+        }
+    }
+
+    // an error frame: what came with it may be missing in the recording
+    #[tactic(auto, unfolding(crate::specs::Progresses::after_fault))]
+    fn take_fault(&mut self, micros: u64)
+        ensures { self.new ≡ after_fault self.old micros }
+    {
+        self.break_off(micros);
+        self.nmt = Nmt::new();
+        self.started = micros;
+    }
+
+    // a boot-up
+    #[tactic(auto, unfolding(crate::specs::Progresses::boot_findings, crate::specs::Progresses::booted, crate::specs::Progresses::with_gap))]
+    fn take_boot_up(&mut self, subject: &Subject, micros: u64) -> Findings
+        ensures findings { result ≡ boot_findings subject.now self.old micros }
+        ensures progress { self.new ≡ booted subject.now self.old micros }
+    {
+        let guarded = self.heartbeats.guarded;
+        let frame = self
+            .nmt
+            .control_finding(subject, self.started, guarded, micros, 0);
+        self.nmt = self
+            .nmt
+            .after_control(&subject.limits, self.started, micros, 0);
+        self.break_off(micros);
+        self.entries = subject.facts.booted;
+        self.heartbeats.since = Some(micros);
+        Findings::of(None, None, None, frame, true)
+    }
+
+    // whether a heartbeat is judged: the state is known, and settled
+    #[tactic(auto, unfolding(crate::specs::Progresses::control_judged))]
+    fn control_judged(&self, subject: &Subject, micros: u64) -> bool
+        ensures { result ≡ control_judged subject.now self.now micros }
+    {
+        if self.heartbeats.guarded
+            || matches!(self.nmt.state, NmtState::Unknown | NmtState::Initialising)
+        {
+            return false;
+        }
+        self.nmt.is_settled(&subject.limits, self.started, micros)
+    }
+
+    // what is found at a heartbeat
+    #[tactic(auto, unfolding(crate::specs::Progresses::heartbeat_findings))]
+    fn heartbeat_findings(
+        &self,
+        subject: &Subject,
+        answer: Option<Finding>,
+        micros: u64,
+        byte: u8,
+    ) -> Findings
+        ensures { result ≡ heartbeat_findings subject.now self.now answer micros byte }
+    {
+        let limits = &subject.limits;
+        let guarded = self.heartbeats.guarded;
+        let frame = self
+            .nmt
+            .control_finding(subject, self.started, guarded, micros, byte);
+        Findings::of(
+            self.nmt.boot_finding(limits, micros),
+            self.heartbeats.late_finding(limits, &self.entries, micros),
+            answer,
+            frame,
+            self.control_judged(subject, micros),
+        )
+    }
+
+    // a heartbeat
+    #[tactic(auto, unfolding(crate::specs::Progresses::control_findings, crate::specs::Progresses::after_control))]
+    fn take_heartbeat(&mut self, subject: &Subject, micros: u64, byte: u8) -> Findings
+        ensures findings { result ≡ control_findings subject.now self.old micros byte }
+        ensures progress { self.new ≡ after_control subject.now self.old micros byte }
+    {
+        let limits = &subject.limits;
+        let answer = silence_finding(limits, self.started, &self.nmt, &self.dialogue, micros);
+        let findings = self.heartbeat_findings(subject, answer, micros, byte);
+        self.nmt = self.nmt.after_control(limits, self.started, micros, byte);
+        self.heartbeats = self.heartbeats.after_control(micros, byte);
+        if answer.is_some() {
+            self.dialogue.give_up(micros);
+        }
+        findings
+    }
+
+    // error control of another number of bytes than one
+    #[tactic(auto, unfolding(crate::specs::Progresses::odd_control_findings, crate::specs::Progresses::after_odd_control))]
+    fn take_odd_control(&mut self, subject: &Subject, micros: u64, length: u8) -> Findings
+        ensures findings { result ≡ odd_control_findings subject.now self.old micros length }
+        ensures progress { self.new ≡ after_odd_control subject.now self.old micros }
+    {
+        let limits = &subject.limits;
+        let boot = self.nmt.boot_finding(limits, micros);
+        let heartbeat = self.heartbeats.late_finding(limits, &self.entries, micros);
+        self.nmt = self.nmt.after_other(limits, micros);
+        self.heartbeats.since = Some(micros);
+        let frame = Some(Finding::HeartbeatLength(length));
+        Findings::of(boot, heartbeat, None, frame, true)
+    }
+
+    #[tactic(auto, unfolding(crate::specs::Progresses::after_emergency))]
+    fn note_emergency(&mut self, micros: u64)
+        ensures { self.new ≡ after_emergency self.old micros }
+    {
+        self.emergency = Some(micros);
+        self.nmt.booted = None;
+    }
+
+    // an EMCY
+    #[tactic(auto, unfolding(crate::specs::Progresses::emergency_findings, crate::specs::Progresses::after_emergency))]
+    fn take_emergency(
+        &mut self,
+        subject: &Subject,
+        micros: u64,
+        code: u16,
+        register: u8,
+    ) -> Findings
+        ensures findings { result ≡ emergency_findings subject.now self.old micros code register }
+        ensures progress { self.new ≡ after_emergency self.old micros }
+    {
+        let limits = &subject.limits;
+        let settled = self.nmt.is_settled(limits, self.started, micros);
+        let frame = emergency_finding(
+            limits,
+            &self.entries,
+            self.nmt.state,
+            settled,
+            self.emergency,
+            micros,
+            code,
+            register,
+        );
+        self.note_emergency(micros);
+        Findings::of(None, None, None, frame, self.entries.emergencies)
+    }
+
+    // an EMCY of another number of bytes than eight
+    #[tactic(auto, unfolding(crate::specs::Progresses::odd_emergency_findings, crate::specs::Progresses::after_emergency))]
+    fn take_odd_emergency(&mut self, micros: u64, length: u8) -> Findings
+        ensures findings { result ≡ odd_emergency_findings self.old length }
+        ensures progress { self.new ≡ after_emergency self.old micros }
+    {
+        let frame = length_finding(&self.entries, length);
+        self.note_emergency(micros);
+        Findings::of(None, None, None, frame, self.entries.emergencies)
+    }
+
+    // a frame of the SDO channel is heard
+    #[tactic(auto, unfolding(crate::specs::Progresses::exchange_at, crate::specs::Progresses::after_sdo, crate::specs::Dialogues::exchange_in))]
+    fn hear(&mut self, subject: &Subject, micros: u64, side: Side, frame: &Frame) -> Exchange
+        ensures exchange { result ≡ exchange_at subject.now self.old micros side frame.now }
+        ensures progress { self.new ≡ after_sdo self.old micros side frame.now }
+    {
+        let exchange = self
+            .dialogue
+            .hear(&subject.limits, self.started, micros, side, frame);
+        self.entries = entries_heard(self.entries, &exchange.heard.ended, self.dialogue.asked);
+        self.heartbeats.since = since_heard(self.heartbeats.since, &exchange.heard.ended, micros);
+        exchange
+    }
+
+    // an answer comes: where a heartbeat was late, it isn't said again
+    #[tactic(auto, unfolding(crate::specs::Progresses::late_noted))]
+    fn note_answer(&mut self, subject: &Subject, late: bool, micros: u64)
+        ensures { self.new ≡ late_noted subject.now self.old late micros }
+    {
+        self.nmt = self.nmt.after_other(&subject.limits, micros);
+        if late {
+            self.heartbeats.since = None;
+        }
+    }
+
+    // an answer
+    #[tactic(auto, unfolding(crate::specs::Progresses::answer_findings, crate::specs::Progresses::after_answer))]
+    fn take_answer(
+        &mut self,
+        subject: &Subject,
+        rows: &[EntryRow<'_>],
+        micros: u64,
+        frame: &Frame,
+    ) -> Findings
+        requires { AllPairs (λ e f. is_key_before e.key f.key ≡ true) rows.now }
+        ensures findings { result
+            ≡ answer_findings subject.now (map row_view rows.now) self.old micros frame.now }
+        ensures progress { self.new ≡ after_answer subject.now self.old micros frame.now }
+    {
+        let boot = self.nmt.boot_finding(&subject.limits, micros);
+        let heartbeat = self
+            .heartbeats
+            .late_finding(&subject.limits, &self.entries, micros);
+        self.note_answer(subject, heartbeat.is_some(), micros);
+        let exchange = self.hear(subject, micros, Side::Server, frame);
+        let difference = answer_finding(subject, rows, micros, &exchange, frame);
+        Findings::of(boot, heartbeat, None, difference, is_judged(&exchange))
+    }
+
+    // a frame, once the recording is begun
+    fn take_kind(
+        &mut self,
+        subject: &Subject,
+        rows: &[EntryRow<'_>],
+        micros: u64,
+        kind: &FrameKind,
+    ) -> Findings
+        requires { AllPairs (λ e f. is_key_before e.key f.key ≡ true) rows.now }
+        ensures findings { result
+            ≡ findings_in subject.now (map row_view rows.now) self.old micros kind.now }
+        ensures progress { self.new ≡ after_frame subject.now self.old micros kind.now }
+    {
+        match kind {
+            FrameKind::Sdo(Side::Server, frame) => {
+                return self.take_answer(subject, rows, micros, frame);
+            }
+            FrameKind::Control(0) => return self.take_boot_up(subject, micros),
+            FrameKind::Control(byte) => return self.take_heartbeat(subject, micros, *byte),
+            FrameKind::OddControl(length) => return self.take_odd_control(subject, micros, *length),
+            FrameKind::Emergency(code, register) => {
+                return self.take_emergency(subject, micros, *code, *register);
+            }
+            FrameKind::OddEmergency(length) => return self.take_odd_emergency(micros, *length),
+            FrameKind::Sdo(Side::Client, frame) => {
+                let _ = self.hear(subject, micros, Side::Client, frame);
+            }
+            FrameKind::Command(service) => self.take_command(*service, micros),
+            FrameKind::Guarding => self.heartbeats.guarded = true,
+            FrameKind::Fault => self.take_fault(micros),
+            FrameKind::Other => {}
+        }
+        Findings::none()
+    }
+
+    /// Takes a frame of the recording with its stamp in microseconds, by what it is to the device. Gives what is found at it,
+    /// with a data sheet whose entries are in increasing key.
+    #[tactic(auto, unfolding(crate::specs::Progresses::findings_at, crate::specs::Progresses::progress_with))]
+    pub fn take(
+        &mut self,
+        subject: &Subject,
+        rows: &[EntryRow<'_>],
+        micros: u64,
+        kind: &FrameKind,
+    ) -> Findings
+        requires { AllPairs (λ e f. is_key_before e.key f.key ≡ true) rows.now }
+        ensures findings { result
+            ≡ findings_at subject.now (map row_view rows.now) self.old micros kind.now }
+        ensures progress { self.new ≡ progress_with subject.now self.old micros kind.now }
+    {
+        self.begin(subject, micros);
+        self.take_kind(subject, rows, micros, kind)
+    }
+}

@@ -1,0 +1,81 @@
+-- Lines of differences, computed from the definitions.
+use Rattle.std.proofs.Common.{◌≡◌, ℕ, [], ◌∷◌, ◌++◌, refl, codes}
+use Rattle.std.specs.Fmt.{digits}
+use Rattle.co_text.specs.Printed.{digits_text}
+use Rattle.co_value.specs.declared.key.Key.{Key}
+use Rattle.conode_compare_rules.specs.declared.finding.Finding.TheVariants.{BootMissing, SecondBootUp, HeartbeatLength, NoState, WrongState, HeartbeatLate, EmergencyLength, EmergencyStopped, EmergencyRegister, EmergencyInhibit, NoAnswer, Unasked, AnswerKey, AnswerForm, ValueLength, ValueConst, ReadRefused, Written}
+use Rattle.conode_compare_rules.specs.declared.finding.NmtState.TheVariants.{PreOperational, Operational}
+use Rattle.conode_compare_text.specs.FindingTexts.{coded, finding_line, finding_text, hexadecimal, keyed, keyed_code, keyed_codes, keyed_numbers, keyed_time, millis_text, named, numbered, timed, timed_number, two_codes, two_times}
+use Rattle.conode_compare_text.specs.Tallies.{summary}
+
+abbrev key : Key
+key = record { index = 0x1018; sub = 1 }
+
+late_line : finding_line (codes "r.log") 120 (HeartbeatLate 1020001 1000) ≡ codes "r.log:120: heartbeat-late: 1020.001 ms since the last one, 1017:00 has 1000 ms" ++ 10 ∷ []
+unfolding finding_line finding_text timed_number millis_text numbered digits_text digits
+late_line = refl
+
+boot_missing : finding_text (BootMissing 10000001) ≡ codes "boot-missing: no boot-up 10000.001 ms after the reset command"
+unfolding finding_text timed millis_text digits_text digits
+boot_missing = refl
+
+second_boot_up : finding_text (SecondBootUp 999) ≡ codes "second-sender: a boot-up 0.999 ms after the last one"
+unfolding finding_text timed millis_text digits_text digits
+second_boot_up = refl
+
+heartbeat_length : finding_text (HeartbeatLength 2) ≡ codes "heartbeat-length: 2 bytes, not 1"
+unfolding finding_text numbered digits
+heartbeat_length = refl
+
+no_state : finding_text (NoState 0xA) ≡ codes "heartbeat-state: 0Ah is no NMT state"
+unfolding finding_text coded digits_text
+no_state = refl
+
+wrong_state : finding_text (WrongState Operational PreOperational) ≡ codes "heartbeat-state: operational, but by the commands it is pre-operational"
+unfolding finding_text named
+wrong_state = refl
+
+emergency_length : finding_text (EmergencyLength 7) ≡ codes "emcy-length: 7 bytes, not 8"
+unfolding finding_text numbered digits
+emergency_length = refl
+
+emergency_register : finding_text (EmergencyRegister 0x8130 0x10) ≡ codes "emcy-register: code 8130h with error register 10h, whose bit 0 isn't set"
+unfolding finding_text two_codes digits_text
+emergency_register = refl
+
+emergency_inhibit : finding_text (EmergencyInhibit 88999 1000) ≡ codes "emcy-inhibit: 88.999 ms since the last one, 1015:00 has 100.000 ms"
+unfolding finding_text two_times millis_text digits_text digits
+emergency_inhibit = refl
+
+no_answer : finding_text (NoAnswer key 1000001) ≡ codes "no-answer: 1018:01 was requested 1000.001 ms ago"
+unfolding finding_text keyed_time millis_text digits_text digits
+no_answer = refl
+
+answer_key : finding_text (AnswerKey key) ≡ codes "answer-key: 1018:01 was requested, another entry is answered"
+unfolding finding_text keyed digits_text
+answer_key = refl
+
+answer_form : finding_text (AnswerForm key) ≡ codes "answer-form: 1018:01 was requested, which has no such answer"
+unfolding finding_text keyed digits_text
+answer_form = refl
+
+value_length : finding_text (ValueLength key 2 4) ≡ codes "value-length: 1018:01 has 2 bytes, its type 4"
+unfolding finding_text keyed_numbers digits_text digits
+value_length = refl
+
+value_const : finding_text (ValueConst key 0x12345678 0xABC) ≡ codes "value-const: 1018:01 has 12345678h, the sheet 00000ABCh"
+unfolding finding_text keyed_codes hexadecimal digits_text
+value_const = refl
+
+refused : finding_text (ReadRefused key (record { 0 = 0x06020000 })) ≡ codes "access-read: 1018:01 refused with 06020000, the sheet has it as readable"
+unfolding finding_text keyed_code digits_text
+refused = refl
+
+written : finding_text (Written key) ≡ codes "access-write: 1018:01 was written, the sheet has it as read only"
+unfolding finding_text keyed digits_text
+written = refl
+
+sums : summary 5 (record { prescribed = 118; different = 2; unjudged = 14 })
+    ≡ codes "node 5: 118 frames as prescribed, 2 with a difference, 14 unjudged" ++ 10 ∷ []
+unfolding summary numbered digits
+sums = refl

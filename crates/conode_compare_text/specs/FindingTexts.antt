@@ -1,0 +1,94 @@
+-- The line of a difference.
+use Rattle.std.specs.Prelude.{ℕ, ◌*◌, ◌/◌, ◌%◌, List, [], ◌∷◌, ◌++◌, codes, decimal}
+use Rattle.co_text.specs.Printed.{digits_text}
+use Rattle.co_value.specs.declared.key.Key.{Key}
+use Rattle.co_value.specs.KeyTexts.{key_text}
+use Rattle.conode_compare_rules.specs.declared.finding.Finding.{Finding}
+use Rattle.conode_compare_rules.specs.declared.finding.Finding.TheVariants.{BootMissing, SecondBootUp, HeartbeatLength, NoState, WrongState, HeartbeatLate, EmergencyLength, EmergencyStopped, EmergencyRegister, EmergencyInhibit, NoAnswer, Unasked, AnswerKey, AnswerForm, ValueLength, ValueConst, ReadRefused, Written}
+use Rattle.conode_compare_rules.specs.declared.finding.NmtState.{NmtState}
+use Rattle.conode_compare_rules.specs.declared.finding.NmtState.TheVariants.{Unknown, Initialising, PreOperational, Operational, Stopped}
+
+-- a number, and a key, between words
+unfoldable pub numbered : List ℕ → ℕ → List ℕ → List ℕ
+numbered front number end = front ++ decimal number ++ end
+
+-- microseconds, in ms with three digits after the point; and between words
+unfoldable pub millis_text : ℕ → List ℕ
+millis_text micros = decimal (micros / 1000) ++ codes "." ++ digits_text 10 3 (micros % 1000) ++ codes " ms"
+
+unfoldable pub timed : List ℕ → ℕ → List ℕ → List ℕ
+timed front micros end = front ++ millis_text micros ++ end
+
+-- a number in eight hexadecimal digits
+unfoldable pub hexadecimal : ℕ → List ℕ
+hexadecimal number = digits_text 16 4 (number / 0x10000 % 0x10000) ++ digits_text 16 4 (number % 0x10000) ++ codes "h"
+
+unfoldable pub keyed : List ℕ → Key → List ℕ → List ℕ
+keyed front key end = front ++ key_text key ++ end
+
+-- bytes, codes, names, times and numbers between words
+unfoldable pub coded : List ℕ → ℕ → List ℕ → List ℕ
+coded front byte end = front ++ digits_text 16 2 byte ++ end
+
+unfoldable pub named : List ℕ → List ℕ → List ℕ → List ℕ → List ℕ
+named front first middle second = front ++ first ++ middle ++ second
+
+unfoldable pub timed_number : List ℕ → ℕ → List ℕ → ℕ → List ℕ → List ℕ
+timed_number front micros middle number end = front ++ millis_text micros ++ middle ++ decimal number ++ end
+
+unfoldable pub two_times : List ℕ → ℕ → List ℕ → ℕ → List ℕ
+two_times front micros middle other = front ++ millis_text micros ++ middle ++ millis_text other
+
+unfoldable pub two_codes : List ℕ → ℕ → List ℕ → ℕ → List ℕ → List ℕ
+two_codes front code middle byte end = front ++ digits_text 16 4 code ++ middle ++ digits_text 16 2 byte ++ end
+
+unfoldable pub keyed_time : List ℕ → Key → List ℕ → ℕ → List ℕ → List ℕ
+keyed_time front key middle micros end = front ++ key_text key ++ middle ++ millis_text micros ++ end
+
+unfoldable pub keyed_numbers : List ℕ → Key → List ℕ → ℕ → List ℕ → ℕ → List ℕ
+keyed_numbers front key middle number last other = front ++ key_text key ++ middle ++ decimal number ++ last ++ decimal other
+
+unfoldable pub keyed_codes : List ℕ → Key → List ℕ → ℕ → List ℕ → ℕ → List ℕ
+keyed_codes front key middle number last other = front ++ key_text key ++ middle ++ hexadecimal number ++ last ++ hexadecimal other
+
+unfoldable pub keyed_code : List ℕ → Key → List ℕ → ℕ → List ℕ → List ℕ
+keyed_code front key middle code end = front ++ key_text key ++ middle ++ digits_text 16 8 code ++ end
+
+abbrev pub state_name : NmtState → List ℕ
+state_name Unknown = codes "unknown"
+state_name Initialising = codes "initialising"
+state_name PreOperational = codes "pre-operational"
+state_name Operational = codes "operational"
+state_name Stopped = codes "stopped"
+
+-- the name of the kind, and what is different
+unfoldable pub finding_text : Finding → List ℕ
+finding_text (BootMissing passed) = timed (codes "boot-missing: no boot-up ") passed (codes " after the reset command")
+finding_text (SecondBootUp passed) = timed (codes "second-sender: a boot-up ") passed (codes " after the last one")
+finding_text (HeartbeatLength length) = numbered (codes "heartbeat-length: ") length (codes " bytes, not 1")
+finding_text (NoState byte) = coded (codes "heartbeat-state: ") byte (codes "h is no NMT state")
+finding_text (WrongState shown held) =
+    named (codes "heartbeat-state: ") (state_name shown) (codes ", but by the commands it is ") (state_name held)
+finding_text (HeartbeatLate passed period) =
+    timed_number (codes "heartbeat-late: ") passed (codes " since the last one, 1017:00 has ") period (codes " ms")
+finding_text (EmergencyLength length) = numbered (codes "emcy-length: ") length (codes " bytes, not 8")
+finding_text EmergencyStopped = codes "emcy-state: an EMCY while stopped"
+finding_text (EmergencyRegister code register) =
+    two_codes (codes "emcy-register: code ") code (codes "h with error register ") register (codes "h, whose bit 0 isn't set")
+finding_text (EmergencyInhibit passed inhibit) =
+    two_times (codes "emcy-inhibit: ") passed (codes " since the last one, 1015:00 has ") (inhibit * 100)
+finding_text (NoAnswer key passed) = keyed_time (codes "no-answer: ") key (codes " was requested ") passed (codes " ago")
+finding_text Unasked = codes "second-sender: an answer without a request"
+finding_text (AnswerKey key) = keyed (codes "answer-key: ") key (codes " was requested, another entry is answered")
+finding_text (AnswerForm key) = keyed (codes "answer-form: ") key (codes " was requested, which has no such answer")
+finding_text (ValueLength key length width) =
+    keyed_numbers (codes "value-length: ") key (codes " has ") length (codes " bytes, its type ") width
+finding_text (ValueConst key shown held) = keyed_codes (codes "value-const: ") key (codes " has ") shown (codes ", the sheet ") held
+finding_text (ReadRefused key code) =
+    keyed_code (codes "access-read: ") key (codes " refused with ") code.0 (codes ", the sheet has it as readable")
+finding_text (Written key) = keyed (codes "access-write: ") key (codes " was written, the sheet has it as read only")
+
+-- `recording.log:123: heartbeat-late: ..`
+unfoldable pub finding_line : List ℕ → ℕ → Finding → List ℕ
+finding_line recording line finding =
+    recording ++ numbered (codes ":") line (codes ": ") ++ finding_text finding ++ 10 ∷ []

@@ -1,0 +1,2 @@
+pub mod FindingTexts
+pub mod Tallies

@@ -1,0 +1,29 @@
+-- How many frames of the device have which verdict.
+use Rattle.std.specs.Prelude.{ℕ, ◌+◌, ◌-◌, ◌^◌, min, List, [], ◌∷◌, ◌++◌, codes, Option, Some, None}
+use Rattle.conode_compare_rules.specs.declared.verdict.Verdict.{Verdict}
+use Rattle.conode_compare_rules.specs.declared.verdict.Verdict.TheVariants.{Prescribed, Different, Unjudged}
+use Rattle.conode_compare_text.specs.declared.tally.Tally.{Tally}
+use Rattle.conode_compare_text.specs.FindingTexts.{numbered}
+
+abbrev pub no_frames : Tally
+no_frames = record { prescribed = 0; different = 0; unjudged = 0 }
+
+-- one more, up to 2^64 - 1
+abbrev pub one_more : ℕ → ℕ
+one_more count = min (count + 1) (2 ^ 64 - 1)
+
+abbrev pub with_verdict : Tally → Verdict → Tally
+with_verdict tally Prescribed = record tally { prescribed = one_more tally.prescribed }
+with_verdict tally Different = record tally { different = one_more tally.different }
+with_verdict tally Unjudged = record tally { unjudged = one_more tally.unjudged }
+
+-- only a frame of the device has a verdict
+abbrev pub tally_with : Tally → Option Verdict → Tally
+tally_with tally None = tally
+tally_with tally (Some verdict) = with_verdict tally verdict
+
+-- the line that ends a comparison
+unfoldable pub summary : ℕ → Tally → List ℕ
+summary node tally =
+    numbered (codes "node ") node (codes ": ") ++ numbered [] tally.prescribed (codes " frames as prescribed, ")
+    ++ numbered [] tally.different (codes " with a difference, ") ++ numbered [] tally.unjudged (codes " unjudged") ++ 10 ∷ []

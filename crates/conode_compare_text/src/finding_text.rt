@@ -1,0 +1,158 @@
+//! The line of a difference.
+
+ghost use Rattle.std.specs.Prelude.{◌≡◌, ◌++◌, OnOk, string_bytes};
+ghost use Rattle.conode_compare_text.specs.FindingTexts.{finding_line, finding_text, state_name};
+
+use crate::parts::{
+    push_coded, push_codes, push_key, push_key_code, push_key_codes, push_key_numbers,
+    push_key_time, push_named, push_number, push_time, push_time_number, push_times, push_words,
+};
+use conode_compare_rules::{Finding, NmtState};
+use std::alloc::AllocError;
+
+fn state_name(state: NmtState) -> &'static str
+    ensures { result.now ≡ state_name state }
+{
+    match state {
+        NmtState::Unknown => "unknown",
+        NmtState::Initialising => "initialising",
+        NmtState::PreOperational => "pre-operational",
+        NmtState::Operational => "operational",
+        NmtState::Stopped => "stopped",
+    }
+}
+
+// what is different
+#[tactic(auto, unfolding(crate::specs::FindingTexts::finding_text))]
+fn push_finding(text: &mut String, finding: Finding) -> Result<(), AllocError>
+    ensures { OnOk result (string_bytes text.new
+        ≡ string_bytes text.old ++ finding_text finding) }
+{
+    match finding {
+        Finding::BootMissing(passed) => push_time(
+            text,
+            "boot-missing: no boot-up ",
+            passed,
+            " after the reset command",
+        ),
+        Finding::SecondBootUp(passed) => push_time(
+            text,
+            "second-sender: a boot-up ",
+            passed,
+            " after the last one",
+        ),
+        Finding::HeartbeatLength(length) => push_number(
+            text,
+            "heartbeat-length: ",
+            u64::from(length),
+            " bytes, not 1",
+        ),
+        Finding::NoState(byte) => push_coded(text, "heartbeat-state: ", byte, "h is no NMT state"),
+        Finding::WrongState(shown, held) => push_named(
+            text,
+            "heartbeat-state: ",
+            state_name(shown),
+            ", but by the commands it is ",
+            state_name(held),
+        ),
+        Finding::HeartbeatLate(passed, period) => push_time_number(
+            text,
+            "heartbeat-late: ",
+            passed,
+            " since the last one, 1017:00 has ",
+            u64::from(period),
+            " ms",
+        ),
+        Finding::EmergencyLength(length) => {
+            push_number(text, "emcy-length: ", u64::from(length), " bytes, not 8")
+        }
+        Finding::EmergencyStopped => push_words(text, "emcy-state: an EMCY while stopped"),
+        Finding::EmergencyRegister(code, register) => push_codes(
+            text,
+            "emcy-register: code ",
+            code,
+            "h with error register ",
+            register,
+            "h, whose bit 0 isn't set",
+        ),
+        Finding::EmergencyInhibit(passed, inhibit) => push_times(
+            text,
+            "emcy-inhibit: ",
+            passed,
+            " since the last one, 1015:00 has ",
+            u64::from(inhibit) * 100,
+        ),
+        Finding::NoAnswer(key, passed) => push_key_time(
+            text,
+            "no-answer: ",
+            key,
+            " was requested ",
+            passed,
+            " ago",
+        ),
+        Finding::Unasked => push_words(text, "second-sender: an answer without a request"),
+        Finding::AnswerKey(key) => push_key(
+            text,
+            "answer-key: ",
+            key,
+            " was requested, another entry is answered",
+        ),
+        Finding::AnswerForm(key) => push_key(
+            text,
+            "answer-form: ",
+            key,
+            " was requested, which has no such answer",
+        ),
+        Finding::ValueLength(key, length, width) => push_key_numbers(
+            text,
+            "value-length: ",
+            key,
+            " has ",
+            u64::from(length),
+            " bytes, its type ",
+            u64::from(width),
+        ),
+        Finding::ValueConst(key, shown, held) => push_key_codes(
+            text,
+            "value-const: ",
+            key,
+            " has ",
+            shown,
+            ", the sheet ",
+            held,
+        ),
+        Finding::ReadRefused(key, code) => push_key_code(
+            text,
+            "access-read: ",
+            key,
+            " refused with ",
+            code.0,
+            ", the sheet has it as readable",
+        ),
+        Finding::Written(key) => push_key(
+            text,
+            "access-write: ",
+            key,
+            " was written, the sheet has it as read only",
+        ),
+    }
+}
+
+/// Sets a text to the line of a difference, with its line feed, at a line of a recording by its name. On an `Err` memory ran
+/// out, and a part of it may be there.
+#[tactic(auto, unfolding(crate::specs::FindingTexts::finding_line))]
+pub fn set_finding_line(
+    text: &mut String,
+    recording: &str,
+    line: u64,
+    finding: Finding,
+) -> Result<(), AllocError>
+    ensures { OnOk result
+        (string_bytes text.new ≡ finding_line recording.now line finding) }
+{
+    text.clear();
+    push_words(text, recording)?;
+    push_number(text, ":", line, ": ")?;
+    push_finding(text, finding)?;
+    text.push('\n')
+}

@@ -1,0 +1,9 @@
+//! What a device did otherwise than prescribed, in words.
+#![tactic(auto)]
+
+mod finding_text;
+mod parts;
+mod tally;
+
+pub use finding_text::set_finding_line;
+pub use tally::{Tally, set_summary};

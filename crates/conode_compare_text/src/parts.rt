@@ -1,0 +1,286 @@
+//! Parts of a line. Each function appends a text; on an `Err` memory ran out, and a part of it may be there.
+
+ghost use Rattle.std.specs.Prelude.{◌≡◌, ◌++◌, ◌<◌, OnOk, string_bytes};
+ghost use Rattle.co_text.specs.Printed.{digits_text};
+ghost use Rattle.conode_compare_text.specs.FindingTexts.{
+  coded,
+  hexadecimal,
+  keyed,
+  keyed_code,
+  keyed_codes,
+  keyed_numbers,
+  keyed_time,
+  millis_text,
+  named,
+  numbered,
+  timed,
+  timed_number,
+  two_codes,
+  two_times,
+};
+
+use co_text::{push_byte, push_decimal, push_digit, push_u16, push_u32};
+use co_value::Key;
+use std::alloc::AllocError;
+
+/// Words.
+pub(crate) fn push_words(text: &mut String, words: &str) -> Result<(), AllocError>
+    ensures { OnOk result (string_bytes text.new ≡ string_bytes text.old ++ words.now) }
+{
+    text.push_str(words)
+}
+
+/// A number between words.
+#[tactic(auto, unfolding(crate::specs::FindingTexts::numbered))]
+pub(crate) fn push_number(
+    text: &mut String,
+    front: &str,
+    number: u64,
+    end: &str,
+) -> Result<(), AllocError>
+    ensures { OnOk result (string_bytes text.new
+        ≡ string_bytes text.old ++ numbered front.now number end.now) }
+{
+    push_words(text, front)?;
+    push_decimal(text, number)?;
+    push_words(text, end)
+}
+
+/// A key between words.
+#[tactic(auto, unfolding(crate::specs::FindingTexts::keyed))]
+pub(crate) fn push_key(
+    text: &mut String,
+    front: &str,
+    key: Key,
+    end: &str,
+) -> Result<(), AllocError>
+    ensures { OnOk result (string_bytes text.new
+        ≡ string_bytes text.old ++ keyed front.now key end.now) }
+{
+    push_words(text, front)?;
+    push_words(text, key.text().as_str())?;
+    push_words(text, end)
+}
+
+#[tactic(auto, unfolding(co_text::specs::Printed::digits_text))]
+fn push_three_digits(text: &mut String, number: u64) -> Result<(), AllocError>
+    ensures { OnOk result
+        (string_bytes text.new ≡ string_bytes text.old ++ digits_text 10 3 number) }
+{
+    push_digit(text, (number / 10 / 10 % 10) as u8)?;
+    push_digit(text, (number / 10 % 10) as u8)?;
+    push_digit(text, (number % 10) as u8)
+}
+
+// microseconds, in ms with three digits after the point
+#[tactic(auto, unfolding(crate::specs::FindingTexts::millis_text))]
+fn push_millis(text: &mut String, micros: u64) -> Result<(), AllocError>
+    ensures { OnOk result (string_bytes text.new ≡ string_bytes text.old ++ millis_text micros) }
+{
+    push_decimal(text, micros / 1000)?;
+    text.push('.')?;
+    push_three_digits(text, micros % 1000)?;
+    text.push_str(" ms")
+}
+
+/// A time in microseconds between words.
+#[tactic(auto, unfolding(crate::specs::FindingTexts::timed))]
+pub(crate) fn push_time(
+    text: &mut String,
+    front: &str,
+    micros: u64,
+    end: &str,
+) -> Result<(), AllocError>
+    ensures { OnOk result (string_bytes text.new
+        ≡ string_bytes text.old ++ timed front.now micros end.now) }
+{
+    push_words(text, front)?;
+    push_millis(text, micros)?;
+    push_words(text, end)
+}
+
+// a number in eight hexadecimal digits
+#[tactic(auto, unfolding(crate::specs::FindingTexts::hexadecimal))]
+fn push_hexadecimal(text: &mut String, number: u64) -> Result<(), AllocError>
+    ensures { OnOk result (string_bytes text.new ≡ string_bytes text.old ++ hexadecimal number) }
+{
+    push_u16(text, (number / 0x1_0000 % 0x1_0000) as u16)?;
+    push_u16(text, (number % 0x1_0000) as u16)?;
+    text.push('h')
+}
+
+/// A byte in two hexadecimal digits between words.
+#[tactic(auto, unfolding(crate::specs::FindingTexts::coded))]
+pub(crate) fn push_coded(
+    text: &mut String,
+    front: &str,
+    byte: u8,
+    end: &str,
+) -> Result<(), AllocError>
+    ensures { OnOk result (string_bytes text.new
+        ≡ string_bytes text.old ++ coded front.now byte end.now) }
+{
+    push_words(text, front)?;
+    push_byte(text, byte)?;
+    push_words(text, end)
+}
+
+/// Two words, each with words before it.
+#[tactic(auto, unfolding(crate::specs::FindingTexts::named))]
+pub(crate) fn push_named(
+    text: &mut String,
+    front: &str,
+    first: &str,
+    middle: &str,
+    second: &str,
+) -> Result<(), AllocError>
+    ensures { OnOk result (string_bytes text.new
+        ≡ string_bytes text.old ++ named front.now first.now middle.now second.now) }
+{
+    push_words(text, front)?;
+    push_words(text, first)?;
+    push_words(text, middle)?;
+    push_words(text, second)
+}
+
+/// A time in microseconds and a number between words.
+#[tactic(auto, unfolding(crate::specs::FindingTexts::timed_number))]
+pub(crate) fn push_time_number(
+    text: &mut String,
+    front: &str,
+    micros: u64,
+    middle: &str,
+    number: u64,
+    end: &str,
+) -> Result<(), AllocError>
+    ensures { OnOk result (string_bytes text.new
+        ≡ string_bytes text.old ++ timed_number front.now micros middle.now number end.now) }
+{
+    push_words(text, front)?;
+    push_millis(text, micros)?;
+    push_words(text, middle)?;
+    push_decimal(text, number)?;
+    push_words(text, end)
+}
+
+/// Two times in microseconds, each with words before it.
+#[tactic(auto, unfolding(crate::specs::FindingTexts::two_times))]
+pub(crate) fn push_times(
+    text: &mut String,
+    front: &str,
+    micros: u64,
+    middle: &str,
+    other: u64,
+) -> Result<(), AllocError>
+    ensures { OnOk result (string_bytes text.new
+        ≡ string_bytes text.old ++ two_times front.now micros middle.now other) }
+{
+    push_words(text, front)?;
+    push_millis(text, micros)?;
+    push_words(text, middle)?;
+    push_millis(text, other)
+}
+
+/// A code and a byte in hexadecimal digits between words.
+#[tactic(auto, unfolding(crate::specs::FindingTexts::two_codes))]
+pub(crate) fn push_codes(
+    text: &mut String,
+    front: &str,
+    code: u16,
+    middle: &str,
+    byte: u8,
+    end: &str,
+) -> Result<(), AllocError>
+    ensures { OnOk result (string_bytes text.new
+        ≡ string_bytes text.old ++ two_codes front.now code middle.now byte end.now) }
+{
+    push_words(text, front)?;
+    push_u16(text, code)?;
+    push_words(text, middle)?;
+    push_byte(text, byte)?;
+    push_words(text, end)
+}
+
+/// A key and a time in microseconds between words.
+#[tactic(auto, unfolding(crate::specs::FindingTexts::keyed_time))]
+pub(crate) fn push_key_time(
+    text: &mut String,
+    front: &str,
+    key: Key,
+    middle: &str,
+    micros: u64,
+    end: &str,
+) -> Result<(), AllocError>
+    ensures { OnOk result (string_bytes text.new
+        ≡ string_bytes text.old ++ keyed_time front.now key middle.now micros end.now) }
+{
+    push_words(text, front)?;
+    push_words(text, key.text().as_str())?;
+    push_words(text, middle)?;
+    push_millis(text, micros)?;
+    push_words(text, end)
+}
+
+/// A key and two numbers, each with words before it.
+#[tactic(auto, unfolding(crate::specs::FindingTexts::keyed_numbers))]
+pub(crate) fn push_key_numbers(
+    text: &mut String,
+    front: &str,
+    key: Key,
+    middle: &str,
+    number: u64,
+    last: &str,
+    other: u64,
+) -> Result<(), AllocError>
+    ensures { OnOk result (string_bytes text.new
+        ≡ string_bytes text.old ++ keyed_numbers front.now key middle.now number last.now other) }
+{
+    push_words(text, front)?;
+    push_words(text, key.text().as_str())?;
+    push_words(text, middle)?;
+    push_decimal(text, number)?;
+    push_words(text, last)?;
+    push_decimal(text, other)
+}
+
+/// A key and two numbers in hexadecimal digits, each with words before it.
+#[tactic(auto, unfolding(crate::specs::FindingTexts::keyed_codes))]
+pub(crate) fn push_key_codes(
+    text: &mut String,
+    front: &str,
+    key: Key,
+    middle: &str,
+    number: u64,
+    last: &str,
+    other: u64,
+) -> Result<(), AllocError>
+    ensures { OnOk result (string_bytes text.new
+        ≡ string_bytes text.old ++ keyed_codes front.now key middle.now number last.now other) }
+{
+    push_words(text, front)?;
+    push_words(text, key.text().as_str())?;
+    push_words(text, middle)?;
+    push_hexadecimal(text, number)?;
+    push_words(text, last)?;
+    push_hexadecimal(text, other)
+}
+
+/// A key and an abort code between words.
+#[tactic(auto, unfolding(crate::specs::FindingTexts::keyed_code))]
+pub(crate) fn push_key_code(
+    text: &mut String,
+    front: &str,
+    key: Key,
+    middle: &str,
+    code: u32,
+    end: &str,
+) -> Result<(), AllocError>
+    ensures { OnOk result (string_bytes text.new
+        ≡ string_bytes text.old ++ keyed_code front.now key middle.now code end.now) }
+{
+    push_words(text, front)?;
+    push_words(text, key.text().as_str())?;
+    push_words(text, middle)?;
+    push_u32(text, code)?;
+    push_words(text, end)
+}

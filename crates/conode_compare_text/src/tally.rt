@@ -1,0 +1,66 @@
+//! How many frames of the device have which verdict.
+
+ghost use Rattle.std.specs.Prelude.{◌≡◌, ◌++◌, OnOk, string_bytes};
+ghost use Rattle.conode_compare_text.specs.Tallies.{no_frames, summary, tally_with, with_verdict};
+
+use crate::parts::push_number;
+use conode_compare_rules::Verdict;
+use std::alloc::AllocError;
+
+/// How many frames of the device have which verdict, up to 2^64 - 1.
+#[derive(Clone, Copy, Debug, PartialEq, Eq)]
+pub struct Tally {
+    /// As prescribed.
+    pub prescribed: u64,
+    /// With a difference.
+    pub different: u64,
+    /// Unjudged.
+    pub unjudged: u64,
+}
+
+impl Tally {
+    /// None came.
+    pub fn new() -> Tally
+        ensures { result ≡ no_frames }
+    {
+        Tally {
+            prescribed: 0,
+            different: 0,
+            unjudged: 0,
+        }
+    }
+
+    // one more with a verdict
+    fn add(&mut self, verdict: Verdict)
+        ensures { self.new ≡ with_verdict self.old verdict }
+    {
+        match verdict {
+            Verdict::Prescribed => self.prescribed = self.prescribed.saturating_add(1),
+            Verdict::Different => self.different = self.different.saturating_add(1),
+            Verdict::Unjudged => self.unjudged = self.unjudged.saturating_add(1),
+        }
+    }
+
+    /// Counts a frame, if it is one of the device: only such a frame has a verdict.
+    pub fn count(&mut self, verdict: Option<Verdict>)
+        ensures { self.new ≡ tally_with self.old verdict }
+    {
+        if let Some(verdict) = verdict {
+            self.add(verdict);
+        }
+    }
+}
+
+/// Sets a text to the line that ends a comparison, with its line feed. On an `Err` memory ran out, and a part of it may be
+/// there.
+#[tactic(auto, unfolding(crate::specs::Tallies::summary))]
+pub fn set_summary(text: &mut String, node: u8, tally: Tally) -> Result<(), AllocError>
+    ensures { OnOk result (string_bytes text.new ≡ summary node tally) }
+{
+    text.clear();
+    push_number(text, "node ", u64::from(node), ": ")?;
+    push_number(text, "", tally.prescribed, " frames as prescribed, ")?;
+    push_number(text, "", tally.different, " with a difference, ")?;
+    push_number(text, "", tally.unjudged, " unjudged")?;
+    text.push('\n')
+}

@@ -1,0 +1,5 @@
+pub mod Conditions
+pub mod Filters
+pub mod Kinds
+pub mod Moments
+pub mod Subjects

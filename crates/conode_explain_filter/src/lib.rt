@@ -1,0 +1,18 @@
+//! Which lines of an explained recording are printed: by node, identifier, kind and time.
+#![tactic(auto)]
+
+mod condition;
+mod filter;
+mod kind;
+mod moment;
+mod option;
+mod reading;
+mod subject;
+
+pub use condition::{Condition, Written};
+pub use filter::Filter;
+pub use kind::Kind;
+pub use moment::Moment;
+pub use option::FilterOption;
+pub use reading::{FilterFault, FilterWords};
+pub use subject::Subject;

@@ -1,0 +1,128 @@
+//! The words of a filter.
+
+ghost use Rattle.std.specs.Prelude.{◌≡◌, ◌∷◌, ◌++◌, [], ◌<◌, length, Ok, Some, None, OnOk, IfOk, IfErr, IfSome, IfNone};
+ghost use Rattle.std.specs.Option.{option_copied};
+ghost use Rattle.conode_explain_filter.specs.Conditions.{asked, words_in};
+ghost use Rattle.conode_explain_filter.specs.Filters.{IsFault, IsFaultOf, IsFilter};
+
+use crate::condition::Condition;
+use crate::filter::Filter;
+use crate::option::FilterOption;
+use std::alloc::{AllocError, Global};
+
+/// The text of each option of a filter that is used.
+#[derive(Clone, Copy, Debug)]
+pub struct FilterWords<'a> {
+    /// Node-IDs, as `5,8`.
+    pub of: Option<&'a str>,
+    /// Identifiers and ranges of them, as `180-1FF,705`.
+    pub id: Option<&'a str>,
+    /// Kinds, as `sdo,emcy`.
+    pub kind: Option<&'a str>,
+    /// A time, as `12.5` or `@1700000000.25`.
+    pub from: Option<&'a str>,
+    /// A time.
+    pub to: Option<&'a str>,
+}
+
+/// What is wrong with the words of a filter.
+#[derive(Clone, Copy, Debug)]
+pub enum FilterFault<'a> {
+    /// A word isn't one that its option has.
+    Word(FilterOption, &'a str),
+    /// Memory ran out.
+    Memory,
+}
+
+impl<'a> From<AllocError> for FilterFault<'a> {
+    ghost use Rattle.std.specs.Prelude.{◌≡◌};
+    ghost use Rattle.conode_explain_filter.specs.declared.reading.FilterFault.TheVariants.{Memory};
+
+    ghost from_gives = { λ _ fault. fault ≡ Memory };
+
+    fn from(_: AllocError) -> FilterFault<'a> {
+        FilterFault::Memory
+    }
+}
+
+// the first word of an option's text, and the text after its comma; `None` where it is one word
+#[tactic(auto, unfolding(crate::specs::Conditions::words_in))]
+fn first_word(option: FilterOption, text: &str) -> Option<(&str, &str)>
+    ensures one { IfNone result (words_in option text.now ≡ text.now ∷ []) }
+    ensures more { IfSome result
+        (λ cut. words_in option text.now ≡ cut.0.now ∷ words_in option cut.1.now) }
+    ensures shorter { IfSome result (λ cut. length cut.1.now < length text.now) }
+{
+    if option.is_time() {
+        return None;
+    }
+    text.split_once(',')
+}
+
+fn push(conditions: &mut Vec<Condition>, condition: Condition) -> Result<(), AllocError>
+    ensures { OnOk result (conditions.new.items ≡ conditions.old.items ++ condition ∷ []) }
+{
+    conditions.push(condition)?;
+    Ok(())
+}
+
+// what the text of an option asks for
+#[tactic(auto, using(crate::proofs::Readings::goes_on, crate::proofs::Readings::fails_at, crate::proofs::Readings::ends, crate::proofs::Readings::fails_last, crate::proofs::Readings::onto_none))]
+fn conditions_in(
+    alloc: Global,
+    option: FilterOption,
+    text: &str,
+) -> Result<Vec<Condition>, FilterFault<'_>>
+    ensures ok { IfOk result (λ found. asked option (Some text.now) ≡ Ok found.items) }
+    ensures err { IfErr result (IsFaultOf option (Some text.now)) }
+{
+    let mut conditions = Vec::new(alloc);
+    let mut rest = text;
+    while let Some((word, more)) = first_word(option, rest) {
+        let Some(condition) = Condition::read(option, word) else {
+            return Err(FilterFault::Word(option, word));
+        };
+        push(&mut conditions, condition)?;
+        rest = more;
+    }
+    let Some(condition) = Condition::read(option, rest) else {
+        return Err(FilterFault::Word(option, rest));
+    };
+    push(&mut conditions, condition)?;
+    Ok(conditions)
+}
+
+fn asked(
+    alloc: Global,
+    option: FilterOption,
+    text: Option<&str>,
+) -> Result<Vec<Condition>, FilterFault<'_>>
+    ensures ok { IfOk result (λ found. asked option (option_copied text.entry) ≡ Ok found.items) }
+    ensures err { IfErr result (IsFaultOf option (option_copied text.entry)) }
+{
+    match text {
+        Some(text) => conditions_in(alloc, option, text),
+        None => Ok(Vec::new(alloc)),
+    }
+}
+
+impl Filter {
+    /// The filter that words ask for; on an `Err` the first word that its option doesn't have, or memory ran out.
+    pub fn read<'a>(alloc: Global, words: &FilterWords<'a>) -> Result<Filter, FilterFault<'a>>
+        ensures ok { IfOk result (λ filter. IsFilter words.now filter) }
+        ensures err { IfErr result (λ fault. IsFault words.now fault) }
+    {
+        let of = asked(alloc, FilterOption::Of, words.of)?;
+        let id = asked(alloc, FilterOption::Id, words.id)?;
+        let kind = asked(alloc, FilterOption::Kind, words.kind)?;
+        let from = asked(alloc, FilterOption::From, words.from)?;
+        let to = asked(alloc, FilterOption::To, words.to)?;
+        Ok(Filter {
+            of,
+            id,
+            kind,
+            from,
+            to,
+        })
+    }
+}

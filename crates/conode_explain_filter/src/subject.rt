@@ -1,0 +1,135 @@
+//! What a filter looks at.
+
+ghost use Rattle.std.specs.Prelude.{◌≡◌, ◌<◌};
+ghost use Rattle.conode_record.specs.Grammar.{IsIdentifier};
+ghost use Rattle.conode_explain_filter.specs.Subjects.{
+  node_at,
+  nmt_node,
+  subject_at,
+  subject_of,
+  transfer_subject,
+  written_of,
+};
+
+use crate::condition::Written;
+use crate::kind::Kind;
+use conode_record::{Content, Identifier, Record};
+
+/// What a filter looks at of a frame.
+#[derive(Clone, Copy, Debug, PartialEq, Eq)]
+pub struct Subject {
+    /// Its identifier.
+    pub id: Written,
+    pub kind: Kind,
+    /// The node that it is of; 0 where it is of each; `None` where it is of none.
+    pub node: Option<u8>,
+}
+
+fn written_of(id: Identifier) -> Written
+    requires { IsIdentifier id }
+    ensures { result ≡ written_of id }
+{
+    match id {
+        Identifier::Base(id) => Written {
+            wide: false,
+            number: u32::from(id),
+        },
+        Identifier::Extended(id) => Written {
+            wide: true,
+            number: id,
+        },
+        Identifier::Error(class) => Written {
+            wide: true,
+            number: class + 0x2000_0000,
+        },
+    }
+}
+
+// the node that an NMT command is for: its second byte
+fn nmt_node(content: &Content) -> Option<u8>
+    ensures { result ≡ nmt_node content.now }
+{
+    match content {
+        Content::Data(bytes) => {
+            let bytes = bytes.to_list();
+            if bytes.len() == 2 {
+                Some(bytes[1])
+            } else {
+                None
+            }
+        }
+        _ => None,
+    }
+}
+
+fn node_at(kind: Kind, id: u16, content: &Content) -> Option<u8>
+    ensures { result ≡ node_at kind id content.now }
+{
+    match kind {
+        Kind::Nmt => nmt_node(content),
+        Kind::Sync | Kind::Other => None,
+        _ => Some((id % 128) as u8),
+    }
+}
+
+// of a frame with an identifier of 11 bits
+#[tactic(auto, unfolding(crate::specs::Subjects::subject_at))]
+fn subject_at(pdo: Option<u8>, id: u16, content: &Content) -> Subject
+    ensures { result ≡ subject_at pdo id content.now }
+{
+    let written = Written {
+        wide: false,
+        number: u32::from(id),
+    };
+    match pdo {
+        Some(node) => Subject {
+            id: written,
+            kind: Kind::Pdo,
+            node: Some(node),
+        },
+        None => {
+            let kind = Kind::at(id);
+            Subject {
+                id: written,
+                kind,
+                node: node_at(kind, id, content),
+            }
+        }
+    }
+}
+
+impl Subject {
+    /// What a filter looks at of a frame; `pdo` is the node of a data sheet's PDO that has its identifier.
+    #[tactic(auto, unfolding(crate::specs::Subjects::subject_of))]
+    pub fn of(pdo: Option<u8>, frame: &Record<'_>) -> Subject
+        requires { IsIdentifier frame.now.id }
+        ensures { result ≡ subject_of pdo frame.now.id frame.now.content }
+    {
+        match (frame.id, &frame.content) {
+            (Identifier::Base(id), Content::Data(_) | Content::Remote(_)) => {
+                subject_at(pdo, id, &frame.content)
+            }
+            (id, _) => Subject {
+                id: written_of(id),
+                kind: Kind::Other,
+                node: None,
+            },
+        }
+    }
+
+    /// What it looks at of a frame on the SDO channel of a node, 600h or 580h + node-ID.
+    #[tactic(auto, unfolding(crate::specs::Subjects::transfer_subject))]
+    pub(crate) fn of_transfer(base: u16, node: u8) -> Subject
+        requires { base < 2048 }
+        ensures { result ≡ transfer_subject base node }
+    {
+        Subject {
+            id: Written {
+                wide: false,
+                number: u32::from(base) + u32::from(node),
+            },
+            kind: Kind::Sdo,
+            node: Some(node),
+        }
+    }
+}

@@ -1,0 +1,125 @@
+-- A line of an explained recording as an object of JSON, in tokens (RFC 8259).
+use Rattle.std.specs.Prelude.{ℕ, ◌^◌, ◌-◌, nat_lt, Bool, true, if◌then◌else◌, List, [], ◌∷◌, ◌++◌, length, map, ℤ, pos, negsuc, ◌-ℤ◌, codes, decimal, Option}
+use Rattle.std.specs.Fmt.{signed_decimal}
+use Rattle.std.specs.List.{flat_map}
+use Rattle.std.specs.Option.{option_map_or}
+use Rattle.json.specs.Token.{Token, begin_object, end_object, begin_array, end_array, key, string, number, boolean}
+use Rattle.json.specs.Print.{print}
+use Rattle.co_text.specs.Printed.{byte_text}
+use Rattle.conode_record.specs.declared.content.Content.{Content}
+use Rattle.conode_record.specs.declared.content.Content.TheVariants.{Data, Remote, Fd}
+use Rattle.conode_record.specs.declared.fields.Identifier.{Identifier}
+use Rattle.conode_record.specs.declared.fields.Identifier.TheVariants.{Base, Extended, Error}
+use Rattle.conode_record.specs.declared.line.Record.{Record}
+use Rattle.conode_lint_text.specs.JsonForm.{utf8_of}
+use Rattle.conode_explain_filter.specs.declared.kind.Kind.{Kind}
+use Rattle.conode_explain_filter.specs.declared.kind.Kind.TheVariants.{Sdo, Pdo, Emergency, Nmt, Heartbeat, Sync, Other}
+use Rattle.conode_explain_text.specs.declared.so_far.Times.{Times}
+use Rattle.conode_explain_text.specs.declared.stamps.StampForm.{StampForm}
+use Rattle.conode_explain_text.specs.declared.stamps.StampForm.TheVariants.{Relative, Absolute, Delta, Date as AsDate}
+use Rattle.conode_explain_text.specs.Columns.{escaped_name, id_text}
+use Rattle.conode_explain_text.specs.Lines.{Part, stamp, gap, interface, identifier, content, said, note, interface_parts}
+use Rattle.conode_explain_text.specs.Stamps.{moment_text}
+
+-- ---- members
+
+unfoldable pub text_member : List ℕ → List ℕ → List Token
+text_member name text = key name ∷ string text ∷ []
+
+-- a member that is true
+unfoldable pub flag_member : List ℕ → List Token
+flag_member name = key name ∷ boolean true ∷ []
+
+-- up to 2^53 - 1 in magnitude, which every reader of JSON keeps
+abbrev pub is_exact : ℤ → Bool
+is_exact (pos n) = nat_lt n (2 ^ 53)
+is_exact (negsuc n) = nat_lt n (2 ^ 53 - 1)
+
+-- a number; a greater one as a string
+abbrev pub number_token : ℤ → Token
+number_token z = if is_exact z then number (signed_decimal z) else string (signed_decimal z)
+
+unfoldable pub number_member : List ℕ → ℤ → List Token
+number_member name z = key name ∷ number_token z ∷ []
+
+-- ---- the parts of a line
+
+-- a stamp in microseconds, or as a date
+unfoldable pub stamp_member : StampForm → Times → List Token
+stamp_member Relative times = number_member (codes "stamp") (pos times.now -ℤ pos times.first)
+stamp_member Absolute times = number_member (codes "stamp") (pos times.now)
+stamp_member Delta times = number_member (codes "stamp") (pos times.now -ℤ pos times.before)
+stamp_member AsDate times = text_member (codes "stamp") (moment_text times.now)
+
+abbrev pub byte_token : ℕ → Token
+byte_token byte = number (decimal byte)
+
+-- the bytes as numbers
+unfoldable pub array_member : List ℕ → List Token
+array_member bytes = key (codes "data") ∷ begin_array ∷ (map byte_token bytes ++ end_array ∷ [])
+
+-- the length, the bytes as numbers, and in hexadecimal digits
+unfoldable pub data_members : ℕ → List ℕ → List Token
+data_members count bytes =
+    number_member (codes "length") (pos count) ++ array_member bytes
+    ++ text_member (codes "raw") (flat_map byte_text bytes)
+
+-- which sort of frame it is
+abbrev pub sort_member : List ℕ → List Token
+sort_member name = text_member (codes "frame") name
+
+-- a remote frame has a length alone, a CAN FD frame flags
+abbrev pub content_members : Content → List Token
+content_members (Data bytes) = sort_member (codes "data") ++ data_members (length bytes) bytes
+content_members (Remote count) = sort_member (codes "remote") ++ data_members count []
+content_members (Fd flags bytes) =
+    sort_member (codes "fd") ++ number_member (codes "flags") (pos flags) ++ data_members (length bytes) bytes
+
+-- an identifier as it is printed; that of an error frame has its class, and is marked
+abbrev pub id_members : Identifier → List Token
+id_members (Base id) = text_member (codes "id") (id_text (Base id))
+id_members (Extended id) = text_member (codes "id") (id_text (Extended id))
+id_members (Error class) = text_member (codes "id") (id_text (Error class)) ++ flag_member (codes "error")
+
+-- what is said is in UTF-8: of a data sheet that isn't, by Windows-1252
+abbrev pub part_tokens : Part → List Token
+part_tokens (stamp form times) = stamp_member form times
+part_tokens (gap times) = number_member (codes "gap") (pos times.now -ℤ pos times.before)
+part_tokens (interface name) = text_member (codes "interface") (escaped_name name)
+part_tokens (identifier id) = id_members id
+part_tokens (content has) = content_members has
+part_tokens (said words) = text_member (codes "text") (utf8_of words)
+part_tokens (note words) = text_member (codes "note") words
+
+-- ---- the line
+
+-- the word for a kind, which `--kind` takes
+abbrev pub kind_name : Kind → List ℕ
+kind_name Sdo = codes "sdo"
+kind_name Pdo = codes "pdo"
+kind_name Emergency = codes "emcy"
+kind_name Nmt = codes "nmt"
+kind_name Heartbeat = codes "heartbeat"
+kind_name Sync = codes "sync"
+kind_name Other = codes "other"
+
+-- the kind and the node, where it is of one; 0 is all nodes
+unfoldable pub kind_members : Kind → Option ℕ → List Token
+kind_members kind node =
+    text_member (codes "kind") (kind_name kind)
+    ++ option_map_or (λ n. number_member (codes "node") (pos n)) node []
+
+-- the object of a line of these parts
+unfoldable pub line_tokens : Kind → Option ℕ → List Part → List Token
+line_tokens kind node parts =
+    begin_object ∷ (flat_map part_tokens parts ++ kind_members kind node ++ end_object ∷ [])
+
+-- of a frame, up to what it says
+unfoldable pub front_tokens : StampForm → Times → Bool → Record → List Token
+front_tokens form times shows frame =
+    part_tokens (stamp form times) ++ part_tokens (gap times) ++ flat_map part_tokens (interface_parts shows frame.interface)
+    ++ part_tokens (identifier frame.id) ++ part_tokens (content frame.content)
+
+-- its text, and a line feed
+unfoldable pub json_line : Kind → Option ℕ → List Part → List ℕ
+json_line kind node parts = print (line_tokens kind node parts) ++ 10 ∷ []

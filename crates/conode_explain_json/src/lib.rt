@@ -1,0 +1,10 @@
+//! The line of a frame of a recording as an object of JSON.
+#![tactic(auto)]
+
+mod content;
+mod json_writer;
+mod kind_name;
+mod lines;
+mod moments;
+
+pub use lines::{json_line, own_json_line};

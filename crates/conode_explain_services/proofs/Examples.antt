@@ -1,0 +1,349 @@
+-- What services say, computed from the definitions on both sides of each edge.
+use Rattle.std.proofs.Common.{◌≡◌, ℕ, true, false, List, [], ◌∷◌, refl, Some, None, map}
+use Rattle.std.specs.Prelude.{codes, Option}
+use Rattle.std.specs.Fmt.{digits}
+use Rattle.co_text.specs.Printed.{digits_text}
+use Rattle.conode_explain_services.specs.declared.guarding.Guarding.{Guarding}
+use Rattle.conode_explain_services.specs.declared.guarding.Guarding.TheVariants.{NotSeen, BootedUp, Requested, Answered}
+use Rattle.conode_explain_services.specs.declared.last.Last.{Last}
+use Rattle.conode_explain_services.specs.Codes.{class_words, code_text, code_words, known_class, single_words}
+use Rattle.conode_explain_services.specs.Emergencies.{bytes_after, emergency_words}
+use Rattle.conode_explain_services.specs.Guardings.{guarding_answer_words, state_words}
+use Rattle.conode_explain_services.specs.Lss.{answer_parameter, answer_words, compared_text, lss_answer_words, lss_request_words, lss_text, failure_text, mode_words, node_failure, numbered_text, outcome_text, parameter_text, part_text, part_words, rate_words, request_parameter, request_words, scan_text, store_failure, timing_failure, timing_text}
+use Rattle.conode_explain_services.specs.Nodes.{nothing_seen}
+use Rattle.conode_explain_services.specs.Parts.{of_node}
+use Rattle.conode_explain_services.specs.Registers.{bit_text, bit_word, bits_text, high_bits_text, low_bits_text, register_text}
+use Rattle.conode_explain_services.specs.Reserved.{is_reserved, reserved_words}
+use Rattle.conode_explain_services.specs.Times.{time_words}
+use Rattle.conode_explain_text.specs.Dates.{date_in_year, date_of, day_of_year, year_of_cycle}
+use Rattle.conode_explain_text.specs.Stamps.{date_text, time_of_day_text}
+use Rattle.conode_explain_values.specs.Times.{moment_text, ms_text}
+use Rattle.conode_explain_values.specs.Values.{value_text}
+use Rattle.conode_explain_services.specs.Services.{remote_words, service_words}
+
+-- ---- emergency error codes
+
+-- each class; those beside them have the words of their group, and some have none
+each_class : map class_words (0x00 ∷ 0x10 ∷ 0x20 ∷ 0x21 ∷ 0x22 ∷ 0x23 ∷ 0x30 ∷ 0x31 ∷ 0x32 ∷ 0x33 ∷ 0x40 ∷ 0x41 ∷ 0x42 ∷ 0x50
+    ∷ 0x60 ∷ 0x61 ∷ 0x62 ∷ 0x63 ∷ 0x70 ∷ 0x80 ∷ 0x81 ∷ 0x82 ∷ 0x90 ∷ 0xF0 ∷ 0xFF ∷ [])
+    ≡ codes "error reset or no error" ∷ codes "generic error" ∷ codes "current" ∷ codes "current, input side"
+    ∷ codes "current inside the device" ∷ codes "current, output side" ∷ codes "voltage" ∷ codes "mains voltage"
+    ∷ codes "voltage inside the device" ∷ codes "output voltage" ∷ codes "temperature" ∷ codes "ambient temperature"
+    ∷ codes "device temperature" ∷ codes "device hardware" ∷ codes "device software" ∷ codes "internal software"
+    ∷ codes "user software" ∷ codes "data set" ∷ codes "additional modules" ∷ codes "monitoring" ∷ codes "communication"
+    ∷ codes "protocol error" ∷ codes "external error" ∷ codes "additional functions" ∷ codes "device specific" ∷ []
+unfolding known_class
+each_class = refl
+
+groups : map class_words (0x11 ∷ 0x24 ∷ 0x3F ∷ 0x43 ∷ 0x51 ∷ 0x64 ∷ 0x71 ∷ 0x86 ∷ 0x91 ∷ 0xF1 ∷ 0xFE ∷ [])
+    ≡ codes "generic error" ∷ codes "current" ∷ codes "voltage" ∷ codes "temperature" ∷ codes "device hardware" ∷ codes "device software"
+    ∷ codes "additional modules" ∷ codes "monitoring" ∷ codes "external error" ∷ codes "additional functions" ∷ codes "additional functions" ∷ []
+unfolding known_class
+groups = refl
+
+no_class : map class_words (0x01 ∷ 0x0F ∷ 0xA0 ∷ 0xEF ∷ []) ≡ [] ∷ [] ∷ [] ∷ [] ∷ []
+unfolding known_class
+no_class = refl
+
+each_code : map single_words (0x8110 ∷ 0x8120 ∷ 0x8130 ∷ 0x8140 ∷ 0x8150 ∷ 0x8210 ∷ 0x8220 ∷ 0x8230 ∷ 0x8240 ∷ 0x8250 ∷ 0x8111 ∷ 0x8160 ∷ 0x8200 ∷ [])
+    ≡ codes "CAN overrun, objects lost" ∷ codes "CAN in error passive mode" ∷ codes "life guard error or heartbeat error"
+    ∷ codes "recovered from bus-off" ∷ codes "CAN-ID collision" ∷ codes "PDO not processed due to length error"
+    ∷ codes "PDO length exceeded" ∷ codes "DAM MPDO not processed, destination object not available"
+    ∷ codes "unexpected SYNC data length" ∷ codes "RPDO timeout" ∷ [] ∷ [] ∷ [] ∷ []
+unfolding single_words
+each_code = refl
+
+class_alone : code_text 0xA310 ≡ codes " code A310"
+unfolding code_text code_words known_class single_words digits_text
+class_alone = refl
+
+class_and_digits : code_text 0x42FF ≡ codes " code 42FF (device temperature)"
+unfolding code_text code_words known_class single_words digits_text
+class_and_digits = refl
+
+class_and_code : code_text 0x8130 ≡ codes " code 8130 (communication: life guard error or heartbeat error)"
+unfolding code_text code_words known_class single_words digits_text
+class_and_code = refl
+
+-- ---- the error register
+
+each_bit : map bits_text (0x01 ∷ 0x02 ∷ 0x04 ∷ 0x08 ∷ 0x10 ∷ 0x20 ∷ 0x40 ∷ 0x80 ∷ [])
+    ≡ codes "generic" ∷ codes "current" ∷ codes "voltage" ∷ codes "temperature" ∷ codes "communication"
+    ∷ codes "device profile" ∷ codes "reserved bit 6" ∷ codes "manufacturer" ∷ []
+unfolding bits_text low_bits_text high_bits_text bit_text bit_word
+each_bit = refl
+
+all_bits : bits_text 0xFF ≡ codes "generic, current, voltage, temperature, communication, device profile, reserved bit 6, manufacturer"
+unfolding bits_text low_bits_text high_bits_text bit_text bit_word
+all_bits = refl
+
+two_bits : bits_text 0x90 ≡ codes "communication, manufacturer"
+unfolding bits_text low_bits_text high_bits_text bit_text bit_word
+two_bits = refl
+
+-- the first emergency of a node; one as the last; one that came; one that went; each for another; the last that went
+first_register : register_text None 0x11 ≡ codes " register 11 (generic, communication)"
+unfolding register_text bits_text low_bits_text high_bits_text bit_text bit_word digits_text
+first_register = refl
+
+same_register : register_text (Some 0x11) 0x11 ≡ codes " register 11 (generic, communication)"
+unfolding register_text bits_text low_bits_text high_bits_text bit_text bit_word digits_text
+same_register = refl
+
+one_came : register_text (Some 0x01) 0x11 ≡ codes " register 11 (generic, communication; came: communication)"
+unfolding register_text bits_text low_bits_text high_bits_text bit_text bit_word digits_text
+one_came = refl
+
+one_went : register_text (Some 0x11) 0x01 ≡ codes " register 01 (generic; went: communication)"
+unfolding register_text bits_text low_bits_text high_bits_text bit_text bit_word digits_text
+one_went = refl
+
+one_for_another : register_text (Some 0x85) 0x0B ≡ codes " register 0B (generic, current, temperature; came: current, temperature; went: voltage, manufacturer)"
+unfolding register_text bits_text low_bits_text high_bits_text bit_text bit_word digits_text
+one_for_another = refl
+
+all_went : register_text (Some 0x11) 0x00 ≡ codes " register 00 (no error; went: generic, communication)"
+unfolding register_text bits_text low_bits_text high_bits_text bit_text bit_word digits_text
+all_went = refl
+
+none_yet : register_text None 0x00 ≡ codes " register 00 (no error)"
+unfolding register_text bits_text low_bits_text high_bits_text bit_text bit_word digits_text
+none_yet = refl
+
+-- ---- frames: emergencies
+
+abbrev says : Last → ℕ → List ℕ → Option (List ℕ)
+says last id bytes = service_words last (record { id = id; bytes = bytes })
+
+abbrev eight : ℕ → ℕ → ℕ → ℕ → ℕ → ℕ → ℕ → ℕ → List ℕ
+eight a b c d e f g h = a ∷ b ∷ c ∷ d ∷ e ∷ f ∷ g ∷ h ∷ []
+
+emergency : says nothing_seen 0x085 (eight 0x10 0x82 0x11 0x01 0x02 0x03 0x04 0xFF)
+    ≡ Some (codes "EMCY node 5 code 8210 (protocol error: PDO not processed due to length error) register 11 (generic, communication) manufacturer 01020304FF")
+unfolding service_words emergency_words bytes_after of_node code_text code_words known_class single_words register_text bits_text low_bits_text high_bits_text bit_text bit_word digits_text digits
+emergency = refl
+
+next_emergency : says (record { register = Some 0x11; guarding = NotSeen }) 0x0FF (eight 0 0 0 0 0 0 0 0)
+    ≡ Some (codes "EMCY node 127 code 0000 (error reset or no error) register 00 (no error; went: generic, communication) manufacturer 0000000000")
+unfolding service_words emergency_words bytes_after of_node code_text code_words known_class single_words register_text bits_text low_bits_text high_bits_text bit_text bit_word digits_text digits
+next_emergency = refl
+
+-- identifiers beside, and seven bytes
+no_emergencies : map (λ id. says nothing_seen id (eight 0 0 0 0 0 0 0 0)) (0x080 ∷ 0x100 ∷ []) ≡ None ∷ None ∷ []
+unfolding service_words
+no_emergencies = refl
+
+short_emergency : says nothing_seen 0x085 (0 ∷ 0 ∷ 0 ∷ 0 ∷ 0 ∷ 0 ∷ 0 ∷ []) ≡ None
+unfolding service_words
+short_emergency = refl
+
+-- ---- node guarding
+
+-- the states with the toggle bit; 0 and other numbers are none
+toggled : map (λ byte. says nothing_seen 0x705 (byte ∷ [])) (0x84 ∷ 0x85 ∷ 0xFF ∷ 0x80 ∷ 0x83 ∷ 0x86 ∷ 0xFE ∷ [])
+    ≡ Some (codes "guarding answer node 5 stopped toggle 1") ∷ Some (codes "guarding answer node 5 operational toggle 1")
+    ∷ Some (codes "guarding answer node 5 pre-operational toggle 1") ∷ None ∷ None ∷ None ∷ None ∷ []
+unfolding service_words guarding_answer_words state_words of_node digits
+toggled = refl
+
+-- without it they are heartbeats, unless the node is guarded
+heartbeats : map (λ byte. says nothing_seen 0x705 (byte ∷ [])) (0x00 ∷ 0x04 ∷ 0x05 ∷ 0x7F ∷ []) ≡ None ∷ None ∷ None ∷ None ∷ []
+unfolding service_words
+heartbeats = refl
+
+abbrev guarded : Guarding → Last
+guarded guarding = record { register = None; guarding = guarding }
+
+answers : map (λ byte. says (guarded (Requested None)) 0x77F (byte ∷ [])) (0x00 ∷ 0x04 ∷ 0x85 ∷ [])
+    ≡ None ∷ Some (codes "guarding answer node 127 stopped toggle 0") ∷ Some (codes "guarding answer node 127 operational toggle 1") ∷ []
+unfolding service_words guarding_answer_words state_words of_node digits
+answers = refl
+
+awaited_one : map (λ byte. says (guarded (Requested (Some true))) 0x701 (byte ∷ [])) (0x05 ∷ 0x85 ∷ [])
+    ≡ Some (codes "guarding answer node 1 operational toggle 0 (1 is awaited)") ∷ Some (codes "guarding answer node 1 operational toggle 1") ∷ []
+unfolding service_words guarding_answer_words state_words of_node digits
+awaited_one = refl
+
+awaited_zero : map (λ byte. says (guarded (Requested (Some false))) 0x701 (byte ∷ [])) (0x7F ∷ 0xFF ∷ [])
+    ≡ Some (codes "guarding answer node 1 pre-operational toggle 0") ∷ Some (codes "guarding answer node 1 pre-operational toggle 1 (0 is awaited)") ∷ []
+unfolding service_words guarding_answer_words state_words of_node digits
+awaited_zero = refl
+
+-- without a request that was recorded: the next answer, or the one before again, which without the toggle bit is a heartbeat
+next_answers : map (λ guarding. says (guarded guarding) 0x701 (0x05 ∷ [])) (Answered false ∷ Answered true ∷ BootedUp ∷ [])
+    ≡ Some (codes "guarding answer node 1 operational toggle 0") ∷ None ∷ None ∷ []
+unfolding service_words guarding_answer_words state_words of_node digits
+next_answers = refl
+
+next_toggled : map (λ guarding. says (guarded guarding) 0x701 (0x85 ∷ [])) (Answered false ∷ Answered true ∷ BootedUp ∷ [])
+    ≡ Some (codes "guarding answer node 1 operational toggle 1 (0 is awaited)") ∷ Some (codes "guarding answer node 1 operational toggle 1")
+    ∷ Some (codes "guarding answer node 1 operational toggle 1 (0 is awaited)") ∷ []
+unfolding service_words guarding_answer_words state_words of_node digits
+next_toggled = refl
+
+-- identifiers beside, and two bytes; 780h is reserved
+no_answers : map (λ id. says nothing_seen id (0x85 ∷ [])) (0x700 ∷ 0x780 ∷ []) ≡ None ∷ Some reserved_words ∷ []
+unfolding service_words
+no_answers = refl
+
+long_answer : says nothing_seen 0x705 (0x85 ∷ 0 ∷ []) ≡ None
+unfolding service_words
+long_answer = refl
+
+remote : map remote_words (0x700 ∷ 0x701 ∷ 0x77F ∷ 0x780 ∷ [])
+    ≡ codes "remote frame" ∷ codes "guarding request node 1" ∷ codes "guarding request node 127" ∷ codes "remote frame" ∷ []
+unfolding remote_words of_node digits
+remote = refl
+
+-- ---- TIME: 43,200,000 ms on day 2; the first ms of 1984; five and seven bytes, and an identifier beside
+
+noon : says nothing_seen 0x100 (0x00 ∷ 0x2E ∷ 0x93 ∷ 0x02 ∷ 0x02 ∷ 0x00 ∷ []) ≡ Some (codes "TIME 1984-01-03 12:00:00.000")
+unfolding service_words time_words value_text moment_text ms_text date_text time_of_day_text date_of date_in_year day_of_year year_of_cycle digits digits_text
+noon = refl
+
+first_moment : says nothing_seen 0x100 (0x01 ∷ 0x00 ∷ 0x00 ∷ 0xF0 ∷ 0x00 ∷ 0x00 ∷ []) ≡ Some (codes "TIME 1984-01-01 00:00:00.001")
+unfolding service_words time_words value_text moment_text ms_text date_text time_of_day_text date_of date_in_year day_of_year year_of_cycle digits digits_text
+first_moment = refl
+
+no_times : map (says nothing_seen 0x100) ((0 ∷ 0 ∷ 0 ∷ 0 ∷ 0 ∷ []) ∷ (0 ∷ 0 ∷ 0 ∷ 0 ∷ 0 ∷ 0 ∷ 0 ∷ []) ∷ []) ≡ None ∷ None ∷ []
+unfolding service_words
+no_times = refl
+
+beside_time : map (λ id. says nothing_seen id (0 ∷ 0 ∷ 0 ∷ 0 ∷ 0 ∷ 0 ∷ [])) (0x0FF ∷ 0x101 ∷ []) ≡ None ∷ Some reserved_words ∷ []
+unfolding service_words
+beside_time = refl
+
+-- ---- LSS
+
+abbrev asks : List ℕ → List ℕ
+asks bytes = lss_request_words bytes
+
+abbrev tells : List ℕ → List ℕ
+tells bytes = lss_answer_words bytes
+
+requests : says nothing_seen 0x7E5 (eight 0x04 1 0 0 0 0 0 0) ≡ Some (codes "LSS request switch state global configuration")
+unfolding service_words lss_text request_words request_parameter parameter_text mode_words
+requests = refl
+
+modes : map (λ mode. asks (eight 0x04 mode 0 0 0 0 0 0)) (0 ∷ 2 ∷ [])
+    ≡ codes "LSS request switch state global waiting" ∷ codes "LSS request switch state global mode 2" ∷ []
+unfolding lss_text request_words request_parameter parameter_text mode_words digits
+modes = refl
+
+node_ids : map (λ node. asks (eight 0x11 node 0 0 0 0 0 0)) (5 ∷ 254 ∷ 255 ∷ [])
+    ≡ codes "LSS request configure node-ID 5" ∷ codes "LSS request configure node-ID 254" ∷ codes "LSS request configure node-ID none" ∷ []
+unfolding lss_text request_words request_parameter parameter_text digits
+node_ids = refl
+
+rates : map (λ index. asks (eight 0x13 0 index 0 0 0 0 0)) (0 ∷ 1 ∷ 2 ∷ 3 ∷ 4 ∷ 5 ∷ 6 ∷ 7 ∷ 8 ∷ 9 ∷ 10 ∷ [])
+    ≡ codes "LSS request configure bit timing 1000 kbit/s" ∷ codes "LSS request configure bit timing 800 kbit/s"
+    ∷ codes "LSS request configure bit timing 500 kbit/s" ∷ codes "LSS request configure bit timing 250 kbit/s"
+    ∷ codes "LSS request configure bit timing 125 kbit/s" ∷ codes "LSS request configure bit timing table 0 index 5"
+    ∷ codes "LSS request configure bit timing 50 kbit/s" ∷ codes "LSS request configure bit timing 20 kbit/s"
+    ∷ codes "LSS request configure bit timing 10 kbit/s" ∷ codes "LSS request configure bit timing automatic"
+    ∷ codes "LSS request configure bit timing table 0 index 10" ∷ []
+unfolding lss_text request_words request_parameter parameter_text timing_text rate_words digits
+rates = refl
+
+other_table : asks (eight 0x13 128 3 0 0 0 0 0) ≡ codes "LSS request configure bit timing table 128 index 3"
+unfolding lss_text request_words request_parameter parameter_text timing_text rate_words digits
+other_table = refl
+
+delay : asks (eight 0x15 0xE8 0x03 9 0 0 0 0) ≡ codes "LSS request activate bit timing 1000 ms"
+unfolding lss_text request_words request_parameter parameter_text digits
+delay = refl
+
+-- each with a part of an address, its low byte first
+numbers : map (λ specifier. asks (eight specifier 0x9A 0x01 0x02 0xF0 7 7 7))
+    (0x40 ∷ 0x41 ∷ 0x42 ∷ 0x43 ∷ 0x46 ∷ 0x47 ∷ 0x48 ∷ 0x49 ∷ 0x4A ∷ 0x4B ∷ [])
+    ≡ codes "LSS request switch state selective vendor-ID F002019A" ∷ codes "LSS request switch state selective product code F002019A"
+    ∷ codes "LSS request switch state selective revision number F002019A" ∷ codes "LSS request switch state selective serial number F002019A"
+    ∷ codes "LSS request identify vendor-ID F002019A" ∷ codes "LSS request identify product code F002019A"
+    ∷ codes "LSS request identify revision number from F002019A" ∷ codes "LSS request identify revision number to F002019A"
+    ∷ codes "LSS request identify serial number from F002019A" ∷ codes "LSS request identify serial number to F002019A" ∷ []
+unfolding lss_text request_words request_parameter parameter_text digits_text
+numbers = refl
+
+-- each without a parameter; and specifiers beside
+plain : map (λ specifier. asks (eight specifier 1 2 3 4 5 6 7)) (0x17 ∷ 0x4C ∷ 0x5A ∷ 0x5B ∷ 0x5C ∷ 0x5D ∷ 0x5E ∷ [])
+    ≡ codes "LSS request store configuration" ∷ codes "LSS request identify non-configured slaves" ∷ codes "LSS request inquire vendor-ID"
+    ∷ codes "LSS request inquire product code" ∷ codes "LSS request inquire revision number" ∷ codes "LSS request inquire serial number"
+    ∷ codes "LSS request inquire node-ID" ∷ []
+unfolding lss_text request_words request_parameter parameter_text
+plain = refl
+
+unknown_requests : map (λ specifier. asks (eight specifier 0 0 0 0 0 0 0)) (0x00 ∷ 0x44 ∷ 0x4F ∷ 0x50 ∷ 0x52 ∷ 0x5F ∷ [])
+    ≡ codes "LSS request unknown" ∷ codes "LSS request unknown" ∷ codes "LSS request unknown" ∷ codes "LSS request unknown"
+    ∷ codes "LSS request unknown" ∷ codes "LSS request unknown" ∷ []
+unfolding lss_text request_words request_parameter
+unknown_requests = refl
+
+scan_begins : asks (eight 0x51 1 2 3 4 0x80 0 0) ≡ codes "LSS request fastscan from the start"
+unfolding lss_text request_words request_parameter parameter_text scan_text
+scan_begins = refl
+
+scan_goes_on : asks (eight 0x51 0x9A 0 0 0 31 0 1) ≡ codes "LSS request fastscan vendor-ID 0000009A bits 31-31, next product code"
+unfolding lss_text request_words request_parameter parameter_text scan_text compared_text part_text part_words digits_text digits
+scan_goes_on = refl
+
+other_parts : asks (eight 0x51 0 0 0 0x80 0 3 4) ≡ codes "LSS request fastscan serial number 80000000 bits 31-0, next part 4"
+unfolding lss_text request_words request_parameter parameter_text scan_text compared_text part_text part_words digits_text digits
+other_parts = refl
+
+revision_part : asks (eight 0x51 0 0 0 0 9 2 3) ≡ codes "LSS request fastscan revision number 00000000 bits 31-9, next serial number"
+unfolding lss_text request_words request_parameter parameter_text scan_text compared_text part_text part_words digits_text digits
+revision_part = refl
+
+lss_answer : says nothing_seen 0x7E4 (eight 0x11 0 0 0 0 0 0 0) ≡ Some (codes "LSS answer configure node-ID done")
+unfolding service_words lss_text answer_words answer_parameter parameter_text outcome_text
+lss_answer = refl
+
+failures : map (λ specifier. tells (eight specifier 1 9 0 0 0 0 0)) (0x11 ∷ 0x13 ∷ 0x17 ∷ [])
+    ≡ codes "LSS answer configure node-ID failed: node-ID out of range"
+    ∷ codes "LSS answer configure bit timing failed: bit timing not supported"
+    ∷ codes "LSS answer store configuration failed: not supported" ∷ []
+unfolding lss_text answer_words answer_parameter parameter_text outcome_text failure_text numbered_text node_failure timing_failure store_failure
+failures = refl
+
+other_failures : map (λ error. tells (eight 0x17 error 9 0 0 0 0 0)) (2 ∷ 3 ∷ 254 ∷ 255 ∷ [])
+    ≡ codes "LSS answer store configuration failed: storage media access error" ∷ codes "LSS answer store configuration failed: error 3"
+    ∷ codes "LSS answer store configuration failed: error 254" ∷ codes "LSS answer store configuration failed: error 9 of the manufacturer" ∷ []
+unfolding lss_text answer_words answer_parameter parameter_text outcome_text failure_text numbered_text node_failure timing_failure store_failure digits
+other_failures = refl
+
+second_errors : map (λ specifier. tells (eight specifier 2 9 0 0 0 0 0)) (0x11 ∷ 0x13 ∷ [])
+    ≡ codes "LSS answer configure node-ID failed: error 2" ∷ codes "LSS answer configure bit timing failed: error 2" ∷ []
+unfolding lss_text answer_words answer_parameter parameter_text outcome_text failure_text numbered_text node_failure timing_failure store_failure digits
+second_errors = refl
+
+told_numbers : map (λ specifier. tells (eight specifier 0x9A 0x01 0 0 0 0 0)) (0x5A ∷ 0x5B ∷ 0x5C ∷ 0x5D ∷ 0x5E ∷ [])
+    ≡ codes "LSS answer vendor-ID 0000019A" ∷ codes "LSS answer product code 0000019A" ∷ codes "LSS answer revision number 0000019A"
+    ∷ codes "LSS answer serial number 0000019A" ∷ codes "LSS answer node-ID 154" ∷ []
+unfolding lss_text answer_words answer_parameter parameter_text digits_text digits
+told_numbers = refl
+
+told : map (λ specifier. tells (eight specifier 0 0 0 0 0 0 0)) (0x44 ∷ 0x4F ∷ 0x50 ∷ 0x04 ∷ 0x15 ∷ 0x43 ∷ 0x51 ∷ 0x59 ∷ 0x5F ∷ [])
+    ≡ codes "LSS answer switch state selective: in state configuration" ∷ codes "LSS answer identified" ∷ codes "LSS answer non-configured slave identified"
+    ∷ codes "LSS answer unknown" ∷ codes "LSS answer unknown" ∷ codes "LSS answer unknown" ∷ codes "LSS answer unknown"
+    ∷ codes "LSS answer unknown" ∷ codes "LSS answer unknown" ∷ []
+unfolding lss_text answer_words answer_parameter parameter_text
+told = refl
+
+-- seven bytes are no command
+short_commands : map (λ id. says nothing_seen id (0x17 ∷ 0 ∷ 0 ∷ 0 ∷ 0 ∷ 0 ∷ 0 ∷ [])) (0x7E4 ∷ 0x7E5 ∷ []) ≡ None ∷ None ∷ []
+unfolding service_words
+short_commands = refl
+
+-- ---- reserved identifiers
+
+reserved : map is_reserved (0x001 ∷ 0x07F ∷ 0x101 ∷ 0x180 ∷ 0x6E0 ∷ 0x6FF ∷ 0x780 ∷ 0x7E3 ∷ 0x7E6 ∷ 0x7FF ∷ [])
+    ≡ true ∷ true ∷ true ∷ true ∷ true ∷ true ∷ true ∷ true ∷ true ∷ true ∷ []
+reserved = refl
+
+not_reserved : map is_reserved (0x000 ∷ 0x080 ∷ 0x100 ∷ 0x181 ∷ 0x6DF ∷ 0x700 ∷ 0x77F ∷ 0x7E4 ∷ 0x7E5 ∷ [])
+    ≡ false ∷ false ∷ false ∷ false ∷ false ∷ false ∷ false ∷ false ∷ false ∷ []
+not_reserved = refl
+
+says_reserved : map (λ id. says nothing_seen id []) (0x07F ∷ 0x181 ∷ []) ≡ Some (codes "identifier that CiA 301 reserves") ∷ None ∷ []
+unfolding service_words reserved_words
+says_reserved = refl

@@ -1,0 +1,3 @@
+mod DriveExamples
+mod Examples
+mod NodeExamples

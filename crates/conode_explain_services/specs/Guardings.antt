@@ -1,0 +1,63 @@
+-- Node guarding (CiA 301, 7.2.8.3.2.1): a master asks by a remote frame, the node answers with its state and a bit that
+-- toggles from answer to answer.
+use Rattle.std.specs.Prelude.{ℕ, ◌%◌, ◌==◌, Bool, true, false, not, ◌&&◌, ◌||◌, nat_lt, if◌then◌else◌, List, [], ◌∷◌, ◌++◌, codes, Option, Some, None}
+use Rattle.conode_explain_services.specs.declared.guarding.Guarding.{Guarding}
+use Rattle.conode_explain_services.specs.declared.guarding.Guarding.TheVariants.{NotSeen, BootedUp, Requested, Answered}
+use Rattle.conode_explain_services.specs.Parts.{of_node, words_in}
+
+-- the lower seven bits of the byte are the state, the upper one toggles
+abbrev pub toggle_of : ℕ → Bool
+toggle_of byte = nat_lt 127 byte
+
+unfoldable pub state_words : ℕ → List ℕ
+state_words byte = words_in ((4, codes "stopped") ∷ (5, codes "operational") ∷ (127, codes "pre-operational") ∷ []) (byte % 128)
+
+abbrev pub is_state : ℕ → Bool
+is_state byte = (byte % 128 == 4) || ((byte % 128 == 5) || (byte % 128 == 127))
+
+-- the toggle bit that the node's next answer has; after a boot-up it is 0
+abbrev pub awaited_of : Guarding → Option Bool
+awaited_of NotSeen = None
+awaited_of BootedUp = Some false
+awaited_of (Requested awaited) = awaited
+awaited_of (Answered awaited) = Some awaited
+
+-- whether a byte without the toggle bit is an answer, else it is a heartbeat: after a request, or where it is the next answer
+abbrev pub answers_zero : Guarding → Bool
+answers_zero NotSeen = false
+answers_zero BootedUp = false
+answers_zero (Requested awaited) = true
+answers_zero (Answered awaited) = not awaited
+
+abbrev pub is_answer : Guarding → ℕ → Bool
+is_answer guarding byte = is_state byte && (toggle_of byte || answers_zero guarding)
+
+-- the guarding of a node after a state that it sent: a heartbeat ends it
+abbrev pub after_state : Guarding → ℕ → Guarding
+after_state guarding byte = if is_answer guarding byte then Answered (not (toggle_of byte)) else NotSeen
+
+-- after a byte on its identifier of error control
+abbrev pub guarding_after : Guarding → ℕ → Guarding
+guarding_after guarding byte =
+    if byte == 0 then BootedUp else (if is_state byte then after_state guarding byte else guarding)
+
+-- and after a request
+abbrev pub guarding_asked : Guarding → Guarding
+guarding_asked guarding = Requested (awaited_of guarding)
+
+abbrev pub toggle_text : Bool → List ℕ
+toggle_text toggle = if toggle then codes "1" else codes "0"
+
+-- where the toggle bit should have been another
+abbrev pub awaited_text : Option Bool → Bool → List ℕ
+awaited_text None toggle = []
+awaited_text (Some true) toggle = if toggle then [] else codes " (1 is awaited)"
+awaited_text (Some false) toggle = if toggle then codes " (0 is awaited)" else []
+
+unfoldable pub guarding_answer_words : ℕ → Guarding → ℕ → List ℕ
+guarding_answer_words node guarding byte =
+    of_node (codes "guarding answer") node ++ codes " " ++ state_words byte ++ codes " toggle " ++ toggle_text (toggle_of byte)
+    ++ awaited_text (awaited_of guarding) (toggle_of byte)
+
+abbrev pub guarding_request_words : ℕ → List ℕ
+guarding_request_words node = of_node (codes "guarding request") node

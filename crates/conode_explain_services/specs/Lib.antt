@@ -1,0 +1,11 @@
+pub mod Codes
+pub mod Drives
+pub mod Emergencies
+pub mod Guardings
+pub mod Lss
+pub mod Nodes
+pub mod Parts
+pub mod Registers
+pub mod Reserved
+pub mod Services
+pub mod Times

@@ -1,0 +1,89 @@
+-- What the last frames of each node had, by interface and node.
+use Rattle.std.specs.Prelude.{ℕ, ◌-◌, ◌==◌, ◌&&◌, nat_lt, Bool, if◌then◌else◌, List, [], ◌∷◌, ◌++◌, length, slice_index, slice_set, position, Option, Some, None}
+use Rattle.std.specs.List.{slice_index_or}
+use Rattle.std.specs.Str.{bytes_eq}
+use Rattle.co_frame.specs.FrameContent.{FrameContent}
+use Rattle.conode_explain_services.specs.declared.last.Last.{Last}
+use Rattle.conode_explain_services.specs.declared.guarding.Guarding.TheVariants.{NotSeen}
+use Rattle.conode_explain_services.specs.declared.node.Node.{Node}
+use Rattle.conode_explain_services.specs.Guardings.{guarding_after, guarding_asked}
+
+-- at most so many nodes are kept: 127 on each of 8 interfaces
+abbrev pub most_nodes : ℕ
+most_nodes = 1016
+
+-- nothing came from a node
+abbrev pub nothing_seen : Last
+nothing_seen = record { register = None; guarding = NotSeen }
+
+-- the node of a node-ID on an interface
+abbrev pub is_of : List ℕ → ℕ → Node → Bool
+is_of interface id node = (node.id == id) && bytes_eq node.interface.items interface
+
+abbrev pub new_node : List ℕ → ℕ → Last → Node
+new_node interface id last = record { interface = record { items = interface }; id = id; last = last }
+
+abbrev pub place_of : List Node → List ℕ → ℕ → Option ℕ
+place_of nodes interface id = position (is_of interface id) nodes
+
+abbrev pub node_at : List Node → ℕ → Node
+node_at nodes place = slice_index_or nodes place (new_node [] 0 nothing_seen)
+
+-- what its last frames had
+abbrev pub last_at : Option ℕ → List Node → Last
+last_at None nodes = nothing_seen
+last_at (Some place) nodes = (node_at nodes place).last
+
+unfoldable pub last_in : List Node → List ℕ → ℕ → Last
+last_in nodes interface id = last_at (place_of nodes interface id) nodes
+
+-- the nodes where its last frames have this now; a new one comes last, where there is room
+abbrev pub noted_at : Option ℕ → List Node → List ℕ → ℕ → Last → List Node
+noted_at (Some place) nodes interface id last = slice_set nodes place (record (node_at nodes place) { last = last })
+noted_at None nodes interface id last =
+    if nat_lt (length nodes) most_nodes then nodes ++ new_node interface id last ∷ [] else nodes
+
+unfoldable pub noted : List Node → List ℕ → ℕ → Last → List Node
+noted nodes interface id last = noted_at (place_of nodes interface id) nodes interface id last
+
+-- ---- which frames count
+
+-- an emergency: eight bytes on 081h to 0FFh (CiA 301, 7.2.7)
+abbrev pub is_emergency : FrameContent → Bool
+is_emergency frame = (nat_lt 0x080 frame.id && nat_lt frame.id 0x100) && (length frame.bytes == 8)
+
+-- error control: 701h to 77Fh (CiA 301, 7.2.8.3)
+abbrev pub is_error_control_id : ℕ → Bool
+is_error_control_id id = nat_lt 0x700 id && nat_lt id 0x780
+
+abbrev pub is_error_control : FrameContent → Bool
+is_error_control frame = is_error_control_id frame.id && (length frame.bytes == 1)
+
+-- the node-ID in an identifier of one of these
+abbrev pub node_of : ℕ → ℕ
+node_of id = id - (if nat_lt id 0x100 then 0x080 else 0x700)
+
+-- what the last frames of the node of a frame had; nothing where the identifier is of no such service
+unfoldable pub last_of : List Node → List ℕ → ℕ → Last
+last_of nodes interface id =
+    if nat_lt 0x080 id && nat_lt id 0x100 then last_in nodes interface (id - 0x080)
+    else (if is_error_control_id id then last_in nodes interface (id - 0x700) else nothing_seen)
+
+-- the nodes after a data frame on an interface
+unfoldable pub nodes_after : List Node → List ℕ → FrameContent → List Node
+nodes_after nodes interface frame =
+    if is_emergency frame
+    then noted nodes interface (frame.id - 0x080)
+    (record (last_of nodes interface frame.id) { register = Some (slice_index frame.bytes 2) })
+    else (if is_error_control frame
+    then noted nodes interface (frame.id - 0x700)
+    (record (last_of nodes interface frame.id) { guarding = guarding_after (last_of nodes interface frame.id).guarding (slice_index frame.bytes 0) })
+    else nodes)
+
+-- the nodes after a remote frame
+unfoldable pub nodes_asked : List Node → List ℕ → ℕ → List Node
+nodes_asked nodes interface id =
+    if is_error_control_id id
+    then noted nodes interface (id - 0x700)
+    (record (last_of nodes interface id) { guarding = guarding_asked (last_of nodes interface id).guarding })
+    else nodes

@@ -1,0 +1,14 @@
+//! How a node is guarded.
+
+/// What is known of the guarding of a node (CiA 301, 7.2.8.3.2.1).
+#[derive(Clone, Copy, Debug, PartialEq, Eq)]
+pub enum Guarding {
+    /// It wasn't seen, or the node's last state was a heartbeat.
+    NotSeen,
+    /// The node booted up.
+    BootedUp,
+    /// A master asked; the answer has this toggle bit, where that is known.
+    Requested(Option<bool>),
+    /// The node answered; its next answer has this toggle bit.
+    Answered(bool),
+}

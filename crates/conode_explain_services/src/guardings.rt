@@ -1,0 +1,134 @@
+//! Node guarding: what a node answers (CiA 301, 7.2.8.3.2.1).
+
+ghost use Rattle.std.specs.Prelude.{◌≡◌, ◌++◌, OnOk, string_bytes};
+ghost use Rattle.conode_explain_services.specs.Guardings.{
+  guarding_answer_words,
+  after_state,
+  answers_zero,
+  awaited_of,
+  awaited_text,
+  guarding_after,
+  guarding_asked,
+  is_answer,
+  is_state,
+  state_words,
+  toggle_text,
+};
+
+use crate::guarding::Guarding;
+use crate::texts::{push_of_node, push_words};
+use std::alloc::AllocError;
+
+fn is_state(byte: u8) -> bool
+    ensures { result ≡ is_state byte }
+{
+    let state = byte % 128;
+    state == 4 || state == 5 || state == 127
+}
+
+#[tactic(auto, unfolding(crate::specs::Guardings::state_words))]
+fn state_words(byte: u8) -> &'static str
+    ensures { result.now ≡ state_words byte }
+{
+    match byte % 128 {
+        4 => "stopped",
+        5 => "operational",
+        127 => "pre-operational",
+        _ => "",
+    }
+}
+
+fn awaited_of(guarding: Guarding) -> Option<bool>
+    ensures { result ≡ awaited_of guarding }
+{
+    match guarding {
+        Guarding::NotSeen => None,
+        Guarding::BootedUp => Some(false),
+        Guarding::Requested(awaited) => awaited,
+        Guarding::Answered(awaited) => Some(awaited),
+    }
+}
+
+fn answers_zero(guarding: Guarding) -> bool
+    ensures { result ≡ answers_zero guarding }
+{
+    match guarding {
+        Guarding::NotSeen | Guarding::BootedUp => false,
+        Guarding::Requested(_) => true,
+        Guarding::Answered(awaited) => !awaited,
+    }
+}
+
+/// Whether the byte of a frame of error control is an answer to a guarding request.
+pub(crate) fn is_answer(guarding: Guarding, byte: u8) -> bool
+    ensures { result ≡ is_answer guarding byte }
+{
+    is_state(byte) && (byte > 127 || answers_zero(guarding))
+}
+
+fn after_state(guarding: Guarding, byte: u8) -> Guarding
+    ensures { result ≡ after_state guarding byte }
+{
+    if is_answer(guarding, byte) {
+        Guarding::Answered(byte <= 127)
+    } else {
+        Guarding::NotSeen
+    }
+}
+
+/// The guarding after a byte of error control.
+pub(crate) fn guarding_after(guarding: Guarding, byte: u8) -> Guarding
+    ensures { result ≡ guarding_after guarding byte }
+{
+    if byte == 0 {
+        Guarding::BootedUp
+    } else if is_state(byte) {
+        after_state(guarding, byte)
+    } else {
+        guarding
+    }
+}
+
+/// The guarding after a request.
+pub(crate) fn guarding_asked(guarding: Guarding) -> Guarding
+    ensures { result ≡ guarding_asked guarding }
+{
+    Guarding::Requested(awaited_of(guarding))
+}
+
+fn toggle_text(toggle: bool) -> &'static str
+    ensures { result.now ≡ toggle_text toggle }
+{
+    if toggle { "1" } else { "0" }
+}
+
+fn awaited_text(awaited: Option<bool>, toggle: bool) -> &'static str
+    ensures { result.now ≡ awaited_text awaited toggle }
+{
+    match awaited {
+        None => "",
+        Some(true) => if toggle { "" } else { " (1 is awaited)" },
+        Some(false) => if toggle { " (0 is awaited)" } else { "" },
+    }
+}
+
+/// Appends the answer of a node: its state and its toggle bit, and which one was awaited where that is another. On an `Err`
+/// memory ran out, and a part of it may be there.
+#[tactic(auto, unfolding(crate::specs::Guardings::guarding_answer_words))]
+pub(crate) fn push_answer(
+    text: &mut String,
+    node: u8,
+    guarding: Guarding,
+    byte: u8,
+) -> Result<(), AllocError>
+    ensures { OnOk result
+        (string_bytes text.new ≡ string_bytes text.old ++ guarding_answer_words node guarding byte) }
+{
+    let toggle = byte > 127;
+    push_of_node(text, "guarding answer", node)?;
+    push_words(text, " ")?;
+    push_words(text, state_words(byte))?;
+    push_words(text, " toggle ")?;
+    push_words(text, toggle_text(toggle))?;
+    push_words(text, awaited_text(awaited_of(guarding), toggle))
+}

@@ -1,0 +1,11 @@
+//! What the last frames of a node had.
+
+use crate::guarding::Guarding;
+
+/// What the last frames of a node had.
+#[derive(Clone, Copy, Debug, PartialEq, Eq)]
+pub struct Last {
+    /// The error register of its last emergency.
+    pub register: Option<u8>,
+    pub guarding: Guarding,
+}

@@ -1,0 +1,25 @@
+//! What frames say by their service: emergencies, LSS, node guarding, TIME, and identifiers that the standard reserves.
+#![tactic(auto)]
+
+mod codes;
+mod drives;
+mod emergencies;
+mod guarding;
+mod guardings;
+mod last;
+mod lss;
+mod lss_commands;
+mod node;
+mod nodes;
+mod registers;
+mod reserved;
+mod services;
+mod texts;
+mod times;
+
+pub use drives::{is_drive, push_drive};
+pub use guarding::Guarding;
+pub use last::Last;
+pub use node::Node;
+pub use nodes::Nodes;
+pub use services::{push_remote, push_service};

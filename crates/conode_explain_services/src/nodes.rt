@@ -1,0 +1,171 @@
+//! The nodes of a recording, with what their last frames had.
+
+ghost use Rattle.std.specs.Prelude.{◌≡◌, ◌<◌, ◌≤◌, [], length, OnOk, IfSome};
+ghost use Rattle.conode_explain_services.specs.Nodes.{
+  is_emergency,
+  is_error_control,
+  is_error_control_id,
+  last_in,
+  last_of,
+  nodes_after,
+  nodes_asked,
+  noted,
+  nothing_seen,
+  place_of,
+};
+
+use crate::guarding::Guarding;
+use crate::guardings::{guarding_after, guarding_asked};
+use crate::last::Last;
+use crate::node::Node;
+use co_frame::Frame;
+use std::alloc::{AllocError, Global};
+use std::marker::Model;
+
+/// How many nodes are kept at most.
+const MOST_NODES: usize = 1016;
+
+/// The nodes of a recording by interface and node-ID, with what their last frames had: at most 1,016, 127 on each of 8
+/// interfaces. Contracts see them in the order in which they came first.
+#[derive(Drop)]
+pub struct Nodes {
+    nodes: Vec<Node>,
+}
+
+impl Model for Nodes {
+    ghost use Rattle.std.specs.Prelude.{List};
+    ghost use Rattle.conode_explain_services.specs.declared.node.Node.{Node};
+
+    ghost Value = { List Node };
+
+    ghost view = { λ nodes. nodes.nodes.items };
+}
+
+// the place of a node on an interface
+fn place_of(nodes: &[Node], interface: &[u8], id: u8) -> Option<usize>
+    ensures place { result ≡ place_of nodes.now interface.now id }
+    ensures within { IfSome result (λ place. place < length nodes.now) }
+{
+    nodes.iter().position(|node| node.is_of(interface, id))
+}
+
+/// Whether a frame is an emergency.
+pub(crate) fn is_emergency(frame: &Frame) -> bool
+    ensures { result ≡ is_emergency frame.now }
+{
+    (0x080 < frame.id() && frame.id() < 0x100) && frame.bytes().len() == 8
+}
+
+/// Whether an identifier is of error control.
+pub(crate) fn is_error_control_id(id: u16) -> bool
+    ensures { result ≡ is_error_control_id id }
+{
+    0x700 < id && id < 0x780
+}
+
+/// Whether a frame is of error control.
+pub(crate) fn is_error_control(frame: &Frame) -> bool
+    ensures { result ≡ is_error_control frame.now }
+{
+    is_error_control_id(frame.id()) && frame.bytes().len() == 1
+}
+
+impl Last {
+    /// Nothing came.
+    pub fn new() -> Last
+        ensures { result ≡ nothing_seen }
+    {
+        Last {
+            register: None,
+            guarding: Guarding::NotSeen,
+        }
+    }
+}
+
+impl Nodes {
+    /// Nothing came.
+    pub fn new(alloc: Global) -> Nodes
+        ensures { result ≡ [] }
+    {
+        Nodes {
+            nodes: Vec::new(alloc),
+        }
+    }
+
+    #[tactic(auto, unfolding(crate::specs::Nodes::last_in))]
+    fn last_in(&self, interface: &[u8], id: u8) -> Last
+        ensures { result ≡ last_in self.now interface.now id }
+    {
+        match place_of(self.nodes.as_slice(), interface, id) {
+            Some(place) => self.nodes[place].last,
+            None => Last::new(),
+        }
+    }
+
+    /// What the last frames of the node of an identifier on an interface had; nothing where the identifier is neither of
+    /// emergencies nor of error control.
+    #[tactic(auto, unfolding(crate::specs::Nodes::last_of))]
+    pub fn last(&self, interface: &[u8], id: u16) -> Last
+        ensures { result ≡ last_of self.now interface.now id }
+    {
+        if 0x080 < id && id < 0x100 {
+            return self.last_in(interface, (id - 0x080) as u8);
+        }
+        if is_error_control_id(id) {
+            return self.last_in(interface, (id - 0x700) as u8);
+        }
+        Last::new()
+    }
+
+    // Notes what the last frames of a node have now.
+    #[tactic(auto, unfolding(crate::specs::Nodes::noted))]
+    fn note(&mut self, interface: &[u8], id: u8, last: Last) -> Result<(), AllocError>
+        requires { length interface.now ≤ 15 }
+        ensures { OnOk result (self.new ≡ noted self.old interface.now id last) }
+    {
+        if let Some(place) = place_of(self.nodes.as_slice(), interface, id) {
+            self.nodes[place].last = last;
+            return Ok(());
+        }
+        if self.nodes.len() >= MOST_NODES {
+            return Ok(());
+        }
+        self.nodes.push(Node::new(interface, id, last))?;
+        Ok(())
+    }
+
+    /// Takes a data frame on an interface, whose name has at most 15 bytes. Memory is asked for where a node is noted first;
+    /// on an `Err` it ran out.
+    #[tactic(auto, unfolding(crate::specs::Nodes::nodes_after))]
+    pub fn take(&mut self, interface: &[u8], frame: &Frame) -> Result<(), AllocError>
+        requires { length interface.now ≤ 15 }
+        ensures { OnOk result (self.new ≡ nodes_after self.old interface.now frame.now) }
+    {
+        let bytes = frame.bytes();
+        if is_emergency(frame) {
+            let mut last = self.last(interface, frame.id());
+            last.register = Some(bytes[2]);
+            return self.note(interface, (frame.id() - 0x080) as u8, last);
+        }
+        if is_error_control(frame) {
+            let mut last = self.last(interface, frame.id());
+            last.guarding = guarding_after(last.guarding, bytes[0]);
+            return self.note(interface, (frame.id() - 0x700) as u8, last);
+        }
+        Ok(())
+    }
+
+    /// Takes a remote frame with this identifier on an interface, as `take` does.
+    #[tactic(auto, unfolding(crate::specs::Nodes::nodes_asked))]
+    pub fn take_remote(&mut self, interface: &[u8], id: u16) -> Result<(), AllocError>
+        requires { length interface.now ≤ 15 }
+        ensures { OnOk result (self.new ≡ nodes_asked self.old interface.now id) }
+    {
+        if is_error_control_id(id) {
+            let mut last = self.last(interface, id);
+            last.guarding = guarding_asked(last.guarding);
+            return self.note(interface, (id - 0x700) as u8, last);
+        }
+        Ok(())
+    }
+}

@@ -1,0 +1,91 @@
+//! What a frame says by its service.
+
+ghost use Rattle.std.specs.Prelude.{◌≡◌, ◌++◌, ◌<◌, [], OnOk, IfOk, is_some, string_bytes, unwrap_or};
+ghost use Rattle.conode_explain_services.specs.Services.{
+  is_guarding,
+  is_lss,
+  is_time,
+  remote_words,
+  service_words,
+};
+
+use crate::emergencies::push_emergency;
+use crate::guardings::{is_answer, push_answer};
+use crate::last::Last;
+use crate::lss::{push_lss_answer, push_lss_request};
+use crate::nodes::{is_emergency, is_error_control, is_error_control_id};
+use crate::reserved::{LSS_ANSWER, LSS_REQUEST, is_reserved, reserved_words};
+use crate::texts::{push_of_node, push_words};
+use crate::times::push_time;
+use co_frame::{Emergency, Frame};
+use std::alloc::AllocError;
+
+fn is_lss(id: u16, frame: &Frame) -> bool
+    ensures { result ≡ is_lss id frame.now }
+{
+    frame.id() == id && frame.bytes().len() == 8
+}
+
+fn is_time(frame: &Frame) -> bool
+    ensures { result ≡ is_time frame.now }
+{
+    frame.id() == 0x100 && frame.bytes().len() == 6
+}
+
+fn is_guarding(last: Last, frame: &Frame) -> bool
+    ensures { result ≡ is_guarding last frame.now }
+{
+    is_error_control(frame) && is_answer(last.guarding, frame.bytes()[0])
+}
+
+/// Appends what a data frame says by its service, where the last frames of its node had this, and gives whether it says
+/// something: else its text as `conode decode` has it stays. On an `Err` memory ran out, and a part of it may be there.
+#[tactic(auto, unfolding(crate::specs::Services::service_words))]
+pub fn push_service(text: &mut String, last: Last, frame: &Frame) -> Result<bool, AllocError>
+    ensures said { IfOk result (λ said. said ≡ is_some (service_words last frame.now)) }
+    ensures words { OnOk result (string_bytes text.new
+        ≡ string_bytes text.old ++ unwrap_or (service_words last frame.now) []) }
+{
+    let bytes = frame.bytes();
+    if is_emergency(frame) {
+        let Some(emergency) = Emergency::read(frame) else {
+            unreachable!()
+        };
+        push_emergency(text, (frame.id() - 0x080) as u8, last.register, &emergency)?;
+        return Ok(true);
+    }
+    if is_guarding(last, frame) {
+        push_answer(text, (frame.id() - 0x700) as u8, last.guarding, bytes[0])?;
+        return Ok(true);
+    }
+    if is_time(frame) {
+        push_time(text, bytes)?;
+        return Ok(true);
+    }
+    if is_lss(LSS_REQUEST, frame) {
+        push_lss_request(text, bytes)?;
+        return Ok(true);
+    }
+    if is_lss(LSS_ANSWER, frame) {
+        push_lss_answer(text, bytes)?;
+        return Ok(true);
+    }
+    if is_reserved(frame.id()) {
+        push_words(text, reserved_words())?;
+        return Ok(true);
+    }
+    Ok(false)
+}
+
+/// Appends what a remote frame with this identifier, at most 7FFh, says. On an `Err` memory ran out, and a part of it may be
+/// there.
+#[tactic(auto, unfolding(crate::specs::Services::remote_words))]
+pub fn push_remote(text: &mut String, id: u16) -> Result<(), AllocError>
+    requires { id < 2048 }
+    ensures { OnOk result (string_bytes text.new ≡ string_bytes text.old ++ remote_words id) }
+{
+    if is_error_control_id(id) {
+        return push_of_node(text, "guarding request", (id - 0x700) as u8);
+    }
+    push_words(text, "remote frame")
+}

@@ -1,5 +1,0 @@
-//! Tests of the lines of a recording.
-#![tactic(auto)]
-
-#[cfg(test)]
-mod record_lines;

@@ -1,0 +1,10 @@
+//! What buses do, of a recording as any recorder writes it, on one page.
+#![tactic(auto)]
+
+mod bit_rate;
+mod recording;
+mod recording_file;
+mod step;
+
+pub use recording::{Recording, count};
+pub use recording_file::{StatsWords, stats_file};

@@ -1,0 +1,192 @@
+//! One line of a recording after another.
+
+ghost use Rattle.std.specs.Prelude.{◌≡◌, ◌≤◌, List, [], OnOk, IfOk, IfSome, IfNone};
+ghost use Rattle.std.specs.Io.KnownBytes.{IsAtEnd};
+ghost use Rattle.co_bounded_lines.specs.Held.{nothing_held, to_come};
+ghost use Rattle.co_stream.specs.Readings.{Gave};
+ghost use Rattle.conode_convert.specs.Converted.{at_start};
+ghost use Rattle.conode_logs.specs.Logs.{says};
+ghost use Rattle.conode_record.specs.declared.line.Record.{Record};
+ghost use Rattle.conode_record.specs.Lines.{line_in};
+ghost use Rattle.conode_stats_counts.specs.Buses.{counts_of};
+ghost use Rattle.conode_stats.specs.Frames.{counts_after, faults_in, good, line_at};
+ghost use Rattle.conode_stats.specs.Taking.{Takes};
+
+use co_bounded_lines::{BoundedLines, Found, ReadFault};
+use conode_convert::add_frame;
+use conode_io::CmdFault;
+use conode_log_parts::{BadLogLine, LogLine};
+use conode_logs::{Form, Log};
+use conode_record::RecordLine;
+use conode_stats_counts::Counts;
+use std::alloc::Global;
+use std::io::{Read, Write};
+
+/// What is wrong with a line that has more than 512 bytes.
+const TOO_LONG: &str = "it has more than 512 bytes";
+
+/// How far a recording is counted.
+#[derive(Drop)]
+pub(crate) struct Counting {
+    lines: BoundedLines,
+    log: Log,
+    counts: Counts,
+    text: Vec<u8>,
+}
+
+// Names a bad line. Where even this can't be written, the status alone tells of it.
+fn name_bad_line<E: Write>(number: u64, words: &str, err: &mut E) {
+    let _ = writeln!(err, "line {number}: {words}");
+}
+
+// why the next line can't be read
+fn read_fault(fault: ReadFault) -> CmdFault {
+    match fault {
+        ReadFault::Read => CmdFault::Read,
+        ReadFault::NeverEnds => CmdFault::NeverEnds,
+    }
+}
+
+// Counts the frame of a line as `candump -L` writes it, if it has one. 1 where the line is bad: then it is named.
+fn count_record<E: Write>(
+    alloc: Global,
+    counts: &mut Counts,
+    number: u64,
+    line: &[u8],
+    err: &mut E,
+) -> Result<u64, CmdFault>
+    ensures counts { OnOk result
+        (counts.new ≡ counts_after counts.old (good (line_in line.now))) }
+    ensures bad { IfOk result (λ bad. bad ≡ faults_in (good (line_in line.now))) }
+{
+    match RecordLine::read(line) {
+        Ok(RecordLine::Skipped) => Ok(0),
+        Ok(RecordLine::Frame(frame)) => {
+            counts.take(alloc, &frame)?;
+            Ok(0)
+        }
+        Err(bad) => {
+            name_bad_line(number, BadLogLine::of_record(bad).words(), err);
+            Ok(1)
+        }
+    }
+}
+
+// Counts a line's frame, if it has one. 1 where the line is bad: then it is named.
+#[tactic(auto, unfolding(crate::specs::Frames::line_at), using(crate::proofs::LogLemmas::candump_line, crate::proofs::LogLemmas::candump_log))]
+fn count_line<E: Write>(
+    alloc: Global,
+    text: &mut Vec<u8>,
+    log: &mut Log,
+    counts: &mut Counts,
+    number: u64,
+    line: &[u8],
+    err: &mut E,
+) -> Result<u64, CmdFault>
+    ensures counts { OnOk result
+        (counts.new ≡ counts_after counts.old (line_at log.old line.now)) }
+    ensures log { OnOk result (log.new ≡ (says log.old line.now).0) }
+    ensures bad { IfOk result (λ bad. bad ≡ faults_in (line_at log.old line.now)) }
+{
+    if let Form::Candump = log.form {
+        return count_record(alloc, counts, number, line, err);
+    }
+    match log.read(line) {
+        Ok(LogLine::Skipped) => Ok(0),
+        Ok(LogLine::AsItIs) => count_record(alloc, counts, number, line, err),
+        Ok(LogLine::Frame(frame)) => {
+            text.clear();
+            add_frame(text, &frame)?;
+            count_record(alloc, counts, number, text.as_slice(), err)
+        }
+        Err(bad) => {
+            name_bad_line(number, bad.words(), err);
+            Ok(1)
+        }
+    }
+}
+
+impl Counting {
+    /// No line was taken.
+    pub(crate) fn new(alloc: Global, form: Form) -> Counting
+        ensures lines { result.lines ≡ nothing_held }
+        ensures log { result.log ≡ at_start form }
+        ensures counts { result.counts ≡ counts_of [] }
+    {
+        Counting {
+            lines: BoundedLines::new(),
+            log: Log { form, clock: 0 },
+            counts: Counts::new(alloc),
+            text: Vec::new(alloc),
+        }
+    }
+
+    /// What is counted.
+    pub(crate) fn into_counts(self) -> Counts
+        ensures { result ≡ self.counts }
+    {
+        let Counting {
+            lines: _lines,
+            log: _log,
+            counts,
+            text: _text,
+        } = self;
+        counts
+    }
+
+    /// Takes the next line: counts its frame, if it has one, or names it where it is bad. 1 where it is bad and counts,
+    /// else 0; `None` where no line is left.
+    pub(crate) fn take_line<R: Read, E: Write>(
+        &mut self,
+        alloc: Global,
+        reader: &mut R,
+        number: u64,
+        err: &mut E,
+    ) -> Result<Option<u64>, CmdFault>
+        ensures line { IfOk result (λ next. IfSome next (λ bad. (frames : List Record)
+            → self.old.counts ≡ counts_of frames
+            → Takes self.old.lines self.new.lines (R.remaining reader.old) (R.remaining reader.new)
+            self.old.log self.new.log frames self.new.counts bad)) }
+        ensures few { IfOk result (λ next. IfSome next (λ bad. bad ≤ 1)) }
+        ensures end { IfOk result (λ next. IfNone next
+            (Gave self.old.lines.ended self.new.lines.ended
+            (R.remaining reader.old) (R.remaining reader.new)
+            (λ had has. IsAtEnd (to_come self.old.lines had)))) }
+        ensures kept { IfOk result (λ next. IfNone next (self.new.counts ≡ self.old.counts)) }
+    {
+        match self.lines.advance(reader) {
+            Ok(Found::End) => Ok(None),
+            Ok(Found::TooLong) => {
+                name_bad_line(number, TOO_LONG, err);
+                Ok(Some(1))
+            }
+            Ok(Found::Line) => {
+                let line = self.lines.line();
+                let bad = count_line(
+                    alloc,
+                    &mut self.text,
+                    &mut self.log,
+                    &mut self.counts,
+                    number,
+                    line,
+                    err,
+                )?;
+                Ok(Some(bad))
+            }
+            Ok(Found::Last) => {
+                let line = self.lines.line();
+                count_line(
+                    alloc,
+                    &mut self.text,
+                    &mut self.log,
+                    &mut self.counts,
+                    number,
+                    line,
+                    err,
+                )?;
+                Ok(Some(0))
+            }
+            Err(fault) => Err(read_fault(fault)),
+        }
+    }
+}

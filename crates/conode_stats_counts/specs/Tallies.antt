@@ -1,0 +1,53 @@
+-- What is kept of the stamps of frames.
+use Rattle.std.specs.Prelude.{ℕ, ◌+◌, ◌-◌, ◌==◌, nat_lt, min, max, if◌then◌else◌, List, length, sum}
+use Rattle.conode_stats_counts.specs.declared.tally.Tally.{Tally}
+use Rattle.conode_stats_counts.specs.Gaps.{counted, gaps, greatest, most, newest, oldest, smallest, steps_back}
+
+-- of stamps, the newest first
+unfoldable pub tally_of : List ℕ → Tally
+tally_of stamps = record {
+  first = oldest stamps;
+  last = newest stamps;
+  frames = counted (length stamps);
+  steps_back = counted (steps_back stamps);
+  gaps = counted (length (gaps stamps));
+  total = counted (sum (gaps stamps));
+  smallest = smallest (gaps stamps);
+  greatest = greatest (gaps stamps);
+}
+
+-- ---- one stamp more, as it is counted
+
+-- the first one
+abbrev pub first_tally : ℕ → Tally
+first_tally micros = record {
+  first = micros;
+  last = micros;
+  frames = 1;
+  steps_back = 0;
+  gaps = 0;
+  total = 0;
+  smallest = most;
+  greatest = 0;
+}
+
+-- one that steps back
+abbrev pub tally_back : Tally → ℕ → Tally
+tally_back tally micros =
+    record tally { last = micros; frames = counted (tally.frames + 1); steps_back = counted (tally.steps_back + 1) }
+
+-- one that doesn't
+abbrev pub tally_on : Tally → ℕ → Tally
+tally_on tally micros = record tally {
+  last = micros;
+  frames = counted (tally.frames + 1);
+  gaps = counted (tally.gaps + 1);
+  total = counted (tally.total + (micros - tally.last));
+  smallest = min tally.smallest (micros - tally.last);
+  greatest = max tally.greatest (micros - tally.last);
+}
+
+unfoldable pub tally_with : Tally → ℕ → Tally
+tally_with tally micros =
+    if tally.frames == 0 then first_tally micros
+    else (if nat_lt micros tally.last then tally_back tally micros else tally_on tally micros)

@@ -1,0 +1,155 @@
+//! The frames of one bus.
+
+ghost use Rattle.std.specs.Prelude.{◌≡◌, ◌<◌, ◌≤◌, [], length, position, OnOk, IfOk, IfSome};
+ghost use Rattle.conode_record.specs.Grammar.{IsIdentifier};
+ghost use Rattle.conode_stats_counts.specs.Buses.{
+  bus_with,
+  can_id,
+  is_row,
+  most_rows,
+  new_bus,
+  new_row,
+  row_with,
+};
+ghost use Rattle.conode_stats_counts.specs.Groups.{group_with, no_room};
+
+use crate::load::Load;
+use crate::row::{Row, can_id};
+use crate::size::Size;
+use crate::tally::{Tally, counted};
+use arrayvec::ArrayVec;
+use conode_record::Record;
+use std::alloc::{AllocError, Global};
+use std::marker::Model;
+
+/// How many identifiers of a bus are counted at most.
+const MOST_ROWS: usize = 4096;
+
+/// Stamps are in microseconds.
+const SECOND: u64 = 1_000_000;
+
+/// The frames of one bus, counted: all of them, their bits, and by identifier. At most 4,096 identifiers are counted;
+/// how many frames have another is counted too.
+#[derive(Drop)]
+pub struct Bus {
+    interface: ArrayVec<u8, 15>,
+    all: Tally,
+    load: Load,
+    rows: Vec<Row>,
+    left_out: u64,
+}
+
+impl Model for Bus {
+    ghost use Rattle.conode_stats_counts.specs.Buses.{BusCounts};
+
+    ghost Value = { BusCounts };
+
+    ghost view = { λ bus. record {
+      interface = bus.interface.items;
+      all = bus.all;
+      load = bus.load;
+      rows = bus.rows.items;
+      left_out = bus.left_out;
+    } };
+}
+
+// the place of the row of an identifier
+fn place_of(rows: &[Row], id: u32) -> Option<usize>
+    ensures place { result ≡ position (is_row id) rows.now }
+    ensures within { IfSome result (λ place. place < length rows.now) }
+{
+    rows.iter().position(|row| row.can_id == id)
+}
+
+// Adds a frame to the row of its identifier. 1 where there is none, and no room, else 0. On an `Err` memory ran out.
+#[tactic(auto, unfolding(crate::specs::Groups::group_with, crate::specs::Groups::no_room))]
+fn add_to_row(rows: &mut Vec<Row>, id: u32, micros: u64) -> Result<u64, AllocError>
+    ensures rows { OnOk result (rows.new.items
+        ≡ group_with (is_row id) (row_with micros) (new_row id) most_rows rows.old.items) }
+    ensures left_out { IfOk result
+        (λ count. count ≡ no_room (is_row id) most_rows rows.old.items) }
+{
+    match place_of(rows.as_slice(), id) {
+        Some(place) => {
+            rows[place].add(micros);
+            Ok(0)
+        }
+        None => {
+            if rows.len() >= MOST_ROWS {
+                return Ok(1);
+            }
+            let mut row = Row::new(id);
+            row.add(micros);
+            rows.push(row)?;
+            Ok(0)
+        }
+    }
+}
+
+impl Bus {
+    /// No frame came on the interface.
+    #[tactic(auto, unfolding(crate::specs::Buses::bus_of, crate::specs::Groups::grouped, crate::specs::Groups::keys_of, crate::specs::Groups::left_out))]
+    pub(crate) fn new(alloc: Global, interface: &[u8]) -> Bus
+        requires { length interface.now ≤ 15 }
+        ensures { result ≡ new_bus interface.now }
+    {
+        let mut name = ArrayVec::new();
+        name.try_extend_from_slice(interface).unwrap();
+        Bus {
+            interface: name,
+            all: Tally::new(),
+            load: Load::new(),
+            rows: Vec::new(alloc),
+            left_out: 0,
+        }
+    }
+
+    /// One frame more. On an `Err` memory ran out.
+    #[tactic(auto, unfolding(crate::specs::Buses::bus_with))]
+    pub(crate) fn add(&mut self, frame: &Record<'_>) -> Result<(), AllocError>
+        requires { IsIdentifier frame.now.id }
+        ensures { OnOk result (self.new ≡ bus_with self.old frame.now) }
+    {
+        let more = add_to_row(&mut self.rows, can_id(frame.id), frame.micros)?;
+        self.left_out = counted(self.left_out, more);
+        self.all.add(frame.micros);
+        let size = Size::of(frame.id, &frame.content);
+        self.load.add(frame.micros / SECOND, size);
+        Ok(())
+    }
+
+    /// The name of its interface.
+    pub fn interface(&self) -> &[u8]
+        ensures { result.now ≡ self.now.interface }
+    {
+        self.interface.as_slice()
+    }
+
+    /// All frames.
+    pub fn all(&self) -> Tally
+        ensures { result ≡ self.now.all }
+    {
+        self.all
+    }
+
+    /// Their bits.
+    pub fn load(&self) -> Load
+        ensures { result ≡ self.now.load }
+    {
+        self.load
+    }
+
+    /// The frames of each identifier, in the order in which they came first.
+    pub fn rows(&self) -> &[Row]
+        ensures { result.now ≡ self.now.rows }
+    {
+        self.rows.as_slice()
+    }
+
+    /// How many frames have an identifier for which there was no room.
+    pub fn left_out(&self) -> u64
+        ensures { result ≡ self.now.left_out }
+    {
+        self.left_out
+    }
+}

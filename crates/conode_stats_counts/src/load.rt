@@ -1,0 +1,93 @@
+//! The bits that frames take on a bus.
+
+ghost use Rattle.std.specs.Prelude.{◌≡◌, [], ◌+◌};
+ghost use Rattle.conode_stats_counts.specs.Gaps.{counted};
+ghost use Rattle.conode_stats_counts.specs.Loads.{busier, load_of, load_with, second_with};
+
+use crate::size::Size;
+use crate::tally::counted;
+
+/// Frames in a row whose stamps are in one second: that second, counted from the stamp 0, their bits, and the most that
+/// such frames can take.
+#[derive(Clone, Copy, Debug, PartialEq, Eq)]
+pub struct Second {
+    pub second: u64,
+    pub bits: u64,
+    pub most: u64,
+}
+
+/// The bits of frames, the most that such frames can take, how many of them have bits that aren't known, and the second
+/// with the most bits. Sums stay at 2^64 - 1.
+#[derive(Clone, Copy, Debug, PartialEq, Eq)]
+pub struct Load {
+    pub bits: u64,
+    pub most: u64,
+    pub unknown: u64,
+    pub now: Second,
+    pub busiest: Second,
+}
+
+impl Second {
+    // one frame more
+    fn with(self, second: u64, size: Size) -> Second
+        ensures { result ≡ second_with self second size }
+    {
+        if self.second == second {
+            Second {
+                second,
+                bits: counted(self.bits, u64::from(size.bits)),
+                most: counted(self.most, u64::from(size.most)),
+            }
+        } else {
+            Second {
+                second,
+                bits: u64::from(size.bits),
+                most: u64::from(size.most),
+            }
+        }
+    }
+
+    // the one with more bits
+    fn or_busier(self, now: Second) -> Second
+        ensures { result ≡ busier self now }
+    {
+        if self.bits < now.bits { now } else { self }
+    }
+}
+
+impl Load {
+    /// Of no frame.
+    #[tactic(auto, using(crate::proofs::Loaded::none))]
+    pub fn new() -> Load
+        ensures { result ≡ load_of [] }
+    {
+        let none = Second {
+            second: 0,
+            bits: 0,
+            most: 0,
+        };
+        Load {
+            bits: 0,
+            most: 0,
+            unknown: 0,
+            now: none,
+            busiest: none,
+        }
+    }
+
+    /// One frame more.
+    #[tactic(auto, unfolding(crate::specs::Loads::load_with))]
+    pub(crate) fn add(&mut self, second: u64, size: Size)
+        ensures { self.new ≡ load_with self.old second size }
+    {
+        let now = self.now.with(second, size);
+        let unknown = if size.bits == 0 { 1 } else { 0 };
+        *self = Load {
+            bits: counted(self.bits, u64::from(size.bits)),
+            most: counted(self.most, u64::from(size.most)),
+            unknown: counted(self.unknown, unknown),
+            now,
+            busiest: self.busiest.or_busier(now),
+        };
+    }
+}

@@ -1,0 +1,47 @@
+//! The frames of one identifier.
+
+ghost use Rattle.std.specs.Prelude.{◌≡◌};
+ghost use Rattle.conode_record.specs.Grammar.{IsIdentifier};
+ghost use Rattle.conode_stats_counts.specs.Buses.{can_id, new_row, row_with};
+
+use crate::tally::Tally;
+use conode_record::Identifier;
+
+/// The frames of one identifier, counted.
+#[derive(Clone, Copy, Debug, PartialEq, Eq)]
+pub struct Row {
+    /// The identifier; one of 29 bits with bit 31, the class of an error frame with bit 29.
+    pub can_id: u32,
+    pub tally: Tally,
+}
+
+/// An identifier as one number.
+pub(crate) fn can_id(id: Identifier) -> u32
+    requires { IsIdentifier id }
+    ensures { result ≡ can_id id }
+{
+    match id {
+        Identifier::Base(id) => u32::from(id),
+        Identifier::Extended(id) => id + 0x8000_0000,
+        Identifier::Error(class) => class + 0x2000_0000,
+    }
+}
+
+impl Row {
+    /// No frame came.
+    pub(crate) fn new(can_id: u32) -> Row
+        ensures { result ≡ new_row can_id }
+    {
+        Row {
+            can_id,
+            tally: Tally::new(),
+        }
+    }
+
+    /// One frame more.
+    pub(crate) fn add(&mut self, micros: u64)
+        ensures { self.new ≡ row_with micros self.old }
+    {
+        self.tally.add(micros);
+    }
+}

@@ -1,0 +1,83 @@
+-- Figures, cells and lines, evaluated.
+use Rattle.std.proofs.Common.{ℕ, ◌*◌, ◌≡◌, Some, None, true, false, refl}
+use Rattle.std.specs.Prelude.{codes}
+use Rattle.std.specs.Fmt.{digits}
+use Rattle.co_text.specs.Printed.{digits_text}
+use Rattle.conode_stats_counts.specs.declared.tally.Tally.{Tally}
+use Rattle.conode_stats_text.specs.Cells.{seconds, tenths, thousandths}
+use Rattle.conode_stats_text.specs.Figures.{is_long, ratio, room_in}
+use Rattle.conode_stats_text.specs.StatsLines.{id_text}
+
+-- ---- figures
+
+half : ratio 1 1000 2 ≡ Some 500
+unfolding ratio
+half = refl
+
+rounded_down : ratio 2 1000 3 ≡ Some 666
+unfolding ratio
+rounded_down = refl
+
+of_nothing : ratio 2 1000 0 ≡ None
+unfolding ratio
+of_nothing = refl
+
+greatest_product : ratio 18446744073709551 1000 1 ≡ Some 18446744073709551000
+unfolding ratio
+greatest_product = refl
+
+too_great : ratio 18446744073709552 1000 1 ≡ None
+unfolding ratio
+too_great = refl
+
+-- 2.5 s at 125 kbit/s
+room : room_in 125000 2500000 ≡ 312500
+unfolding room_in
+room = refl
+
+-- gaps of 200 in the mean: 300 is not above one and a half times that
+abbrev beats : ℕ → Tally
+beats gaps = record { first = 0; last = 400; frames = 3; steps_back = 0; gaps = gaps; total = 200 * gaps; smallest = 100; greatest = 300 }
+
+not_long : is_long (beats 2) 300 ≡ false
+not_long = refl
+
+long : is_long (beats 2) 301 ≡ true
+long = refl
+
+one_gap : is_long (beats 1) 301 ≡ false
+one_gap = refl
+
+-- ---- cells
+
+tenths_text : tenths 1234 ≡ codes "123.4"
+unfolding tenths digits_text digits
+tenths_text = refl
+
+small_tenths : tenths 5 ≡ codes "0.5"
+unfolding tenths digits_text digits
+small_tenths = refl
+
+thousandths_text : thousandths 9071 ≡ codes "9.071"
+unfolding thousandths digits_text digits
+thousandths_text = refl
+
+seconds_text : seconds 3058000 ≡ codes "3.058000"
+unfolding seconds digits_text digits
+seconds_text = refl
+
+short_id : id_text 0x5 ≡ codes "005"
+unfolding id_text digits_text digits
+short_id = refl
+
+last_short_id : id_text 0x7FF ≡ codes "7FF"
+unfolding id_text digits_text digits
+last_short_id = refl
+
+extended_id : id_text 0x80000012 ≡ codes "00000012"
+unfolding id_text digits_text digits
+extended_id = refl
+
+error_id : id_text 0x20000080 ≡ codes "20000080"
+unfolding id_text digits_text digits
+error_id = refl

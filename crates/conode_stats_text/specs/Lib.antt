@@ -1,0 +1,4 @@
+pub mod Cells
+pub mod Figures
+pub mod StatsLines
+pub mod StatsTokens

@@ -1,0 +1,94 @@
+-- The lines of the page.
+use Rattle.std.specs.Prelude.{ℕ, ◌-◌, ◌%◌, ◌==◌, nat_lt, if◌then◌else◌, List, [], ◌++◌, codes, decimal}
+use Rattle.co_text.specs.Printed.{digits_text}
+use Rattle.conode_stats_counts.specs.declared.load.Load.{Load}
+use Rattle.conode_stats_counts.specs.declared.load.Second.{Second}
+use Rattle.conode_stats_counts.specs.declared.row.Row.{Row}
+use Rattle.conode_stats_counts.specs.declared.tally.Tally.{Tally}
+use Rattle.conode_stats_text.specs.Cells.{left, name_text, or_none, right, seconds, tenths, thousandths}
+use Rattle.conode_stats_text.specs.Figures.{gap_of, has_lost, is_emergency, is_heartbeat, is_silent, load, mean, rate, room_in}
+
+-- an identifier in three digits, or where it is one of 29 bits or of an error frame in eight
+unfoldable pub id_text : ℕ → List ℕ
+id_text id = if nat_lt id 0x800 then digits_text 16 3 id else digits_text 16 8 (id % 0x80000000)
+
+-- the figures of the gaps
+unfoldable pub gap_cells : Tally → List ℕ
+gap_cells tally =
+    right 15 (or_none thousandths (gap_of tally tally.smallest)) ++ right 12 (or_none thousandths (mean tally))
+    ++ right 14 (or_none thousandths (gap_of tally tally.greatest))
+
+-- of an identifier on an interface
+unfoldable pub row_line : List ℕ → Row → List ℕ
+row_line interface row =
+    left 15 (name_text interface) ++ codes "  " ++ right 8 (id_text row.can_id) ++ right 13 (decimal row.tally.frames)
+    ++ right 12 (or_none tenths (rate row.tally)) ++ gap_cells row.tally ++ codes "\n"
+
+-- a load
+unfoldable pub load_tenths : ℕ → ℕ → List ℕ
+load_tenths bits room = or_none tenths (load bits room)
+
+-- a load, and the greatest that there can be
+unfoldable pub load_text : ℕ → ℕ → ℕ → List ℕ
+load_text bits most room =
+    load_tenths bits room ++ codes " % (worst case " ++ load_tenths most room ++ codes " %)"
+
+-- where the bits of some frames aren't known, it is the least
+abbrev pub load_word : Load → List ℕ
+load_word load = if load.unknown == 0 then codes "    load " else codes "    load at least "
+
+-- the busiest second
+unfoldable pub busiest_text : ℕ → Second → List ℕ
+busiest_text bit_rate busiest =
+    codes ", busiest second " ++ decimal busiest.second ++ codes ": " ++ load_text busiest.bits busiest.most bit_rate ++ codes "\n"
+
+-- how busy a bus is
+unfoldable pub load_line : ℕ → Tally → Load → List ℕ
+load_line bit_rate all load =
+    load_word load ++ load_text load.bits load.most (room_in bit_rate all.total) ++ busiest_text bit_rate load.busiest
+
+-- over which time frames came
+unfoldable pub bus_times : Tally → List ℕ
+bus_times all =
+    codes " frames in " ++ seconds all.total ++ codes " s, the first at " ++ seconds all.first ++ codes "\n"
+
+-- the frames of a bus
+unfoldable pub bus_line : List ℕ → Tally → List ℕ
+bus_line interface all =
+    codes "  " ++ name_text interface ++ codes ": " ++ decimal all.frames ++ bus_times all
+
+-- ---- what looks wrong
+
+-- of a node of a bus
+abbrev pub node_front : List ℕ → ℕ → List ℕ
+node_front interface node = codes "  " ++ name_text interface ++ codes ": node " ++ decimal node
+
+unfoldable pub silent_line : List ℕ → ℕ → Tally → List ℕ
+silent_line interface node tally =
+    node_front interface node ++ codes " silent since " ++ seconds tally.last ++ codes ", after a heartbeat every "
+    ++ or_none thousandths (mean tally) ++ codes " ms\n"
+
+unfoldable pub lost_line : List ℕ → ℕ → Tally → List ℕ
+lost_line interface node tally =
+    node_front interface node ++ codes " heartbeats up to " ++ thousandths tally.greatest ++ codes " ms apart, in the mean "
+    ++ or_none thousandths (mean tally) ++ codes " ms\n"
+
+unfoldable pub emergency_line : List ℕ → ℕ → Tally → List ℕ
+emergency_line interface node tally =
+    node_front interface node ++ codes " EMCY messages: " ++ decimal tally.frames ++ codes ", the last at " ++ seconds tally.last ++ codes "\n"
+
+-- one of other things, with how many there are
+unfoldable pub count_line : List ℕ → List ℕ → ℕ → List ℕ
+count_line front what count = codes "  " ++ front ++ what ++ codes ": " ++ decimal count ++ codes "\n"
+
+-- none where there is none
+abbrev pub if_any : List ℕ → List ℕ → ℕ → List ℕ
+if_any front what count = if count == 0 then [] else count_line front what count
+
+-- of an identifier of a bus whose last frame has this stamp
+unfoldable pub wrong_in : List ℕ → ℕ → Row → List ℕ
+wrong_in interface end row =
+    if is_heartbeat row.can_id
+    then (if is_silent end row.tally then silent_line interface (row.can_id - 0x700) row.tally else [])
+    ++ (if has_lost row.tally then lost_line interface (row.can_id - 0x700) row.tally else [])
+    else (if is_emergency row.can_id then emergency_line interface (row.can_id - 0x80) row.tally else [])

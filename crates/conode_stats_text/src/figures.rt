@@ -1,0 +1,65 @@
+//! The figures of what is counted.
+
+ghost use Rattle.std.specs.Prelude.{◌≡◌, ◌≤◌};
+ghost use Rattle.conode_stats_text.specs.Figures.{gap_of, is_long, mean, ratio, room_in};
+
+use conode_stats_counts::Tally;
+
+/// A fraction rounded down; none of nothing, or where the product doesn't fit.
+#[tactic(auto, unfolding(crate::specs::Figures::ratio))]
+pub(crate) fn ratio(number: u64, scale: u64, whole: u64) -> Option<u64>
+    ensures { result ≡ ratio number scale whole }
+{
+    if whole == 0 {
+        return None;
+    }
+    match number.checked_mul(scale) {
+        Some(product) => Some(product / whole),
+        None => None,
+    }
+}
+
+/// A gap, where there is one and the log has stamps.
+pub(crate) fn gap_of(tally: &Tally, gap: u64) -> Option<u64>
+    ensures { result ≡ gap_of tally.now gap }
+{
+    if tally.gaps == 0 || tally.last == 0 {
+        None
+    } else {
+        Some(gap)
+    }
+}
+
+/// The mean gap.
+pub(crate) fn mean(tally: &Tally) -> Option<u64>
+    ensures { result ≡ mean tally.now }
+{
+    if tally.gaps == 0 {
+        return None;
+    }
+    gap_of(tally, tally.total / tally.gaps)
+}
+
+/// How many bits a bus has room for in a time in microseconds.
+#[tactic(auto, unfolding(crate::specs::Figures::room_in))]
+pub(crate) fn room_in(bit_rate: u32, micros: u64) -> u64
+    requires { bit_rate ≤ 1000000 }
+    ensures { result ≡ room_in bit_rate micros }
+{
+    let rate = u64::from(bit_rate);
+    micros / 1_000_000 * rate + micros % 1_000_000 * rate / 1_000_000
+}
+
+/// Whether a time is above one and a half times the mean gap, where there are two gaps at least.
+pub(crate) fn is_long(tally: &Tally, micros: u64) -> bool
+    ensures { result ≡ is_long tally.now micros }
+{
+    if tally.gaps < 2 {
+        return false;
+    }
+    let mean = tally.total / tally.gaps;
+    match mean.checked_add(mean / 2) {
+        Some(most) => most < micros,
+        None => false,
+    }
+}

@@ -1,0 +1,153 @@
+//! The page.
+
+ghost use Rattle.std.specs.Prelude.{◌≤◌, IfSome};
+
+use crate::cells::push_name;
+use crate::lines::{push_bus, push_load, push_row};
+use crate::wrong::{push_count, push_wrong_in};
+use co_text::push_decimal;
+use conode_stats_counts::{Bus, Counts, Row};
+use std::alloc::{AllocError, Global};
+
+/// What the page says.
+#[derive(Drop)]
+pub struct Page<'a> {
+    pub counts: &'a Counts,
+    /// How many lines of the recording are bad.
+    pub bad: u64,
+    /// The bits of a second, up to 1,000,000, where they are known.
+    pub bit_rate: Option<u32>,
+}
+
+/// The columns of identifiers.
+const HEAD: &str =
+    "interface              id       frames    frames/s    smallest ms     mean ms   greatest ms\n";
+
+/// What is said of frames for which there was no room.
+const MORE_IDENTIFIERS: &str = "frames of more than 4,096 identifiers, not in the table";
+
+const MORE_INTERFACES: &str = "frames of more than 16 interfaces, not counted";
+
+/// Bits 29 and 31 of the number of an identifier: an error frame, and one of 29 bits.
+const ERROR_FRAME: u32 = 0x2000_0000;
+
+const EXTENDED: u32 = 0x8000_0000;
+
+// whether a row is of error frames
+fn is_of_errors(row: &Row) -> bool {
+    row.can_id >= ERROR_FRAME && row.can_id < EXTENDED
+}
+
+// how many error frames there are
+fn error_frames(bus: &Bus) -> u64 {
+    let mut count: u64 = 0;
+    for row in bus.rows() {
+        if is_of_errors(row) {
+            count = count.saturating_add(row.tally.frames);
+        }
+    }
+    count
+}
+
+/// The identifiers of a bus, the smallest first.
+pub(crate) fn sorted_rows(alloc: Global, bus: &Bus) -> Result<Vec<Row>, AllocError> {
+    let mut rows = bus.rows().to_vec(alloc)?;
+    rows.sort_by_key(|row| row.can_id)?;
+    Ok(rows)
+}
+
+// what looks wrong on a bus
+fn push_wrong_on(
+    alloc: Global,
+    text: &mut String,
+    cell: &mut String,
+    bus: &Bus,
+) -> Result<(), AllocError> {
+    let end = bus.all().last;
+    let rows = sorted_rows(alloc, bus)?;
+    for row in &rows {
+        push_wrong_in(text, cell, bus.interface(), end, row)?;
+    }
+    cell.clear();
+    push_name(cell, bus.interface())?;
+    cell.push_str(": ")?;
+    let front = cell.as_str();
+    push_count(text, front, "error frames", error_frames(bus))?;
+    push_count(text, front, "stamps that step back", bus.all().steps_back)?;
+    push_count(text, front, MORE_IDENTIFIERS, bus.left_out())
+}
+
+// all that looks wrong
+fn push_all_wrong(
+    alloc: Global,
+    text: &mut String,
+    cell: &mut String,
+    page: &Page<'_>,
+) -> Result<(), AllocError> {
+    text.push_str("What looks wrong\n")?;
+    let before = text.len();
+    for bus in page.counts.buses() {
+        push_wrong_on(alloc, text, cell, bus)?;
+    }
+    push_count(text, "", "bad lines", page.bad)?;
+    push_count(text, "", MORE_INTERFACES, page.counts.left_out())?;
+    if text.len() == before {
+        text.push_str("  nothing\n")?;
+    }
+    Ok(())
+}
+
+// the frames of a bus, and how busy it is
+fn push_front(text: &mut String, bus: &Bus, bit_rate: Option<u32>) -> Result<(), AllocError>
+    requires { IfSome bit_rate (λ rate. rate ≤ 1000000) }
+{
+    let all = bus.all();
+    push_bus(text, bus.interface(), &all)?;
+    if all.last == 0 {
+        return text.push_str("    no stamps, so no gaps, rates and load\n");
+    }
+    let Some(rate) = bit_rate else {
+        return Ok(());
+    };
+    let load = bus.load();
+    push_load(text, rate, &all, &load)?;
+    if load.unknown == 0 {
+        return Ok(());
+    }
+    text.push_str("    CAN FD and error frames, whose bits aren't known: ")?;
+    push_decimal(text, load.unknown)?;
+    text.push_str("\n")
+}
+
+// the identifiers of a bus, the smallest first
+fn push_rows(
+    alloc: Global,
+    text: &mut String,
+    cell: &mut String,
+    bus: &Bus,
+) -> Result<(), AllocError> {
+    let rows = sorted_rows(alloc, bus)?;
+    for row in &rows {
+        push_row(text, cell, bus.interface(), row)?;
+    }
+    Ok(())
+}
+
+/// Makes the text the page: what looks wrong, the buses, and their identifiers. On an `Err` memory ran out, and the
+/// text is any part of it.
+pub fn set_page(alloc: Global, text: &mut String, page: &Page<'_>) -> Result<(), AllocError>
+    requires { IfSome page.now.bit_rate (λ rate. rate ≤ 1000000) }
+{
+    let mut cell = String::new(alloc);
+    text.clear();
+    push_all_wrong(alloc, text, &mut cell, page)?;
+    text.push_str("Buses\n")?;
+    for bus in page.counts.buses() {
+        push_front(text, bus, page.bit_rate)?;
+    }
+    text.push_str(HEAD)?;
+    for bus in page.counts.buses() {
+        push_rows(alloc, text, &mut cell, bus)?;
+    }
+    Ok(())
+}
