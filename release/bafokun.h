@@ -15,11 +15,11 @@
  *
  * What holds of every call:
  * - No pointer is NULL, also where the count beside it is 0. An array has as many elements as its count says.
- * - What a call writes (node, frames, bytes, length, fault, abort_code, elapsed, text) is apart from all else that the call is
- *   given.
+ * - What a call writes (node, frames, bytes, length, fault, abort_code, elapsed, entry, number, text) is apart from all else that
+ *   the call is given.
  * - A node is in one call at a time, and no call comes from a signal handler.
  * - A node begins as BAFOKUN_EMPTY and only the calls below write it. It may be moved, not copied. While it is empty, calls
- *   do nothing and give 0.
+ *   do nothing and give 0, bafokun_idle BAFOKUN_FOREVER.
  * - What is passed stays the caller's; nothing that is passed is kept after the call, the text of the EDS included.
  * - bafokun_build asks for memory, bafokun_free gives it back, and no other call does either.
  * - malloc aligns blocks to 16 bytes, and malloc, realloc and free belong together.
@@ -37,9 +37,9 @@
 extern "C" {
 #endif
 
-#define BAFOKUN_VERSION "0.7.0"
+#define BAFOKUN_VERSION "0.8.0"
 #define BAFOKUN_VERSION_MAJOR 0
-#define BAFOKUN_VERSION_MINOR 7
+#define BAFOKUN_VERSION_MINOR 8
 #define BAFOKUN_VERSION_PATCH 0
 
 /* No input gives more frames: an array of so many has room for all. */
@@ -84,10 +84,39 @@ typedef struct bafokun_fault {
 #define BAFOKUN_SHEET_MEMORY 20
 #define BAFOKUN_DEVICE_MEMORY 7
 
+/* An entry of the object dictionary. 24 bytes on a machine of 64 bits, no padding. */
+typedef struct bafokun_entry_info {
+    uint16_t index;
+    uint8_t sub_index;
+    uint8_t access;         /* of SDO clients and PDOs: BAFOKUN_RO to BAFOKUN_CONST */
+    uint16_t type;          /* the code of its data type (CiA 301, 7.4.7.1): 5 UNSIGNED8, 9 VISIBLE_STRING, and so on */
+    uint16_t original_type; /* where conode adapt put that type in its place, the one before: 8 REAL32, 11h REAL64, 0Bh
+                               UNICODE_STRING, 0Ch TIME_OF_DAY, 0Dh TIME_DIFFERENCE; else the same as type */
+    size_t capacity;        /* bytes that it has room for */
+    size_t length;          /* bytes that it has now */
+} bafokun_entry_info;
+
+/* The access of an entry, AccessType (CiA 306): ro, wo, rw, rwr, rww, const. */
+#define BAFOKUN_RO 1
+#define BAFOKUN_WO 2
+#define BAFOKUN_RW 3
+#define BAFOKUN_RWR 4
+#define BAFOKUN_RWW 5
+#define BAFOKUN_CONST 6
+
+/* What bafokun_idle gives where nothing is ever due. */
+#define BAFOKUN_FOREVER UINT32_MAX
+
 /* NMT states, as the byte of a heartbeat (CiA 301, 7.2.8.3.2). */
 #define BAFOKUN_STOPPED 4
 #define BAFOKUN_OPERATIONAL 5
 #define BAFOKUN_PRE_OPERATIONAL 127
+
+/* Changes of the CAN controller. */
+#define BAFOKUN_BUS_ACTIVE 0    /* error active again, after error passive or once it has recovered */
+#define BAFOKUN_BUS_PASSIVE 1   /* error passive */
+#define BAFOKUN_BUS_OFF 2       /* bus-off */
+#define BAFOKUN_BUS_RECOVERED 3 /* recovered from bus-off */
 
 /* Answers to an event of the application. */
 #define BAFOKUN_NO_EVENT 0
@@ -120,8 +149,9 @@ size_t bafokun_take(bafokun_node *node, const bafokun_frame *frame, bafokun_fram
 size_t bafokun_tick(bafokun_node *node, bafokun_frame *frames, size_t room);
 
 /*
- * Many ms elapsed, at most so many, as where a program wakes up late: the ticks end with the first one that sends frames, so
- * that these are sent before the next. elapsed is how many there were: all, where none sends any.
+ * Many ms elapsed, at most so many, as where a program wakes up late, or slept for as long as bafokun_idle says: the ticks end
+ * with the first one that sends frames, so that these are sent before the next. elapsed is how many there were: all, where none
+ * sends any.
  *
  *     for (; late > 0; late -= elapsed)
  *         send(frames, bafokun_ticks(&node, late, &elapsed, frames, BAFOKUN_MOST_FRAMES));
@@ -150,6 +180,16 @@ size_t bafokun_raise(bafokun_node *node, uint16_t code, uint8_t bits, const uint
 /* Errors have ended: these bits of the error register are cleared. */
 size_t bafokun_clear(bafokun_node *node, uint8_t bits, bafokun_frame *frames, size_t room);
 
+/*
+ * The CAN controller changed: BAFOKUN_BUS_PASSIVE raises the error 8120h, BAFOKUN_BUS_RECOVERED 8140h, each with bit 4 of the
+ * error register, communication error; BAFOKUN_BUS_ACTIVE clears that bit, and bit 0 where no other is left. BAFOKUN_BUS_OFF
+ * changes the NMT state by 1029:01, as a lost heartbeat does: 0, or no such entry, leaves operational for pre-operational, 2
+ * stops, every other value does nothing. Of another number nothing happens. So after bus-off come
+ * BAFOKUN_BUS_RECOVERED and BAFOKUN_BUS_ACTIVE. An error that is raised again sends its emergency again: call this at a change
+ * alone.
+ */
+size_t bafokun_bus(bafokun_node *node, uint8_t change, bafokun_frame *frames, size_t room);
+
 /* The frames that the last input gave, from number from on, 0 the first: put and counted as by an input. */
 size_t bafokun_sent(bafokun_node *node, size_t from, bafokun_frame *frames, size_t room);
 
@@ -161,6 +201,26 @@ size_t bafokun_sent(bafokun_node *node, size_t from, bafokun_frame *frames, size
  */
 bool bafokun_value(bafokun_node *node, uint16_t index, uint8_t sub_index, uint8_t *bytes, size_t room, size_t *length);
 
+/*
+ * Entries by their number: from 0 on, by increasing index and sub-index. A number stays that of its entry until the device is given
+ * back.
+ *
+ *     for (number = 0; bafokun_entry(&node, number, &entry); number++)
+ *         ...
+ */
+
+/* Whether there is an entry with this number. If so it is put into entry. If not, nothing is written. */
+bool bafokun_entry(bafokun_node *node, size_t number, bafokun_entry_info *entry);
+
+/*
+ * The name of an entry, its ParameterName: put into text with a 0 after it, and cut where there is less room; with room 0 nothing is
+ * written. The result is how long the whole name is, without the 0: 0 where it has none, or where there is no such entry.
+ */
+size_t bafokun_entry_name(bafokun_node *node, size_t number, char *text, size_t room);
+
+/* Whether there is an entry of this index and sub-index. If so its number is put into number. If not, nothing is written. */
+bool bafokun_find(bafokun_node *node, uint16_t index, uint8_t sub_index, size_t *number);
+
 /* The node-ID, 1 to 127. */
 uint8_t bafokun_node_id(bafokun_node *node);
 
@@ -168,7 +228,17 @@ uint8_t bafokun_node_id(bafokun_node *node);
 uint8_t bafokun_state(bafokun_node *node);
 
 /*
- * The answer to the last input: BAFOKUN_NO_EVENT where it was none of bafokun_write, _event, _changed, _raise and _clear,
+ * For at least so many ms the device sends nothing, and neither an entry nor its NMT state changes, if nothing is received:
+ * BAFOKUN_FOREVER if it never does, and for an empty node. So a program may wait for a frame until one ms more has elapsed,
+ * and give the ms then at once, by bafokun_ticks. Any input may change it, so it is asked again after each.
+ *
+ *     idle = bafokun_idle(&node);
+ *     poll(&bus, 1, idle < INT_MAX ? (int)idle + 1 : -1);
+ */
+uint32_t bafokun_idle(bafokun_node *node);
+
+/*
+ * The answer to the last input: BAFOKUN_NO_EVENT where it was none of bafokun_write, _event, _changed, _raise, _clear and _bus,
  * else BAFOKUN_DONE, or BAFOKUN_REFUSED and the SDO abort code. A refused event changes nothing. abort_code is 0 otherwise.
  */
 uint8_t bafokun_answer(bafokun_node *node, uint32_t *abort_code);
