@@ -19,6 +19,10 @@ use Rattle.conode_explain_channels.specs.declared.told.Told.{Told}
 use Rattle.conode_explain_channels.specs.declared.track.Track.{Track}
 use Rattle.conode_explain_channels.specs.Tellings.{telling}
 use Rattle.conode_explain_channels.specs.Tracks.{Telling}
+use Rattle.conode_explain_entries.specs.declared.entries.Entry.{Entry}
+use Rattle.conode_explain_entries.specs.Tables.{entries_with}
+use Rattle.conode_explain_pdo.specs.Buses.{Bus}
+use Rattle.conode_explain_pdo.specs.Sheets.{sheet_pdos}
 use Rattle.conode_explain_transfers.specs.declared.ended.Ended.{Ended}
 use Rattle.conode_explain_transfers.specs.declared.ended.Ending.TheVariants.{Unfinished}
 use Rattle.conode_explain_transfers.specs.Followed.{closed}
@@ -40,7 +44,7 @@ use Rattle.conode_explain.specs.ToldWords.{ended_words, told_words}
 
 -- nothing came
 abbrev pub nothing_known : Progress
-nothing_known = record { seen = nothing_seen; channels = []; lasts = [] }
+nothing_known = record { seen = nothing_seen; channels = []; entries = []; lasts = [] }
 
 -- what is told of a frame, and the channels after it: frames of data with an identifier of 11 bits alone are followed
 abbrev pub telling_in : List Track → Record → Identifier → Content → Telling
@@ -49,6 +53,14 @@ telling_in channels frame _ _ = record { told = None; tracks = channels }
 
 unfoldable pub telling_of : List Track → Record → Telling
 telling_of channels frame = telling_in channels frame frame.id frame.content
+
+-- what is known of the PDOs of a frame's bus
+abbrev pub bus_of : Names → List Entry → Record → Bus
+bus_of names entries frame = record { names = names; pdos = sheet_pdos names; entries = entries; interface = frame.interface }
+
+-- what a frame says
+abbrev pub said_words : Names → List Entry → Record → Option Told → List ℕ
+said_words names entries frame told = told_words (bus_of names entries frame) frame told
 
 -- a line as text or as an object of JSON, of a kind and a node
 abbrev pub line_as : LineFormat → Kind → Option ℕ → List Part → List ℕ
@@ -94,7 +106,7 @@ told_lines form names so_far frame (Some told) = ended_lines form names so_far f
 unfoldable pub frame_lines : Layout → Names → Progress → Record → List (List ℕ)
 frame_lines form names progress frame =
     let told = (telling_of progress.channels frame).told in
-    shown_lines form names progress.seen progress.lasts frame (told_words names frame told)
+    shown_lines form names progress.seen progress.lasts frame (said_words names progress.entries frame told)
     ++ told_lines form names progress.seen frame told
 
 unfoldable pub progress_with : Layout → Names → Progress → Record → Progress
@@ -103,7 +115,8 @@ progress_with form names progress frame =
     record {
       seen = seen_with progress.seen frame.micros frame.interface;
       channels = telling.tracks;
-      lasts = lasts_after form names progress.seen progress.lasts frame (told_words names frame telling.told);
+      lasts = lasts_after form names progress.seen progress.lasts frame (said_words names progress.entries frame telling.told);
+      entries = entries_with progress.entries frame.interface telling.told;
     }
 
 -- the lines of what a line says, if that is a frame

@@ -14,8 +14,7 @@ use Rattle.conode_explain_filter.specs.declared.subject.Subject.{Subject}
 use Rattle.conode_explain_filter.specs.Filters.{passes, passes_transfer}
 use Rattle.conode_explain_filter.specs.Subjects.{subject_of}
 use Rattle.conode_explain_pdo.specs.declared.sheet.SheetPdo.{SheetPdo}
-use Rattle.conode_explain_pdo.specs.CobIds.{node_with}
-use Rattle.conode_explain_pdo.specs.Pdos.{is_pdo}
+use Rattle.conode_explain_pdo.specs.CobIds.{may_be_pdo, node_with}
 use Rattle.conode_explain_pdo.specs.Sheets.{sheet_pdos}
 use Rattle.conode_explain_text.specs.SoFar.{SoFar, times_at}
 use Rattle.conode_explain.specs.declared.progress.Layout.{Layout}
@@ -28,7 +27,7 @@ first_node only id (pdo ∷ pdos) = option_map_or (λ node. Some node) (node_wit
 -- the node of the data sheet's PDO that has an identifier
 abbrev pub pdo_node : Names → Identifier → Option ℕ
 pdo_node names (Base id) =
-    if is_pdo names.only (sheet_pdos names) id then first_node names.only id (sheet_pdos names) else None
+    if may_be_pdo id then first_node names.only id (sheet_pdos names) else None
 pdo_node names _ = None
 
 -- the kind and the node of a frame

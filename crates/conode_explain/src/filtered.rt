@@ -23,7 +23,7 @@ use arrayvec::ArrayVec;
 use conode_decode::Names;
 use conode_explain_changes::Lasts;
 use conode_explain_filter::{Kind, Subject};
-use conode_explain_pdo::{SheetPdo, is_pdo};
+use conode_explain_pdo::{SheetPdo, may_be_pdo};
 use conode_explain_text::Seen;
 use conode_record::{Content, Identifier, Record};
 use std::alloc::AllocError;
@@ -45,7 +45,7 @@ fn pdo_node(names: Names<'_, '_>, pdos: &[SheetPdo], id: Identifier) -> Option<u
     ensures { result ≡ pdo_node (names_view names.entry) id }
 {
     match id {
-        Identifier::Base(id) if is_pdo(names.only, pdos, id) => first_node(names.only, id, pdos),
+        Identifier::Base(id) if may_be_pdo(id) => first_node(names.only, id, pdos),
         _ => None,
     }
 }

@@ -2,12 +2,14 @@
 
 ghost use Rattle.std.specs.Prelude.{◌≡◌, ◌⊎◌, ◌++◌, OnOk, IfErr};
 ghost use Rattle.conode_decode.specs.Names.{names_view};
+ghost use Rattle.conode_explain_pdo.specs.Buses.{bus_view};
 ghost use Rattle.conode_explain_pdo.specs.Sheets.{sheet_pdos};
 ghost use Rattle.conode_io.specs.Written.{WritesLines};
 ghost use Rattle.conode_record.specs.Grammar.{IsIdentifier};
 ghost use Rattle.conode_explain_text.specs.Lines.{own_parts};
 ghost use Rattle.conode_explain_text.specs.SoFar.{shows_interface, times_at};
 ghost use Rattle.conode_explain.specs.Explained.{
+  bus_of,
   ended_lines,
   frame_line,
   frame_lines,
@@ -15,12 +17,12 @@ ghost use Rattle.conode_explain.specs.Explained.{
   line_as,
   news_lines,
   progress_with,
+  said_words,
   shown_lines,
   told_lines,
   unfinished_lines,
 };
 ghost use Rattle.conode_explain.specs.Filtered.{lasts_told};
-ghost use Rattle.conode_explain.specs.ToldWords.{told_words};
 
 use crate::filtered::{is_news, shows_end, shows_frame, subject_in};
 use crate::progress::{Layout, LineFormat, Progress};
@@ -28,9 +30,10 @@ use crate::told_words::{set_ended_words, set_told_words};
 use conode_decode::Names;
 use conode_explain_changes::Lasts;
 use conode_explain_channels::Told;
+use conode_explain_entries::Entries;
 use conode_explain_filter::Kind;
 use conode_explain_json::{json_line, own_json_line};
-use conode_explain_pdo::SheetPdo;
+use conode_explain_pdo::{Bus, SheetPdo};
 use conode_explain_text::{Seen, set_line, set_own_line};
 use conode_explain_transfers::Ended;
 use conode_io::{CmdFault, hand_over};
@@ -64,6 +67,26 @@ impl Room {
             text: String::new(alloc),
             line: Vec::new(alloc),
         }
+    }
+}
+
+// what is known of the PDOs of a frame's bus
+#[tactic(auto, using(crate::proofs::Buses::same_bus))]
+fn bus_of<'b, 's, 'a>(
+    settings: &Settings<'s, 'a>,
+    pdos: &'b [SheetPdo],
+    entries: &'b Entries,
+    frame: &'b Record<'_>,
+) -> Bus<'b, 's, 'a>
+    requires { pdos.now ≡ sheet_pdos (names_view settings.now.names) }
+    ensures { bus_view result
+        ≡ bus_of (names_view settings.now.names) entries.now frame.now }
+{
+    Bus {
+        names: settings.names,
+        pdos,
+        entries,
+        interface: frame.interface.bytes(),
     }
 }
 
@@ -131,6 +154,7 @@ fn write_news<W: Write>(
     room: &mut Room,
     seen: &Seen,
     lasts: &mut Lasts,
+    entries: &Entries,
     settings: &Settings<'_, '_>,
     pdos: &[SheetPdo],
     frame: &Record<'_>,
@@ -141,13 +165,14 @@ fn write_news<W: Write>(
     requires pdos { pdos.now ≡ sheet_pdos (names_view settings.now.names) }
     ensures lines { OnOk result (WritesLines (W.contents out.old) (W.contents out.new)
         (news_lines settings.now.form (names_view settings.now.names) seen.now lasts.old frame.now
-        (told_words (names_view settings.now.names) frame.now told.now))) }
+        (said_words (names_view settings.now.names) entries.now frame.now told.now))) }
     ensures lasts { OnOk result (lasts.new ≡ lasts_told settings.now.form
         (names_view settings.now.names) lasts.old frame.now
-        (told_words (names_view settings.now.names) frame.now told.now)) }
+        (said_words (names_view settings.now.names) entries.now frame.now told.now)) }
     ensures err { IfErr result (λ fault. (fault ≡ CmdFault.Write) ⊎ (fault ≡ CmdFault.Memory)) }
 {
-    set_told_words(&mut room.said, settings.names, pdos, frame, told)?;
+    let bus = bus_of(settings, pdos, entries, frame);
+    set_told_words(&mut room.said, bus, frame, told)?;
     write_said(
         room.alloc,
         &mut room.line,
@@ -168,6 +193,7 @@ fn write_shown<W: Write>(
     room: &mut Room,
     seen: &Seen,
     lasts: &mut Lasts,
+    entries: &Entries,
     settings: &Settings<'_, '_>,
     pdos: &[SheetPdo],
     frame: &Record<'_>,
@@ -178,16 +204,16 @@ fn write_shown<W: Write>(
     requires pdos { pdos.now ≡ sheet_pdos (names_view settings.now.names) }
     ensures lines { OnOk result (WritesLines (W.contents out.old) (W.contents out.new)
         (shown_lines settings.now.form (names_view settings.now.names) seen.now lasts.old
-        frame.now (told_words (names_view settings.now.names) frame.now told.now))) }
+        frame.now (said_words (names_view settings.now.names) entries.now frame.now told.now))) }
     ensures lasts { OnOk result (lasts.new ≡ lasts_after settings.now.form
         (names_view settings.now.names) seen.now lasts.old frame.now
-        (told_words (names_view settings.now.names) frame.now told.now)) }
+        (said_words (names_view settings.now.names) entries.now frame.now told.now)) }
     ensures err { IfErr result (λ fault. (fault ≡ CmdFault.Write) ⊎ (fault ≡ CmdFault.Memory)) }
 {
     if !shows_frame(settings, pdos, seen, frame) {
         return Ok(());
     }
-    write_news(room, seen, lasts, settings, pdos, frame, told, out)
+    write_news(room, seen, lasts, entries, settings, pdos, frame, told, out)
 }
 
 // Makes `line` that of a transfer that ended, of which these words are said.
@@ -292,6 +318,7 @@ fn write_told<W: Write>(
     room: &mut Room,
     seen: &Seen,
     lasts: &mut Lasts,
+    entries: &Entries,
     settings: &Settings<'_, '_>,
     pdos: &[SheetPdo],
     frame: &Record<'_>,
@@ -302,15 +329,15 @@ fn write_told<W: Write>(
     requires pdos { pdos.now ≡ sheet_pdos (names_view settings.now.names) }
     ensures lines { OnOk result (WritesLines (W.contents out.old) (W.contents out.new)
         (shown_lines settings.now.form (names_view settings.now.names) seen.now lasts.old
-        frame.now (told_words (names_view settings.now.names) frame.now told.now)
+        frame.now (said_words (names_view settings.now.names) entries.now frame.now told.now)
         ++ told_lines settings.now.form (names_view settings.now.names) seen.now frame.now
         told.now)) }
     ensures lasts { OnOk result (lasts.new ≡ lasts_after settings.now.form
         (names_view settings.now.names) seen.now lasts.old frame.now
-        (told_words (names_view settings.now.names) frame.now told.now)) }
+        (said_words (names_view settings.now.names) entries.now frame.now told.now)) }
     ensures err { IfErr result (λ fault. (fault ≡ CmdFault.Write) ⊎ (fault ≡ CmdFault.Memory)) }
 {
-    write_shown(room, seen, lasts, settings, pdos, frame, told, out)?;
+    write_shown(room, seen, lasts, entries, settings, pdos, frame, told, out)?;
     write_told_end(room, seen, settings, frame, told, out)
 }
 
@@ -337,13 +364,14 @@ pub(crate) fn write_frame<W: Write>(
         room,
         &progress.seen,
         &mut progress.lasts,
+        &progress.entries,
         settings,
         pdos,
         frame,
         &told,
         out,
     )?;
-    progress.seen.add(frame);
+    progress.add(frame, &told)?;
     Ok(())
 }
 

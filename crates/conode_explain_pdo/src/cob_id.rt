@@ -45,13 +45,13 @@ pub(crate) fn cob_id_of(default: Preset<'_>) -> Option<SheetCobId>
 }
 
 /// Whether a PDO may have an identifier: it is not restricted (CiA 301, 7.3.5), and not that of a default SDO channel.
-pub(crate) fn may_be_pdo(id: u16) -> bool
+pub fn may_be_pdo(id: u16) -> bool
     ensures { result ≡ may_be_pdo id }
 {
     !is_restricted(id) && !matches!(id, 0x581..=0x5FF | 0x601..=0x67F)
 }
 
-fn has_identifier(word: u64, id: u16) -> bool
+pub(crate) fn has_identifier(word: u64, id: u16) -> bool
     ensures { result ≡ has_identifier word id }
 {
     (word < 0x8000_0000 && word / 0x2000_0000 % 2 == 0) && word % 0x800 == u64::from(id)

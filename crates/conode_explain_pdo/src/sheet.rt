@@ -84,7 +84,7 @@ fn mapping_at(rows: &[EntryRow<'_>], index: u16) -> Mapping
     }
 }
 
-fn is_cob_id(range: IndexRange, key: Key) -> bool
+pub(crate) fn is_cob_id(range: IndexRange, key: Key) -> bool
     ensures { result ≡ is_cob_id range key }
 {
     key.sub == 1 && range.contains(key.index)
