@@ -5,7 +5,7 @@ use Rattle.std.specs.Str.{chars, is_utf8}
 use Rattle.co_text.specs.Printed.{digits_text}
 use Rattle.conode_lint_text.specs.Characters.{characters_of, shown, shown_all, windows_1252}
 use Rattle.conode_lint_text.specs.declared.finding.About.TheVariants.{Line, Object, Entry, Bits}
-use Rattle.conode_lint_text.specs.Findings.{about_text, bits_text, entry_text, help_of, value_place}
+use Rattle.conode_lint_text.specs.Findings.{about_text, bits_text, entry_text, help_of, in_parentheses, subject_part, value_place}
 use Rattle.conode_lint_text.specs.TextForm.{counted, more_line, summary_line}
 
 -- a letter, the euro sign, a byte that Windows-1252 leaves open, and a letter of the upper half
@@ -38,11 +38,11 @@ unfolding entry_text bits_text digits_text digits
 abouts = refl
 
 help_with_subject : help_of (codes "do it") (codes "CiA 301") ≡ codes "do it (CiA 301)"
-unfolding help_of
+unfolding help_of subject_part in_parentheses
 help_with_subject = refl
 
 help_without_subject : help_of (codes "do it") [] ≡ codes "do it"
-unfolding help_of
+unfolding help_of subject_part in_parentheses
 help_without_subject = refl
 
 one_and_many : summary_line 1 2 0 ≡ codes "1 error, 2 warnings in 0 files\n"

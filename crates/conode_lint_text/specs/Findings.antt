@@ -53,7 +53,12 @@ about_text (Bits index bits) = entry_text index 0 ++ bits_text bits
 unfoldable pub message_of : Finding → List ℕ
 message_of finding = about_text finding.about ++ finding.meaning.now
 
--- how it is fixed, and the subject of the standard that says so
+-- how it is fixed, and the subject of the standard that says so, if one does
+unfoldable pub in_parentheses : List ℕ → List ℕ
+in_parentheses subject = codes " (" ++ subject ++ codes ")"
+
+unfoldable pub subject_part : List ℕ → List ℕ
+subject_part subject = if length subject == 0 then [] else in_parentheses subject
+
 unfoldable pub help_of : List ℕ → List ℕ → List ℕ
-help_of fix subject =
-    fix ++ (if length subject == 0 then [] else codes " (" ++ subject ++ codes ")")
+help_of fix subject = fix ++ subject_part subject

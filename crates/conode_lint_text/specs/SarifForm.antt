@@ -27,12 +27,14 @@ rule_tokens rule =
     ++ level_member rule.severity ++ end_object ∷ [])
 
 -- where a line is to blame, its region
-unfoldable pub region_members : Finding → List Token
-region_members finding =
-    if finding.line == 0 then []
-    else object_begin (codes "region") ++ number_member (codes "startLine") finding.line
+unfoldable pub region_member : Finding → List Token
+region_member finding =
+    object_begin (codes "region") ++ number_member (codes "startLine") finding.line
     ++ number_member (codes "startColumn") (column_of finding)
     ++ message_member (codes "snippet") (utf8_of finding.text.now) ++ end_object ∷ []
+
+unfoldable pub region_members : Finding → List Token
+region_members finding = if finding.line == 0 then [] else region_member finding
 
 -- the file, by its URI
 unfoldable pub uri_member : List ℕ → List Token

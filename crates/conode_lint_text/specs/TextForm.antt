@@ -7,8 +7,11 @@ use Rattle.conode_lint_text.specs.declared.finding.Severity.{Severity}
 use Rattle.conode_lint_text.specs.declared.finding.Severity.TheVariants.{Error, Warning}
 
 -- what begins a colour on a terminal (ECMA-48, SGR), by its numbers, and what ends it; without colours nothing
+unfoldable pub colour_sequence : List ℕ → List ℕ
+colour_sequence numbers = 27 ∷ codes "[" ++ numbers ++ codes "m"
+
 unfoldable pub begin_colour : Bool → List ℕ → List ℕ
-begin_colour colours numbers = if colours then 27 ∷ codes "[" ++ numbers ++ codes "m" else []
+begin_colour colours numbers = if colours then colour_sequence numbers else []
 
 unfoldable pub end_colour : Bool → List ℕ
 end_colour colours = if colours then 27 ∷ codes "[0m" else []
@@ -21,12 +24,16 @@ abbrev pub severity_colour : Severity → List ℕ
 severity_colour Error = codes "1;31"
 severity_colour Warning = codes "1;35"
 
--- the file, and where a line is to blame its number and the column
+-- a line's number and the column, where a line is to blame
+unfoldable pub line_and_column : Finding → List ℕ
+line_and_column finding = decimal finding.line ++ codes ":" ++ decimal (column_of finding) ++ codes ":"
+
+unfoldable pub position_text : Finding → List ℕ
+position_text finding = if finding.line == 0 then [] else line_and_column finding
+
+-- the file, and the position in it
 unfoldable pub place_text : List ℕ → Finding → List ℕ
-place_text file finding =
-    shown_all file ++ codes ":"
-    ++ (if finding.line == 0 then []
-    else decimal finding.line ++ codes ":" ++ decimal (column_of finding) ++ codes ":")
+place_text file finding = shown_all file ++ codes ":" ++ position_text finding
 
 -- `error[BadList]:`
 unfoldable pub label_text : Finding → List ℕ
@@ -47,10 +54,11 @@ head_line colours file finding =
     ++ message_of finding ++ 10 ∷ []
 
 -- the line itself, where one is to blame
+unfoldable pub quotation : Finding → List ℕ
+quotation finding = codes "    " ++ shown_all (characters_of finding.text.now) ++ 10 ∷ []
+
 unfoldable pub quoted_line : Finding → List ℕ
-quoted_line finding =
-    if finding.line == 0 then []
-    else codes "    " ++ shown_all (characters_of finding.text.now) ++ 10 ∷ []
+quoted_line finding = if finding.line == 0 then [] else quotation finding
 
 -- how it is fixed
 unfoldable pub help_line : Bool → Finding → List ℕ
@@ -68,8 +76,11 @@ unfoldable pub more_line : List ℕ → ℕ → List ℕ
 more_line file count = shown_all file ++ codes ": " ++ decimal count ++ codes " more\n"
 
 -- a number of things, as `1 error`, `2 errors`
+abbrev pub plural_end : ℕ → List ℕ
+plural_end count = if count == 1 then [] else codes "s"
+
 unfoldable pub counted : ℕ → List ℕ → List ℕ
-counted count thing = decimal count ++ codes " " ++ thing ++ (if count == 1 then [] else codes "s")
+counted count thing = decimal count ++ codes " " ++ thing ++ plural_end count
 
 -- the last line: `2 errors, 1 warning in 3 files`
 unfoldable pub summary_line : ℕ → ℕ → ℕ → List ℕ

@@ -4,6 +4,7 @@ ghost use Rattle.std.specs.Prelude.{◌≡◌, ◌++◌, OnOk, IfOk, map, string
 ghost use Rattle.std.specs.Str.{chars};
 ghost use Rattle.conode_lint_text.specs.Characters.{characters_of, in_utf8, shown, shown_all, windows_1252};
 
+use crate::words::push_words;
 use co_text::push_byte;
 use std::alloc::{AllocError, Global};
 use std::str;
@@ -72,9 +73,9 @@ fn push_shown(text: &mut String, character: char) -> Result<(), AllocError>
     ensures { OnOk result (string_bytes text.new ≡ string_bytes text.old ++ shown character) }
 {
     if character == '\t' {
-        text.push_str("\\t")
+        push_words(text, "\\t")
     } else if character.is_control() {
-        text.push_str("\\x")?;
+        push_words(text, "\\x")?;
         push_byte(text, character as u8)
     } else {
         text.push(character)

@@ -18,7 +18,9 @@ ghost use Rattle.conode_lint_text.specs.JsonForm.{
 use crate::characters::characters_of;
 use crate::column::column_of;
 use crate::finding::Finding;
-use crate::members::{begin_array, put_characters, put_flag, put_number, put_text};
+use crate::members::{
+    begin_array, end_array, end_object, open_object, put_characters, put_flag, put_number, put_text,
+};
 use crate::words::{push_message, severity_name};
 use json::Writer;
 use std::alloc::{AllocError, Global};
@@ -64,10 +66,10 @@ fn put_finding(alloc: Global, writer: &mut Writer, finding: &Finding<'_>) -> Res
         (writer.new.tokens ≡ writer.old.tokens ++ finding_tokens finding.now) }
 {
     let characters = characters_of(alloc, finding.text)?;
-    writer.begin_object()?;
+    open_object(writer)?;
     put_place(writer, finding, characters.as_slice())?;
     put_words(alloc, writer, finding, characters.as_slice())?;
-    writer.end_object()
+    end_object(writer)
 }
 
 fn put_findings(
@@ -124,12 +126,12 @@ pub fn put_file(
     ensures { OnOk result (writer.new.tokens ≡ writer.old.tokens
         ++ file_tokens name.now is_read counts.0 counts.1 counts.2 findings.now) }
 {
-    writer.begin_object()?;
+    open_object(writer)?;
     put_file_members(writer, name, is_read, counts)?;
     begin_array(writer, "findings")?;
     put_findings(alloc, writer, findings)?;
-    writer.end_array()?;
-    writer.end_object()
+    end_array(writer)?;
+    end_object(writer)
 }
 
 /// Writes what comes before the files.
@@ -137,7 +139,7 @@ pub fn put_file(
 pub fn put_document_head(writer: &mut Writer) -> Result<(), AllocError>
     ensures { OnOk result (writer.new.tokens ≡ writer.old.tokens ++ document_head) }
 {
-    writer.begin_object()?;
+    open_object(writer)?;
     put_number(writer, "version", 1)?;
     begin_array(writer, "files")
 }
@@ -152,7 +154,7 @@ pub fn put_document_end(
     ensures { OnOk result
         (writer.new.tokens ≡ writer.old.tokens ++ document_end errors warnings) }
 {
-    writer.end_array()?;
+    end_array(writer)?;
     put_counts(writer, errors, warnings)?;
-    writer.end_object()
+    end_object(writer)
 }

@@ -1,6 +1,7 @@
 //! Members of JSON's objects. Each function writes tokens; on an `Err` memory ran out, and some of them may be there.
 
-ghost use Rattle.std.specs.Prelude.{◌≡◌, ◌++◌, OnOk};
+ghost use Rattle.std.specs.Prelude.{◌≡◌, ◌++◌, [], ◌∷◌, OnOk};
+ghost use Rattle.json.specs.Token.{begin_object, end_array, end_object};
 ghost use Rattle.conode_lint_text.specs.JsonForm.{
   array_begin,
   flag_member,
@@ -15,6 +16,25 @@ ghost use Rattle.conode_lint_text.specs.SarifForm.{message_member};
 use crate::characters::push_utf8;
 use json::Writer;
 use std::alloc::{AllocError, Global};
+
+/// Begins an object that is no member.
+pub(crate) fn open_object(writer: &mut Writer) -> Result<(), AllocError>
+    ensures { OnOk result (writer.new.tokens ≡ writer.old.tokens ++ begin_object ∷ []) }
+{
+    writer.begin_object()
+}
+
+pub(crate) fn end_object(writer: &mut Writer) -> Result<(), AllocError>
+    ensures { OnOk result (writer.new.tokens ≡ writer.old.tokens ++ end_object ∷ []) }
+{
+    writer.end_object()
+}
+
+pub(crate) fn end_array(writer: &mut Writer) -> Result<(), AllocError>
+    ensures { OnOk result (writer.new.tokens ≡ writer.old.tokens ++ end_array ∷ []) }
+{
+    writer.end_array()
+}
 
 #[tactic(auto, unfolding(crate::specs::JsonForm::text_member))]
 pub(crate) fn put_text(writer: &mut Writer, name: &str, text: &str) -> Result<(), AllocError>
@@ -82,5 +102,5 @@ pub(crate) fn put_message(writer: &mut Writer, name: &str, text: &str) -> Result
 {
     begin_object(writer, name)?;
     put_text(writer, "text", text)?;
-    writer.end_object()
+    end_object(writer)
 }

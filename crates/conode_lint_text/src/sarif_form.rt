@@ -12,6 +12,7 @@ ghost use Rattle.conode_lint_text.specs.SarifForm.{
   locations_member,
   log_end,
   log_head,
+  region_member,
   region_members,
   result_tokens,
   rule_tokens,
@@ -23,7 +24,10 @@ ghost use Rattle.conode_lint_text.specs.SarifForm.{
 use crate::characters::{characters_of, push_utf8};
 use crate::column::column_of;
 use crate::finding::{Finding, Rule, Severity};
-use crate::members::{begin_array, begin_object, put_message, put_number, put_text};
+use crate::members::{
+    begin_array, begin_object, end_array, end_object, open_object, put_message, put_number,
+    put_text,
+};
 use crate::words::{push_help, push_message, severity_name};
 use json::Writer;
 use std::alloc::{AllocError, Global};
@@ -34,7 +38,7 @@ fn put_level(writer: &mut Writer, severity: Severity) -> Result<(), AllocError>
 {
     begin_object(writer, "defaultConfiguration")?;
     put_text(writer, "level", severity_name(severity))?;
-    writer.end_object()
+    end_object(writer)
 }
 
 #[tactic(auto, unfolding(crate::specs::SarifForm::rule_tokens))]
@@ -43,12 +47,12 @@ fn put_rule(alloc: Global, writer: &mut Writer, rule: &Rule<'_>) -> Result<(), A
 {
     let mut help = String::new(alloc);
     push_help(&mut help, rule.fix, rule.subject)?;
-    writer.begin_object()?;
+    open_object(writer)?;
     put_text(writer, "id", rule.name)?;
     put_message(writer, "shortDescription", rule.meaning)?;
     put_message(writer, "help", help.as_str())?;
     put_level(writer, rule.severity)?;
-    writer.end_object()
+    end_object(writer)
 }
 
 fn put_rules(alloc: Global, writer: &mut Writer, rules: &[Rule<'_>]) -> Result<(), AllocError>
@@ -59,6 +63,25 @@ fn put_rules(alloc: Global, writer: &mut Writer, rules: &[Rule<'_>]) -> Result<(
         put_rule(alloc, writer, rule)?;
     }
     Ok(())
+}
+
+#[tactic(auto, unfolding(crate::specs::SarifForm::region_member))]
+fn put_region_member(
+    writer: &mut Writer,
+    finding: &Finding<'_>,
+    characters: &[char],
+    snippet: &str,
+) -> Result<(), AllocError>
+    requires is { characters.now ≡ characters_of finding.now.text.now }
+    requires same { snippet.now ≡ utf8_of finding.now.text.now }
+    ensures { OnOk result
+        (writer.new.tokens ≡ writer.old.tokens ++ region_member finding.now) }
+{
+    begin_object(writer, "region")?;
+    put_number(writer, "startLine", finding.line)?;
+    put_number(writer, "startColumn", column_of(finding, characters))?;
+    put_message(writer, "snippet", snippet)?;
+    end_object(writer)
 }
 
 #[tactic(auto, unfolding(crate::specs::SarifForm::region_members))]
@@ -74,13 +97,10 @@ fn put_region(
         (writer.new.tokens ≡ writer.old.tokens ++ region_members finding.now) }
 {
     if finding.line == 0 {
-        return Ok(());
+        Ok(())
+    } else {
+        put_region_member(writer, finding, characters, snippet)
     }
-    begin_object(writer, "region")?;
-    put_number(writer, "startLine", finding.line)?;
-    put_number(writer, "startColumn", column_of(finding, characters))?;
-    put_message(writer, "snippet", snippet)?;
-    writer.end_object()
 }
 
 #[tactic(auto, unfolding(crate::specs::SarifForm::uri_member))]
@@ -89,7 +109,7 @@ fn put_uri(writer: &mut Writer, uri: &str) -> Result<(), AllocError>
 {
     begin_object(writer, "artifactLocation")?;
     put_text(writer, "uri", uri)?;
-    writer.end_object()
+    end_object(writer)
 }
 
 #[tactic(auto, unfolding(crate::specs::SarifForm::location_tokens))]
@@ -105,12 +125,12 @@ fn put_location(
     let characters = characters_of(alloc, finding.text)?;
     let mut snippet = String::new(alloc);
     push_utf8(&mut snippet, characters.as_slice())?;
-    writer.begin_object()?;
+    open_object(writer)?;
     begin_object(writer, "physicalLocation")?;
     put_uri(writer, uri)?;
     put_region(writer, finding, characters.as_slice(), snippet.as_str())?;
-    writer.end_object()?;
-    writer.end_object()
+    end_object(writer)?;
+    end_object(writer)
 }
 
 #[tactic(auto, unfolding(crate::specs::SarifForm::locations_member))]
@@ -125,7 +145,7 @@ fn put_locations(
 {
     begin_array(writer, "locations")?;
     put_location(alloc, writer, uri, finding)?;
-    writer.end_array()
+    end_array(writer)
 }
 
 #[tactic(auto, unfolding(crate::specs::SarifForm::result_tokens))]
@@ -140,12 +160,12 @@ fn put_result(
 {
     let mut message = String::new(alloc);
     push_message(&mut message, finding)?;
-    writer.begin_object()?;
+    open_object(writer)?;
     put_text(writer, "ruleId", finding.name)?;
     put_text(writer, "level", severity_name(finding.severity))?;
     put_message(writer, "message", message.as_str())?;
     put_locations(alloc, writer, uri, finding)?;
-    writer.end_object()
+    end_object(writer)
 }
 
 /// Writes the results of a file, which has this URI.
@@ -174,7 +194,7 @@ fn put_rules_member(
 {
     begin_array(writer, "rules")?;
     put_rules(alloc, writer, rules)?;
-    writer.end_array()
+    end_array(writer)
 }
 
 #[tactic(auto, unfolding(crate::specs::SarifForm::driver_member))]
@@ -191,7 +211,7 @@ fn put_driver(
     put_text(writer, "name", "conode")?;
     put_text(writer, "version", version)?;
     put_rules_member(alloc, writer, rules)?;
-    writer.end_object()
+    end_object(writer)
 }
 
 #[tactic(auto, unfolding(crate::specs::SarifForm::tool_member))]
@@ -206,7 +226,7 @@ fn put_tool(
 {
     begin_object(writer, "tool")?;
     put_driver(alloc, writer, version, rules)?;
-    writer.end_object()
+    end_object(writer)
 }
 
 /// Writes what comes before the results: the tool with its rules.
@@ -220,10 +240,10 @@ pub fn put_log_head(
     ensures { OnOk result
         (writer.new.tokens ≡ writer.old.tokens ++ log_head version.now rules.now) }
 {
-    writer.begin_object()?;
+    open_object(writer)?;
     put_text(writer, "version", "2.1.0")?;
     begin_array(writer, "runs")?;
-    writer.begin_object()?;
+    open_object(writer)?;
     put_tool(alloc, writer, version, rules)?;
     put_text(writer, "columnKind", "unicodeCodePoints")?;
     begin_array(writer, "results")
@@ -233,8 +253,8 @@ pub fn put_log_head(
 pub fn put_log_end(writer: &mut Writer) -> Result<(), AllocError>
     ensures { OnOk result (writer.new.tokens ≡ writer.old.tokens ++ log_end) }
 {
-    writer.end_array()?;
-    writer.end_object()?;
-    writer.end_array()?;
-    writer.end_object()
+    end_array(writer)?;
+    end_object(writer)?;
+    end_array(writer)?;
+    end_object(writer)
 }

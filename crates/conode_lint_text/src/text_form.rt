@@ -5,27 +5,42 @@ ghost use Rattle.std.specs.Prelude.{◌≡◌, ◌++◌, OnOk, string_bytes};
 ghost use Rattle.conode_lint_text.specs.Characters.{characters_of};
 ghost use Rattle.conode_lint_text.specs.TextForm.{
   begin_colour,
+  colour_sequence,
   end_colour,
   severity_colour,
+  line_and_column,
+  position_text,
   place_text,
   label_text,
   place_part,
   label_part,
   head_line,
+  quotation,
   quoted_line,
   help_line,
   finding_lines,
   more_line,
   counted,
+  plural_end,
   summary_line,
 };
 
 use crate::characters::{characters_of, push_all_shown};
 use crate::column::column_of;
 use crate::finding::{Finding, Severity};
-use crate::words::{push_help, push_message, severity_name};
+use crate::words::{push_help, push_message, push_words, severity_name};
 use co_text::push_decimal;
 use std::alloc::{AllocError, Global};
+
+#[tactic(auto, unfolding(crate::specs::TextForm::colour_sequence))]
+fn push_sequence(text: &mut String, numbers: &str) -> Result<(), AllocError>
+    ensures { OnOk result
+        (string_bytes text.new ≡ string_bytes text.old ++ colour_sequence numbers.now) }
+{
+    push_words(text, "\u{1B}[")?;
+    push_words(text, numbers)?;
+    push_words(text, "m")
+}
 
 // the first bytes of a colour, by its numbers
 #[tactic(auto, unfolding(crate::specs::TextForm::begin_colour))]
@@ -33,12 +48,11 @@ fn begin_colour(text: &mut String, colours: bool, numbers: &str) -> Result<(), A
     ensures { OnOk result
         (string_bytes text.new ≡ string_bytes text.old ++ begin_colour colours numbers.now) }
 {
-    if !colours {
-        return Ok(());
+    if colours {
+        push_sequence(text, numbers)
+    } else {
+        Ok(())
     }
-    text.push_str("\u{1B}[")?;
-    text.push_str(numbers)?;
-    text.push_str("m")
 }
 
 #[tactic(auto, unfolding(crate::specs::TextForm::end_colour))]
@@ -47,7 +61,7 @@ fn end_colour(text: &mut String, colours: bool) -> Result<(), AllocError>
         (string_bytes text.new ≡ string_bytes text.old ++ end_colour colours) }
 {
     if colours {
-        text.push_str("\u{1B}[0m")
+        push_words(text, "\u{1B}[0m")
     } else {
         Ok(())
     }
@@ -59,6 +73,39 @@ fn severity_colour(severity: Severity) -> &'static str
     match severity {
         Severity::Error => "1;31",
         Severity::Warning => "1;35",
+    }
+}
+
+#[tactic(auto, unfolding(crate::specs::TextForm::line_and_column))]
+fn push_line_and_column(
+    text: &mut String,
+    finding: &Finding<'_>,
+    characters: &[char],
+) -> Result<(), AllocError>
+    requires { characters.now ≡ characters_of finding.now.text.now }
+    ensures { OnOk result
+        (string_bytes text.new ≡ string_bytes text.old ++ line_and_column finding.now) }
+{
+    push_decimal(text, finding.line as u64)?;
+    push_words(text, ":")?;
+    push_decimal(text, column_of(finding, characters) as u64)?;
+    push_words(text, ":")
+}
+
+#[tactic(auto, unfolding(crate::specs::TextForm::position_text))]
+fn push_position(
+    text: &mut String,
+    finding: &Finding<'_>,
+    characters: &[char],
+) -> Result<(), AllocError>
+    requires { characters.now ≡ characters_of finding.now.text.now }
+    ensures { OnOk result
+        (string_bytes text.new ≡ string_bytes text.old ++ position_text finding.now) }
+{
+    if finding.line == 0 {
+        Ok(())
+    } else {
+        push_line_and_column(text, finding, characters)
     }
 }
 
@@ -74,14 +121,8 @@ fn push_place(
         (string_bytes text.new ≡ string_bytes text.old ++ place_text file.now finding.now) }
 {
     push_all_shown(text, file)?;
-    text.push_str(":")?;
-    if finding.line == 0 {
-        return Ok(());
-    }
-    push_decimal(text, finding.line as u64)?;
-    text.push_str(":")?;
-    push_decimal(text, column_of(finding, characters) as u64)?;
-    text.push_str(":")
+    push_words(text, ":")?;
+    push_position(text, finding, characters)
 }
 
 #[tactic(auto, unfolding(crate::specs::TextForm::label_text))]
@@ -89,10 +130,10 @@ fn push_label(text: &mut String, finding: &Finding<'_>) -> Result<(), AllocError
     ensures { OnOk result
         (string_bytes text.new ≡ string_bytes text.old ++ label_text finding.now) }
 {
-    text.push_str(severity_name(finding.severity))?;
-    text.push_str("[")?;
-    text.push_str(finding.name)?;
-    text.push_str("]:")
+    push_words(text, severity_name(finding.severity))?;
+    push_words(text, "[")?;
+    push_words(text, finding.name)?;
+    push_words(text, "]:")
 }
 
 #[tactic(auto, unfolding(crate::specs::TextForm::place_part, crate::specs::TextForm::coloured))]
@@ -139,11 +180,26 @@ fn push_head(
         ≡ string_bytes text.old ++ head_line colours file.now finding.now) }
 {
     push_place_part(text, colours, file, finding, characters)?;
-    text.push_str(" ")?;
+    push_words(text, " ")?;
     push_label_part(text, colours, finding)?;
-    text.push_str(" ")?;
+    push_words(text, " ")?;
     push_message(text, finding)?;
-    text.push_str("\n")
+    push_words(text, "\n")
+}
+
+#[tactic(auto, unfolding(crate::specs::TextForm::quotation))]
+fn push_quotation(
+    text: &mut String,
+    finding: &Finding<'_>,
+    characters: &[char],
+) -> Result<(), AllocError>
+    requires { characters.now ≡ characters_of finding.now.text.now }
+    ensures { OnOk result
+        (string_bytes text.new ≡ string_bytes text.old ++ quotation finding.now) }
+{
+    push_words(text, "    ")?;
+    push_all_shown(text, characters)?;
+    push_words(text, "\n")
 }
 
 #[tactic(auto, unfolding(crate::specs::TextForm::quoted_line))]
@@ -157,11 +213,10 @@ fn push_quoted(
         (string_bytes text.new ≡ string_bytes text.old ++ quoted_line finding.now) }
 {
     if finding.line == 0 {
-        return Ok(());
+        Ok(())
+    } else {
+        push_quotation(text, finding, characters)
     }
-    text.push_str("    ")?;
-    push_all_shown(text, characters)?;
-    text.push_str("\n")
 }
 
 #[tactic(auto, unfolding(crate::specs::TextForm::help_line, crate::specs::TextForm::coloured))]
@@ -169,13 +224,13 @@ fn push_help_line(text: &mut String, colours: bool, finding: &Finding<'_>) -> Re
     ensures { OnOk result
         (string_bytes text.new ≡ string_bytes text.old ++ help_line colours finding.now) }
 {
-    text.push_str("  ")?;
+    push_words(text, "  ")?;
     begin_colour(text, colours, "1;36")?;
-    text.push_str("help:")?;
+    push_words(text, "help:")?;
     end_colour(text, colours)?;
-    text.push_str(" ")?;
+    push_words(text, " ")?;
     push_help(text, finding.fix, finding.subject)?;
-    text.push_str("\n")
+    push_words(text, "\n")
 }
 
 /// Appends the lines of a finding: `motor.eds:59:1: error[BadList]:` and what is wrong, the line itself, and how it is
@@ -204,9 +259,15 @@ pub fn push_more(text: &mut String, file: &[char], count: usize) -> Result<(), A
         (string_bytes text.new ≡ string_bytes text.old ++ more_line file.now count) }
 {
     push_all_shown(text, file)?;
-    text.push_str(": ")?;
+    push_words(text, ": ")?;
     push_decimal(text, count as u64)?;
-    text.push_str(" more\n")
+    push_words(text, " more\n")
+}
+
+fn plural_end(count: usize) -> &'static str
+    ensures { result.now ≡ plural_end count }
+{
+    if count == 1 { "" } else { "s" }
 }
 
 #[tactic(auto, unfolding(crate::specs::TextForm::counted))]
@@ -215,9 +276,9 @@ fn push_counted(text: &mut String, count: usize, thing: &str) -> Result<(), Allo
         (string_bytes text.new ≡ string_bytes text.old ++ counted count thing.now) }
 {
     push_decimal(text, count as u64)?;
-    text.push_str(" ")?;
-    text.push_str(thing)?;
-    text.push_str(if count == 1 { "" } else { "s" })
+    push_words(text, " ")?;
+    push_words(text, thing)?;
+    push_words(text, plural_end(count))
 }
 
 /// Appends the last line, as `2 errors, 1 warning in 3 files`.
@@ -232,9 +293,9 @@ pub fn push_summary(
         ≡ string_bytes text.old ++ summary_line errors warnings files) }
 {
     push_counted(text, errors, "error")?;
-    text.push_str(", ")?;
+    push_words(text, ", ")?;
     push_counted(text, warnings, "warning")?;
-    text.push_str(" in ")?;
+    push_words(text, " in ")?;
     push_counted(text, files, "file")?;
-    text.push_str("\n")
+    push_words(text, "\n")
 }
