@@ -8,11 +8,11 @@ use Rattle.co_text.specs.Printed.{digits_text}
 use Rattle.co_value.specs.declared.data_type.DataType.TheVariants.{Integer16, Unsigned8, Unsigned16, Unsigned32, VisibleString, OctetString}
 use Rattle.conode_show_text.specs.declared.format.Format.TheVariants.{Text, Markdown}
 use Rattle.conode_show_text.specs.declared.meaning.Meaning.TheVariants.{PdoCobId, CobId, SyncCobId, Transmission, PdoInhibit, EventTimer, EmcyInhibit, Consumer, Producer, Mapped}
-use Rattle.conode_show_text.specs.Numbers.{hex_text, in_parentheses, number_text}
+use Rattle.conode_show_text.specs.Numbers.{bits_part, hex_in_parentheses, hex_text, in_parentheses, number_text}
 use Rattle.conode_show_text.specs.Texts.{plain_text}
 use Rattle.conode_show_text.specs.Layout.{Part, placed, line_of}
 use Rattle.conode_show_text.specs.declared.values.Word.{Word}
-use Rattle.conode_show_text.specs.Values.{sum_text, known_text, quoted, value_text, unnumbered_text, word_of}
+use Rattle.conode_show_text.specs.Values.{added_text, equals_text, known_sum_text, plus_text, sum_text, known_text, quoted, value_text, unnumbered_text, word_of}
 use Rattle.conode_show_text.specs.CobIds.{identifier_text, cob_id_text, pdo_cob_id_text, sync_text}
 use Rattle.conode_show_text.specs.Meanings.{meaning_text, word_text, transmission_text, counted_syncs, millis_text, time_text, consumer_text, mapped_text}
 use Rattle.conode_show_text.specs.Entries.{type_name}
@@ -20,45 +20,45 @@ use Rattle.conode_show_text.specs.Entries.{type_name}
 -- ---- numbers
 
 one_digit : number_text 1 (pos 9) ≡ codes "9"
-unfolding number_text digits
+unfolding number_text bits_part digits
 one_digit = refl
 
 two_digits : number_text 1 (pos 10) ≡ codes "10 (Ah)"
-unfolding number_text in_parentheses hex_text digits
+unfolding number_text bits_part in_parentheses hex_in_parentheses hex_text digits
 two_digits = refl
 
 sixteen_bits : number_text 2 (pos 1000) ≡ codes "1000 (3E8h)"
-unfolding number_text in_parentheses hex_text digits
+unfolding number_text bits_part in_parentheses hex_in_parentheses hex_text digits
 sixteen_bits = refl
 
 negative : number_text 2 (negsuc 99) ≡ codes "-100 (FF9Ch)"
-unfolding number_text in_parentheses hex_text digits
+unfolding number_text bits_part in_parentheses hex_in_parentheses hex_text digits
 negative = refl
 
 minus_one : number_text 1 (negsuc 0) ≡ codes "-1 (FFh)"
-unfolding number_text in_parentheses hex_text digits
+unfolding number_text bits_part in_parentheses hex_in_parentheses hex_text digits
 minus_one = refl
 
 -- ---- values
 
 decimal_value : value_text None (Some Unsigned16) (codes "1000") ≡ codes "1000 (3E8h)"
-unfolding value_text known_text number_text in_parentheses hex_text digits
+unfolding value_text known_text number_text bits_part in_parentheses hex_in_parentheses hex_text digits
 decimal_value = refl
 
 hexadecimal_negative : value_text None (Some Integer16) (codes "0xFF9C") ≡ codes "-100 (FF9Ch)"
-unfolding value_text known_text number_text in_parentheses hex_text digits
+unfolding value_text known_text number_text bits_part in_parentheses hex_in_parentheses hex_text digits
 hexadecimal_negative = refl
 
 sum_without_node : value_text None (Some Unsigned32) (codes "$NODEID+0x600") ≡ codes "$NODEID+600h"
-unfolding value_text known_text sum_text hex_text digits
+unfolding value_text known_text sum_text added_text plus_text known_sum_text equals_text hex_text digits
 sum_without_node = refl
 
 sum_of_node : value_text (Some 5) (Some Unsigned32) (codes "0x600 + $nodeid") ≡ codes "$NODEID+600h = 605h"
-unfolding value_text known_text sum_text hex_text digits
+unfolding value_text known_text sum_text added_text plus_text known_sum_text equals_text hex_text digits
 sum_of_node = refl
 
 node_alone : value_text (Some 5) (Some Unsigned8) (codes "$NODEID") ≡ codes "$NODEID = 5h"
-unfolding value_text known_text sum_text hex_text digits
+unfolding value_text known_text sum_text added_text plus_text known_sum_text equals_text hex_text digits
 node_alone = refl
 
 no_number : value_text None (Some Unsigned8) (codes "010") ≡ codes "010"

@@ -11,10 +11,10 @@ use Rattle.co_sheet_text.specs.declared.section_kind.SectionKind.TheVariants.{Ob
 use Rattle.co_sheet_text.specs.Sections.{TextSection, Property}
 use Rattle.conode_show_text.specs.declared.format.Format.TheVariants.{Text}
 use Rattle.conode_show_text.specs.declared.service.Service.TheVariants.{Sync, Emcy, EmcyInhibitTime, HeartbeatConsumer, HeartbeatProducer, SdoRequests, SdoResponses, ClientRequests, ClientResponses}
-use Rattle.conode_show_text.specs.Numbers.{hex_text, in_parentheses, number_text}
+use Rattle.conode_show_text.specs.Numbers.{bits_part, hex_in_parentheses, hex_text, in_parentheses, number_text}
 use Rattle.conode_show_text.specs.Texts.{plain_text, property_text}
 use Rattle.conode_show_text.specs.Layout.{placed}
-use Rattle.conode_show_text.specs.Values.{default_text, known_text, limit_text, limits_text, property_value, sum_text, value_text}
+use Rattle.conode_show_text.specs.Values.{default_text, known_text, limit_text, limits_text, property_value, sum_text, value_text, added_text, equals_text, known_sum_text, plus_text}
 use Rattle.conode_show_text.specs.CobIds.{cob_id_text, identifier_text, pdo_cob_id_text}
 use Rattle.conode_show_text.specs.Meanings.{said, word_text}
 use Rattle.conode_show_text.specs.declared.meaning.Meaning.TheVariants.{PdoCobId}
@@ -36,7 +36,7 @@ section kind properties = record { kind = kind; name = []; line = 1; properties 
 
 whole_entry : section_text Text None (section (SubIndex (key 0x2000 1)) (property (codes "ParameterName") (codes "Gain") ∷ property (codes "DataType") (codes "0x0003") ∷ property (codes "AccessType") (codes "rw") ∷ property (codes "PDOMapping") (codes "1") ∷ property (codes "DefaultValue") (codes "10") ∷ property (codes "LowLimit") (codes "0xFF9C") ∷ property (codes "HighLimit") (codes "100") ∷ []))
     ≡ codes "2000:01 Gain                              INTEGER16  rw     PDO 10 (Ah)                -100..100\n"
-unfolding entry_line placed property_text plain_text is_utf8 chars encode type_text entry_type type_name mappable_text default_text property_value value_text known_text number_text in_parentheses hex_text limits_text limit_text digits digits_text
+unfolding entry_line placed property_text plain_text is_utf8 chars encode type_text entry_type type_name mappable_text default_text property_value value_text known_text number_text bits_part in_parentheses hex_in_parentheses hex_text limits_text limit_text digits digits_text
 whole_entry = refl
 
 variable : section_text Text None (section (Object 0x1001) (property (codes "DataType") (codes "5") ∷ [])) ≡ codes "1001:00                                   UNSIGNED8\n"
@@ -65,11 +65,11 @@ mappable = refl
 
 beside_default : default_text (Some 5) (section (Object 0x1014) (property (codes "DataType") (codes "7") ∷ property (codes "DefaultValue") (codes "$NODEID+0x80") ∷ property (codes "ParameterValue") (codes "0x85") ∷ []))
     ≡ codes "133 (85h), default $NODEID+80h = 85h"
-unfolding default_text property_value value_text known_text sum_text number_text in_parentheses hex_text digits
+unfolding default_text property_value value_text known_text sum_text added_text plus_text known_sum_text equals_text number_text bits_part in_parentheses hex_in_parentheses hex_text digits
 beside_default = refl
 
 value_alone : default_text None (section (Object 0x1017) (property (codes "DataType") (codes "6") ∷ property (codes "ParameterValue") (codes "7") ∷ [])) ≡ codes "7"
-unfolding default_text property_value value_text known_text number_text digits
+unfolding default_text property_value value_text known_text number_text bits_part digits
 value_alone = refl
 
 one_limit : limits_text (section (Object 0x1017) (property (codes "DataType") (codes "6") ∷ property (codes "HighLimit") (codes "0x10") ∷ [])) ≡ codes "..16"

@@ -18,12 +18,18 @@ is_one_digit (pos n) = nat_lt n 10
 is_one_digit (negsuc n) = false
 
 -- a number in hexadecimal digits in parentheses
+unfoldable pub hex_in_parentheses : ℕ → List ℕ
+hex_in_parentheses n = codes " (" ++ hex_text n ++ codes ")"
+
 unfoldable pub in_parentheses : Option ℕ → List ℕ
-in_parentheses number = option_map_or (λ n. codes " (" ++ hex_text n ++ codes ")") number []
+in_parentheses number = option_map_or hex_in_parentheses number []
+
+-- the bits of a number of so many bytes, where they are written otherwise than the number
+unfoldable pub bits_part : ℕ → ℤ → List ℕ
+bits_part width number =
+    if is_one_digit number then [] else in_parentheses (if_small (bits_of (8 * width) number))
 
 -- a number of a type of so many bytes: decimal, and in hexadecimal digits where these differ, a negative one in two's
 -- complement, as `1000 (3E8h)`, `-100 (FF9Ch)`
 unfoldable pub number_text : ℕ → ℤ → List ℕ
-number_text width number =
-    signed_decimal number
-    ++ (if is_one_digit number then [] else in_parentheses (if_small (bits_of (8 * width) number)))
+number_text width number = signed_decimal number ++ bits_part width number

@@ -20,11 +20,25 @@ use Rattle.conode_show_text.specs.Texts.{plain_text}
 abbrev pub numeric_value : DataType → List ℕ → Default
 numeric_value t value = unwrap_or (result_ok (numeric_default t value)) absent
 
+-- what is added to the node-ID, where it isn't 0
+unfoldable pub plus_text : ℕ → List ℕ
+plus_text addend = codes "+" ++ hex_text addend
+
+unfoldable pub added_text : ℕ → List ℕ
+added_text addend = if addend == 0 then [] else plus_text addend
+
+-- a sum that is known
+unfoldable pub equals_text : ℕ → List ℕ
+equals_text sum = codes " = " ++ hex_text sum
+
+unfoldable pub known_sum_text : Option ℕ → List ℕ
+known_sum_text sum = option_map_or equals_text sum []
+
 -- a sum with the node-ID as it is written, and for a given node what it is, as `$NODEID+600h = 605h`
 unfoldable pub sum_text : Option ℕ → ℕ → List ℕ
 sum_text node addend =
-    codes "$NODEID" ++ (if addend == 0 then [] else codes "+" ++ hex_text addend)
-    ++ option_map_or (λ sum. codes " = " ++ hex_text sum) (option_and_then (λ id. if_small (addend + id)) node) []
+    codes "$NODEID" ++ added_text addend
+    ++ known_sum_text (option_and_then (λ id. if_small (addend + id)) node)
 
 -- a numeric value of so many bytes; a text that is none is printed as it is
 unfoldable pub known_text : Option ℕ → ℕ → List ℕ → Default → List ℕ
@@ -83,12 +97,16 @@ unfoldable pub limit_text : Option DataType → Option Property → List ℕ
 limit_text t limit =
     option_map_or (λ k. option_map_or signed_decimal (limit_number t k.value) (plain_text k.value)) limit []
 
+-- the dots between two limits, where there is one of them
+abbrev pub dots_text : Bool → List ℕ
+dots_text is_limited = if is_limited then codes ".." else []
+
 -- both limits, as `0..100`, empty where there is neither
 unfoldable pub limits_text : TextSection → List ℕ
 limits_text section =
     let low = property_at (codes "LowLimit") section in
     let high = property_at (codes "HighLimit") section in
-    limit_text (type_of section) low ++ (if is_some low || is_some high then codes ".." else [])
+    limit_text (type_of section) low ++ dots_text (is_some low || is_some high)
     ++ limit_text (type_of section) high
 
 -- ---- words of the communication profile

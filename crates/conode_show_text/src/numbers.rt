@@ -3,7 +3,15 @@
 ghost use Rattle.std.specs.Prelude.{◌≡◌, ◌≤◌, ◌++◌, ◌*◌, ◌^◌, pos, OnOk, string_bytes};
 ghost use Rattle.std.specs.Fmt.{signed_decimal};
 ghost use Rattle.co_value.specs.Numbers.{bits_of};
-ghost use Rattle.conode_show_text.specs.Numbers.{hex_text, if_small, in_parentheses, is_one_digit, number_text};
+ghost use Rattle.conode_show_text.specs.Numbers.{
+  bits_part,
+  hex_in_parentheses,
+  hex_text,
+  if_small,
+  in_parentheses,
+  is_one_digit,
+  number_text,
+};
 
 use std::alloc::AllocError;
 
@@ -53,16 +61,37 @@ fn is_one_digit(number: i128) -> bool
     0 <= number && number < 10
 }
 
+#[tactic(auto, unfolding(crate::specs::Numbers::hex_in_parentheses))]
+fn push_hex_in_parentheses(text: &mut String, number: u64) -> Result<(), AllocError>
+    ensures { OnOk result
+        (string_bytes text.new ≡ string_bytes text.old ++ hex_in_parentheses number) }
+{
+    push_words(text, " (")?;
+    push_hex(text, number)?;
+    push_words(text, ")")
+}
+
 #[tactic(auto, unfolding(crate::specs::Numbers::in_parentheses))]
 fn push_in_parentheses(text: &mut String, number: Option<u64>) -> Result<(), AllocError>
     ensures { OnOk result (string_bytes text.new ≡ string_bytes text.old ++ in_parentheses number) }
 {
-    let Some(number) = number else {
-        return Ok(());
-    };
-    push_words(text, " (")?;
-    push_hex(text, number)?;
-    push_words(text, ")")
+    match number {
+        Some(number) => push_hex_in_parentheses(text, number),
+        None => Ok(()),
+    }
+}
+
+#[tactic(auto, unfolding(crate::specs::Numbers::bits_part))]
+fn push_bits_part(text: &mut String, width: usize, number: i128) -> Result<(), AllocError>
+    requires { width ≤ 8 }
+    ensures { OnOk result
+        (string_bytes text.new ≡ string_bytes text.old ++ bits_part width number) }
+{
+    if is_one_digit(number) {
+        Ok(())
+    } else {
+        push_in_parentheses(text, small_bits(width, number))
+    }
 }
 
 /// Appends a number in decimal. On an `Err` memory ran out, and a part may be there.
@@ -81,8 +110,5 @@ pub(crate) fn push_number(text: &mut String, width: usize, number: i128) -> Resu
         (string_bytes text.new ≡ string_bytes text.old ++ number_text width number) }
 {
     push_decimal_of(text, number)?;
-    if is_one_digit(number) {
-        return Ok(());
-    }
-    push_in_parentheses(text, small_bits(width, number))
+    push_bits_part(text, width, number)
 }

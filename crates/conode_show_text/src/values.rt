@@ -1,19 +1,35 @@
 //! The values that a sheet states (CiA 306, object description, device configuration file). Each function that appends
 //! a text does so up to an `Err`, where memory ran out; a part of it may be there then.
 
-ghost use Rattle.std.specs.Prelude.{◌≡◌, ◌++◌, ◌+◌, ◌≤◌, OnOk, option_map, option_and_then, string_bytes};
+ghost use Rattle.std.specs.Prelude.{
+  ◌≡◌,
+  ◌++◌,
+  ◌+◌,
+  ◌≤◌,
+  ◌||◌,
+  OnOk,
+  is_some,
+  option_map,
+  option_and_then,
+  string_bytes,
+};
 ghost use Rattle.co_sheet_text.specs.Views.{property_view, section_view};
 ghost use Rattle.co_sheet.specs.Views.{default_view};
 ghost use Rattle.conode_show_text.specs.Numbers.{if_small};
 ghost use Rattle.conode_show_text.specs.Values.{
+  added_text,
   default_text,
+  dots_text,
+  equals_text,
   if_word,
+  known_sum_text,
   known_text,
   limit_number,
   limit_text,
   limits_text,
   number_for,
   numeric_value,
+  plus_text,
   property_value,
   quoted,
   small_number,
@@ -60,20 +76,50 @@ fn sum_of(node: Option<u8>, addend: u64) -> Option<u64>
     addend.checked_add(u64::from(node?))
 }
 
+#[tactic(auto, unfolding(crate::specs::Values::plus_text))]
+fn push_plus(text: &mut String, addend: u64) -> Result<(), AllocError>
+    ensures { OnOk result (string_bytes text.new ≡ string_bytes text.old ++ plus_text addend) }
+{
+    push_words(text, "+")?;
+    push_hex(text, addend)
+}
+
+#[tactic(auto, unfolding(crate::specs::Values::added_text))]
+fn push_added(text: &mut String, addend: u64) -> Result<(), AllocError>
+    ensures { OnOk result (string_bytes text.new ≡ string_bytes text.old ++ added_text addend) }
+{
+    if addend == 0 {
+        Ok(())
+    } else {
+        push_plus(text, addend)
+    }
+}
+
+#[tactic(auto, unfolding(crate::specs::Values::equals_text))]
+fn push_equals(text: &mut String, sum: u64) -> Result<(), AllocError>
+    ensures { OnOk result (string_bytes text.new ≡ string_bytes text.old ++ equals_text sum) }
+{
+    push_words(text, " = ")?;
+    push_hex(text, sum)
+}
+
+#[tactic(auto, unfolding(crate::specs::Values::known_sum_text))]
+fn push_known_sum(text: &mut String, sum: Option<u64>) -> Result<(), AllocError>
+    ensures { OnOk result (string_bytes text.new ≡ string_bytes text.old ++ known_sum_text sum) }
+{
+    match sum {
+        Some(sum) => push_equals(text, sum),
+        None => Ok(()),
+    }
+}
+
 #[tactic(auto, unfolding(crate::specs::Values::sum_text))]
 fn push_sum(text: &mut String, node: Option<u8>, addend: u64) -> Result<(), AllocError>
     ensures { OnOk result (string_bytes text.new ≡ string_bytes text.old ++ sum_text node addend) }
 {
     push_words(text, "$NODEID")?;
-    if addend != 0 {
-        push_words(text, "+")?;
-        push_hex(text, addend)?;
-    }
-    let Some(sum) = sum_of(node, addend) else {
-        return Ok(());
-    };
-    push_words(text, " = ")?;
-    push_hex(text, sum)
+    push_added(text, addend)?;
+    push_known_sum(text, sum_of(node, addend))
 }
 
 #[tactic(auto, unfolding(crate::specs::Values::known_text))]
@@ -232,6 +278,23 @@ fn push_limit(
     }
 }
 
+fn push_dots(text: &mut String, is_limited: bool) -> Result<(), AllocError>
+    ensures { OnOk result
+        (string_bytes text.new ≡ string_bytes text.old ++ dots_text is_limited) }
+{
+    if is_limited {
+        push_words(text, "..")
+    } else {
+        Ok(())
+    }
+}
+
+fn is_either(low: Option<Property<'_>>, high: Option<Property<'_>>) -> bool
+    ensures { result ≡ (is_some low.entry || is_some high.entry) }
+{
+    low.is_some() || high.is_some()
+}
+
 /// Appends both limits, as `0..100`, nothing where there is neither.
 #[tactic(auto, unfolding(crate::specs::Values::limits_text))]
 pub(crate) fn push_limits(
@@ -245,9 +308,7 @@ pub(crate) fn push_limits(
     let low = section.property(b"LowLimit");
     let high = section.property(b"HighLimit");
     push_limit(text, data_type, low)?;
-    if low.is_some() || high.is_some() {
-        push_words(text, "..")?;
-    }
+    push_dots(text, is_either(low, high))?;
     push_limit(text, data_type, high)
 }
 
