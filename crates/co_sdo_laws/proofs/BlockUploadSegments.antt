@@ -14,9 +14,9 @@ use Rattle.co_sdo_client.specs.Outcomes.{state_by, outcome}
 use Rattle.co_sdo_laws.specs.World.{Setup, World, at_client}
 use Rattle.co_sdo_laws.proofs.Client.{follows}
 use Rattle.co_sdo_laws.proofs.Failures.{has_failed}
-use Rattle.co_sdo_laws.proofs.SegmentedUploads.{value}
+use Rattle.co_sdo_laws.proofs.SegmentedUploads.{value, verdict_since}
 use Rattle.co_sdo_laws.proofs.Blocks.{live, Moment, heard}
-use Rattle.co_sdo_laws.proofs.BlockSegments.{total, size_after, segment_at, segments, segment_with, data_at, frame_with, frame_is, frame_long, frame_read, other_byte, next_joined, last_joined, InTurn, IsWhole, grows, passes}
+use Rattle.co_sdo_laws.proofs.BlockSegments.{not_turn, total, size_after, segment_at, segments, segment_with, data_at, frame_with, frame_is, frame_long, frame_read, other_byte, next_joined, last_joined, InTurn, IsWhole, grows, passes}
 use Rattle.co_sdo_laws.proofs.BlockUploads.{IsUpload, Took, sending, May, Stands, taking, acknowledging, finishing, failed}
 
 -- ---- verdicts
@@ -51,10 +51,6 @@ missed_verdict : (s : Setup) (p : Type 0) → IsUpload s p → (a n t : ℕ) (la
 missed_verdict s p m a n t last taken above some few other ends inside count room =
     rw (m.transfer, inside, count, frame_read (value s) a n last some few, frame_long (value s) a n last, other_byte last n some few, other, ends, room) refl
 
-pub verdict_since : (s : Setup) (events : List ClientEvent) (frame : List ℕ) (a : Option Answers) → since_first (answers_of events) ≡ a
-    → verdict s.call events (Answered frame) ≡ answer_verdict s.call (stage_since s.call a) (held_since s.call a) frame
-verdict_since s events frame a h = ap (λ (x : Option Answers). answer_verdict s.call (stage_since s.call x) (held_since s.call x) frame) h
-
 abbrev with_frame : Answers → List ℕ → Answers
 with_frame a frame = record { first = a.first; later = frame ∷ a.later }
 
@@ -65,9 +61,6 @@ pub fails_by : (s : Setup) (p : Type 0) (frame : List ℕ) (w : World) → (p �
 fails_by s p frame w never waits h = failed never (rw waits h)
 
 -- ---- a segment comes
-
-not_turn : (n t : ℕ) → eqb n (t + 1) ≡ false → n ≡ t + 1 → ⊥
-not_turn n t e h = absurd (grind (arith, nat_tests))
 
 -- one that doesn't end its sub-block
 inside_comes : (s : Setup) (p : Type 0) → IsUpload s p → (a t n more : ℕ) (w : World) → Took s (a + t) t w.events → a + t < total (value s) → 1 ≤ n → n + suc more ≡ size_after (value s) a → (p → InTurn a t n)

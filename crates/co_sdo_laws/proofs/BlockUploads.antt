@@ -1,8 +1,9 @@
 -- An upload in blocks from which frames may be lost, whatever the dictionary permits and the client has room for. Frames are lost
 -- from the front of a queue alone: what comes of a sub-block is an end of it, and an acknowledgement counts the segments that
 -- were taken in turn. Where it is permitted and undisturbed (`p`), each sub-block is taken whole, and the frames are counted.
-use Rattle.std.proofs.Common.{◌≡◌, ℕ, suc, ◌+◌, ◌-◌, ◌*◌, ◌/◌, ◌<◌, ◌≤◌, true, false, List, [], ◌∷◌, length, take, Option, Some, None, refl, sym, arith, eqb, subst, ◌⊎◌}
+use Rattle.std.proofs.Common.{ap, ◌∙◌, ◌≡◌, ℕ, suc, ◌+◌, ◌-◌, ◌*◌, ◌/◌, ◌<◌, ◌≤◌, true, false, List, [], ◌∷◌, length, take, Option, Some, None, refl, sym, arith, eqb, subst, ◌⊎◌}
 use Rattle.std.specs.Prelude.{nat_lt}
+use Rattle.std.proofs.lemmas.Bool.{false≢true}
 use Rattle.std.specs.Option.{option_map_or}
 use Rattle.co_value.specs.declared.key.Key.{Key}
 use Rattle.co_frame.specs.declared.sdo_request.SdoRequest.TheVariants.{BlockUploadInitiate, BlockUploadStart, BlockUploadAcknowledge, BlockUploadEnd as UploadEnd}
@@ -32,7 +33,7 @@ use Rattle.co_sdo_laws.proofs.Frames.{start_read, acknowledge_read, client_end_r
 use Rattle.co_sdo_laws.proofs.Failures.{has_failed}
 use Rattle.co_sdo_laws.proofs.Channel.{IsServing, Steps}
 use Rattle.co_sdo_laws.proofs.SegmentedUploads.{value}
-use Rattle.co_sdo_laws.proofs.Blocks.{live, Count, Moment}
+use Rattle.co_sdo_laws.proofs.Blocks.{live, Count, Moment, IsDone, waiting≢done}
 use Rattle.co_sdo_laws.proofs.BlockSegments.{all_held, total, size_after, blocks, unused, segments, InTurn, IsWhole}
 
 pub record IsUpload (s : Setup) (p : Type 0) : Type 0 where
@@ -100,10 +101,6 @@ pub record TookAll (s : Setup) (events : List ClientEvent) : Type 0 where
   pub size : size_by (response_in took.first) ≡ Some (length (value s))
   pub last : has_last took.later ≡ true
   pub held : block_bytes took.later ≡ all_held (value s) (total (value s) - 1)
-
-pub record IsDone (s : Setup) (events : List ClientEvent) : Type 0 where
-  pub done : outcome s.call events ≡ Done
-  pub gives : result s.call events ≡ value s
 
 -- ---- the channel
 
@@ -200,5 +197,36 @@ pub data Stands (s : Setup) (p : Type 0) (w : World) : Type 0 where
   ending : TookAll s w.events → Moment p live [] (server_end s ∷ []) (2 + blocks (value s)) (1 + total (value s)) w → May s p (at_end s) w.log w.contents → Stands s p w
   -- nothing is on its way but aborts
   quiet : (p → ⊥) → outcome s.call w.events ≡ Waiting → w.requests ≡ [] → live w.answers ≡ [] → Stands s p w
-  over : IsDone s w.events → (p → Last s w) → Stands s p w
+  over : IsDone s (value s) w.events → (p → Last s w) → Stands s p w
   failed : (p → ⊥) → has_failed (outcome s.call w.events) ≡ true → Stands s p w
+
+-- ---- how its client stands
+
+-- it waits, and undisturbed no answer is an abort; it is done; or it has failed
+pub data Standing (s : Setup) (p : Type 0) (w : World) : Type 0 where
+  waits : outcome s.call w.events ≡ Waiting → (p → live w.answers ≡ w.answers) → Standing s p w
+  is_done : IsDone s (value s) w.events → (p → Last s w) → Standing s p w
+  gave_up : (p → ⊥) → has_failed (outcome s.call w.events) ≡ true → Standing s p w
+
+uncut : {p : Type 0} {sent given : List (List ℕ)} {r q : ℕ} {w : World} → Moment p live sent given r q w → p → live w.answers ≡ w.answers
+uncut m x = m.answers ∙ sym (m.exact x)
+
+pub standing : (s : Setup) (p : Type 0) (w : World) → Stands s p w → Standing s p w
+standing s p w (asking b m h) = waits b.waits (uncut m)
+standing s p w (confirmed b m h) = waits b.waits (uncut m)
+standing s p w (starting b m h) = waits b.waits (uncut m)
+standing s p w (taking a t n more b under some size turn m h) = waits b.waits (uncut m)
+standing s p w (acknowledging a u b under whole m h) = waits b.waits (uncut m)
+standing s p w (finishing a u b e whole m h) = waits b.waits (uncut m)
+standing s p w (ending b m h) = waits b.waits (uncut m)
+standing s p w (quiet never b e f) = waits b (λ x. absurd (never x))
+standing s p w (over b last) = is_done b last
+standing s p w (failed never h) = gave_up never h
+
+-- a client that is done gives the value
+pub value_is : (s : Setup) (p : Type 0) (w : World) → Stands s p w → outcome s.call w.events ≡ Done → result s.call w.events ≡ value s
+value_is s p w h done = elim (standing s p w h) [
+  | waits b g ↦ absurd (waiting≢done (sym b ∙ done))
+  | is_done b last ↦ b.gives
+  | gave_up never f ↦ absurd (false≢true (ap has_failed (sym done) ∙ f))
+]

@@ -6,9 +6,8 @@ use Rattle.co_frame.specs.declared.sdo_request.SdoRequest.TheVariants.{DownloadE
 use Rattle.co_frame.specs.declared.sdo_response.SdoResponse.TheVariants.{DownloadDone}
 use Rattle.co_frame.specs.SdoRequests.{request_bytes}
 use Rattle.co_frame.specs.SdoResponses.{response_bytes}
-use Rattle.co_sdo_client.specs.Calls.{Event as ClientEvent, Answered, answers as answers_of, since_first}
+use Rattle.co_sdo_client.specs.Calls.{Event as ClientEvent, Answered, answers as answers_of, since_first, Download as DownloadJob}
 use Rattle.co_sdo_client.specs.declared.mode.Mode.TheVariants.{Plain}
-use Rattle.co_sdo_client.specs.Calls.{Download as DownloadJob}
 use Rattle.co_sdo_client.specs.Segments.{bytes_of, transfer_of, transfer_by}
 use Rattle.co_sdo_client.specs.Stages.{stage_since, held_after}
 use Rattle.co_sdo_client.specs.Verdicts.{Ends, verdict, answer_verdict}

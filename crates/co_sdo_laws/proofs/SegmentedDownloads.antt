@@ -8,9 +8,8 @@ use Rattle.co_frame.specs.declared.sdo_request.SdoRequest.TheVariants.{DownloadI
 use Rattle.co_frame.specs.declared.sdo_response.SdoResponse.TheVariants.{DownloadDone, DownloadSegmentDone}
 use Rattle.co_frame.specs.SdoRequests.{request_in, request_bytes}
 use Rattle.co_frame.specs.SdoResponses.{response_bytes}
-use Rattle.co_sdo_client.specs.Calls.{message_bytes, Event as ClientEvent, Answered, answers as answers_of, Answers, since_first, with_answer}
+use Rattle.co_sdo_client.specs.Calls.{message_bytes, Event as ClientEvent, Answered, answers as answers_of, Answers, since_first, with_answer, Download as DownloadJob}
 use Rattle.co_sdo_client.specs.declared.mode.Mode.TheVariants.{Segmented}
-use Rattle.co_sdo_client.specs.Calls.{Download as DownloadJob}
 use Rattle.co_sdo_client.specs.Segments.{is_odd, bytes_of, size_sent, transfer_of, transfer_by, part_after, is_last_after, segment_after, requests_needed}
 use Rattle.co_sdo_client.specs.Stages.{stage_since, held_after}
 use Rattle.co_sdo_client.specs.Verdicts.{GoesOn, Ends, verdict, answer_verdict}
@@ -18,12 +17,11 @@ use Rattle.co_dict.specs.Rows.{Contents, written}
 use Rattle.co_dict.specs.Stores.{IsDictionary}
 use Rattle.co_sdo.specs.OpenTransfers.{open_transfer}
 use Rattle.co_sdo.specs.Refused.{capacity_at, initiate_refusal, completion_refusal}
-use Rattle.co_sdo.specs.Log.{Response, answer_bytes, Ticked, Log}
+use Rattle.co_sdo.specs.Log.{Response, answer_bytes, Ticked, Log, requests}
 use Rattle.co_sdo.specs.Opened.{OpenTransfer}
 use Rattle.co_sdo.specs.Replies.{answers_to, segment_refusal}
 use Rattle.co_sdo.specs.Completed.{set_by, contents_with}
 use Rattle.co_sdo.specs.Steps.{opened_next, set_next}
-use Rattle.co_sdo.specs.Log.{requests}
 use Rattle.co_sdo.proofs.Initiations.{exchange}
 use Rattle.co_sdo.proofs.Continuations.{not_odd, segmented}
 use Rattle.co_sdo_laws.specs.World.{Setup}
@@ -31,7 +29,7 @@ use Rattle.co_sdo_laws.proofs.Frames.{segment_read, done_read, segment_done_read
 use Rattle.co_sdo_laws.proofs.Server.{Serves, serves_first, served, serves_ticked, moved}
 use Rattle.co_sdo_laws.proofs.Segments.{last_is, not_last, needs_none, needs_more, same, joined, taken_all, part_small, some_exchanges}
 use Rattle.co_sdo_laws.proofs.Turns.{Turns, Takes, GoesOnWith}
-use Rattle.co_sdo_laws.proofs.Unawaited.{later_count}
+use Rattle.co_sdo_laws.proofs.Failures.{later_count}
 
 -- ---- a permitted segmented download
 

@@ -7,9 +7,8 @@ use Rattle.co_frame.specs.declared.sdo_request.SdoRequest.TheVariants.{Upload as
 use Rattle.co_frame.specs.declared.sdo_response.SdoResponse.TheVariants.{UploadInitiated, UploadSegment}
 use Rattle.co_frame.specs.SdoRequests.{request_bytes}
 use Rattle.co_frame.specs.SdoResponses.{response_in, response_bytes}
-use Rattle.co_sdo_client.specs.Calls.{Request, Event as ClientEvent, Answered, answers as answers_of, Answers, since_first, with_answer}
+use Rattle.co_sdo_client.specs.Calls.{Request, Event as ClientEvent, Answered, answers as answers_of, Answers, since_first, with_answer, Upload as UploadJob}
 use Rattle.co_sdo_client.specs.declared.mode.Mode.TheVariants.{Segmented}
-use Rattle.co_sdo_client.specs.Calls.{Upload as UploadJob}
 use Rattle.co_sdo_client.specs.Segments.{is_odd, cap_of, transfer_of, transfer_by, part_after, requests_needed}
 use Rattle.co_sdo_client.specs.Stages.{stage_since, held_since, segments_joined}
 use Rattle.co_sdo_client.specs.Verdicts.{GoesOn, Ends, verdict, answer_verdict}

@@ -24,21 +24,20 @@ use Rattle.co_sdo_laws.specs.Chains.{contents_after}
 use Rattle.co_sdo_laws.proofs.Frames.{initiate_read, bare_initiate_read}
 use Rattle.co_sdo_laws.proofs.Permits.{may_begin}
 use Rattle.co_sdo_laws.proofs.Pasts.{unopened, dictionary_after}
-use Rattle.co_sdo_laws.proofs.Progress.{rounds_calm, all_arrive}
+use Rattle.co_sdo_laws.proofs.Progress.{rounds_calm, all_arrive, AllThere, all_there, have_sent}
 use Rattle.co_sdo_laws.proofs.Server.{Serves}
 use Rattle.co_sdo_laws.proofs.Turns.{Turns, always, goes_in_turns, when_done, channel_at}
 use Rattle.co_sdo_laws.proofs.SegmentedDownloads.{MayDownload, segmented_download}
 use Rattle.co_sdo_laws.proofs.SegmentedUploads.{MayUpload, segmented_upload}
+use Rattle.co_sdo_laws.proofs.BlockDownloads.{size_read}
+use Rattle.co_sdo_laws.proofs.BlockDownloadEvents.{always as sent_blocks}
+use Rattle.co_sdo_laws.proofs.BlockUploadEvents.{always as fetched_blocks}
 use Rattle.co_sdo_laws.proofs.ExpeditedDownloads as expedited
 use Rattle.co_sdo_laws.proofs.ExpeditedUploads as read_at_once
-use Rattle.co_sdo_laws.proofs.SentFrames.{AllThere, all_there, have_sent}
-use Rattle.co_sdo_laws.proofs.BlockDownloadSegments.{size_read}
 use Rattle.co_sdo_laws.proofs.BlockDownloads as sent
-use Rattle.co_sdo_laws.proofs.BlockDownloadEvents.{always as sent_blocks}
-use Rattle.co_sdo_laws.proofs.BlockDownloadOutcomes as blocks_outcome
+use Rattle.co_sdo_laws.proofs.BlockDownloadEvents as blocks_outcome
 use Rattle.co_sdo_laws.proofs.BlockUploads as fetched
-use Rattle.co_sdo_laws.proofs.BlockUploadEvents.{always as fetched_blocks}
-use Rattle.co_sdo_laws.proofs.BlockUploadOutcomes as fetched_outcome
+use Rattle.co_sdo_laws.proofs.BlockUploadEvents as fetched_outcome
 
 -- ---- of every kind
 
@@ -445,9 +444,9 @@ permitted_block_upload key Plain client_time (Download bytes tells) time d conte
 permitted_block_upload key Segmented client_time (Download bytes tells) time d contents past t lawful idle index free room = cc
 
 fetched_at : (s : Setup) (events later : List WorldEvent) → IsUndisturbed s events → is_block_upload s.call.mode s.call.job ≡ true → length (value_at s.contents s.call.key) ≤ cap_of s.call.job
-    → AreCalm s later → fetched.Stands s (Unit {0}) (world_after s later)
+    → AreCalm s later → fetched_outcome.View s (world_after s later)
 fetched_at s events later u t room calm =
-    fetched_blocks s (Unit {0}) (permitted_block_upload s.call.key s.call.mode s.call.time s.call.job s.time s.description s.contents s.past t u.dictionary u.idle u.key u.permitted room) later (once s later calm) (λ x. calm)
+    fetched_outcome.view s (world_after s later) (fetched_blocks s (Unit {0}) (permitted_block_upload s.call.key s.call.mode s.call.time s.call.job s.time s.description s.contents s.past t u.dictionary u.idle u.key u.permitted room) later (once s later calm) (λ x. calm))
 
 pub fetched_in_blocks : (s : Setup) (events : List WorldEvent) → IsUndisturbed s events → is_block_upload s.call.mode s.call.job ≡ true → length (value_at s.contents s.call.key) ≤ cap_of s.call.job
     → Kind s (block_frames (length (value_at s.contents s.call.key))) (block_upload_frames (length (value_at s.contents s.call.key)))
@@ -457,7 +456,7 @@ fetched_in_blocks s events u t room = record {
   few = omega arith;
   goes = λ later calm. fetched_outcome.goes_in_blocks s (world_after s later) (fetched_at s events later u t room calm);
   ends = λ later calm done. record {
-    gives = fetched_outcome.value_is s (Unit {0}) (world_after s later) (fetched_at s events later u t room calm) done;
+    gives = fetched_outcome.given s (world_after s later) (fetched_at s events later u t room calm) done;
     leaves = fetched_outcome.contents_same s (world_after s later) (fetched_at s events later u t room calm);
     sends = fetched_outcome.all_sent s (world_after s later) (all_there s later calm) (fetched_at s events later u t room calm) done;
   };

@@ -11,9 +11,8 @@ use Rattle.co_frame.specs.declared.sdo_response.SdoResponse.TheVariants.{Downloa
 use Rattle.co_frame.specs.SdoRequests.{request_row_in, request_in, request_bytes}
 use Rattle.co_frame.specs.SdoResponses.{response_in}
 use Rattle.co_sdo_client.specs.declared.stage.Stage.TheVariants.{Begun, Download as Sending}
-use Rattle.co_sdo_client.specs.Calls.{Event as ClientEvent, Answered, answers as answers_of, Answers, since_first, with_answer}
+use Rattle.co_sdo_client.specs.Calls.{Event as ClientEvent, Answered, answers as answers_of, Answers, since_first, with_answer, Download as DownloadJob}
 use Rattle.co_sdo_client.specs.declared.mode.Mode.TheVariants.{Segmented}
-use Rattle.co_sdo_client.specs.Calls.{Download as DownloadJob}
 use Rattle.co_sdo_client.specs.Segments.{is_odd, bytes_of, size_sent, transfer_of, transfer_by, part_after, is_last_after, segment_after, segments_for}
 use Rattle.co_sdo_client.specs.Stages.{stage_since, held_after}
 use Rattle.co_sdo_client.specs.Verdicts.{GoesOn, Ends, verdict, answer_verdict}
@@ -34,10 +33,9 @@ use Rattle.co_sdo_laws.proofs.Server.{serves_first}
 use Rattle.co_sdo_laws.proofs.SegmentedDownloads.{request, answer, AtClient, initiate_answered, segment_answered}
 use Rattle.co_sdo_laws.proofs.Turns.{Takes, GoesOnWith}
 use Rattle.co_sdo_loss_laws.specs.Disturbed.{IsAlone}
-use Rattle.co_sdo_laws.proofs.Failures.{Refuses, Fails, IsAbort, has_failed}
+use Rattle.co_sdo_laws.proofs.Failures.{Refuses, Fails, IsAbort, has_failed, aborted_fails, toggles_differ, later_count}
 use Rattle.co_sdo_loss_laws.proofs.StopAndWait.{StopAndWait, Reached, still, over}
 use Rattle.co_sdo_laws.proofs.Channel.{IsServing, serving_ticks, serving_ends, Steps, is_served, takes_it, refuses_it, stays_lawful}
-use Rattle.co_sdo_laws.proofs.Unawaited.{aborted_fails, toggles_differ, later_count}
 
 pub record IsDownload (s : Setup) : Type 0 where
   pub alone : IsAlone s

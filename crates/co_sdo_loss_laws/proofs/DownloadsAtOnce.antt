@@ -8,9 +8,8 @@ use Rattle.co_frame.specs.declared.sdo_response.SdoResponse.TheVariants.{Downloa
 use Rattle.co_frame.specs.SdoRequests.{request_in}
 use Rattle.co_frame.specs.SdoResponses.{response_in}
 use Rattle.co_sdo_client.specs.declared.stage.Stage.TheVariants.{Begun}
-use Rattle.co_sdo_client.specs.Calls.{answers as answers_of, since_first}
+use Rattle.co_sdo_client.specs.Calls.{answers as answers_of, since_first, Download as DownloadJob}
 use Rattle.co_sdo_client.specs.declared.mode.Mode.TheVariants.{Plain}
-use Rattle.co_sdo_client.specs.Calls.{Download as DownloadJob}
 use Rattle.co_sdo_client.specs.Segments.{bytes_of, transfer_of, transfer_by}
 use Rattle.co_sdo_client.specs.Stages.{stage_since, held_after}
 use Rattle.co_sdo_client.specs.Verdicts.{Ends, answer_verdict}
@@ -26,10 +25,9 @@ use Rattle.co_sdo_laws.proofs.Server.{serves_first}
 use Rattle.co_sdo_laws.proofs.ExpeditedDownloads.{request, answer}
 use Rattle.co_sdo_laws.proofs.Turns.{Takes}
 use Rattle.co_sdo_loss_laws.specs.Disturbed.{IsAlone}
-use Rattle.co_sdo_laws.proofs.Failures.{Refuses, IsAbort, has_failed}
+use Rattle.co_sdo_laws.proofs.Failures.{Refuses, IsAbort, has_failed, aborted_fails}
 use Rattle.co_sdo_loss_laws.proofs.StopAndWait.{StopAndWait, Reached, over}
 use Rattle.co_sdo_laws.proofs.Channel.{IsServing, serving_ticks, serving_ends, Steps, is_served, takes_it, refuses_it, stays_lawful}
-use Rattle.co_sdo_laws.proofs.Unawaited.{aborted_fails}
 
 pub record IsDownload (s : Setup) : Type 0 where
   pub alone : IsAlone s

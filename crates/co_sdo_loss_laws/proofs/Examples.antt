@@ -19,16 +19,6 @@ use Rattle.co_sdo_laws.proofs.UndisturbedExamples.{is_dictionary, ten_events, te
 use Rattle.co_sdo_loss_laws.specs.Disturbed.{IsAlone, is_plain_download, is_repeat}
 use Rattle.co_sdo_loss_laws.proofs.Laws.{download_sets, upload_gives, block_upload_gives, block_download_sets}
 
--- ---- frames as their hexadecimal digits
-
-abbrev digit : ℕ → ℕ
-digit code = if nat_lt code 65 then code - 48 else code - 55
-
-abbrev hex : List ℕ → List ℕ
-hex [] = []
-hex (high ∷ []) = []
-hex (high ∷ low ∷ digits) = (16 * digit high + digit low) ∷ hex digits
-
 -- ---- which laws speak of which transfers
 
 which : map (λ mode. is_plain_download mode (Download (codes "a") true)) (Plain ∷ Segmented ∷ Block ∷ []) ≡ true ∷ true ∷ false ∷ []
@@ -44,52 +34,28 @@ alone s events u small = record { dictionary = u.dictionary; key = u.key; bytes 
 -- ---- ten bytes to the string, in segments
 
 -- the first segment is lost, and the channel's time is over: the client fails, and the entry is as it was
-lost_request : report ten (r ∷ a ∷ Lost Requests ∷ ChannelTicked ∷ ChannelTicked ∷ a ∷ []) ≡ record {
-  requests = [];
-  answers = [];
-  entry = Some (codes "ABCDEFGHI");
-  state = Failed (record { 0 = 0x05040000 });
-  sent = 2;
-  value = [];
-}
+lost_request : report ten (r ∷ a ∷ Lost Requests ∷ ChannelTicked ∷ ChannelTicked ∷ a ∷ [])
+    ≡ failed 0x05040000 2 [] [] (codes "ABCDEFGHI")
 unfolding request_row_in response_row_in reading_refusal initiate_refusal completion_refusal has_object
 lost_request = refl
 
 -- the answer to the first segment comes again: its toggle isn't the awaited one
-repeated_answer : report ten (r ∷ a ∷ r ∷ Repeated Answers ∷ a ∷ []) ≡ record {
-  requests = hex (codes "1937383900000000") ∷ hex (codes "8001200000000305") ∷ [];
-  answers = [];
-  entry = Some (codes "ABCDEFGHI");
-  state = Failed (record { 0 = 0x05030000 });
-  sent = 4;
-  value = [];
-}
+repeated_answer : report ten (r ∷ a ∷ r ∷ Repeated Answers ∷ a ∷ [])
+    ≡ failed 0x05030000 4 (hex (codes "1937383900000000") ∷ hex (codes "8001200000000305") ∷ []) [] (codes "ABCDEFGHI")
 unfolding request_row_in response_row_in reading_refusal initiate_refusal completion_refusal has_object
 repeated_answer = refl
 
 -- and where the last segment is lost as well, the repeated answer isn't taken for its answer: the abort arrives, and the entry is
 -- as it was
-repeated_answer_for_lost : report ten (r ∷ a ∷ r ∷ Repeated Answers ∷ Lost Requests ∷ a ∷ r ∷ []) ≡ record {
-  requests = [];
-  answers = [];
-  entry = Some (codes "ABCDEFGHI");
-  state = Failed (record { 0 = 0x05030000 });
-  sent = 4;
-  value = [];
-}
+repeated_answer_for_lost : report ten (r ∷ a ∷ r ∷ Repeated Answers ∷ Lost Requests ∷ a ∷ r ∷ [])
+    ≡ failed 0x05030000 4 [] [] (codes "ABCDEFGHI")
 unfolding request_row_in response_row_in reading_refusal initiate_refusal completion_refusal has_object
 repeated_answer_for_lost = refl
 
 -- the last answer is lost, and the client's time is over: it fails, though the entry is set. So it is of a client that is done
 -- alone that the law can speak.
-lost_answer : report ten (r ∷ a ∷ r ∷ a ∷ r ∷ Lost Answers ∷ ClientTicked ∷ ClientTicked ∷ ClientTicked ∷ []) ≡ record {
-  requests = hex (codes "8001200000000405") ∷ [];
-  answers = [];
-  entry = Some (codes "0123456789");
-  state = Failed (record { 0 = 0x05040000 });
-  sent = 4;
-  value = [];
-}
+lost_answer : report ten (r ∷ a ∷ r ∷ a ∷ r ∷ Lost Answers ∷ ClientTicked ∷ ClientTicked ∷ ClientTicked ∷ [])
+    ≡ failed 0x05040000 4 (hex (codes "8001200000000405") ∷ []) [] (codes "0123456789")
 unfolding request_row_in response_row_in reading_refusal initiate_refusal completion_refusal has_object
 lost_answer = refl
 
@@ -98,14 +64,7 @@ lost_answer = refl
 abbrev disturbed : List WorldEvent
 disturbed = Repeated Requests ∷ r ∷ a ∷ Lost Answers ∷ r ∷ ChannelTicked ∷ a ∷ Repeated Requests ∷ r ∷ a ∷ []
 
-disturbed_ten : report ten disturbed ≡ record {
-  requests = [];
-  answers = hex (codes "8000000001000405") ∷ [];
-  entry = Some (codes "0123456789");
-  state = Done;
-  sent = 3;
-  value = [];
-}
+disturbed_ten : report ten disturbed ≡ done 3 [] (hex (codes "8000000001000405") ∷ []) (codes "0123456789") []
 unfolding request_row_in response_row_in reading_refusal initiate_refusal completion_refusal has_object
 disturbed_ten = refl
 
@@ -126,14 +85,8 @@ abbrev nine : Setup
 nine = setup string_key Segmented (Upload 9)
 
 -- the request of the first segment comes twice: the second has the wrong toggle, and nothing is open after it
-repeated_request : report nine (r ∷ a ∷ Repeated Requests ∷ r ∷ a ∷ r ∷ a ∷ []) ≡ record {
-  requests = [];
-  answers = hex (codes "8000000001000405") ∷ [];
-  entry = Some (codes "ABCDEFGHI");
-  state = Failed (record { 0 = 0x05030000 });
-  sent = 3;
-  value = [];
-}
+repeated_request : report nine (r ∷ a ∷ Repeated Requests ∷ r ∷ a ∷ r ∷ a ∷ [])
+    ≡ failed 0x05030000 3 [] (hex (codes "8000000001000405") ∷ []) (codes "ABCDEFGHI")
 unfolding request_row_in response_row_in reading_refusal initiate_refusal completion_refusal has_object
 repeated_request = refl
 
@@ -141,7 +94,7 @@ repeated_request = refl
 abbrev disturbed_reading : List WorldEvent
 disturbed_reading = Repeated Requests ∷ Lost Requests ∷ a ∷ r ∷ ClientTicked ∷ a ∷ r ∷ a ∷ []
 
-disturbed_nine : report nine disturbed_reading ≡ record { requests = []; answers = []; entry = Some (codes "ABCDEFGHI"); state = Done; sent = 3; value = codes "ABCDEFGHI" }
+disturbed_nine : report nine disturbed_reading ≡ done 3 [] [] (codes "ABCDEFGHI") (codes "ABCDEFGHI")
 unfolding request_row_in response_row_in reading_refusal initiate_refusal completion_refusal has_object
 disturbed_nine = refl
 
@@ -165,14 +118,8 @@ abbrev nine_in_blocks : Setup
 nine_in_blocks = setup string_key Block (Upload 9)
 
 -- the first of two segments is lost: the second isn't taken, and the sub-block is acknowledged as of none
-lost_segment : report nine_in_blocks (r ∷ a ∷ r ∷ Lost Answers ∷ a ∷ []) ≡ record {
-  requests = hex (codes "A2007F0000000000") ∷ [];
-  answers = [];
-  entry = Some (codes "ABCDEFGHI");
-  state = Waiting;
-  sent = 3;
-  value = [];
-}
+lost_segment : report nine_in_blocks (r ∷ a ∷ r ∷ Lost Answers ∷ a ∷ [])
+    ≡ waiting 3 (hex (codes "A2007F0000000000") ∷ []) [] (codes "ABCDEFGHI")
 unfolding request_row_in response_row_in reading_refusal initiate_refusal completion_refusal has_object
 lost_segment = refl
 
@@ -180,14 +127,8 @@ lost_segment = refl
 abbrev disturbed_blocks : List WorldEvent
 disturbed_blocks = r ∷ a ∷ r ∷ Lost Answers ∷ a ∷ r ∷ ClientTicked ∷ a ∷ a ∷ r ∷ a ∷ []
 
-disturbed_blocks_done : report nine_in_blocks disturbed_blocks ≡ record {
-  requests = hex (codes "A100000000000000") ∷ [];
-  answers = [];
-  entry = Some (codes "ABCDEFGHI");
-  state = Done;
-  sent = 5;
-  value = codes "ABCDEFGHI";
-}
+disturbed_blocks_done : report nine_in_blocks disturbed_blocks
+    ≡ done 5 (hex (codes "A100000000000000") ∷ []) [] (codes "ABCDEFGHI") (codes "ABCDEFGHI")
 unfolding request_row_in response_row_in reading_refusal initiate_refusal completion_refusal has_object
 disturbed_blocks_done = refl
 
@@ -202,28 +143,15 @@ disturbed_blocks_value : result nine_in_blocks.call (world_after nine_in_blocks 
 disturbed_blocks_value = block_upload_gives nine_in_blocks (reverse disturbed_blocks) nine_in_blocks_alone refl refl blocks_are_read
 
 -- the last segment is lost: the sub-block doesn't end, and the channel's time is over
-lost_last_segment : report nine_in_blocks (r ∷ a ∷ r ∷ a ∷ Lost Answers ∷ ChannelTicked ∷ ChannelTicked ∷ a ∷ []) ≡ record {
-  requests = [];
-  answers = [];
-  entry = Some (codes "ABCDEFGHI");
-  state = Failed (record { 0 = 0x05040000 });
-  sent = 2;
-  value = [];
-}
+lost_last_segment : report nine_in_blocks (r ∷ a ∷ r ∷ a ∷ Lost Answers ∷ ChannelTicked ∷ ChannelTicked ∷ a ∷ [])
+    ≡ failed 0x05040000 2 [] [] (codes "ABCDEFGHI")
 unfolding request_row_in response_row_in reading_refusal initiate_refusal completion_refusal has_object
 lost_last_segment = refl
 
 -- ---- fourteen bytes to the domain, in blocks
 
 -- the first of two segments is lost: the second isn't taken, and the sub-block is acknowledged as of none
-lost_first : report fourteen (r ∷ a ∷ Lost Requests ∷ r ∷ []) ≡ record {
-  requests = [];
-  answers = hex (codes "A2007F0000000000") ∷ [];
-  entry = Some [];
-  state = Waiting;
-  sent = 3;
-  value = [];
-}
+lost_first : report fourteen (r ∷ a ∷ Lost Requests ∷ r ∷ []) ≡ waiting 3 [] (hex (codes "A2007F0000000000") ∷ []) []
 unfolding request_row_in response_row_in reading_refusal initiate_refusal completion_refusal has_object
 lost_first = refl
 
@@ -231,14 +159,7 @@ lost_first = refl
 abbrev disturbed_fourteen : List WorldEvent
 disturbed_fourteen = r ∷ a ∷ Lost Requests ∷ r ∷ a ∷ r ∷ ChannelTicked ∷ r ∷ a ∷ r ∷ a ∷ []
 
-fourteen_done : report fourteen disturbed_fourteen ≡ record {
-  requests = [];
-  answers = [];
-  entry = Some (codes "0123456789ABCD");
-  state = Done;
-  sent = 6;
-  value = [];
-}
+fourteen_done : report fourteen disturbed_fourteen ≡ done 6 [] [] (codes "0123456789ABCD") []
 unfolding request_row_in response_row_in reading_refusal initiate_refusal completion_refusal has_object
 fourteen_done = refl
 
@@ -253,13 +174,7 @@ fourteen_entry : (world_after fourteen (reverse disturbed_fourteen)).contents fo
 fourteen_entry = block_download_sets fourteen (reverse disturbed_fourteen) fourteen_alone refl refl fourteen_is_done
 
 -- the channel's time is over before the segments come: it hears them as requests, and none of its answers is awaited
-given_up : report fourteen (r ∷ a ∷ ChannelTicked ∷ ChannelTicked ∷ Lost Answers ∷ r ∷ a ∷ []) ≡ record {
-  requests = hex (codes "8237383941424344") ∷ [];
-  answers = [];
-  entry = Some [];
-  state = Failed (record { 0 = 0x05040001 });
-  sent = 3;
-  value = [];
-}
+given_up : report fourteen (r ∷ a ∷ ChannelTicked ∷ ChannelTicked ∷ Lost Answers ∷ r ∷ a ∷ [])
+    ≡ failed 0x05040001 3 (hex (codes "8237383941424344") ∷ []) [] []
 unfolding request_row_in response_row_in reading_refusal initiate_refusal completion_refusal has_object
 given_up = refl

@@ -15,14 +15,14 @@ use Rattle.co_sdo_laws.specs.World.{Setup, WorldEvent, world_after}
 use Rattle.co_sdo_laws.specs.Undisturbed.{is_short, is_plain_upload, is_block_upload, is_block_download}
 use Rattle.co_sdo_loss_laws.specs.Disturbed.{IsAlone, is_plain_download, is_repeat}
 use Rattle.co_sdo_loss_laws.proofs.StopAndWait.{always, when_done}
+use Rattle.co_sdo_laws.proofs.BlockUploadEvents.{value_is}
+use Rattle.co_sdo_laws.proofs.BlockDownloadEvents.{set_is}
 use Rattle.co_sdo_loss_laws.proofs.Downloads as in_segments
 use Rattle.co_sdo_loss_laws.proofs.DownloadsAtOnce as at_once
 use Rattle.co_sdo_loss_laws.proofs.Uploads as read_in_segments
 use Rattle.co_sdo_loss_laws.proofs.UploadsAtOnce as read_at_once
 use Rattle.co_sdo_laws.proofs.BlockUploadEvents as read_in_blocks
-use Rattle.co_sdo_laws.proofs.BlockUploadOutcomes.{value_is}
 use Rattle.co_sdo_laws.proofs.BlockDownloadEvents as written_in_blocks
-use Rattle.co_sdo_laws.proofs.BlockDownloadOutcomes.{set_is}
 
 short_bytes : (n : ℕ) → is_short n ≡ true → (1 ≤ n) × (n ≤ 4)
 short_bytes n h = let both = and_parts (nat_le 1 n) (nat_le n 4) h in let low = both.0 in let high = both.1 in (grind (arith, nat_tests), grind (arith, nat_tests))

@@ -10,9 +10,8 @@ use Rattle.co_frame.specs.declared.sdo_response.SdoResponse.TheVariants.{UploadI
 use Rattle.co_frame.specs.SdoRequests.{request_in}
 use Rattle.co_frame.specs.SdoResponses.{response_in}
 use Rattle.co_sdo_client.specs.declared.stage.Stage.TheVariants.{Begun, Upload as Receiving}
-use Rattle.co_sdo_client.specs.Calls.{Request, Event as ClientEvent, Answered, answers as answers_of, Answers, since_first, with_answer}
+use Rattle.co_sdo_client.specs.Calls.{Request, Event as ClientEvent, Answered, answers as answers_of, Answers, since_first, with_answer, Upload as UploadJob}
 use Rattle.co_sdo_client.specs.declared.mode.Mode.TheVariants.{Segmented}
-use Rattle.co_sdo_client.specs.Calls.{Upload as UploadJob}
 use Rattle.co_sdo_client.specs.Segments.{is_odd, cap_of, transfer_of, transfer_by, part_after, segments_for}
 use Rattle.co_sdo_client.specs.Stages.{stage_since, held_since, size_by, segments_joined}
 use Rattle.co_sdo_client.specs.Verdicts.{GoesOn, Ends, verdict, answer_verdict}
@@ -34,10 +33,9 @@ use Rattle.co_sdo_laws.proofs.SegmentedUploads.{value, request, answer, AtClient
 use Rattle.co_sdo_laws.proofs.BlockUploads.{small_value}
 use Rattle.co_sdo_laws.proofs.Turns.{Takes, GoesOnWith}
 use Rattle.co_sdo_loss_laws.specs.Disturbed.{IsAlone}
-use Rattle.co_sdo_laws.proofs.Failures.{Refuses, Fails, IsAbort, has_failed}
+use Rattle.co_sdo_laws.proofs.Failures.{Refuses, Fails, IsAbort, has_failed, aborted_fails, toggles_differ}
 use Rattle.co_sdo_loss_laws.proofs.StopAndWait.{StopAndWait, Reached, still, over}
 use Rattle.co_sdo_laws.proofs.Channel.{IsServing, serving_ticks, serving_ends, Steps, is_served, takes_it, refuses_it}
-use Rattle.co_sdo_laws.proofs.Unawaited.{aborted_fails, toggles_differ}
 
 -- of a value that isn't sent at once
 pub record IsUpload (s : Setup) : Type 0 where

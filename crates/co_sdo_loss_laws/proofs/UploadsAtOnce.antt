@@ -8,9 +8,8 @@ use Rattle.co_frame.specs.declared.sdo_request.ExpeditedData.TheVariants.{Indica
 use Rattle.co_frame.specs.declared.sdo_request.SdoRequest.TheVariants.{Upload as UploadRequest}
 use Rattle.co_frame.specs.declared.sdo_response.SdoResponse.TheVariants.{UploadExpedited}
 use Rattle.co_frame.specs.SdoRequests.{request_in}
-use Rattle.co_sdo_client.specs.Calls.{answers as answers_of, since_first}
+use Rattle.co_sdo_client.specs.Calls.{answers as answers_of, since_first, Upload as UploadJob}
 use Rattle.co_sdo_client.specs.declared.mode.Mode.TheVariants.{Segmented}
-use Rattle.co_sdo_client.specs.Calls.{Upload as UploadJob}
 use Rattle.co_sdo_client.specs.Segments.{cap_of, transfer_of, transfer_by}
 use Rattle.co_sdo_client.specs.Stages.{stage_since, held_since}
 use Rattle.co_sdo_client.specs.Verdicts.{Ends, answer_verdict}
