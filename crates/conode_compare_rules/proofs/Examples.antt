@@ -22,7 +22,7 @@ use Rattle.conode_compare_rules.specs.EntriesInForce.{facts_of, initial_entries,
 use Rattle.conode_compare_rules.specs.Heartbeats.{follows_closely, late_finding, overdue_by, is_gap}
 use Rattle.conode_compare_rules.specs.Progresses.{free_at}
 use Rattle.conode_compare_rules.specs.SheetValues.{refused_finding, upload_finding, written_finding}
-use Rattle.conode_compare_rules.specs.States.{after_boot_up, after_command, after_other, awaits_boot_up, boot_finding, is_settled, second_boot_up, state_finding}
+use Rattle.conode_compare_rules.specs.States.{after_boot_up, after_command, after_other, awaits_boot_up, boot_finding, is_settled, nothing_commanded, second_boot_up, state_finding}
 
 -- 10 ms, 1 %, 1 s and 10 s
 abbrev limits : Limits
@@ -146,7 +146,7 @@ unsettled_begin = refl
 -- ---- boot-ups
 
 abbrev reset_at : ℕ → Nmt
-reset_at micros = record { state = Initialising; commanded = Some (record { service = ResetNode; micros = micros }); booted = None }
+reset_at micros = record { state = Initialising; commanded = Some (record { service = ResetNode; micros = micros }); several = false; booted = None }
 
 awaited : boot_finding limits (reset_at 1) 10000001 ≡ None
 unfolding boot_finding awaits_boot_up
@@ -169,12 +169,31 @@ again : second_boot_up (Some 0) 1000001 ≡ None
 unfolding second_boot_up
 again = refl
 
+-- a device that is up answers a reset by one boot-up
+one_due : (after_boot_up limits (after_command (record { state = Stopped; commanded = None; several = false; booted = None }) ResetNode 0) 5).booted ≡ Some 5
+unfolding after_command after_boot_up
+one_due = refl
+
+-- two resets before a boot-up, or a reset of a device that may be booting, may give two
+two_due : (after_boot_up limits (after_command (reset_at 0) ResetNode 1) 5).booted ≡ None
+unfolding after_command after_boot_up
+two_due = refl
+
+perhaps_two : (after_boot_up limits (after_command nothing_commanded ResetNode 0) 5).booted ≡ None
+unfolding after_command after_boot_up
+perhaps_two = refl
+
+-- with another frame of the device none is due
+none_due : (after_other limits (after_command (reset_at 0) ResetNode 1) 5).several ≡ false
+unfolding after_command after_other awaits_boot_up
+none_due = refl
+
 -- a Start shortly before a boot-up may have been taken
-boots_unknown : (after_boot_up limits (record { state = Unknown; commanded = Some (record { service = Start; micros = 0 }); booted = None }) 10000000).state ≡ Unknown
+boots_unknown : (after_boot_up limits (record { state = Unknown; commanded = Some (record { service = Start; micros = 0 }); several = false; booted = None }) 10000000).state ≡ Unknown
 unfolding after_boot_up
 boots_unknown = refl
 
-boots_known_after : (after_boot_up limits (record { state = Unknown; commanded = Some (record { service = Start; micros = 0 }); booted = None }) 10000001).state ≡ PreOperational
+boots_known_after : (after_boot_up limits (record { state = Unknown; commanded = Some (record { service = Start; micros = 0 }); several = false; booted = None }) 10000001).state ≡ PreOperational
 unfolding after_boot_up
 boots_known_after = refl
 
@@ -187,7 +206,7 @@ start_initialising : (after_command (reset_at 0) Start 5).state ≡ Initialising
 unfolding after_command
 start_initialising = refl
 
-start : (after_command (record { state = PreOperational; commanded = None; booted = Some 0 }) Start 5).state ≡ Operational
+start : (after_command (record { state = PreOperational; commanded = None; several = false; booted = Some 0 }) Start 5).state ≡ Operational
 unfolding after_command
 start = refl
 
