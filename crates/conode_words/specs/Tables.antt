@@ -1,5 +1,5 @@
 -- A command as a table of its words and options says it.
-use Rattle.std.specs.Prelude.{List, ◌∷◌, [], codes}
+use Rattle.std.specs.Prelude.{List, ◌∷◌, []}
 use Rattle.std.specs.List.{fold}
 use Rattle.clap.specs.Words.{App, Rule, Text, new_app, with_rule, with_subcommand}
 use Rattle.conode_words.specs.Commands.{flag, lettered, many_wanted, numbered, repeated, valued, wanted, worded}
