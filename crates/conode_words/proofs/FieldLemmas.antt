@@ -11,7 +11,8 @@ use Rattle.conode_words.specs.declared.tasks.DictionaryWords.{DictionaryWords}
 use Rattle.conode_words.specs.declared.tasks.Task.{Task}
 use Rattle.conode_words.specs.declared.tasks.TimingWords.{TimingWords}
 use Rattle.conode_words.specs.Fields.{AsksFor, GivesDevice, GivesDictionary, GivesTiming}
-use Rattle.conode_words.specs.Tasks.{Asked, AskedAdapt, AskedCheck, AskedCompare, AskedConvert, AskedDecode, AskedExplain, AskedLint, AskedLoop, AskedReplay, AskedShow, AskedStats, adapt, asked_adapt, asked_by, asked_check, asked_compare, asked_convert, asked_decode, asked_device, asked_dictionary, asked_explain, asked_in, asked_lint, asked_lint_of, asked_loop, asked_of, asked_other, asked_replay, asked_show, asked_stats, asked_timing, check, colours_for, colours_of, compare, convert, decode, explain, format_for, format_of, lines_as_for, lines_as_of, lint, log_form_for, log_form_of, loop_back, mode_for, mode_of, number_for, number_of_bits, replay, show, shown_as, shown_for, stamps_for, stamps_of, stats, zeros_for, zeros_of}
+use Rattle.conode_words.specs.Choices.{colours_for, colours_of, format_for, format_of, lines_as_for, lines_as_of, log_form_for, log_form_of, mode_for, mode_of, shown_as, shown_for, stamps_for, stamps_of, zeros_for, zeros_of}
+use Rattle.conode_words.specs.Tasks.{Asked, AskedAdapt, AskedCheck, AskedCompare, AskedConvert, AskedDecode, AskedExplain, AskedLint, AskedLoop, AskedReplay, AskedShow, AskedStats, adapt, asked_adapt, asked_by, asked_check, asked_compare, asked_convert, asked_decode, asked_device, asked_dictionary, asked_explain, asked_in, asked_lint, asked_lint_of, asked_loop, asked_of, asked_other, asked_replay, asked_show, asked_stats, asked_timing, check, compare, convert, decode, explain, lint, loop_back, number_for, number_of_bits, replay, show, stats}
 
 -- a value that is made of another
 mapped : {A B P : Type 0} (f : A → B) (o : Option A) (b : B) → option_map f o ≡ Some b → ((a : A) → o ≡ Some a → f a ≡ b → P) → P

@@ -17,7 +17,8 @@ use Rattle.conode_words.specs.declared.tasks.Stamps.TheVariants.{Relative, Absol
 use Rattle.conode_words.specs.declared.tasks.Colours.TheVariants.{Auto, Always, Never}
 use Rattle.conode_words.specs.declared.tasks.Format.TheVariants.{Json, Sarif, Text as AsText}
 use Rattle.conode_words.specs.Commands.{adapt_command, check_command, compare_command, conode_command, convert_command, decode_command, domains_option, explain_command, lint_command, loop_command, node_option, replay_command, show_command, stats_command, strings_option, time_option}
-use Rattle.conode_words.specs.Tasks.{AskedLines, Asked, check, lint, decode, replay, loop_back, show, adapt, explain, convert, stats, compare, asked_in, asked_of, colours_of, format_of, lines_as_of, log_form_of, mode_of, shown_as, stamps_of, word_fault, zeros_of}
+use Rattle.conode_words.specs.Choices.{colours_of, format_of, lines_as_of, log_form_of, mode_of, shown_as, stamps_of, zeros_of}
+use Rattle.conode_words.specs.Tasks.{AskedLines, Asked, check, lint, decode, replay, loop_back, show, adapt, explain, convert, stats, compare, asked_in, asked_of, word_fault}
 use Rattle.conode_words.proofs.OnLiterals.{words_on_literals}
 
 -- what all words ask for, by the program's command; and those after the name of a subcommand, by that alone, which is computed

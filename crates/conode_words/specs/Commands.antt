@@ -36,6 +36,10 @@ repeated name = record (valued name) { action = Some Append }
 abbrev pub worded : Text → Text → Rule
 worded name default = record (valued name) { defaults = default ∷ [] }
 
+-- the same with a letter, as `-t`
+abbrev pub lettered : Text → ℕ → Text → Rule
+lettered name letter default = record (worded name default) { short = Some letter }
+
 -- an option `--NAME N` with a number from one to another, and what stands for it where it isn't used
 abbrev pub numbered : Text → ℕ → ℕ → List Text → Rule
 numbered name low high default =
@@ -125,7 +129,7 @@ log_option = worded (codes "log") (codes "auto")
 -- `explain TRACE [--sheet SHEET] [--stamps FORM|-t FORM] [--transfers] [--changes] [--format FORMAT] [--log FORM]
 -- [--of NODES] [--id IDS] [--kind KINDS] [--from TIME] [--to TIME]`
 abbrev pub stamps_option : Rule
-stamps_option = record (worded (codes "stamps") (codes "relative")) { short = Some 116 }
+stamps_option = lettered (codes "stamps") 116 (codes "relative")
 
 unfoldable pub explain_command : App
 explain_command =

@@ -4,7 +4,8 @@ use Rattle.clap.specs.Words.{Row, Text, first_of}
 use Rattle.conode_words.specs.declared.tasks.DeviceWords.{DeviceWords}
 use Rattle.conode_words.specs.declared.tasks.DictionaryWords.{DictionaryWords}
 use Rattle.conode_words.specs.declared.tasks.TimingWords.{TimingWords}
-use Rattle.conode_words.specs.Tasks.{Asked, check, lint, decode, replay, loop_back, show, adapt, explain, convert, stats, compare, asked_lines, colours_of, format_of, is_used, lines_as_of, log_form_of, mode_of, number_for, number_of_bits, shown_as, stamps_of, words_for, zeros_of}
+use Rattle.conode_words.specs.Choices.{colours_of, format_of, lines_as_of, log_form_of, mode_of, shown_as, stamps_of, zeros_of}
+use Rattle.conode_words.specs.Tasks.{Asked, check, lint, decode, replay, loop_back, show, adapt, explain, convert, stats, compare, asked_lines, is_used, number_for, number_of_bits, words_for}
 
 -- the word, or the value of an option, is this one
 abbrev pub IsWord : Text → List Row → Text → Type 0

@@ -1,3 +1,5 @@
 pub mod Commands
+pub mod Choices
 pub mod Tasks
 pub mod Fields
+pub mod Tables

@@ -8,29 +8,21 @@ use Rattle.clap.specs.Kinds.{Kinds, or_else}
 use Rattle.clap.specs.Words.{Row, Text, all_of, fault_of, first_of, subcommand_of}
 use Rattle.clap.specs.declared.error.kind.ErrorKind.TheVariants.{InvalidValue}
 use Rattle.co_sdo_client.specs.declared.mode.Mode.{Mode}
-use Rattle.co_sdo_client.specs.declared.mode.Mode.TheVariants.{Plain, Segmented, Block}
+use Rattle.conode_words.specs.Choices.{colours_for, format_for, lines_as_for, log_form_for, mode_for, shown_for, stamps_for, zeros_for}
 use Rattle.conode_words.specs.Commands.{conode_command}
 use Rattle.conode_words.specs.declared.tasks.DeviceWords.{DeviceWords}
 use Rattle.conode_words.specs.declared.tasks.DictionaryWords.{DictionaryWords}
 use Rattle.conode_words.specs.declared.tasks.Colours.{Colours}
-use Rattle.conode_words.specs.declared.tasks.Colours.TheVariants.{Auto, Always, Never}
 use Rattle.conode_words.specs.declared.tasks.Format.{Format}
-use Rattle.conode_words.specs.declared.tasks.Format.TheVariants as format
 use Rattle.conode_words.specs.declared.tasks.Task.{Task}
 use Rattle.conode_words.specs.declared.tasks.Task.TheVariants.{Check, Lint, Decode, Replay, LoopBack, Show, Adapt, Explain, Convert, Stats, Compare}
 use Rattle.conode_words.specs.declared.tasks.LeadingZeros.{LeadingZeros}
-use Rattle.conode_words.specs.declared.tasks.LeadingZeros.TheVariants.{Octal, Decimal}
 use Rattle.conode_words.specs.declared.tasks.LinesAs.{LinesAs}
-use Rattle.conode_words.specs.declared.tasks.LinesAs.TheVariants as lines
 use Rattle.conode_words.specs.declared.tasks.OnlyWords.{OnlyWords}
 use Rattle.conode_words.specs.declared.tasks.Stamps.{Stamps}
-use Rattle.conode_words.specs.declared.tasks.Stamps.TheVariants.{Relative, Absolute, Delta, Date}
 use Rattle.conode_words.specs.declared.tasks.TimingWords.{TimingWords}
 use Rattle.conode_words.specs.declared.tasks.LogForm.{LogForm}
-use Rattle.conode_words.specs.declared.tasks.LogForm.TheVariants as log_form
 use Rattle.conode_words.specs.declared.tasks.ShownAs.{ShownAs}
-use Rattle.conode_words.specs.declared.tasks.ShownAs.TheVariants.{Columns, Markdown}
-use Rattle.conode_words.specs.declared.tasks.ShownAs.TheVariants as shown_form
 
 -- what the words after `check` ask for: texts and numbers
 pub record AskedCheck : Type 0 where
@@ -234,26 +226,6 @@ words_for name rows = option_map_or (λ words. words) (all_of name rows) []
 unfoldable pub is_used : Text → List Row → Bool
 is_used name rows = option_map_or (λ word. bytes_eq word (codes "true")) (first_of name rows) false
 
--- the format that a word names
-unfoldable pub format_of : Text → Option Format
-format_of word =
-    if bytes_eq word (codes "text") then Some format.Text
-    else (if bytes_eq word (codes "json") then Some format.Json
-    else (if bytes_eq word (codes "sarif") then Some format.Sarif else None))
-
--- when there are colours, as a word names it
-unfoldable pub colours_of : Text → Option Colours
-colours_of word =
-    if bytes_eq word (codes "auto") then Some Auto
-    else (if bytes_eq word (codes "always") then Some Always
-    else (if bytes_eq word (codes "never") then Some Never else None))
-
-unfoldable pub format_for : List Row → Option Format
-format_for rows = option_and_then format_of (first_of (codes "format") rows)
-
-unfoldable pub colours_for : List Row → Option Colours
-colours_for rows = option_and_then colours_of (first_of (codes "color") rows)
-
 -- what the matches of `lint` ask for, with its sheets and what it allows
 unfoldable pub asked_lint_of : List Text → List Text → List Row → Option Asked
 asked_lint_of sheets allowed rows =
@@ -287,17 +259,6 @@ asked_replay rows =
     replay (record { sheet = sheet; trace = trace; device = device }))
     (asked_device rows)) (first_of (codes "TRACE") rows)) (first_of (codes "SHEET") rows)
 
--- the mode that a word names
-unfoldable pub mode_of : Text → Option Mode
-mode_of word =
-    if bytes_eq word (codes "plain") then Some Plain
-    else (if bytes_eq word (codes "segmented") then Some Segmented
-    else (if bytes_eq word (codes "block") then Some Block else None))
-
--- the mode of matches
-unfoldable pub mode_for : List Row → Option Mode
-mode_for rows = option_and_then mode_of (first_of (codes "mode") rows)
-
 -- what the matches of `loop` ask for
 unfoldable pub asked_loop : List Row → Option Asked
 asked_loop rows =
@@ -307,17 +268,6 @@ asked_loop rows =
     (asked_device rows)) (mode_for rows)) (first_of (codes "HEX") rows)) (first_of (codes "KEY") rows))
     (first_of (codes "SHEET") rows)
 
--- the form that a word names
-unfoldable pub shown_as : Text → Option ShownAs
-shown_as word =
-    if bytes_eq word (codes "text") then Some Columns
-    else (if bytes_eq word (codes "markdown") then Some Markdown
-    else (if bytes_eq word (codes "json") then Some shown_form.Json else None))
-
--- the form of matches
-unfoldable pub shown_for : List Row → Option ShownAs
-shown_for rows = option_and_then shown_as (first_of (codes "format") rows)
-
 -- what the matches of `show` ask for
 unfoldable pub asked_show : List Row → Option Asked
 asked_show rows =
@@ -325,59 +275,12 @@ asked_show rows =
     show (record { sheet = sheet; node = number_for 8 (codes "node") rows; shown_as = form }))
     (shown_for rows)) (first_of (codes "SHEET") rows)
 
--- how a word says that leading zeros are read
-unfoldable pub zeros_of : Text → Option LeadingZeros
-zeros_of word =
-    if bytes_eq word (codes "octal") then Some Octal
-    else (if bytes_eq word (codes "decimal") then Some Decimal else None)
-
--- the same of matches: not at all where the option isn't used; None where its word is no such word
-unfoldable pub zeros_for : List Row → Option (Option LeadingZeros)
-zeros_for rows =
-    option_map_or (λ word. option_map (λ zeros. Some zeros) (zeros_of word))
-    (first_of (codes "leading-zeros") rows) (Some None)
-
 -- what the matches of `adapt` ask for
 unfoldable pub asked_adapt : List Row → Option Asked
 asked_adapt rows =
     option_and_then (λ sheet. option_map (λ zeros.
     adapt (record { sheet = sheet; leading_zeros = zeros; force = is_used (codes "force") rows }))
     (zeros_for rows)) (first_of (codes "SHEET") rows)
-
--- the form of stamps that a word names, or a letter, as candump has them
-unfoldable pub stamps_of : Text → Option Stamps
-stamps_of word =
-    if bytes_eq word (codes "relative") || bytes_eq word (codes "z") then Some Relative
-    else (if bytes_eq word (codes "absolute") || bytes_eq word (codes "a") then Some Absolute
-    else (if bytes_eq word (codes "delta") || bytes_eq word (codes "d") then Some Delta
-    else (if bytes_eq word (codes "date") || bytes_eq word (codes "A") then Some Date else None)))
-
--- the form of stamps of matches
-unfoldable pub stamps_for : List Row → Option Stamps
-stamps_for rows = option_and_then stamps_of (first_of (codes "stamps") rows)
-
--- how a word says that lines are written
-unfoldable pub lines_as_of : Text → Option LinesAs
-lines_as_of word =
-    if bytes_eq word (codes "text") then Some lines.Text
-    else (if bytes_eq word (codes "json") then Some lines.Json else None)
-
-unfoldable pub lines_as_for : List Row → Option LinesAs
-lines_as_for rows = option_and_then lines_as_of (first_of (codes "format") rows)
-
--- the form of log that a word names
-unfoldable pub log_form_of : Text → Option LogForm
-log_form_of word =
-    if bytes_eq word (codes "auto") then Some log_form.Auto
-    else (if bytes_eq word (codes "candump") then Some log_form.Candump
-    else (if bytes_eq word (codes "screen") then Some log_form.Screen
-    else (if bytes_eq word (codes "screen-delta") then Some log_form.ScreenDelta
-    else (if bytes_eq word (codes "trc") then Some log_form.Trc
-    else (if bytes_eq word (codes "asc") then Some log_form.Asc else None)))))
-
--- the form of log of matches
-unfoldable pub log_form_for : List Row → Option LogForm
-log_form_for rows = option_and_then log_form_of (first_of (codes "log") rows)
 
 -- which lines the matches ask for
 unfoldable pub asked_lines : List Row → AskedLines
@@ -470,16 +373,26 @@ asked_of matches = option_and_then (λ m. asked_in m.0 m.1) matches
 
 -- the matches of a subcommand have a word that is none of those that it takes: the mode of `loop`, the format and
 -- the colours of `lint`, the form of `show`, the leading zeros of `adapt`, the stamps, the format
--- and the log's form of `explain`, the form of `convert`, the format and the log's form of `stats`, the log's form of `compare`
+-- and the log's form of `explain`, the format and the log's form of `stats`, the log's form of `convert` and `compare`
+unfoldable pub is_other_lint : List Row → Bool
+is_other_lint rows = is_none (format_for rows) || is_none (colours_for rows)
+
+unfoldable pub is_other_stats : List Row → Bool
+is_other_stats rows = is_none (lines_as_for rows) || is_none (log_form_for rows)
+
+unfoldable pub is_other_explain : List Row → Bool
+is_other_explain rows = is_none (stamps_for rows) || is_other_stats rows
+
 unfoldable pub is_other : Text → List Row → Bool
 is_other name rows =
     if bytes_eq name (codes "loop") then is_none (mode_for rows)
-    else (if bytes_eq name (codes "lint") then is_none (format_for rows) || is_none (colours_for rows)
+    else (if bytes_eq name (codes "lint") then is_other_lint rows
     else (if bytes_eq name (codes "show") then is_none (shown_for rows)
     else (if bytes_eq name (codes "adapt") then is_none (zeros_for rows)
-    else (if bytes_eq name (codes "explain") then is_none (stamps_for rows) || (is_none (lines_as_for rows) || is_none (log_form_for rows))
-    else (if bytes_eq name (codes "stats") then is_none (lines_as_for rows) || is_none (log_form_for rows)
-    else (if bytes_eq name (codes "convert") || bytes_eq name (codes "compare") then is_none (log_form_for rows) else false))))))
+    else (if bytes_eq name (codes "explain") then is_other_explain rows
+    else (if bytes_eq name (codes "stats") then is_other_stats rows
+    else (if bytes_eq name (codes "convert") then is_none (log_form_for rows)
+    else (if bytes_eq name (codes "compare") then is_none (log_form_for rows) else false)))))))
 
 unfoldable pub has_other_word : Option (Text × List Row) → Bool
 has_other_word matches = option_map_or (λ m. is_other m.0 m.1) matches false

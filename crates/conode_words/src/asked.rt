@@ -1,8 +1,7 @@
 //! What the words after the name of a command ask for.
 
 ghost use Rattle.std.specs.Prelude.{◌≡◌, IfOk, map, option_map};
-ghost use Rattle.std.specs.Str.{bytes_eq};
-ghost use Rattle.clap.specs.Words.{first_of, found_of, rows_of};
+ghost use Rattle.clap.specs.Words.{found_of, rows_of};
 ghost use Rattle.conode_words.specs.Tasks.{
   asked_adapt,
   asked_by,
@@ -23,67 +22,16 @@ ghost use Rattle.conode_words.specs.Tasks.{
   asked_show,
   asked_stats,
   asked_timing,
-  colours_for,
-  colours_of,
-  format_for,
-  format_of,
-  is_used,
-  lines_as_for,
-  lines_as_of,
   lines_by,
-  log_form_for,
-  log_form_of,
-  mode_for,
-  mode_of,
-  number_for,
-  shown_as,
-  shown_for,
-  stamps_for,
-  stamps_of,
-  words_for,
-  zeros_for,
-  zeros_of,
 };
 
-use crate::tasks::{
-    Colours, DeviceWords, DictionaryWords, Format, LeadingZeros, LinesAs, LintWords, LogForm,
-    OnlyWords, ShownAs, Stamps, Task, TimingWords,
+use crate::choices::{
+    colours_for, format_for, lines_as_for, log_form_for, mode_for, shown_for, stamps_for, zeros_for,
 };
+use crate::found::{is, is_used, number_u8, number_u16, number_u32, word_for, words_for};
+use crate::tasks::{DeviceWords, DictionaryWords, LintWords, OnlyWords, Task, TimingWords};
 use clap::ArgMatches;
-use co_sdo_client::Mode;
 use std::alloc::{AllocError, Global};
-
-/// Whether a word is this one: the comparison, proved in one place for all that follow.
-pub(crate) fn is(word: &str, known: &str) -> bool
-    ensures { result ≡ bytes_eq word.now known.now }
-{
-    word == known
-}
-
-// a word, or the value of an option
-#[tactic(auto, using(crate::proofs::TaskLemmas::first_in_rows))]
-fn word_for<'a>(found: &ArgMatches<'a>, name: &str) -> Option<&'a str>
-    ensures { option_map (λ word. word.now) result
-        ≡ first_of name.now (rows_of (found_of found.now)) }
-{
-    found.get_str(name)
-}
-
-// the number of an option, of 8 bits
-#[tactic(auto, using(crate::proofs::TaskLemmas::number_read), unfolding(crate::specs::Tasks::number_for))]
-fn number_u8(found: &ArgMatches<'_>, name: &str) -> Option<u8>
-    ensures { result ≡ number_for 8 name.now (rows_of (found_of found.now)) }
-{
-    word_for(found, name)?.parse().ok()
-}
-
-// the number of an option, of 16 bits
-#[tactic(auto, using(crate::proofs::TaskLemmas::number_read), unfolding(crate::specs::Tasks::number_for))]
-fn number_u16(found: &ArgMatches<'_>, name: &str) -> Option<u16>
-    ensures { result ≡ number_for 16 name.now (rows_of (found_of found.now)) }
-{
-    word_for(found, name)?.parse().ok()
-}
 
 // what the words say of a dictionary
 #[tactic(auto, unfolding(crate::specs::Tasks::asked_dictionary))]
@@ -117,79 +65,6 @@ fn asked_check<'a>(found: &ArgMatches<'a>) -> Option<Task<'a>>
     let sheet = word_for(found, "SHEET")?;
     let dictionary = dictionary_words(found)?;
     Some(Task::Check { sheet, dictionary })
-}
-
-// all words of an option
-#[tactic(auto, using(crate::proofs::TaskLemmas::all_in_rows), unfolding(crate::specs::Tasks::words_for))]
-fn words_for<'a>(
-    alloc: Global,
-    found: &ArgMatches<'a>,
-    name: &str,
-) -> Result<Vec<&'a str>, AllocError>
-    ensures { IfOk result (λ words. map (λ word. word.now) words.items
-        ≡ words_for name.now (rows_of (found_of found.now))) }
-{
-    let mut words = Vec::new(alloc);
-    if let Some(given) = found.get_strs(name) {
-        words.extend_from_slice(given)?;
-    }
-    Ok(words)
-}
-
-#[tactic(auto, unfolding(crate::specs::Tasks::is_used))]
-fn is_used(found: &ArgMatches<'_>, name: &str) -> bool
-    ensures { result ≡ is_used name.now (rows_of (found_of found.now)) }
-{
-    match word_for(found, name) {
-        Some(word) => is(word, "true"),
-        None => false,
-    }
-}
-
-// the format that a word names
-#[tactic(auto, unfolding(crate::specs::Tasks::format_of))]
-fn format_of(word: &str) -> Option<Format>
-    ensures { result ≡ format_of word.now }
-{
-    if is(word, "text") {
-        Some(Format::Text)
-    } else if is(word, "json") {
-        Some(Format::Json)
-    } else if is(word, "sarif") {
-        Some(Format::Sarif)
-    } else {
-        None
-    }
-}
-
-// when there are colours, as a word names it
-#[tactic(auto, unfolding(crate::specs::Tasks::colours_of))]
-fn colours_of(word: &str) -> Option<Colours>
-    ensures { result ≡ colours_of word.now }
-{
-    if is(word, "auto") {
-        Some(Colours::Auto)
-    } else if is(word, "always") {
-        Some(Colours::Always)
-    } else if is(word, "never") {
-        Some(Colours::Never)
-    } else {
-        None
-    }
-}
-
-#[tactic(auto, unfolding(crate::specs::Tasks::format_for))]
-pub(crate) fn format_for(found: &ArgMatches<'_>) -> Option<Format>
-    ensures { result ≡ format_for (rows_of (found_of found.now)) }
-{
-    format_of(word_for(found, "format")?)
-}
-
-#[tactic(auto, unfolding(crate::specs::Tasks::colours_for))]
-pub(crate) fn colours_for(found: &ArgMatches<'_>) -> Option<Colours>
-    ensures { result ≡ colours_for (rows_of (found_of found.now)) }
-{
-    colours_of(word_for(found, "color")?)
 }
 
 // what the words after `lint` ask for, with its sheets and what it allows
@@ -256,29 +131,6 @@ fn asked_replay<'a>(found: &ArgMatches<'a>) -> Option<Task<'a>>
     })
 }
 
-// the mode that a word names
-#[tactic(auto, unfolding(crate::specs::Tasks::mode_of))]
-fn mode_of(word: &str) -> Option<Mode>
-    ensures { result ≡ mode_of word.now }
-{
-    if is(word, "plain") {
-        Some(Mode::Plain)
-    } else if is(word, "segmented") {
-        Some(Mode::Segmented)
-    } else if is(word, "block") {
-        Some(Mode::Block)
-    } else {
-        None
-    }
-}
-
-#[tactic(auto, unfolding(crate::specs::Tasks::mode_for))]
-pub(crate) fn mode_for(found: &ArgMatches<'_>) -> Option<Mode>
-    ensures { result ≡ mode_for (rows_of (found_of found.now)) }
-{
-    mode_of(word_for(found, "mode")?)
-}
-
 // what the words after `loop` ask for
 #[tactic(auto, unfolding(crate::specs::Tasks::asked_loop))]
 fn asked_loop<'a>(found: &ArgMatches<'a>) -> Option<Task<'a>>
@@ -298,29 +150,6 @@ fn asked_loop<'a>(found: &ArgMatches<'a>) -> Option<Task<'a>>
     })
 }
 
-// the form that a word names
-#[tactic(auto, unfolding(crate::specs::Tasks::shown_as))]
-fn shown_as(word: &str) -> Option<ShownAs>
-    ensures { result ≡ shown_as word.now }
-{
-    if is(word, "text") {
-        Some(ShownAs::Columns)
-    } else if is(word, "markdown") {
-        Some(ShownAs::Markdown)
-    } else if is(word, "json") {
-        Some(ShownAs::Json)
-    } else {
-        None
-    }
-}
-
-#[tactic(auto, unfolding(crate::specs::Tasks::shown_for))]
-pub(crate) fn shown_for(found: &ArgMatches<'_>) -> Option<ShownAs>
-    ensures { result ≡ shown_for (rows_of (found_of found.now)) }
-{
-    shown_as(word_for(found, "format")?)
-}
-
 // what the words after `show` ask for
 #[tactic(auto, unfolding(crate::specs::Tasks::asked_show))]
 fn asked_show<'a>(found: &ArgMatches<'a>) -> Option<Task<'a>>
@@ -335,30 +164,6 @@ fn asked_show<'a>(found: &ArgMatches<'a>) -> Option<Task<'a>>
     })
 }
 
-// how a word says that leading zeros are read
-#[tactic(auto, unfolding(crate::specs::Tasks::zeros_of))]
-fn zeros_of(word: &str) -> Option<LeadingZeros>
-    ensures { result ≡ zeros_of word.now }
-{
-    if is(word, "octal") {
-        Some(LeadingZeros::Octal)
-    } else if is(word, "decimal") {
-        Some(LeadingZeros::Decimal)
-    } else {
-        None
-    }
-}
-
-#[tactic(auto, unfolding(crate::specs::Tasks::zeros_for))]
-pub(crate) fn zeros_for(found: &ArgMatches<'_>) -> Option<Option<LeadingZeros>>
-    ensures { result ≡ zeros_for (rows_of (found_of found.now)) }
-{
-    match word_for(found, "leading-zeros") {
-        Some(word) => Some(Some(zeros_of(word)?)),
-        None => Some(None),
-    }
-}
-
 // what the words after `adapt` ask for
 #[tactic(auto, unfolding(crate::specs::Tasks::asked_adapt))]
 fn asked_adapt<'a>(found: &ArgMatches<'a>) -> Option<Task<'a>>
@@ -371,52 +176,6 @@ fn asked_adapt<'a>(found: &ArgMatches<'a>) -> Option<Task<'a>>
         leading_zeros,
         force: is_used(found, "force"),
     })
-}
-
-// the form of stamps that a word names
-#[tactic(auto, unfolding(crate::specs::Tasks::stamps_of))]
-fn stamps_of(word: &str) -> Option<Stamps>
-    ensures { result ≡ stamps_of word.now }
-{
-    if is(word, "relative") || is(word, "z") {
-        Some(Stamps::Relative)
-    } else if is(word, "absolute") || is(word, "a") {
-        Some(Stamps::Absolute)
-    } else if is(word, "delta") || is(word, "d") {
-        Some(Stamps::Delta)
-    } else if is(word, "date") || is(word, "A") {
-        Some(Stamps::Date)
-    } else {
-        None
-    }
-}
-
-#[tactic(auto, unfolding(crate::specs::Tasks::stamps_for))]
-pub(crate) fn stamps_for(found: &ArgMatches<'_>) -> Option<Stamps>
-    ensures { result ≡ stamps_for (rows_of (found_of found.now)) }
-{
-    stamps_of(word_for(found, "stamps")?)
-}
-
-// how a word says that lines are written
-#[tactic(auto, unfolding(crate::specs::Tasks::lines_as_of))]
-fn lines_as_of(word: &str) -> Option<LinesAs>
-    ensures { result ≡ lines_as_of word.now }
-{
-    if is(word, "text") {
-        Some(LinesAs::Text)
-    } else if is(word, "json") {
-        Some(LinesAs::Json)
-    } else {
-        None
-    }
-}
-
-#[tactic(auto, unfolding(crate::specs::Tasks::lines_as_for))]
-pub(crate) fn lines_as_for(found: &ArgMatches<'_>) -> Option<LinesAs>
-    ensures { result ≡ lines_as_for (rows_of (found_of found.now)) }
-{
-    lines_as_of(word_for(found, "format")?)
 }
 
 // which lines the words ask for
@@ -454,35 +213,6 @@ fn asked_explain<'a>(found: &ArgMatches<'a>) -> Option<Task<'a>>
     })
 }
 
-// the form of log that a word names
-#[tactic(auto, unfolding(crate::specs::Tasks::log_form_of))]
-fn log_form_of(word: &str) -> Option<LogForm>
-    ensures { result ≡ log_form_of word.now }
-{
-    if is(word, "auto") {
-        Some(LogForm::Auto)
-    } else if is(word, "candump") {
-        Some(LogForm::Candump)
-    } else if is(word, "screen") {
-        Some(LogForm::Screen)
-    } else if is(word, "screen-delta") {
-        Some(LogForm::ScreenDelta)
-    } else if is(word, "trc") {
-        Some(LogForm::Trc)
-    } else if is(word, "asc") {
-        Some(LogForm::Asc)
-    } else {
-        None
-    }
-}
-
-#[tactic(auto, unfolding(crate::specs::Tasks::log_form_for))]
-pub(crate) fn log_form_for(found: &ArgMatches<'_>) -> Option<LogForm>
-    ensures { result ≡ log_form_for (rows_of (found_of found.now)) }
-{
-    log_form_of(word_for(found, "log")?)
-}
-
 // what the words after `convert` ask for
 #[tactic(auto, unfolding(crate::specs::Tasks::asked_convert))]
 fn asked_convert<'a>(found: &ArgMatches<'a>) -> Option<Task<'a>>
@@ -508,14 +238,6 @@ fn asked_stats<'a>(found: &ArgMatches<'a>) -> Option<Task<'a>>
         lines_as,
         form,
     })
-}
-
-// the number of an option, of 32 bits
-#[tactic(auto, using(crate::proofs::TaskLemmas::number_read), unfolding(crate::specs::Tasks::number_for))]
-fn number_u32(found: &ArgMatches<'_>, name: &str) -> Option<u32>
-    ensures { result ≡ number_for 32 name.now (rows_of (found_of found.now)) }
-{
-    word_for(found, name)?.parse().ok()
 }
 
 // how far the words say that times may be off

@@ -9,20 +9,57 @@ ghost use Rattle.conode_words.specs.Tasks.{
   asked_of,
   has_other_word,
   is_other,
+  is_other_explain,
+  is_other_lint,
+  is_other_stats,
   task_fault,
   word_fault,
 };
 
-use crate::asked::{
-    asked_in, colours_for, format_for, is, lines_as_for, log_form_for, mode_for, shown_for,
-    stamps_for, zeros_for,
+use crate::asked::asked_in;
+use crate::choices::{
+    colours_for, format_for, lines_as_for, log_form_for, mode_for, shown_for, stamps_for, zeros_for,
 };
 use crate::commands::conode_command;
+use crate::found::is;
 use crate::help;
 use crate::tasks::Task;
 use clap::error::ErrorKind;
 use clap::{ArgMatches, Command, Error};
 use std::alloc::{AllocError, Global};
+
+// what is said of a word, where it is none of those that an option takes
+fn said_if(is_other: bool, text: &'static str) -> Option<&'static str>
+    ensures { is_some result ≡ is_other }
+{
+    if is_other { Some(text) } else { None }
+}
+
+// the same of the words of `lint`
+#[tactic(auto, unfolding(crate::specs::Tasks::is_other_lint))]
+fn other_lint(found: &ArgMatches<'_>) -> Option<&'static str>
+    ensures { is_some result ≡ is_other_lint (rows_of (found_of found.now)) }
+{
+    let format = said_if(format_for(found).is_none(), help::FORMATS);
+    format.or(said_if(colours_for(found).is_none(), help::COLOURS))
+}
+
+// the same of the words of `stats`, and of those of `explain` that it takes too
+#[tactic(auto, unfolding(crate::specs::Tasks::is_other_stats))]
+fn other_stats(found: &ArgMatches<'_>) -> Option<&'static str>
+    ensures { is_some result ≡ is_other_stats (rows_of (found_of found.now)) }
+{
+    let lines_as = said_if(lines_as_for(found).is_none(), help::LINES_AS);
+    lines_as.or(said_if(log_form_for(found).is_none(), help::LOG_FORMS))
+}
+
+// the same of the words of `explain`
+#[tactic(auto, unfolding(crate::specs::Tasks::is_other_explain))]
+fn other_explain(found: &ArgMatches<'_>) -> Option<&'static str>
+    ensures { is_some result ≡ is_other_explain (rows_of (found_of found.now)) }
+{
+    said_if(stamps_for(found).is_none(), help::STAMPS).or(other_stats(found))
+}
 
 // what is said of a subcommand's word that is none of those that it takes
 #[tactic(auto, unfolding(crate::specs::Tasks::is_other))]
@@ -30,45 +67,24 @@ fn other_of(name: &str, found: &ArgMatches<'_>) -> Option<&'static str>
     ensures { is_some result ≡ is_other name.now (rows_of (found_of found.now)) }
 {
     if is(name, "loop") {
-        if mode_for(found).is_none() {
-            return Some(help::MODES);
-        }
+        said_if(mode_for(found).is_none(), help::MODES)
     } else if is(name, "lint") {
-        if format_for(found).is_none() {
-            return Some(help::FORMATS);
-        }
-        if colours_for(found).is_none() {
-            return Some(help::COLOURS);
-        }
+        other_lint(found)
     } else if is(name, "show") {
-        if shown_for(found).is_none() {
-            return Some(help::SHOWN_FORMS);
-        }
+        said_if(shown_for(found).is_none(), help::SHOWN_FORMS)
     } else if is(name, "adapt") {
-        if zeros_for(found).is_none() {
-            return Some(help::LEADING_ZEROS);
-        }
+        said_if(zeros_for(found).is_none(), help::LEADING_ZEROS)
     } else if is(name, "explain") {
-        if stamps_for(found).is_none() {
-            return Some(help::STAMPS);
-        }
-        if lines_as_for(found).is_none() {
-            return Some(help::LINES_AS);
-        }
-        if log_form_for(found).is_none() {
-            return Some(help::LOG_FORMS);
-        }
+        other_explain(found)
     } else if is(name, "stats") {
-        if lines_as_for(found).is_none() {
-            return Some(help::LINES_AS);
-        }
-        if log_form_for(found).is_none() {
-            return Some(help::LOG_FORMS);
-        }
-    } else if (is(name, "convert") || is(name, "compare")) && log_form_for(found).is_none() {
-        return Some(help::LOG_FORMS);
+        other_stats(found)
+    } else if is(name, "convert") {
+        said_if(log_form_for(found).is_none(), help::LOG_FORMS)
+    } else if is(name, "compare") {
+        said_if(log_form_for(found).is_none(), help::LOG_FORMS)
+    } else {
+        None
     }
-    None
 }
 
 // what is said of a word that is none of those that its subcommand takes

@@ -1,435 +1,344 @@
-//! The program's commands, a function each.
+//! The program's commands, a table of words and options each.
 
-ghost use Rattle.std.specs.Prelude.{◌≡◌, IfOk, codes, false};
-ghost use Rattle.clap.specs.Words.{App, new_app, rule_of};
-ghost use Rattle.conode_words.specs.Commands.{
-  IsCommand,
-  adapt_command,
-  check_command,
-  compare_command,
-  conode_command,
-  convert_command,
-  decode_command,
-  explain_command,
-  lint_command,
-  lint_of_sheets,
-  log_option,
-  loop_command,
-  replay_command,
-  show_command,
-  stamps_option,
-  stats_command,
-  versioned,
-  with_filters,
-  with_timing,
-};
+ghost use Rattle.std.specs.Prelude.{◌≡◌, IfOk, codes};
+ghost use Rattle.clap.specs.Words.{new_app};
+ghost use Rattle.conode_words.specs.Commands.{IsCommand, conode_command, versioned};
 
 use crate::help;
-use crate::options::{
-    flag, many_wanted, new_command, node_arg, numbered_to, repeated, valued, wanted, with_arg,
-    with_command, with_limits, with_rooms, worded,
+use crate::options::Kind::{
+    Flag, Lettered, ManyWanted, Numbered, NumberedOr, Repeated, Valued, Wanted, Worded,
 };
-use clap::{Arg, Command};
+use crate::options::{Subcommand, Word, new_command, with_commands};
+use clap::Command;
 use std::alloc::{AllocError, Global};
 
 /// The most ms that an option takes.
 const MOST_MS: u64 = 4_294_967_295;
 
-fn check_command<'a>(alloc: Global) -> Result<Command<'a>, AllocError>
-    ensures { IfOk result (λ command. IsCommand command check_command) }
-{
-    let command = new_command(
-        alloc,
-        "check",
-        "Checks a data sheet: what it has, or its first fault and its line",
-        help::FAULTS,
-    );
-    let sheet = wanted(alloc, "SHEET", "The data sheet to check (EDS, CiA 306)");
-    let command = with_arg(command, sheet)?;
-    let node = node_arg(alloc, "Also build its dictionary for node-ID 1 to 127");
-    let command = with_arg(command, node)?;
-    with_limits(alloc, command)
-}
+/// The most bytes of room, and ms of a device, that an option takes.
+const MOST_ROOM: u64 = 65_535;
 
-// `lint` with the sheets and the dictionary's options
-fn lint_of_sheets<'a>(alloc: Global) -> Result<Command<'a>, AllocError>
-    ensures { IfOk result (λ command. IsCommand command lint_of_sheets) }
-{
-    let command = new_command(
-        alloc,
-        "lint",
-        "Finds all faults of data sheets, and what is suspicious in them",
-        help::LINTED,
-    );
-    let sheets = many_wanted(
-        alloc,
+const STRINGS: Word = Word(
+    "strings",
+    NumberedOr(MOST_ROOM, "16"),
+    "Room of a writable string, in bytes",
+);
+
+const DOMAINS: Word = Word(
+    "domains",
+    NumberedOr(MOST_ROOM, "889"),
+    "Room of a domain, in bytes",
+);
+
+const TIME: Word = Word(
+    "time",
+    NumberedOr(MOST_ROOM, "1000"),
+    "SDO timeout in ms, 0 for none",
+);
+
+const DEVICE_SHEET: Word = Word("SHEET", Wanted, "The device's data sheet (EDS, CiA 306)");
+
+const DEVICE_NODE: Word = Word(
+    "node",
+    Numbered(1, 127),
+    "The device's node-ID, 1 to 127; if not given, the sheet's",
+);
+
+const RECORDING: Word = Word(
+    "TRACE",
+    Wanted,
+    "The recording, in a form that `convert` takes",
+);
+
+const RECORDING_FORM: Word = Word(
+    "log",
+    Worded("FORM", "auto"),
+    "The recording's form, as for `convert`",
+);
+
+const TEXT_OR_JSON: Word = Word("format", Worded("FORMAT", "text"), "Form: text or json");
+
+const CHECK: [Word; 4] = [
+    Word("SHEET", Wanted, "The data sheet to check (EDS, CiA 306)"),
+    Word(
+        "node",
+        Numbered(1, 127),
+        "Also build its dictionary for node-ID 1 to 127",
+    ),
+    STRINGS,
+    DOMAINS,
+];
+
+const LINT: [Word; 9] = [
+    Word(
         "SHEET",
+        ManyWanted,
         "Data sheets (EDS, DCF) and folders of them, - for standard input",
-    );
-    let command = with_arg(command, sheets)?;
-    let node = node_arg(alloc, "Also build dictionaries for node-ID 1 to 127");
-    let command = with_arg(command, node)?;
-    with_limits(alloc, command)
-}
-
-fn lint_command<'a>(alloc: Global) -> Result<Command<'a>, AllocError>
-    ensures { IfOk result (λ command. IsCommand command lint_command) }
-{
-    let command = lint_of_sheets(alloc)?;
-    let format = worded(
-        alloc,
+    ),
+    Word(
+        "node",
+        Numbered(1, 127),
+        "Also build dictionaries for node-ID 1 to 127",
+    ),
+    STRINGS,
+    DOMAINS,
+    Word(
         "format",
-        "FORMAT",
-        "text",
+        Worded("FORMAT", "text"),
         "Form: text, json or sarif",
-    );
-    let command = with_arg(command, format)?;
-    let strict = flag(alloc, "strict", "Count warnings as errors");
-    let command = with_arg(command, strict)?;
-    let all = flag(alloc, "all", "Also give the warnings that are of taste");
-    let command = with_arg(command, all)?;
-    let allow = repeated(
-        alloc,
+    ),
+    Word("strict", Flag, "Count warnings as errors"),
+    Word("all", Flag, "Also give the warnings that are of taste"),
+    Word(
         "allow",
-        "NAME",
+        Repeated("NAME"),
         "Let findings of this name pass; may be given again",
-    );
-    let command = with_arg(command, allow)?;
-    let colour = worded(
-        alloc,
+    ),
+    Word(
         "color",
-        "WHEN",
-        "auto",
+        Worded("WHEN", "auto"),
         "Colours: auto, always or never",
-    );
-    with_arg(command, colour)
-}
+    ),
+];
 
-fn decode_command<'a>(alloc: Global) -> Result<Command<'a>, AllocError>
-    ensures { IfOk result (λ command. IsCommand command decode_command) }
-{
-    let command = new_command(
-        alloc,
-        "decode",
-        "Decodes a CAN trace: each frame with what it says, by CiA 301",
-        help::DECODED,
-    );
-    let trace = wanted(
-        alloc,
+const DECODE: [Word; 3] = [
+    Word(
         "TRACE",
+        Wanted,
         "The CAN trace to decode, as `candump -L` writes it",
-    );
-    let command = with_arg(command, trace)?;
-    let sheet = valued(
-        alloc,
+    ),
+    Word(
         "sheet",
-        "SHEET",
+        Valued("SHEET"),
         "A data sheet whose names follow the keys",
-    );
-    let command = with_arg(command, sheet)?;
-    let node = node_arg(alloc, "Name the entries of node-ID 1 to 127 alone");
-    with_arg(command, node)
-}
+    ),
+    Word(
+        "node",
+        Numbered(1, 127),
+        "Name the entries of node-ID 1 to 127 alone",
+    ),
+];
 
-fn replay_command<'a>(alloc: Global) -> Result<Command<'a>, AllocError>
-    ensures { IfOk result (λ command. IsCommand command replay_command) }
-{
-    let command = new_command(
-        alloc,
-        "replay",
-        "Plays a CAN trace to the device of a data sheet",
-        help::REPLAYED,
-    );
-    let sheet = wanted(alloc, "SHEET", "The device's data sheet (EDS, CiA 306)");
-    let command = with_arg(command, sheet)?;
-    let trace = wanted(
-        alloc,
+const REPLAY: [Word; 6] = [
+    DEVICE_SHEET,
+    Word(
         "TRACE",
+        Wanted,
         "What it receives, as `candump -L` writes it",
-    );
-    let command = with_arg(command, trace)?;
-    let node = node_arg(
-        alloc,
-        "The device's node-ID, 1 to 127; if not given, the sheet's",
-    );
-    let command = with_arg(command, node)?;
-    with_rooms(alloc, command)
-}
+    ),
+    DEVICE_NODE,
+    STRINGS,
+    DOMAINS,
+    TIME,
+];
 
-fn loop_command<'a>(alloc: Global) -> Result<Command<'a>, AllocError>
-    ensures { IfOk result (λ command. IsCommand command loop_command) }
-{
-    let command = new_command(
-        alloc,
-        "loop",
-        "Downloads bytes to the device of a data sheet by an SDO client",
-        help::LOOPED,
-    );
-    let sheet = wanted(alloc, "SHEET", "The device's data sheet (EDS, CiA 306)");
-    let command = with_arg(command, sheet)?;
-    let key = wanted(alloc, "KEY", "The entry, as 2001:00");
-    let command = with_arg(command, key)?;
-    let bytes = wanted(alloc, "HEX", "The bytes, in hexadecimal digits");
-    let command = with_arg(command, bytes)?;
-    let node = node_arg(
-        alloc,
-        "The device's node-ID, 1 to 127; if not given, the sheet's",
-    );
-    let command = with_arg(command, node)?;
-    let mode = worded(
-        alloc,
+const LOOP: [Word; 8] = [
+    DEVICE_SHEET,
+    Word("KEY", Wanted, "The entry, as 2001:00"),
+    Word("HEX", Wanted, "The bytes, in hexadecimal digits"),
+    DEVICE_NODE,
+    Word(
         "mode",
-        "MODE",
-        "plain",
+        Worded("MODE", "plain"),
         "How to transfer: plain, segmented or block",
-    );
-    let command = with_arg(command, mode)?;
-    with_rooms(alloc, command)
-}
+    ),
+    STRINGS,
+    DOMAINS,
+    TIME,
+];
 
-fn show_command<'a>(alloc: Global) -> Result<Command<'a>, AllocError>
-    ensures { IfOk result (λ command. IsCommand command show_command) }
-{
-    let command = new_command(
-        alloc,
-        "show",
-        "Shows the object dictionary of a data sheet as people read it",
-        help::SHOWN,
-    );
-    let sheet = wanted(
-        alloc,
+const SHOW: [Word; 3] = [
+    Word(
         "SHEET",
+        Wanted,
         "The data sheet to show (EDS or DCF, CiA 306)",
-    );
-    let command = with_arg(command, sheet)?;
-    let node = node_arg(alloc, "Show what $NODEID is for node-ID 1 to 127");
-    let command = with_arg(command, node)?;
-    let format = worded(
-        alloc,
+    ),
+    Word(
+        "node",
+        Numbered(1, 127),
+        "Show what $NODEID is for node-ID 1 to 127",
+    ),
+    Word(
         "format",
-        "FORMAT",
-        "text",
+        Worded("FORMAT", "text"),
         "How to show it: text, markdown or json",
-    );
-    with_arg(command, format)
-}
+    ),
+];
 
-fn adapt_command<'a>(alloc: Global) -> Result<Command<'a>, AllocError>
-    ensures { IfOk result (λ command. IsCommand command adapt_command) }
-{
-    let command = new_command(
-        alloc,
-        "adapt",
-        "Rewrites a vendor's data sheet to be accepted, and lists each change",
-        help::ADAPTED,
-    );
-    let sheet = wanted(
-        alloc,
+const ADAPT: [Word; 3] = [
+    Word(
         "SHEET",
+        Wanted,
         "The vendor's data sheet (EDS or DCF, CiA 306)",
-    );
-    let command = with_arg(command, sheet)?;
-    let zeros = valued(
-        alloc,
+    ),
+    Word(
         "leading-zeros",
-        "BASE",
+        Valued("BASE"),
         "Read 010 as octal or as decimal; else it stays",
-    );
-    let command = with_arg(command, zeros)?;
-    let force = flag(
-        alloc,
+    ),
+    Word(
         "force",
+        Flag,
         "Also drop bad limits, mappings, bit 30 of 1005h",
-    );
-    with_arg(command, force)
-}
+    ),
+];
 
-fn stamps_arg<'a>(alloc: Global) -> Arg<'a>
-    ensures rule { rule_of result ≡ stamps_option }
-    ensures local { result.global ≡ false }
-{
-    worded(
-        alloc,
-        "stamps",
-        "FORM",
-        "relative",
-        "relative, absolute, delta or date",
-    )
-    .short('t')
-}
-
-// the form of a log
-fn log_arg<'a>(alloc: Global, help: &'a str) -> Arg<'a>
-    ensures rule { rule_of result ≡ log_option }
-    ensures local { result.global ≡ false }
-{
-    worded(alloc, "log", "FORM", "auto", help)
-}
-
-// the command with the options that choose which lines are printed
-fn with_filters<'a>(alloc: Global, command: Command<'a>) -> Result<Command<'a>, AllocError>
-    ensures { IfOk result (λ r. (app : App) → IsCommand command.entry app
-        → IsCommand r (with_filters app)) }
-{
-    let of = valued(alloc, "of", "NODES", "Only lines of these nodes, as 5,8");
-    let command = with_arg(command, of)?;
-    let id = valued(alloc, "id", "IDS", "Only these identifiers, as 180-1FF,705");
-    let command = with_arg(command, id)?;
-    let kind = valued(
-        alloc,
-        "kind",
-        "KINDS",
-        "sdo, pdo, emcy, nmt, heartbeat, sync, other",
-    );
-    let command = with_arg(command, kind)?;
-    let from = valued(
-        alloc,
-        "from",
-        "TIME",
-        "From this second on, as 12.5, or stamp, @N",
-    );
-    let command = with_arg(command, from)?;
-    let to = valued(alloc, "to", "TIME", "Up to this second or stamp");
-    with_arg(command, to)
-}
-
-fn explain_command<'a>(alloc: Global) -> Result<Command<'a>, AllocError>
-    ensures { IfOk result (λ command. IsCommand command explain_command) }
-{
-    let command = new_command(
-        alloc,
-        "explain",
-        "Explains a recording: each frame with its times and what it says",
-        help::EXPLAINED,
-    );
-    let trace = wanted(
-        alloc,
-        "TRACE",
-        "The recording, in a form that `convert` takes",
-    );
-    let command = with_arg(command, trace)?;
-    let sheet = valued(
-        alloc,
+const EXPLAIN: [Word; 12] = [
+    RECORDING,
+    Word(
         "sheet",
-        "SHEET",
+        Valued("SHEET"),
         "A data sheet with names of entries; 5=SHEET: of node 5",
-    );
-    let command = with_arg(command, sheet)?;
-    let stamps = stamps_arg(alloc);
-    let command = with_arg(command, stamps)?;
-    let transfers = flag(
-        alloc,
+    ),
+    Word(
+        "stamps",
+        Lettered('t', "FORM", "relative"),
+        "relative, absolute, delta or date",
+    ),
+    Word(
         "transfers",
+        Flag,
         "Only a line for each SDO transfer that ended",
-    );
-    let command = with_arg(command, transfers)?;
-    let changes = flag(
-        alloc,
+    ),
+    Word(
         "changes",
+        Flag,
         "PDOs, heartbeats, SYNCs only where they change",
-    );
-    let command = with_arg(command, changes)?;
-    let format = worded(alloc, "format", "FORMAT", "text", "Form: text or json");
-    let command = with_arg(command, format)?;
-    let form = log_arg(alloc, "The recording's form, as for `convert`");
-    let command = with_arg(command, form)?;
-    with_filters(alloc, command)
-}
+    ),
+    TEXT_OR_JSON,
+    RECORDING_FORM,
+    Word("of", Valued("NODES"), "Only lines of these nodes, as 5,8"),
+    Word(
+        "id",
+        Valued("IDS"),
+        "Only these identifiers, as 180-1FF,705",
+    ),
+    Word(
+        "kind",
+        Valued("KINDS"),
+        "sdo, pdo, emcy, nmt, heartbeat, sync, other",
+    ),
+    Word(
+        "from",
+        Valued("TIME"),
+        "From this second on, as 12.5, or stamp, @N",
+    ),
+    Word("to", Valued("TIME"), "Up to this second or stamp"),
+];
 
-fn convert_command<'a>(alloc: Global) -> Result<Command<'a>, AllocError>
-    ensures { IfOk result (λ command. IsCommand command convert_command) }
-{
-    let command = new_command(
-        alloc,
-        "convert",
-        "Writes a log of another recorder as `candump -L` does",
-        help::CONVERTED,
-    );
-    let log = wanted(
-        alloc,
+const CONVERT: [Word; 2] = [
+    Word(
         "LOG",
+        Wanted,
         "What candump shows, a .trc of PCAN-View or a .asc of Vector",
-    );
-    let command = with_arg(command, log)?;
-    let form = log_arg(alloc, "The form of the log, as named below");
-    with_arg(command, form)
-}
+    ),
+    Word(
+        "log",
+        Worded("FORM", "auto"),
+        "The form of the log, as named below",
+    ),
+];
 
-fn stats_command<'a>(alloc: Global) -> Result<Command<'a>, AllocError>
-    ensures { IfOk result (λ command. IsCommand command stats_command) }
-{
-    let command = new_command(
-        alloc,
-        "stats",
-        "Says on one page what a bus does, what looks wrong first",
-        help::COUNTED,
-    );
-    let trace = wanted(
-        alloc,
-        "TRACE",
-        "The recording, in a form that `convert` takes",
-    );
-    let command = with_arg(command, trace)?;
-    let sheet = valued(
-        alloc,
+const STATS: [Word; 5] = [
+    RECORDING,
+    Word(
         "sheet",
-        "SHEET",
+        Valued("SHEET"),
         "A data sheet with its PDOs; 5=SHEET: of node 5",
-    );
-    let command = with_arg(command, sheet)?;
-    let rate = valued(
-        alloc,
+    ),
+    Word(
         "bitrate",
-        "RATE",
+        Valued("RATE"),
         "Bits per second, for the load: 500k, 1M, 125000",
-    );
-    let command = with_arg(command, rate)?;
-    let format = worded(alloc, "format", "FORMAT", "text", "Form: text or json");
-    let command = with_arg(command, format)?;
-    let form = log_arg(alloc, "The recording's form, as for `convert`");
-    with_arg(command, form)
-}
+    ),
+    TEXT_OR_JSON,
+    RECORDING_FORM,
+];
 
-// the command with how far times may be off
-fn with_timing<'a>(alloc: Global, command: Command<'a>) -> Result<Command<'a>, AllocError>
-    ensures { IfOk result (λ r. (app : App) → IsCommand command.entry app
-        → IsCommand r (with_timing app)) }
-{
-    let tolerance = numbered_to(alloc, "tolerance", MOST_MS, "10", "By so many ms");
-    let command = with_arg(command, tolerance)?;
-    let drift = numbered_to(alloc, "drift", 100, "1", "And so many percent");
-    let command = with_arg(command, drift)?;
-    let answer = numbered_to(alloc, "answer", MOST_MS, "1000", "ms until an answer");
-    let command = with_arg(command, answer)?;
-    let boot = numbered_to(alloc, "boot", MOST_MS, "10000", "ms until a boot-up");
-    with_arg(command, boot)
-}
+const COMPARE: [Word; 9] = [
+    DEVICE_SHEET,
+    RECORDING,
+    Word(
+        "node",
+        Numbered(1, 127),
+        "The device's node-ID; if not given, the sheet's",
+    ),
+    Word("interface", Valued("NAME"), "The interface that it is on"),
+    RECORDING_FORM,
+    Word("tolerance", NumberedOr(MOST_MS, "10"), "By so many ms"),
+    Word("drift", NumberedOr(100, "1"), "And so many percent"),
+    Word("answer", NumberedOr(MOST_MS, "1000"), "ms until an answer"),
+    Word("boot", NumberedOr(MOST_MS, "10000"), "ms until a boot-up"),
+];
 
-fn compare_command<'a>(alloc: Global) -> Result<Command<'a>, AllocError>
-    ensures { IfOk result (λ command. IsCommand command compare_command) }
-{
-    let command = new_command(
-        alloc,
-        "compare",
-        "Says what a recorded device does otherwise than CiA 301 prescribes",
-        help::COMPARED,
-    );
-    let sheet = wanted(alloc, "SHEET", "The device's data sheet (EDS, CiA 306)");
-    let command = with_arg(command, sheet)?;
-    let trace = wanted(
-        alloc,
-        "TRACE",
-        "The recording, in a form that `convert` takes",
-    );
-    let command = with_arg(command, trace)?;
-    let node = node_arg(alloc, "The device's node-ID; if not given, the sheet's");
-    let command = with_arg(command, node)?;
-    let interface = valued(alloc, "interface", "NAME", "The interface that it is on");
-    let command = with_arg(command, interface)?;
-    let form = log_arg(alloc, "The recording's form, as for `convert`");
-    let command = with_arg(command, form)?;
-    with_timing(alloc, command)
-}
+const COMMANDS: [Subcommand; 11] = [
+    Subcommand {
+        name: "check",
+        about: "Checks a data sheet: what it has, or its first fault and its line",
+        after_help: help::FAULTS,
+        words: &CHECK,
+    },
+    Subcommand {
+        name: "lint",
+        about: "Finds all faults of data sheets, and what is suspicious in them",
+        after_help: help::LINTED,
+        words: &LINT,
+    },
+    Subcommand {
+        name: "decode",
+        about: "Decodes a CAN trace: each frame with what it says, by CiA 301",
+        after_help: help::DECODED,
+        words: &DECODE,
+    },
+    Subcommand {
+        name: "replay",
+        about: "Plays a CAN trace to the device of a data sheet",
+        after_help: help::REPLAYED,
+        words: &REPLAY,
+    },
+    Subcommand {
+        name: "loop",
+        about: "Downloads bytes to the device of a data sheet by an SDO client",
+        after_help: help::LOOPED,
+        words: &LOOP,
+    },
+    Subcommand {
+        name: "show",
+        about: "Shows the object dictionary of a data sheet as people read it",
+        after_help: help::SHOWN,
+        words: &SHOW,
+    },
+    Subcommand {
+        name: "adapt",
+        about: "Rewrites a vendor's data sheet to be accepted, and lists each change",
+        after_help: help::ADAPTED,
+        words: &ADAPT,
+    },
+    Subcommand {
+        name: "explain",
+        about: "Explains a recording: each frame with its times and what it says",
+        after_help: help::EXPLAINED,
+        words: &EXPLAIN,
+    },
+    Subcommand {
+        name: "convert",
+        about: "Writes a log of another recorder as `candump -L` does",
+        after_help: help::CONVERTED,
+        words: &CONVERT,
+    },
+    Subcommand {
+        name: "stats",
+        about: "Says on one page what a bus does, what looks wrong first",
+        after_help: help::COUNTED,
+        words: &STATS,
+    },
+    Subcommand {
+        name: "compare",
+        about: "Says what a recorded device does otherwise than CiA 301 prescribes",
+        after_help: help::COMPARED,
+        words: &COMPARE,
+    },
+];
 
 // the command without the commands below it
 fn only_conode<'a>(alloc: Global) -> Command<'a>
@@ -448,16 +357,5 @@ fn only_conode<'a>(alloc: Global) -> Command<'a>
 pub(crate) fn conode_command<'a>(alloc: Global) -> Result<Command<'a>, AllocError>
     ensures { IfOk result (λ command. IsCommand command conode_command) }
 {
-    let command = only_conode(alloc);
-    let command = with_command(command, check_command(alloc)?)?;
-    let command = with_command(command, lint_command(alloc)?)?;
-    let command = with_command(command, decode_command(alloc)?)?;
-    let command = with_command(command, replay_command(alloc)?)?;
-    let command = with_command(command, loop_command(alloc)?)?;
-    let command = with_command(command, show_command(alloc)?)?;
-    let command = with_command(command, adapt_command(alloc)?)?;
-    let command = with_command(command, explain_command(alloc)?)?;
-    let command = with_command(command, convert_command(alloc)?)?;
-    let command = with_command(command, stats_command(alloc)?)?;
-    with_command(command, compare_command(alloc)?)
+    with_commands(alloc, only_conode(alloc), &COMMANDS)
 }

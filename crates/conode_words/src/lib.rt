@@ -2,8 +2,10 @@
 #![tactic(auto)]
 
 mod asked;
+mod choices;
 mod command_line;
 mod commands;
+mod found;
 mod help;
 mod options;
 mod tasks;

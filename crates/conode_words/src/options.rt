@@ -1,24 +1,63 @@
-//! Words and options by their kind, and how a command gets them.
+//! Words and options by their kind, and how a command gets those of a table.
 
 ghost use Rattle.std.specs.Prelude.{◌≡◌, ◌∷◌, [], false, IfOk};
 ghost use Rattle.clap.specs.Words.{App, Rule, new_app, rule_of, with_rule, with_subcommand};
 ghost use Rattle.conode_words.specs.Commands.{
   IsCommand,
   flag,
+  lettered,
   many_wanted,
-  node_option,
   numbered,
   repeated,
   valued,
   wanted,
-  with_limits,
-  with_rooms,
   worded,
 };
+ghost use Rattle.conode_words.specs.Tables.{app_by, rule_by, with_commands, with_words};
 
 use clap::builder::ValueParser;
 use clap::{Arg, ArgAction, Command};
 use std::alloc::{AllocError, Global};
+
+/// The kind of a word or an option. Help calls the value of an option by the first text.
+#[derive(Clone, Copy)]
+pub(crate) enum Kind {
+    /// A word that has to be there.
+    Wanted,
+    /// Words that have to be there, one at least.
+    ManyWanted,
+    /// An option without a value.
+    Flag,
+    /// An option with a value.
+    Valued(&'static str),
+    /// An option with a value that may be used again and again.
+    Repeated(&'static str),
+    /// An option with a value, and what stands for it where it isn't used.
+    Worded(&'static str, &'static str),
+    /// The same, which has a letter too.
+    Lettered(char, &'static str, &'static str),
+    /// An option with a number from one to another.
+    Numbered(u64, u64),
+    /// An option with a number from 0 on, and what stands for it where it isn't used.
+    NumberedOr(u64, &'static str),
+}
+
+/// A word or an option of a command: its name, its kind, and what help says of it.
+#[derive(Clone, Copy)]
+pub(crate) struct Word(
+    pub(crate) &'static str,
+    pub(crate) Kind,
+    pub(crate) &'static str,
+);
+
+/// A command below the program's: its name, what help says of it in a line and at its end, and its words and options.
+#[derive(Clone, Copy)]
+pub(crate) struct Subcommand {
+    pub(crate) name: &'static str,
+    pub(crate) about: &'static str,
+    pub(crate) after_help: &'static str,
+    pub(crate) words: &'static [Word],
+}
 
 /// A command without words, with what help says of it.
 pub(crate) fn new_command<'a>(
@@ -34,43 +73,37 @@ pub(crate) fn new_command<'a>(
         .after_help(after_help)
 }
 
-/// The command with one more word or option.
-pub(crate) fn with_arg<'a>(command: Command<'a>, arg: Arg<'a>) -> Result<Command<'a>, AllocError>
+// the command with one more word or option
+fn with_arg<'a>(command: Command<'a>, arg: Arg<'a>) -> Result<Command<'a>, AllocError>
     ensures { IfOk result (λ r. (app : App) (rule : Rule) → IsCommand command.entry app
         → rule_of arg.entry ≡ rule → arg.entry.global ≡ false → IsCommand r (with_rule app rule)) }
 {
     command.arg(arg)
 }
 
-/// The command with one more command below it.
-pub(crate) fn with_command<'a>(
-    command: Command<'a>,
-    below: Command<'a>,
-) -> Result<Command<'a>, AllocError>
+// the command with one more command below it
+fn with_command<'a>(command: Command<'a>, below: Command<'a>) -> Result<Command<'a>, AllocError>
     ensures { IfOk result (λ r. (app sub : App) → IsCommand command.entry app
         → IsCommand below.entry sub → IsCommand r (with_subcommand app sub.top)) }
 {
     command.subcommand(below)
 }
 
-/// A word that has to be there.
-pub(crate) fn wanted<'a>(alloc: Global, name: &'a str, help: &'a str) -> Arg<'a>
+fn wanted<'a>(alloc: Global, name: &'a str, help: &'a str) -> Arg<'a>
     ensures rule { rule_of result ≡ wanted name.entry.now }
     ensures local { result.global ≡ false }
 {
     Arg::new(alloc, name).required(true).help(help)
 }
 
-/// Words that have to be there, one at least.
-pub(crate) fn many_wanted<'a>(alloc: Global, name: &'a str, help: &'a str) -> Arg<'a>
+fn many_wanted<'a>(alloc: Global, name: &'a str, help: &'a str) -> Arg<'a>
     ensures rule { rule_of result ≡ many_wanted name.entry.now }
     ensures local { result.global ≡ false }
 {
     wanted(alloc, name, help).num_args(1..)
 }
 
-/// An option without a value.
-pub(crate) fn flag<'a>(alloc: Global, name: &'a str, help: &'a str) -> Arg<'a>
+fn flag<'a>(alloc: Global, name: &'a str, help: &'a str) -> Arg<'a>
     ensures rule { rule_of result ≡ flag name.entry.now }
     ensures local { result.global ≡ false }
 {
@@ -80,8 +113,7 @@ pub(crate) fn flag<'a>(alloc: Global, name: &'a str, help: &'a str) -> Arg<'a>
         .help(help)
 }
 
-/// An option with a value, which help calls `value`.
-pub(crate) fn valued<'a>(alloc: Global, name: &'a str, value: &'a str, help: &'a str) -> Arg<'a>
+fn valued<'a>(alloc: Global, name: &'a str, value: &'a str, help: &'a str) -> Arg<'a>
     ensures rule { rule_of result ≡ valued name.entry.now }
     ensures local { result.global ≡ false }
 {
@@ -91,16 +123,14 @@ pub(crate) fn valued<'a>(alloc: Global, name: &'a str, value: &'a str, help: &'a
         .help(help)
 }
 
-/// An option with a value that may be used again and again.
-pub(crate) fn repeated<'a>(alloc: Global, name: &'a str, value: &'a str, help: &'a str) -> Arg<'a>
+fn repeated<'a>(alloc: Global, name: &'a str, value: &'a str, help: &'a str) -> Arg<'a>
     ensures rule { rule_of result ≡ repeated name.entry.now }
     ensures local { result.global ≡ false }
 {
     valued(alloc, name, value, help).action(ArgAction::Append)
 }
 
-/// An option with a value, and what stands for it where it isn't used.
-pub(crate) fn worded<'a>(
+fn worded<'a>(
     alloc: Global,
     name: &'a str,
     value: &'a str,
@@ -113,7 +143,20 @@ pub(crate) fn worded<'a>(
     valued(alloc, name, value, help).default_value(default)
 }
 
-// an option with a number from `low` to `high`
+fn lettered<'a>(
+    alloc: Global,
+    name: &'a str,
+    letter: char,
+    value: &'a str,
+    default: &'a str,
+    help: &'a str,
+) -> Arg<'a>
+    ensures rule { rule_of result ≡ lettered name.entry.now letter default.entry.now }
+    ensures local { result.global ≡ false }
+{
+    worded(alloc, name, value, default, help).short(letter)
+}
+
 fn numbered<'a>(alloc: Global, name: &'a str, low: u64, high: u64, help: &'a str) -> Arg<'a>
     ensures rule { rule_of result ≡ numbered name.entry.now low high [] }
     ensures local { result.global ≡ false }
@@ -121,17 +164,7 @@ fn numbered<'a>(alloc: Global, name: &'a str, low: u64, high: u64, help: &'a str
     valued(alloc, name, "N", help).value_parser(ValueParser::unsigned(low, high))
 }
 
-// an option with a number of 16 bits, and what stands for it where it isn't used
-fn numbered_or<'a>(alloc: Global, name: &'a str, default: &'a str, help: &'a str) -> Arg<'a>
-    ensures rule { rule_of result
-        ≡ numbered name.entry.now 0 65535 (default.entry.now ∷ []) }
-    ensures local { result.global ≡ false }
-{
-    numbered(alloc, name, 0, 65_535, help).default_value(default)
-}
-
-/// An option with a number up to `high`, and what stands for it where it isn't used.
-pub(crate) fn numbered_to<'a>(
+fn numbered_or<'a>(
     alloc: Global,
     name: &'a str,
     high: u64,
@@ -145,39 +178,64 @@ pub(crate) fn numbered_to<'a>(
     numbered(alloc, name, 0, high, help).default_value(default)
 }
 
-/// The option with a node-ID.
-pub(crate) fn node_arg<'a>(alloc: Global, help: &'a str) -> Arg<'a>
-    ensures rule { rule_of result ≡ node_option }
+// a word or an option, as a row of a table says it
+#[tactic(auto, unfolding(crate::specs::Tables::rule_of_kind))]
+fn arg_of<'a>(alloc: Global, word: &Word) -> Arg<'a>
+    ensures rule { rule_of result ≡ rule_by word.now }
     ensures local { result.global ≡ false }
 {
-    numbered(alloc, "node", 1, 127, help)
+    let Word(name, kind, help) = *word;
+    match kind {
+        Kind::Wanted => wanted(alloc, name, help),
+        Kind::ManyWanted => many_wanted(alloc, name, help),
+        Kind::Flag => flag(alloc, name, help),
+        Kind::Valued(value) => valued(alloc, name, value, help),
+        Kind::Repeated(value) => repeated(alloc, name, value, help),
+        Kind::Worded(value, default) => worded(alloc, name, value, default, help),
+        Kind::Lettered(letter, value, default) => {
+            lettered(alloc, name, letter, value, default, help)
+        }
+        Kind::Numbered(low, high) => numbered(alloc, name, low, high, help),
+        Kind::NumberedOr(high, default) => numbered_or(alloc, name, high, default, help),
+    }
 }
 
-/// The command with the options of a dictionary's rooms.
-pub(crate) fn with_limits<'a>(
+// the command with the words and options of a table
+fn with_words<'a>(
     alloc: Global,
     command: Command<'a>,
+    words: &[Word],
 ) -> Result<Command<'a>, AllocError>
     ensures { IfOk result (λ r. (app : App) → IsCommand command.entry app
-        → IsCommand r (with_limits app)) }
+        → IsCommand r (with_words app words.now)) }
 {
-    let strings = numbered_or(
-        alloc,
-        "strings",
-        "16",
-        "Room of a writable string, in bytes",
-    );
-    let command = with_arg(command, strings)?;
-    let domains = numbered_or(alloc, "domains", "889", "Room of a domain, in bytes");
-    with_arg(command, domains)
+    let mut command = command;
+    for word in words {
+        command = with_arg(command, arg_of(alloc, word))?;
+    }
+    Ok(command)
 }
 
-/// The command with the options of a device's rooms and its time.
-pub(crate) fn with_rooms<'a>(alloc: Global, command: Command<'a>) -> Result<Command<'a>, AllocError>
-    ensures { IfOk result (λ r. (app : App) → IsCommand command.entry app
-        → IsCommand r (with_rooms app)) }
+// the command that a row of a table says
+fn command_of<'a>(alloc: Global, row: &Subcommand) -> Result<Command<'a>, AllocError>
+    ensures { IfOk result (λ command. IsCommand command (app_by row.now)) }
 {
-    let command = with_limits(alloc, command)?;
-    let time = numbered_or(alloc, "time", "1000", "SDO timeout in ms, 0 for none");
-    with_arg(command, time)
+    let command = new_command(alloc, row.name, row.about, row.after_help);
+    with_words(alloc, command, row.words)
+}
+
+/// The command with those of a table below it.
+pub(crate) fn with_commands<'a>(
+    alloc: Global,
+    command: Command<'a>,
+    rows: &[Subcommand],
+) -> Result<Command<'a>, AllocError>
+    ensures { IfOk result (λ r. (app : App) → IsCommand command.entry app
+        → IsCommand r (with_commands app rows.now)) }
+{
+    let mut command = command;
+    for row in rows {
+        command = with_command(command, command_of(alloc, row)?)?;
+    }
+    Ok(command)
 }
