@@ -1,5 +1,9 @@
+pub mod Forced
 pub mod Groups
 pub mod Limits
 pub mod Pieces
+pub mod Requested
 pub mod Views
 pub mod Words
+pub mod ZeroNames
+pub mod Zeros

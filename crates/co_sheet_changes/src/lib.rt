@@ -1,14 +1,19 @@
-//! The lines and sections of a data sheet's text (CiA 306), and what becomes of them where the text is rewritten.
+//! The lines and sections of a data sheet's text (CiA 306), what becomes of them where the text is rewritten, and what is
+//! changed only on request: numbers with a leading zero, and what has to be forced.
 #![tactic(auto)]
 
 mod change;
 mod digits;
 mod fault;
+mod forced;
 mod group;
 mod limits;
 mod line;
 mod pieces;
+mod request;
+mod requested;
 mod words;
+mod zeros;
 
 pub use change::{Change, ChangeKind, Mended, Piece};
 pub use digits::hexadecimal;
@@ -19,4 +24,6 @@ pub use limits::{
 };
 pub use line::{Line, lines_in};
 pub use pieces::{assigned, piece_of, push_kept, push_pieces, with_value};
+pub use request::{LeadingZeros, Request};
+pub use requested::{Requested, on_request};
 pub use words::change_name;

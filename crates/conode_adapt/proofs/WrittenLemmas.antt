@@ -3,7 +3,7 @@ use Rattle.std.proofs.Common.{◌≡◌, Bool, true, ℕ, List, refl, sym, ◌�
 use Rattle.std.specs.Prelude.{Option, Some, None, is_none, ◌&&◌, not}
 use Rattle.co_sheet.specs.Accepted.{first_fault}
 use Rattle.co_sheet_changes.specs.Pieces.{Piece}
-use Rattle.co_sheet_requested.specs.Requested.{Request, has_changes, requested_pieces, requested_text}
+use Rattle.co_sheet_changes.specs.Requested.{Request, has_changes, requested_pieces, requested_text}
 use Rattle.co_sheet_adapt.specs.Adapted.{adapted_text, pieces_in}
 use Rattle.conode_adapt.specs.Written.{Orders, by_line, changes_in, changes_of, force_request, forced_pieces, forced_text, read_pieces, read_text, sheet_of, stays_in, zeros_request}
 

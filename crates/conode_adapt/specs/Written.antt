@@ -4,8 +4,8 @@ use Rattle.std.specs.List.{flat_map}
 use Rattle.std.specs.Option.{option_copied}
 use Rattle.co_sheet.specs.Accepted.{first_fault}
 use Rattle.co_sheet_changes.specs.Pieces.{Piece}
-use Rattle.co_sheet_requested.specs.declared.request.LeadingZeros.{LeadingZeros}
-use Rattle.co_sheet_requested.specs.Requested.{Request, read_zeros, force_with, has_changes, requested_pieces, requested_text}
+use Rattle.co_sheet_changes.specs.declared.request.LeadingZeros.{LeadingZeros}
+use Rattle.co_sheet_changes.specs.Requested.{Request, read_zeros, force_with, has_changes, requested_pieces, requested_text}
 use Rattle.co_sheet_adapt.specs.Adapted.{adapted_text, pieces_in}
 use Rattle.conode_adapt.specs.declared.orders.Orders.{Orders as CodeOrders}
 use Rattle.conode_adapt.specs.Listing.{mark_line, ends_line, last_line, piece_line}

@@ -10,5 +10,5 @@ mod outcome;
 mod remaining;
 
 pub use adapted_file::{AdaptWords, adapt_file, write_adapted};
-pub use co_sheet_requested::LeadingZeros;
+pub use co_sheet_changes::LeadingZeros;
 pub use orders::Orders;

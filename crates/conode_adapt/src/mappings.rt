@@ -6,8 +6,7 @@ use co_dict_faults::find_build_faults;
 use co_dict_list::ListStore;
 use co_sheet::{FaultKind, read};
 use co_sheet_adapt::adapt;
-use co_sheet_changes::AdaptFault;
-use co_sheet_requested::{LeadingZeros, on_request};
+use co_sheet_changes::{AdaptFault, LeadingZeros, on_request};
 use std::alloc::{AllocError, Global};
 
 // those of a sheet for its node-ID, or else for 1; a text that isn't accepted has none

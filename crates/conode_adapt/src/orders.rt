@@ -1,10 +1,10 @@
 //! What is asked for beside the rules.
 
 ghost use Rattle.std.specs.Prelude.{◌≡◌, option_map};
-ghost use Rattle.co_sheet_requested.specs.Requested.{request_view};
+ghost use Rattle.co_sheet_changes.specs.Requested.{request_view};
 ghost use Rattle.conode_adapt.specs.Written.{force_request, orders_view, zeros_request};
 
-use co_sheet_requested::{LeadingZeros, Request};
+use co_sheet_changes::{LeadingZeros, Request};
 
 /// What is asked for beside the rules.
 #[derive(Clone, Copy)]

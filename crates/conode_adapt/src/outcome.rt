@@ -16,8 +16,7 @@ use crate::listing::push_changes;
 use crate::orders::Orders;
 use crate::remaining::remaining;
 use co_sheet_adapt::{Adapted, adapt};
-use co_sheet_changes::{AdaptFault, Piece};
-use co_sheet_requested::on_request;
+use co_sheet_changes::{AdaptFault, Piece, on_request};
 use std::alloc::{AllocError, Global};
 
 /// What becomes of a text.

@@ -1,9 +1,8 @@
 //! The data types of the values of a sheet's entries.
 
-ghost use Rattle.std.specs.Prelude.{◌≡◌, ℕ, true};
+ghost use Rattle.std.specs.Prelude.{◌≡◌};
 ghost use Rattle.co_sheet.specs.SheetViews.{row_view};
 ghost use Rattle.conode_decode.specs.Names.{names_view};
-ghost use Rattle.conode_explain_values.specs.Values.{is_determined};
 ghost use Rattle.conode_explain_pdo.specs.Types.{type_in};
 
 use co_sheet::EntryRow;
@@ -14,7 +13,6 @@ use conode_explain_values::ValueType;
 /// the sheet.
 pub fn type_in(names: Names<'_, '_>, row: &EntryRow<'_>) -> ValueType
     ensures value_type { result ≡ type_in (names_view names.entry) (row_view row.now) }
-    ensures determined { (bits : ℕ) → is_determined result bits ≡ true }
 {
     ValueType::of(names.original(row), row.data_type)
 }

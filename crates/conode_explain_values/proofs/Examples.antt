@@ -1,5 +1,5 @@
 -- The text of values, evaluated on both sides of each edge.
-use Rattle.std.proofs.Common.{◌≡◌, ℕ, true, false, List, [], ◌∷◌, refl, Some, None, map}
+use Rattle.std.proofs.Common.{◌≡◌, [], ◌∷◌, refl, Some, None, map}
 use Rattle.std.specs.Prelude.{codes}
 use Rattle.std.specs.Fmt.{digits}
 use lib.Utf8.{encode}
@@ -10,14 +10,14 @@ use Rattle.conode_explain_text.specs.Stamps.{date_text, time_of_day_text}
 use Rattle.conode_explain_values.specs.declared.value_type.ValueType.TheVariants.{Plain, Real32, Real64, UnicodeString, TimeOfDay, TimeDifference}
 use Rattle.conode_explain_values.specs.Numbers.{number_text}
 use Rattle.conode_explain_values.specs.Times.{difference_text, moment_text, ms_text}
-use Rattle.conode_explain_values.specs.Types.{is_whole, is_real, type_of}
+use Rattle.conode_explain_values.specs.Types.{type_of}
 use Rattle.conode_explain_values.specs.Unicode.{characters_text}
-use Rattle.conode_explain_values.specs.Values.{is_determined, value_text}
+use Rattle.conode_explain_values.specs.Values.{value_text}
 
 -- ---- types
 
-originals : map (λ code. type_of (Some code) Unsigned64) (codes "0x000B" ∷ codes "0x000C" ∷ codes "0x000D" ∷ codes "0x0008" ∷ codes "0xB" ∷ [])
-    ≡ UnicodeString ∷ TimeOfDay ∷ TimeDifference ∷ Plain Unsigned64 ∷ Plain Unsigned64 ∷ []
+originals : map (λ code. type_of (Some code) Unsigned64) (codes "0x0008" ∷ codes "0x000B" ∷ codes "0x000C" ∷ codes "0x000D" ∷ codes "0x0011" ∷ codes "0x0009" ∷ codes "0xB" ∷ [])
+    ≡ Real32 ∷ UnicodeString ∷ TimeOfDay ∷ TimeDifference ∷ Real64 ∷ Plain Unsigned64 ∷ Plain Unsigned64 ∷ []
 originals = refl
 
 of_the_sheet : type_of None Integer8 ≡ Plain Integer8
@@ -86,12 +86,6 @@ no_bits = refl
 short_real : value_text Real32 16 (0 ∷ 0x80 ∷ []) ≡ codes "0080 (16 of 32 bits)"
 unfolding value_text number_text digits digits_text
 short_real = refl
-
-a_real_is_not : is_determined Real32 32 ≡ false
-a_real_is_not = refl
-
-a_short_real_is : is_determined Real64 32 ≡ true
-a_short_real_is = refl
 
 -- ---- bytes and characters
 

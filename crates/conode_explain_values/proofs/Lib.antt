@@ -1,1 +1,5 @@
-pub mod Examples
+mod Examples
+pub mod Powers
+mod RealExamples
+pub mod RealLaws
+pub mod RealLemmas

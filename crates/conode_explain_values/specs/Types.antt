@@ -1,5 +1,5 @@
 -- The data types of values, and how many bits they have (CiA 301, 7.4.7.1).
-use Rattle.std.specs.Prelude.{ℕ, ◌*◌, ◌%◌, ◌==◌, Bool, true, false, ◌&&◌, ◌||◌, if◌then◌else◌, List, codes, Option, Some, None, option_map, option_and_then, unwrap_or}
+use Rattle.std.specs.Prelude.{ℕ, ◌*◌, ◌%◌, ◌==◌, Bool, false, ◌&&◌, ◌||◌, if◌then◌else◌, List, codes, Option, Some, None, option_map, option_and_then, unwrap_or}
 use Rattle.std.specs.Option.{option_map_or}
 use Rattle.std.specs.Str.{bytes_eq}
 use Rattle.co_value.specs.declared.data_type.DataType.{DataType}
@@ -24,20 +24,16 @@ is_boolean_type other = false
 abbrev pub is_whole : ValueType → ℕ → Bool
 is_whole t bits = option_map_or (λ size. bits == size || (bits == 1 && is_boolean_type t)) (type_bits t) (bits % 8 == 0)
 
--- the type that a code says, as a sheet that was adapted has it in OriginalDataType: UNICODE_STRING, TIME_OF_DAY, TIME_DIFFERENCE
+-- the type that a code says, as a sheet that was adapted has it in OriginalDataType: REAL32, UNICODE_STRING, TIME_OF_DAY, TIME_DIFFERENCE, REAL64
 abbrev pub original_type : List ℕ → Option ValueType
 original_type code =
-    if bytes_eq code (codes "0x000B") then Some UnicodeString
+    if bytes_eq code (codes "0x0008") then Some Real32
+    else (if bytes_eq code (codes "0x000B") then Some UnicodeString
     else (if bytes_eq code (codes "0x000C") then Some TimeOfDay
     else (if bytes_eq code (codes "0x000D") then Some TimeDifference
-    else None))
+    else (if bytes_eq code (codes "0x0011") then Some Real64
+    else None))))
 
 -- the type of an entry's values: by the code of its original type, if it has one of these, else that of the sheet
 abbrev pub type_of : Option (List ℕ) → DataType → ValueType
 type_of code t = unwrap_or (option_and_then original_type code) (Plain t)
-
--- REAL32 and REAL64: of these a text reads back as the same number, and isn't determined by that alone
-abbrev pub is_real : ValueType → Bool
-is_real Real32 = true
-is_real Real64 = true
-is_real other = false

@@ -1,8 +1,8 @@
 //! The text of an entry. Each function appends a text; on an `Err` memory ran out, and a part of it may be there.
 
-ghost use Rattle.std.specs.Prelude.{◌≡◌, ◌++◌, OnOk, true, string_bytes};
+ghost use Rattle.std.specs.Prelude.{◌≡◌, ◌++◌, OnOk, string_bytes};
 ghost use Rattle.std.specs.Option.{option_copied};
-ghost use Rattle.conode_explain_values.specs.Values.{entry_text, HasBits, is_determined, named_key};
+ghost use Rattle.conode_explain_values.specs.Values.{entry_text, HasBits, named_key};
 
 use crate::value::push_value;
 use crate::value_type::ValueType;
@@ -32,7 +32,7 @@ pub fn push_entry(
     bytes: &[u8],
 ) -> Result<(), AllocError>
     requires { HasBits bits bytes.now }
-    ensures { is_determined value_type bits ≡ true → OnOk result (string_bytes text.new
+    ensures { OnOk result (string_bytes text.new
         ≡ string_bytes text.old
         ++ entry_text (option_copied name.entry) key value_type bits bytes.now) }
 {

@@ -4,12 +4,16 @@
 mod bytes;
 mod entry;
 mod numbers;
+mod real;
+mod real_digits;
 mod reals;
+mod scaled;
 mod times;
 mod unicode;
 mod value;
 mod value_type;
 
 pub use entry::{push_entry, push_named_key};
+pub use reals::real_digits_are_read;
 pub use value::push_value;
 pub use value_type::ValueType;

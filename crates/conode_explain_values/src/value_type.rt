@@ -1,9 +1,8 @@
 //! The data types of values.
 
-ghost use Rattle.std.specs.Prelude.{◌≡◌, ℕ, true};
+ghost use Rattle.std.specs.Prelude.{◌≡◌};
 ghost use Rattle.std.specs.Option.{option_copied};
 ghost use Rattle.conode_explain_values.specs.Types.{is_boolean_type, original_type, type_bits, type_of, is_whole};
-ghost use Rattle.conode_explain_values.specs.Values.{is_determined};
 
 use co_value::DataType;
 
@@ -31,12 +30,16 @@ pub enum ValueType {
 fn original_type(code: &[u8]) -> Option<ValueType>
     ensures { result ≡ original_type code.now }
 {
-    if code == b"0x000B".as_slice() {
+    if code == b"0x0008".as_slice() {
+        Some(ValueType::Real32)
+    } else if code == b"0x000B".as_slice() {
         Some(ValueType::UnicodeString)
     } else if code == b"0x000C".as_slice() {
         Some(ValueType::TimeOfDay)
     } else if code == b"0x000D".as_slice() {
         Some(ValueType::TimeDifference)
+    } else if code == b"0x0011".as_slice() {
+        Some(ValueType::Real64)
     } else {
         None
     }
@@ -44,10 +47,9 @@ fn original_type(code: &[u8]) -> Option<ValueType>
 
 impl ValueType {
     /// The type of an entry's values: its original one, by the code that a sheet which was adapted has for it in
-    /// `OriginalDataType`, as `0x000C`; else that of the sheet, as for a REAL, whose bits are a number there.
+    /// `OriginalDataType`, as `0x000C`; else that of the sheet.
     pub fn of(original: Option<&[u8]>, data_type: DataType) -> ValueType
         ensures value_type { result ≡ type_of (option_copied original.entry) data_type }
-        ensures determined { (bits : ℕ) → is_determined result bits ≡ true }
     {
         let Some(code) = original else {
             return ValueType::Plain(data_type);

@@ -5,12 +5,12 @@ use Rattle.std.specs.Option.{option_map_or}
 use Rattle.co_sheet_text.specs.Text.{Line, lines_of}
 use Rattle.co_sheet_changes.specs.Groups.{Group, property_in, before_sections, groups_of}
 use Rattle.co_sheet_changes.specs.Pieces.{Mended, Piece, changed, kept_piece, piece_of, written}
-use Rattle.co_sheet_requested.specs.declared.request.LeadingZeros.{LeadingZeros}
-use Rattle.co_sheet_requested.specs.declared.request.Request.{Request as CodeRequest}
-use Rattle.co_sheet_requested.specs.declared.request.Request.TheVariants as asked
-use Rattle.co_sheet_requested.specs.declared.requested.Facts.{Facts}
-use Rattle.co_sheet_requested.specs.Zeros.{has_numbers, zero_change}
-use Rattle.co_sheet_requested.specs.Forced.{limited_type, forced_change}
+use Rattle.co_sheet_changes.specs.declared.request.LeadingZeros.{LeadingZeros}
+use Rattle.co_sheet_changes.specs.declared.request.Request.{Request as CodeRequest}
+use Rattle.co_sheet_changes.specs.declared.request.Request.TheVariants as asked
+use Rattle.co_sheet_changes.specs.declared.requested.Facts.{Facts}
+use Rattle.co_sheet_changes.specs.ZeroNames.{has_numbers, zero_change}
+use Rattle.co_sheet_changes.specs.Forced.{limited_type, forced_change}
 
 -- to read leading zeros in a base; to force, with the mappings that are at fault
 pub data Request : Type 0 where

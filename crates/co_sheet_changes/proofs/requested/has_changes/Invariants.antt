@@ -1,7 +1,7 @@
 use Rattle.std.proofs.Common.{◌≡◌, drop, map}
 use Rattle.co_sheet_changes.specs.Pieces.{piece_view}
-use Rattle.co_sheet_requested.specs.Requested.{has_changes}
-use Rattle.co_sheet_requested.proofs.requested.has_changes.Given as goal
+use Rattle.co_sheet_changes.specs.Requested.{has_changes}
+use Rattle.co_sheet_changes.proofs.requested.has_changes.Given as goal
 
 -- what the rest has is what all have
 abbrev pub invariant-loop-piece : goal.invariant-loop-piece

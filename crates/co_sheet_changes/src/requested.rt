@@ -5,7 +5,7 @@ ghost use Rattle.std.specs.List.{flat_map};
 ghost use Rattle.co_sheet_text.specs.Text.{lines_of};
 ghost use Rattle.co_sheet_changes.specs.Pieces.{mended_view, piece_view};
 ghost use Rattle.co_sheet_changes.specs.Views.{group_view, line_view};
-ghost use Rattle.co_sheet_requested.specs.Requested.{
+ghost use Rattle.co_sheet_changes.specs.Requested.{
   change_in,
   facts_of,
   group_pieces,
@@ -20,14 +20,15 @@ ghost use Rattle.co_sheet_requested.specs.Requested.{
   text_with,
 };
 
+use crate::change::{Mended, Piece};
+use crate::fault::AdaptFault;
 use crate::forced::{forced_change, limited_type};
+use crate::group::{Group, before_sections, groups_in};
+use crate::line::{Line, lines_in};
+use crate::pieces::{piece_of, push_kept, push_pieces};
 use crate::request::Request;
 use crate::zeros::{has_numbers, zero_change};
 use co_sheet::GREATEST_SIZE;
-use co_sheet_changes::{
-    AdaptFault, Group, Line, Mended, Piece, before_sections, groups_in, lines_in, piece_of,
-    push_kept, push_pieces,
-};
 use co_sheet_text::SectionKind;
 use co_value::DataType;
 use std::alloc::{AllocError, Global};

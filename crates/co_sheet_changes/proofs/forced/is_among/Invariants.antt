@@ -1,6 +1,6 @@
 use Rattle.std.proofs.Common.{◌≡◌, drop}
-use Rattle.co_sheet_requested.specs.Forced.{is_among}
-use Rattle.co_sheet_requested.proofs.forced.is_among.Given as goal
+use Rattle.co_sheet_changes.specs.Forced.{is_among}
+use Rattle.co_sheet_changes.proofs.forced.is_among.Given as goal
 
 -- what the rest has is what all have
 abbrev pub invariant-loop-mapping : goal.invariant-loop-mapping

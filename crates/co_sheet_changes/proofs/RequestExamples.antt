@@ -7,10 +7,11 @@ use Rattle.co_sheet_text.specs.Text.{lines_of}
 use Rattle.co_sheet_changes.specs.declared.change.ChangeKind.{ChangeKind}
 use Rattle.co_sheet_changes.specs.declared.change.ChangeKind.TheVariants.{LeadingZero, ForcedLimit, ForcedMapping, ForcedSync}
 use Rattle.co_sheet_changes.specs.Pieces.{Piece, kept, changed, assigned}
-use Rattle.co_sheet_requested.specs.declared.request.LeadingZeros.TheVariants.{Octal, Decimal}
-use Rattle.co_sheet_requested.specs.Zeros.{value_anew, is_number_code}
-use Rattle.co_sheet_requested.specs.Forced.{is_forced_at, without_bit_30}
-use Rattle.co_sheet_requested.specs.Requested.{Request, read_zeros, force_with, pieces_on, requested_text}
+use Rattle.co_sheet_changes.specs.declared.request.LeadingZeros.TheVariants.{Octal, Decimal}
+use Rattle.co_sheet_changes.specs.Zeros.{value_anew}
+use Rattle.co_sheet_changes.specs.ZeroNames.{is_number_code}
+use Rattle.co_sheet_changes.specs.Forced.{is_forced_at, without_bit_30}
+use Rattle.co_sheet_changes.specs.Requested.{Request, read_zeros, force_with, pieces_on, requested_text}
 
 abbrev pieces : Request → List ℕ → List Piece
 pieces request text = pieces_on request (lines_of text)

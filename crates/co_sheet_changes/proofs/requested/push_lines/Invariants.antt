@@ -1,8 +1,8 @@
 use Rattle.std.proofs.Common.{◌≡◌, ◌++◌, map, take}
 use Rattle.co_sheet_changes.specs.Pieces.{piece_view}
 use Rattle.co_sheet_changes.specs.Views.{line_view}
-use Rattle.co_sheet_requested.specs.Requested.{line_piece, request_view}
-use Rattle.co_sheet_requested.proofs.requested.push_lines.Given as goal
+use Rattle.co_sheet_changes.specs.Requested.{line_piece, request_view}
+use Rattle.co_sheet_changes.proofs.requested.push_lines.Given as goal
 
 -- those so far
 abbrev pub invariant-loop-line : goal.invariant-loop-line

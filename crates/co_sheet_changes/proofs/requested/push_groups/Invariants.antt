@@ -2,8 +2,8 @@ use Rattle.std.proofs.Common.{◌≡◌, ◌++◌, map, take}
 use Rattle.std.specs.List.{flat_map}
 use Rattle.co_sheet_changes.specs.Pieces.{piece_view}
 use Rattle.co_sheet_changes.specs.Views.{group_view}
-use Rattle.co_sheet_requested.specs.Requested.{group_pieces, request_view}
-use Rattle.co_sheet_requested.proofs.requested.push_groups.Given as goal
+use Rattle.co_sheet_changes.specs.Requested.{group_pieces, request_view}
+use Rattle.co_sheet_changes.proofs.requested.push_groups.Given as goal
 
 -- those so far
 abbrev pub invariant-loop-group : goal.invariant-loop-group

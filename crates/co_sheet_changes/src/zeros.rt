@@ -5,24 +5,33 @@ ghost use Rattle.co_sheet.specs.Limits.{is_node_id};
 ghost use Rattle.co_sheet_text.specs.Numerals.{unsigned_number};
 ghost use Rattle.co_sheet_changes.specs.Pieces.{mended_view};
 ghost use Rattle.co_sheet_changes.specs.Views.{group_view};
-ghost use Rattle.co_sheet_requested.specs.Zeros.{
+ghost use Rattle.co_sheet_changes.specs.Zeros.{
+  after_minus,
   digits_anew,
-  has_numbers,
   is_ambiguous,
+  number_anew,
+  number_of,
+  sum_anew,
+  sum_of,
+  value_anew,
+};
+ghost use Rattle.co_sheet_changes.specs.ZeroNames.{
+  has_numbers,
+  is_count_name,
   is_number_code,
   is_number_name,
   is_number_of,
   is_number_type,
-  number_anew,
-  number_of,
-  sum_anew,
-  value_anew,
+  is_type_name,
   zero_change,
 };
 
+use crate::change::{ChangeKind, Mended};
+use crate::group::Group;
+use crate::limits::{is_limit, is_preset};
+use crate::pieces::with_value;
 use crate::request::LeadingZeros;
 use co_sheet::data_type_with;
-use co_sheet_changes::{ChangeKind, Group, Mended, is_limit, is_preset, with_value};
 use co_sheet_text::{
     NumeralFault, SectionKind, all_digits, number_in, same_name, trim, unsigned_number,
 };
@@ -65,23 +74,17 @@ fn digits_anew(
     Ok(Some(digits.into_bytes()))
 }
 
-// a text between two others, where there is one
-fn between(
-    alloc: Global,
-    front: &[u8],
-    text: Option<Vec<u8>>,
-    end: &[u8],
-) -> Result<Option<Vec<u8>>, AllocError>
+// a text after `-`, where there is one
+fn after_minus(alloc: Global, text: Option<Vec<u8>>) -> Result<Option<Vec<u8>>, AllocError>
     ensures { IfOk result (λ made. option_map (λ v. v.items) made
-        ≡ option_map (λ v. front.now ++ v.items ++ end.now) text) }
+        ≡ option_map (λ v. after_minus v.items) text) }
 {
     let Some(text) = text else {
         return Ok(None);
     };
     let mut made = Vec::new(alloc);
-    made.extend_from_slice(front)?;
+    made.push(b'-')?;
     made.extend_from_slice(text.as_slice())?;
-    made.extend_from_slice(end)?;
     Ok(Some(made))
 }
 
@@ -95,16 +98,56 @@ fn number_anew(
     match value {
         [b'-', digits @ ..] => {
             let digits = digits_anew(alloc, zeros, digits)?;
-            between(alloc, b"-", digits, b"")
+            after_minus(alloc, digits)
         }
         _ => digits_anew(alloc, zeros, value),
     }
 }
 
-fn is_node_id(text: &[u8]) -> bool
-    ensures { result ≡ is_node_id text.now }
+fn is_node_id(part: &[u8]) -> bool
+    ensures { result ≡ is_node_id part.now }
 {
-    same_name(text, b"$NODEID")
+    same_name(part, b"$NODEID")
+}
+
+fn sum_of(alloc: Global, left: &[u8], right: &[u8]) -> Result<Vec<u8>, AllocError>
+    ensures { IfOk result (λ made. made.items ≡ sum_of left.now right.now) }
+{
+    let mut made = Vec::new(alloc);
+    made.extend_from_slice(left)?;
+    made.push(b'+')?;
+    made.extend_from_slice(right)?;
+    Ok(made)
+}
+
+// a sum with digits after `+`, where there are some
+fn sum_with(
+    alloc: Global,
+    left: &[u8],
+    digits: Option<Vec<u8>>,
+) -> Result<Option<Vec<u8>>, AllocError>
+    ensures { IfOk result (λ made. option_map (λ v. v.items) made
+        ≡ option_map (λ v. sum_of left.now v.items) digits) }
+{
+    match digits {
+        Some(digits) => Ok(Some(sum_of(alloc, left, digits.as_slice())?)),
+        None => Ok(None),
+    }
+}
+
+// a sum with digits in front of `+`, where there are some
+fn sum_to(
+    alloc: Global,
+    digits: Option<Vec<u8>>,
+    right: &[u8],
+) -> Result<Option<Vec<u8>>, AllocError>
+    ensures { IfOk result (λ made. option_map (λ v. v.items) made
+        ≡ option_map (λ v. sum_of v.items right.now) digits) }
+{
+    match digits {
+        Some(digits) => Ok(Some(sum_of(alloc, digits.as_slice(), right)?)),
+        None => Ok(None),
+    }
 }
 
 fn sum_anew(
@@ -116,17 +159,12 @@ fn sum_anew(
     ensures { IfOk result (λ made.
         option_map (λ v. v.items) made ≡ sum_anew zeros left.now right.now) }
 {
-    let mut sum = Vec::new(alloc);
     if is_node_id(left) {
-        sum.extend_from_slice(left)?;
-        sum.push(b'+')?;
         let digits = digits_anew(alloc, zeros, right)?;
-        between(alloc, sum.as_slice(), digits, b"")
+        sum_with(alloc, left, digits)
     } else if is_node_id(right) {
-        sum.push(b'+')?;
-        sum.extend_from_slice(right)?;
         let digits = digits_anew(alloc, zeros, left)?;
-        between(alloc, b"", digits, sum.as_slice())
+        sum_to(alloc, digits, right)
     } else {
         Ok(None)
     }
@@ -146,14 +184,22 @@ fn value_anew(
     }
 }
 
+fn is_type_name(name: &[u8]) -> bool
+    ensures { result ≡ is_type_name name.now }
+{
+    same_name(name, b"ObjectType") || same_name(name, b"DataType")
+}
+
+fn is_count_name(name: &[u8]) -> bool
+    ensures { result ≡ is_count_name name.now }
+{
+    same_name(name, b"SubNumber") || same_name(name, b"CompactSubObj")
+}
+
 fn is_number_name(name: &[u8]) -> bool
     ensures { result ≡ is_number_name name.now }
 {
-    same_name(name, b"ObjectType")
-        || same_name(name, b"DataType")
-        || same_name(name, b"PDOMapping")
-        || same_name(name, b"SubNumber")
-        || same_name(name, b"CompactSubObj")
+    is_type_name(name) || (same_name(name, b"PDOMapping") || is_count_name(name))
 }
 
 fn is_number_code(code: u64) -> bool

@@ -3,7 +3,7 @@
 ghost use Rattle.std.specs.Prelude.{◌≡◌, ◌∷◌, codes, option_map, IfOk};
 ghost use Rattle.co_sheet_changes.specs.Pieces.{mended, mended_view};
 ghost use Rattle.co_sheet_changes.specs.Views.{group_view};
-ghost use Rattle.co_sheet_requested.specs.Forced.{
+ghost use Rattle.co_sheet_changes.specs.Forced.{
   as_comment,
   forced_change,
   is_among,
@@ -18,11 +18,12 @@ ghost use Rattle.co_sheet_requested.specs.Forced.{
   without_bit_30,
 };
 
+use crate::change::{ChangeKind, Mended};
+use crate::digits::hexadecimal;
+use crate::group::Group;
+use crate::limits::{data_type_of, has_unsigned_limits, is_limit, is_preset};
+use crate::pieces::{assigned, with_value};
 use co_sheet::is_in_type;
-use co_sheet_changes::{
-    ChangeKind, Group, Mended, assigned, data_type_of, has_unsigned_limits, hexadecimal, is_limit,
-    is_preset, with_value,
-};
 use co_sheet_text::{NumeralFault, SectionKind, signed_numeral, unsigned_number};
 use co_value::DataType;
 use std::alloc::{AllocError, Global};

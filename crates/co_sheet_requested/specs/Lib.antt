@@ -1,3 +1,0 @@
-pub mod Zeros
-pub mod Forced
-pub mod Requested
