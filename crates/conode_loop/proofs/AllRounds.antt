@@ -1,11 +1,8 @@
 -- What is written of all rounds, from what is written of some and of one more.
-use Rattle.std.proofs.Common.{◌≡◌, ℕ, ◌+◌, ◌≤◌, true, List, [], ◌++◌, take, Option, inl, inr, sym, subst, ap, ◌∙◌, arith, append_assoc, append-nil}
-use Rattle.std.specs.Prelude.{◌⊎◌}
+use Rattle.std.proofs.Common.{◌≡◌, ℕ, ◌+◌, ◌≤◌, true, List, [], ◌++◌, Option, sym, subst, ap, ◌∙◌, arith, append_assoc, append-nil}
 use Rattle.std.specs.List.{flat_map}
 use Rattle.std.specs.Io.KnownBytes.{Appends}
 use Rattle.std.proofs.KnownBytes.{Appends-nil, Appends-trans}
-use Rattle.conode_io.specs.declared.fault.CmdFault.{CmdFault}
-use Rattle.conode_io.specs.declared.fault.CmdFault.TheVariants.{Write, Memory}
 use Rattle.co_frame.specs.FrameContent.{FrameContent}
 use Rattle.conode_io.specs.Written.{WritesFront, WritesLines}
 use Rattle.conode_io.proofs.WriteLemmas.{front_after_lines, front_of_more, lines_after}
@@ -107,12 +104,6 @@ one_failed n l e node old mid new few stands written (more, grown) = record {
   rest = more;
   written = Appends-trans old mid new (flat_map (λ (line : List ℕ). line) (frame_lines (frames_in n l e))) more written grown;
 }
-
--- how much of a round is written
-pub some_bytes : (mid new : Option (List ℕ)) (lines : List (List ℕ)) (fault : CmdFault) → (fault ≡ Write) ⊎ (fault ≡ Memory) → (fault ≡ Write → WritesFront mid new lines) → (fault ≡ Memory → WritesFirst mid new lines)
-    → (more : List ℕ) × Appends mid new more
-some_bytes mid new lines fault (inl is) front first = let (bytes, part, written) = front is in (bytes, written)
-some_bytes mid new lines fault (inr is) front first = let (number, few, written) = first is in (flat_map (λ (line : List ℕ). line) (take number lines), written)
 
 -- more is written after the rounds
 pub some_later : (l : Loop) (e : BothEnds) (node : Node) (old mid new : Option (List ℕ)) (more : List ℕ) → StandsAfterSome l e node old mid → Appends mid new more → StandsAfterSome l e node old new

@@ -1,7 +1,9 @@
-pub mod Takes
-pub mod RoundLemmas
-pub mod Lines
-pub mod Exchanges
 pub mod AllRounds
 pub mod Completed
+pub mod Examples
+pub mod Exchanges
+pub mod Lines
+pub mod RoundLemmas
 pub mod Statuses
+pub mod Takes
+pub mod Writings

@@ -15,12 +15,15 @@ use Rattle.co_node_model.specs.Loop.{Loop, BothEnds, first_ends, frames_in, most
 abbrev pub frame_lines : List FrameContent → List (List ℕ)
 frame_lines frames = map (frame_line 0) frames
 
+-- how many frames the client sent, where a line ends with it
+unfoldable pub requests_text : ℕ → List ℕ
+requests_text count = decimal count ++ codes " requests" ++ 10 ∷ []
+
 -- how the client stands at the end, and how many frames it sent
 unfoldable pub last_line : ClientState → ℕ → List ℕ
 last_line Waiting count = codes "; gave up" ++ 10 ∷ []
-last_line Done count = codes "; done, " ++ decimal count ++ codes " requests" ++ 10 ∷ []
-last_line (Failed code) count =
-    codes "; failed " ++ digits_text 16 8 code.0 ++ codes ", " ++ decimal count ++ codes " requests" ++ 10 ∷ []
+last_line Done count = codes "; done, " ++ requests_text count
+last_line (Failed code) count = codes "; failed " ++ digits_text 16 8 code.0 ++ codes ", " ++ requests_text count
 
 -- the lines from there on: each request with the node's frames after it, and how it ended
 abbrev pub lines_from : Loop → BothEnds → List (List ℕ)

@@ -1,10 +1,10 @@
 //! Frames that are printed, and that come to the client.
 
-ghost use Rattle.std.specs.Prelude.{◌≡◌, ◌⊎◌, ◌++◌, ◌∷◌, List, OnOk, IfErr, Err};
+ghost use Rattle.std.specs.Prelude.{◌≡◌, ◌++◌, ◌∷◌, List, OnOk, IfErr};
 ghost use Rattle.co_sdo_client.specs.Calls.{Call, Event, Ticked, frames_on};
 ghost use Rattle.co_sdo_client.specs.Outcomes.{asked_by};
 ghost use Rattle.co_sdo_client.specs.Standing.{ClientStands};
-ghost use Rattle.conode_io.specs.Written.{WritesFront, WritesLines, WritesSome};
+ghost use Rattle.conode_io.specs.Written.{WritesFront, WritesLines};
 ghost use Rattle.conode_loop.specs.Printed.{frame_lines};
 ghost use Rattle.co_node_model.specs.Loop.{asked_after, events_after};
 
@@ -19,11 +19,9 @@ use std::io::Write;
 pub(crate) fn write_frames<W: Write>(frames: &[Frame], writer: &mut W) -> Result<(), CmdFault>
     ensures ok { OnOk result
         (WritesLines (W.contents writer.old) (W.contents writer.new) (frame_lines frames.now)) }
-    ensures write { result ≡ Err CmdFault.Write →
-        WritesFront (W.contents writer.old) (W.contents writer.new) (frame_lines frames.now) }
-    ensures memory { result ≡ Err CmdFault.Memory →
-        WritesSome (W.contents writer.old) (W.contents writer.new) (frame_lines frames.now) }
-    ensures err { IfErr result (λ fault. (fault ≡ CmdFault.Write) ⊎ (fault ≡ CmdFault.Memory)) }
+    ensures fault { IfErr result (λ fault. fault ≡ CmdFault.Write) }
+    ensures front { IfErr result (λ _.
+        WritesFront (W.contents writer.old) (W.contents writer.new) (frame_lines frames.now)) }
 {
     for frame in frames {
         let line = frame_line(0, frame);

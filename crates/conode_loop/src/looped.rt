@@ -1,14 +1,14 @@
 //! A download looped against a node.
 
-ghost use Rattle.std.specs.Prelude.{◌≡◌, ◌⊎◌, ◌≤◌, length, OnOk, IfOk, IfErr, Err, string_bytes};
+ghost use Rattle.std.specs.Prelude.{◌≡◌, ◌⊎◌, ◌≤◌, ◌++◌, length, OnOk, IfOk, IfErr, Err, string_bytes};
 ghost use Rattle.co_node_model.specs.Moments.{Constants};
 ghost use Rattle.co_node_model.specs.Inputs.{Inputs};
 ghost use Rattle.co_node.specs.Nodes.{Stands};
 ghost use Rattle.co_node.specs.Served.{IsComplete, IsPermitted};
-ghost use Rattle.co_node_model.specs.Loop.{Loop, BothEnds, download_of, first_ends, last_ends, rounds, state_at};
+ghost use Rattle.co_node_model.specs.Loop.{Loop, BothEnds, download_of, first_ends, last_ends, state_at};
 ghost use Rattle.conode_io.specs.Written.{WritesFront, WritesLines, WritesSome};
-ghost use Rattle.conode_loop.specs.Printed.{last_line, lines_from, loop_lines};
-ghost use Rattle.conode_loop.specs.Standing.{EndsStand, StandsAfterSome};
+ghost use Rattle.conode_loop.specs.Printed.{last_line, loop_lines, requests_text};
+ghost use Rattle.conode_loop.specs.Standing.{EndsStand, Looped, StandsAfterSome};
 
 use crate::rounds::all_rounds;
 use co_frame::{Frame, Ids, Outbox};
@@ -20,6 +20,15 @@ use conode_io::{CmdFault, hand_over};
 use std::alloc::{AllocError, Global};
 use std::io::Write;
 
+// Appends how many frames the client sent. On an `Err` memory ran out, and a part of it may be there.
+#[tactic(auto, unfolding(crate::specs::Printed::requests_text))]
+fn push_requests(text: &mut String, sent: u64) -> Result<(), AllocError>
+    ensures { OnOk result (string_bytes text.new ≡ string_bytes text.old ++ requests_text sent) }
+{
+    push_decimal(text, sent)?;
+    text.push_str(" requests\n")
+}
+
 // Makes the text the last line: how the client stands, and how many frames it sent. On an `Err` memory ran out, and
 // the text holds a part of the line.
 #[tactic(auto, unfolding(crate::specs::Printed::last_line))]
@@ -28,16 +37,18 @@ fn set_last_line(text: &mut String, state: ClientState, sent: u64) -> Result<(),
 {
     text.clear();
     match state {
-        ClientState::Waiting => return text.push_str("; gave up\n"),
-        ClientState::Done => text.push_str("; done, ")?,
+        ClientState::Waiting => text.push_str("; gave up\n"),
+        ClientState::Done => {
+            text.push_str("; done, ")?;
+            push_requests(text, sent)
+        }
         ClientState::Failed(code) => {
             text.push_str("; failed ")?;
             push_u32(text, code.0)?;
             text.push_str(", ")?;
+            push_requests(text, sent)
         }
     }
-    push_decimal(text, sent)?;
-    text.push_str(" requests\n")
 }
 
 // All rounds of a client that has begun, and the last line.
@@ -48,23 +59,8 @@ fn loop_client<W: Write>(
     line: &mut String,
     writer: &mut W,
 ) -> Result<ClientState, CmdFault>
-    ensures state { (l : Loop) (e : BothEnds) →
-        EndsStand l e node.old client.old waiting.old.items →
-        IfOk result (λ state. state ≡ state_at l (rounds 20000 l e)) }
-    ensures text { (l : Loop) (e : BothEnds) → EndsStand l e node.old client.old waiting.old.items →
-        OnOk result (WritesLines (W.contents writer.old) (W.contents writer.new) (lines_from l e)) }
-    ensures node { (l : Loop) (e : BothEnds) → EndsStand l e node.old client.old waiting.old.items →
-        OnOk result (Stands l.node node.new (rounds 20000 l e).inputs) }
-    ensures write { (l : Loop) (e : BothEnds) →
-        EndsStand l e node.old client.old waiting.old.items →
-        result ≡ Err CmdFault.Write →
-        WritesFront (W.contents writer.old) (W.contents writer.new) (lines_from l e) }
-    ensures memory { (l : Loop) (e : BothEnds) →
-        EndsStand l e node.old client.old waiting.old.items →
-        result ≡ Err CmdFault.Memory →
-        WritesSome (W.contents writer.old) (W.contents writer.new) (lines_from l e) }
-    ensures some { (l : Loop) (e : BothEnds) → EndsStand l e node.old client.old waiting.old.items →
-        StandsAfterSome l e node.new (W.contents writer.old) (W.contents writer.new) }
+    ensures looped { (l : Loop) (e : BothEnds) → EndsStand l e node.old client.old waiting.old.items →
+        Looped l e node.new (W.contents writer.old) (W.contents writer.new) result }
     ensures err { IfErr result (λ fault. (fault ≡ CmdFault.Write) ⊎ (fault ≡ CmdFault.Memory)) }
 {
     all_rounds(node, client, waiting, writer)?;
@@ -72,6 +68,35 @@ fn loop_client<W: Write>(
     set_last_line(line, state, client.sent())?;
     hand_over(line.as_bytes(), writer)?;
     Ok(state)
+}
+
+// A client begins its download, and all rounds and the last line follow.
+fn loop_download<W: Write>(
+    alloc: Global,
+    node: &mut Node,
+    key: Key,
+    bytes: &[u8],
+    mode: Mode,
+    writer: &mut W,
+) -> Result<ClientState, CmdFault>
+    requires { length bytes.now ≤ 65535 }
+    ensures looped { (k : Constants) (before : Inputs) → Stands k node.old before → Looped
+        (download_of k key bytes.now mode) (first_ends (download_of k key bytes.now mode) before)
+        node.new (W.contents writer.old) (W.contents writer.new) result }
+    ensures err { IfErr result (λ fault. (fault ≡ CmdFault.Write) ⊎ (fault ≡ CmdFault.Memory)) }
+{
+    let node_id = u16::from(node.node_id());
+    let ids = Ids {
+        request: 0x600 + node_id,
+        answer: 0x580 + node_id,
+    };
+    let mut client = Client::download(ids, key, bytes, mode, true, 0);
+    let mut sent = Outbox::new();
+    client.begin(&mut sent);
+    let mut waiting = Vec::new(alloc);
+    waiting.extend_from_slice(&sent)?;
+    let mut line = String::new(alloc);
+    loop_client(node, &mut client, &mut waiting, &mut line, writer)
 }
 
 /// Downloads bytes, at most 65,535, to an entry of a node by an SDO client over the node's default channel (CiA 301,
@@ -126,16 +151,5 @@ pub fn loop_back<W: Write>(
     ensures err { IfErr result (λ fault. (fault ≡ CmdFault.Write) ⊎ (fault ≡ CmdFault.Memory)) }
 {
     permitted_download_completes();
-    let node_id = u16::from(node.node_id());
-    let ids = Ids {
-        request: 0x600 + node_id,
-        answer: 0x580 + node_id,
-    };
-    let mut client = Client::download(ids, key, bytes, mode, true, 0);
-    let mut sent = Outbox::new();
-    client.begin(&mut sent);
-    let mut waiting = Vec::new(alloc);
-    waiting.extend_from_slice(&sent)?;
-    let mut line = String::new(alloc);
-    loop_client(node, &mut client, &mut waiting, &mut line, writer)
+    loop_download(alloc, node, key, bytes, mode, writer)
 }

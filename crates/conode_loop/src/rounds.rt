@@ -1,13 +1,10 @@
 //! The rounds of a client and a node.
 
-ghost use Rattle.std.specs.Prelude.{◌≡◌, ◌⊎◌, ◌<◌, [], length, OnOk, IfErr, Err};
+ghost use Rattle.std.specs.Prelude.{◌≡◌, ◌⊎◌, ◌<◌, [], length, IfErr};
 ghost use Rattle.co_sdo_client.specs.Calls as client;
 ghost use Rattle.co_sdo_client.specs.Standing.{ClientStands};
-ghost use Rattle.co_node.specs.Nodes.{Stands};
-ghost use Rattle.conode_io.specs.Written.{WritesFront, WritesLines};
-ghost use Rattle.co_node_model.specs.Loop.{Loop, BothEnds, after_round, frames_of, frames_in, rounds, goes_on};
-ghost use Rattle.conode_loop.specs.Printed.{frame_lines, WritesFirst};
-ghost use Rattle.conode_loop.specs.Standing.{EndsStand, StandsAfterSome};
+ghost use Rattle.co_node_model.specs.Loop.{Loop, BothEnds, goes_on};
+ghost use Rattle.conode_loop.specs.Standing.{EndsStand, RoundMade, RoundsMade};
 
 use crate::frames::{take_frames, take_tick, write_frames};
 use co_frame::{Frame, Outbox};
@@ -36,22 +33,9 @@ fn tick<W: Write>(
     writer: &mut W,
 ) -> Result<(), CmdFault>
     requires { waiting.old.items ≡ [] }
-    ensures ends { (l : Loop) (e : BothEnds) → EndsStand l e node.old client.old waiting.old.items →
-        OnOk result (EndsStand l (after_round l e) node.new client.new waiting.new.items) }
-    ensures node { (l : Loop) (e : BothEnds) → EndsStand l e node.old client.old waiting.old.items →
-        Stands l.node node.new (after_round l e).inputs }
-    ensures ok { (l : Loop) (e : BothEnds) →
-        EndsStand l e node.old client.old waiting.old.items →
-        OnOk result (WritesLines (W.contents writer.old) (W.contents writer.new)
-        (frame_lines (frames_of l e.waiting e.inputs))) }
-    ensures write { (l : Loop) (e : BothEnds) →
-        EndsStand l e node.old client.old waiting.old.items →
-        result ≡ Err CmdFault.Write → WritesFront (W.contents writer.old) (W.contents writer.new)
-        (frame_lines (frames_of l e.waiting e.inputs)) }
-    ensures memory { (l : Loop) (e : BothEnds) →
-        EndsStand l e node.old client.old waiting.old.items →
-        result ≡ Err CmdFault.Memory → WritesFirst (W.contents writer.old) (W.contents writer.new)
-        (frame_lines (frames_of l e.waiting e.inputs)) }
+    ensures made { (l : Loop) (e : BothEnds) → EndsStand l e node.old client.old waiting.old.items →
+        RoundMade l e node.new client.new waiting.new.items
+        (W.contents writer.old) (W.contents writer.new) result }
     ensures err { IfErr result (λ fault. (fault ≡ CmdFault.Write) ⊎ (fault ≡ CmdFault.Memory)) }
 {
     let mut sent = Outbox::new();
@@ -70,22 +54,9 @@ fn exchange<W: Write>(
     writer: &mut W,
 ) -> Result<(), CmdFault>
     requires { 0 < length waiting.old.items }
-    ensures ends { (l : Loop) (e : BothEnds) → EndsStand l e node.old client.old waiting.old.items →
-        OnOk result (EndsStand l (after_round l e) node.new client.new waiting.new.items) }
-    ensures node { (l : Loop) (e : BothEnds) → EndsStand l e node.old client.old waiting.old.items →
-        Stands l.node node.new (after_round l e).inputs }
-    ensures ok { (l : Loop) (e : BothEnds) →
-        EndsStand l e node.old client.old waiting.old.items →
-        OnOk result (WritesLines (W.contents writer.old) (W.contents writer.new)
-        (frame_lines (frames_of l e.waiting e.inputs))) }
-    ensures write { (l : Loop) (e : BothEnds) →
-        EndsStand l e node.old client.old waiting.old.items →
-        result ≡ Err CmdFault.Write → WritesFront (W.contents writer.old) (W.contents writer.new)
-        (frame_lines (frames_of l e.waiting e.inputs)) }
-    ensures memory { (l : Loop) (e : BothEnds) →
-        EndsStand l e node.old client.old waiting.old.items →
-        result ≡ Err CmdFault.Memory → WritesFirst (W.contents writer.old) (W.contents writer.new)
-        (frame_lines (frames_of l e.waiting e.inputs)) }
+    ensures made { (l : Loop) (e : BothEnds) → EndsStand l e node.old client.old waiting.old.items →
+        RoundMade l e node.new client.new waiting.new.items
+        (W.contents writer.old) (W.contents writer.new) result }
     ensures err { IfErr result (λ fault. (fault ≡ CmdFault.Write) ⊎ (fault ≡ CmdFault.Memory)) }
 {
     let request = waiting.remove(0);
@@ -104,22 +75,9 @@ fn round<W: Write>(
     waiting: &mut Vec<Frame>,
     writer: &mut W,
 ) -> Result<(), CmdFault>
-    ensures ends { (l : Loop) (e : BothEnds) → EndsStand l e node.old client.old waiting.old.items →
-        OnOk result (EndsStand l (after_round l e) node.new client.new waiting.new.items) }
-    ensures node { (l : Loop) (e : BothEnds) → EndsStand l e node.old client.old waiting.old.items →
-        Stands l.node node.new (after_round l e).inputs }
-    ensures ok { (l : Loop) (e : BothEnds) →
-        EndsStand l e node.old client.old waiting.old.items →
-        OnOk result (WritesLines (W.contents writer.old) (W.contents writer.new)
-        (frame_lines (frames_of l e.waiting e.inputs))) }
-    ensures write { (l : Loop) (e : BothEnds) →
-        EndsStand l e node.old client.old waiting.old.items →
-        result ≡ Err CmdFault.Write → WritesFront (W.contents writer.old) (W.contents writer.new)
-        (frame_lines (frames_of l e.waiting e.inputs)) }
-    ensures memory { (l : Loop) (e : BothEnds) →
-        EndsStand l e node.old client.old waiting.old.items →
-        result ≡ Err CmdFault.Memory → WritesFirst (W.contents writer.old) (W.contents writer.new)
-        (frame_lines (frames_of l e.waiting e.inputs)) }
+    ensures made { (l : Loop) (e : BothEnds) → EndsStand l e node.old client.old waiting.old.items →
+        RoundMade l e node.new client.new waiting.new.items
+        (W.contents writer.old) (W.contents writer.new) result }
     ensures err { IfErr result (λ fault. (fault ≡ CmdFault.Write) ⊎ (fault ≡ CmdFault.Memory)) }
 {
     if waiting.is_empty() {
@@ -136,22 +94,9 @@ pub(crate) fn all_rounds<W: Write>(
     waiting: &mut Vec<Frame>,
     writer: &mut W,
 ) -> Result<(), CmdFault>
-    ensures ends { (l : Loop) (e : BothEnds) → EndsStand l e node.old client.old waiting.old.items →
-        OnOk result (EndsStand l (rounds 20000 l e) node.new client.new waiting.new.items) }
-    ensures node { (l : Loop) (e : BothEnds) → EndsStand l e node.old client.old waiting.old.items →
-        StandsAfterSome l e node.new (W.contents writer.old) (W.contents writer.new) }
-    ensures ok { (l : Loop) (e : BothEnds) →
-        EndsStand l e node.old client.old waiting.old.items →
-        OnOk result (WritesLines (W.contents writer.old) (W.contents writer.new)
-        (frame_lines (frames_in 20000 l e))) }
-    ensures write { (l : Loop) (e : BothEnds) →
-        EndsStand l e node.old client.old waiting.old.items →
-        result ≡ Err CmdFault.Write → WritesFront (W.contents writer.old) (W.contents writer.new)
-        (frame_lines (frames_in 20000 l e)) }
-    ensures memory { (l : Loop) (e : BothEnds) →
-        EndsStand l e node.old client.old waiting.old.items →
-        result ≡ Err CmdFault.Memory → WritesFirst (W.contents writer.old) (W.contents writer.new)
-        (frame_lines (frames_in 20000 l e)) }
+    ensures made { (l : Loop) (e : BothEnds) → EndsStand l e node.old client.old waiting.old.items →
+        RoundsMade l e node.new client.new waiting.new.items
+        (W.contents writer.old) (W.contents writer.new) result }
     ensures err { IfErr result (λ fault. (fault ≡ CmdFault.Write) ⊎ (fault ≡ CmdFault.Memory)) }
 {
     let mut done = 0;

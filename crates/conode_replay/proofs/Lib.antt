@@ -3,3 +3,4 @@ pub mod Inputs
 pub mod Replaying
 pub mod Statuses
 pub mod WriteSets
+pub mod Ends

@@ -201,6 +201,22 @@ pub fn replay_files<R: Files + AllocGlobal + Input, O: Write, E: Write>(
     }
 }
 
+// replays an input against the device of a data sheet, at the node-ID and with the configuration that are stored
+fn replay_stored_sheet<R: Read + Drop, O: Write, E: Write>(
+    alloc: Global,
+    sheet: &Sheet<'_>,
+    input: R,
+    out: &mut O,
+    err: &mut E,
+) -> ExitCode
+    ensures { (exit_status result ≡ 0) ⊎ (exit_status result ≡ 1) }
+{
+    match Node::build(alloc, sheet, STORED_NODE_ID, &STORED_CONFIG) {
+        Ok(mut node) => replay_buffered(alloc, &mut node, input, out, err),
+        Err(fault) => faulty_build(fault, out),
+    }
+}
+
 /// Replays an input, a trace, against a device with the mandatory objects alone: device type 191h at node-ID 5.
 pub fn replay_stored<R: Read + Drop, O: Write, E: Write>(
     alloc: Global,
@@ -210,12 +226,8 @@ pub fn replay_stored<R: Read + Drop, O: Write, E: Write>(
 ) -> ExitCode
     ensures { (exit_status result ≡ 0) ⊎ (exit_status result ≡ 1) }
 {
-    let sheet = match read(alloc, STORED_SHEET) {
-        Ok(sheet) => sheet,
-        Err(fault) => return faulty_sheet(fault, out),
-    };
-    match Node::build(alloc, &sheet, STORED_NODE_ID, &STORED_CONFIG) {
-        Ok(mut node) => replay_buffered(alloc, &mut node, input, out, err),
-        Err(fault) => faulty_build(fault, out),
+    match read(alloc, STORED_SHEET) {
+        Ok(sheet) => replay_stored_sheet(alloc, &sheet, input, out, err),
+        Err(fault) => faulty_sheet(fault, out),
     }
 }

@@ -19,6 +19,15 @@ use conode_io::CmdFault;
 use conode_trace::{EventLine, TimedLine, TraceLine};
 use std::io::Write;
 
+// the clock at the tick after so many, in ms
+#[inline(always)]
+fn clock_after(before: u128, elapsed: u32) -> u128
+    requires { before + 2 ^ 32 < 2 ^ 128 }
+    ensures { result ≡ before + 1 + elapsed }
+{
+    before + 1 + u128::from(elapsed)
+}
+
 // the ticks of a line: how many frames are printed
 fn replay_ticks<W: Write>(
     text: &mut String,
@@ -45,7 +54,7 @@ fn replay_ticks<W: Write>(
 {
     let mut printed: u64 = 0;
     for elapsed in 0..timed.ticks {
-        let ms = timed.before + 1 + u128::from(elapsed);
+        let ms = clock_after(timed.before, elapsed);
         tick(text, node, timed.number, ms, sent, writer)?;
         printed += sent.len() as u64;
     }

@@ -1,64 +1,41 @@
-use Rattle.std.proofs.Common.{rules, ◌≡◌, [], ◌∷◌, Err, subst, ap, ◌∙◌}
+use Rattle.std.proofs.Common.{rules, ◌≡◌, Err, ap, ◌∙◌}
+use Rattle.std.proofs.lemmas.Result.{err_from_is_err_and}
 use Rattle.conode_io.specs.declared.fault.CmdFault.TheVariants.{Write, Memory}
-use Rattle.conode_io.specs.Written.{AppendsFront}
-use Rattle.std.specs.Io.KnownBytes.{Appends}
-use Rattle.conode_io.proofs.WriteLemmas.{front_after_lines, front_alone, front_of_more, line_alone, lines_after}
-use Rattle.co_sdo_client.specs.Outcomes.{sent}
-use Rattle.co_sdo_client.specs.Standing.{counted}
-use Rattle.co_node_model.specs.Loop.{frames_in, rounds, state_at}
-use Rattle.conode_loop.specs.Printed.{frame_lines, last_line}
-use Rattle.conode_loop.proofs.AllRounds.{some_later}
-use Rattle.conode_loop.proofs.Lines.{first_all, some_of_first}
+use Rattle.co_node_model.specs.Loop.{rounds, state_at}
+use Rattle.conode_loop.specs.Printed.{last_line}
+use Rattle.conode_loop.proofs.Writings.{last_line_fails, last_line_made, last_of, no_last_line, rounds_broke}
 use Rattle.conode_loop.proofs.looped.loop_client.Goals as goal
 
-pub returns-in_err-all_rounds-clause-write : goal.returns-in_err-all_rounds-clause-write
-returns-in_err-all_rounds-clause-write g c = λ l e st said.
-    let failed : c.all_rounds.result ≡ Err Write = search rules in
-    front_of_more _ _ (frame_lines (frames_in 20000 l e)) (last_line (state_at l (rounds 20000 l e)) (counted (sent l.call (rounds 20000 l e).events)) ∷ []) (c.all_rounds.ensures.write l e st failed)
+pub returns-in_err-all_rounds-clause-looped : goal.returns-in_err-all_rounds-clause-looped
+returns-in_err-all_rounds-clause-looped g c = λ l e st.
+    let passed = err_from_is_err_and c.from_residual.result c.from_residual.ensures.1 in
+    let is : c.from_residual.result ≡ Err c.in_err-all_rounds.field-0.0 = cc (passed.1, passed.2) in
+    rounds_broke l e c.all_rounds.new.node c.all_rounds.new.client c.all_rounds.new.waiting.items (g.W.Write.contents c.args.writer.now) (g.W.Write.contents c.all_rounds.new.writer) c.from_residual.result c.in_err-all_rounds.field-0.0 is (c.in_err-all_rounds.ensures.made l e st)
 
-pub returns-in_err-all_rounds-clause-memory : goal.returns-in_err-all_rounds-clause-memory
-returns-in_err-all_rounds-clause-memory g c = λ l e st said.
-    let failed : c.all_rounds.result ≡ Err Memory = search rules in
-    some_of_first _ _ (frame_lines (frames_in 20000 l e)) (last_line (state_at l (rounds 20000 l e)) (counted (sent l.call (rounds 20000 l e).events))) (c.all_rounds.ensures.memory l e st failed)
+pub returns-in_err-set_last_line-clause-looped : goal.returns-in_err-set_last_line-clause-looped
+returns-in_err-set_last_line-clause-looped g c = λ l e st.
+    let passed = err_from_is_err_and c.from_residual-in_err-set_last_line.result c.from_residual-in_err-set_last_line.ensures.1 in
+    let is : c.from_residual-in_err-set_last_line.result ≡ Err Memory = cc (passed.1, passed.2) in
+    no_last_line l e c.all_rounds.new.node c.all_rounds.new.client c.all_rounds.new.waiting.items (g.W.Write.contents c.args.writer.now) (g.W.Write.contents c.all_rounds.new.writer) c.from_residual-in_err-set_last_line.result tt is (c.in_ok-all_rounds.ensures.made l e st)
 
-pub returns-in_err-set_last_line-clause-memory : goal.returns-in_err-set_last_line-clause-memory
-returns-in_err-set_last_line-clause-memory g c = λ l e st said.
-    some_of_first _ _ (frame_lines (frames_in 20000 l e)) (last_line (state_at l (rounds 20000 l e)) (counted (sent l.call (rounds 20000 l e).events)))
-    (first_all _ _ (frame_lines (frames_in 20000 l e)) (c.in_ok-all_rounds.ensures.ok l e st))
-
-pub returns-in_err-hand_over-clause-write : goal.returns-in_err-hand_over-clause-write
-returns-in_err-hand_over-clause-write g c = λ l e st said.
-    let now = c.in_ok-all_rounds.ensures.ends l e st in
-    let last = last_line (state_at l (rounds 20000 l e)) (counted (sent l.call (rounds 20000 l e).events)) in
+pub returns-in_err-hand_over-clause-looped : goal.returns-in_err-hand_over-clause-looped
+returns-in_err-hand_over-clause-looped g c = λ l e st.
+    let passed = err_from_is_err_and c.from_residual-in_err-hand_over.result c.from_residual-in_err-hand_over.ensures.1 in
+    let is : c.from_residual-in_err-hand_over.result ≡ Err Write = cc (passed.1, passed.2, c.in_err-hand_over.ensures.fault) in
+    let rounds_made = c.in_ok-all_rounds.ensures.made l e st in
     let made : c.as_bytes.result.now ≡ last_line c.state-state.result c.sent.result = search rules in
-    let line : c.as_bytes.result.now ≡ last =
-    made ∙ ap (λ s. last_line s c.sent.result) (c.state-state.ensures.state l.call (rounds 20000 l e).events now.client_stands)
-    ∙ ap (last_line (state_at l (rounds 20000 l e))) (c.sent.ensures.sent l.call (rounds 20000 l e).events now.client_stands) in
-    front_after_lines _ (g.W.Write.contents c.all_rounds.new.writer) _ (frame_lines (frames_in 20000 l e)) (last ∷ []) (c.in_ok-all_rounds.ensures.ok l e st)
-    (front_alone _ _ last (subst (AppendsFront (g.W.Write.contents c.all_rounds.new.writer) (g.W.Write.contents c.hand_over.new.writer)) line c.in_err-hand_over.ensures.front))
+    let state = c.state-state.ensures.state l.call (rounds 20000 l e).events rounds_made.ends.client_stands in
+    let line : c.as_bytes.result.now ≡ last_of l e =
+    made ∙ ap (λ s. last_line s c.sent.result) state
+    ∙ ap (last_line (state_at l (rounds 20000 l e))) (c.sent.ensures.sent l.call (rounds 20000 l e).events rounds_made.ends.client_stands) in
+    last_line_fails l e c.all_rounds.new.node c.all_rounds.new.client c.all_rounds.new.waiting.items (g.W.Write.contents c.args.writer.now) (g.W.Write.contents c.all_rounds.new.writer) (g.W.Write.contents c.hand_over.new.writer) c.from_residual-in_err-hand_over.result tt c.as_bytes.result.now is line rounds_made c.in_err-hand_over.ensures.front
 
-pub returns-clause-text : goal.returns-clause-text
-returns-clause-text g c = λ l e st.
-    let now = c.in_ok-all_rounds.ensures.ends l e st in
-    let last = last_line (state_at l (rounds 20000 l e)) (counted (sent l.call (rounds 20000 l e).events)) in
+pub returns-clause-looped : goal.returns-clause-looped
+returns-clause-looped g c = λ l e st.
+    let rounds_made = c.in_ok-all_rounds.ensures.made l e st in
     let made : c.as_bytes.result.now ≡ last_line c.state-state.result c.sent.result = search rules in
-    let line : c.as_bytes.result.now ≡ last =
-    made ∙ ap (λ s. last_line s c.sent.result) (c.state-state.ensures.state l.call (rounds 20000 l e).events now.client_stands)
-    ∙ ap (last_line (state_at l (rounds 20000 l e))) (c.sent.ensures.sent l.call (rounds 20000 l e).events now.client_stands) in
-    lines_after _ (g.W.Write.contents c.all_rounds.new.writer) _ (frame_lines (frames_in 20000 l e)) (last ∷ []) (c.in_ok-all_rounds.ensures.ok l e st)
-    (line_alone _ _ last (subst (Appends (g.W.Write.contents c.all_rounds.new.writer) (g.W.Write.contents c.hand_over.new.writer)) line c.in_ok-hand_over.ensures.ok))
-
-pub returns-clause-state : goal.returns-clause-state
-returns-clause-state g c = λ l e st. c.state-state.ensures.state l.call (rounds 20000 l e).events (c.in_ok-all_rounds.ensures.ends l e st).client_stands
-
-pub returns-clause-node : goal.returns-clause-node
-returns-clause-node g c = λ l e st. (c.in_ok-all_rounds.ensures.ends l e st).node_stands
-
-pub returns-in_err-hand_over-clause-some : goal.returns-in_err-hand_over-clause-some
-returns-in_err-hand_over-clause-some g c = λ l e st.
-    let (bytes, part, written) = c.in_err-hand_over.ensures.front in
-    some_later l e c.all_rounds.new.node (g.W.Write.contents c.args.writer.now) (g.W.Write.contents c.all_rounds.new.writer) (g.W.Write.contents c.hand_over.new.writer) bytes (c.all_rounds.ensures.node l e st) written
-
-pub returns-clause-some : goal.returns-clause-some
-returns-clause-some g c = λ l e st.
-    some_later l e c.all_rounds.new.node (g.W.Write.contents c.args.writer.now) (g.W.Write.contents c.all_rounds.new.writer) (g.W.Write.contents c.hand_over.new.writer) c.as_bytes.result.now (c.all_rounds.ensures.node l e st) c.in_ok-hand_over.ensures.ok
+    let state = c.state-state.ensures.state l.call (rounds 20000 l e).events rounds_made.ends.client_stands in
+    let line : c.as_bytes.result.now ≡ last_of l e =
+    made ∙ ap (λ s. last_line s c.sent.result) state
+    ∙ ap (last_line (state_at l (rounds 20000 l e))) (c.sent.ensures.sent l.call (rounds 20000 l e).events rounds_made.ends.client_stands) in
+    last_line_made l e c.all_rounds.new.node c.all_rounds.new.client c.all_rounds.new.waiting.items (g.W.Write.contents c.args.writer.now) (g.W.Write.contents c.all_rounds.new.writer) (g.W.Write.contents c.hand_over.new.writer) c.state-state.result tt c.as_bytes.result.now state line rounds_made c.in_ok-hand_over.ensures.ok
