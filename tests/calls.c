@@ -596,6 +596,55 @@ static void test_entries(void)
     check(bafokun_entry_name(&node, 41, name, 4) == 0 && name[0] == 0, "entries", "nor a name");
 }
 
+/* The entries whose bytes the program doesn't know, from a number on: these keys, in this order, and no other. */
+static bool are_changed(bafokun_node *node, size_t from, const char *keys)
+{
+    bafokun_entry_info entry;
+    unsigned index, sub;
+    int used;
+    for (; bafokun_next_changed(node, from, &from); from++, keys += used)
+        if (!bafokun_entry(node, from, &entry) || sscanf(keys, " %x:%x%n", &index, &sub, &used) != 2 || entry.index != index
+            || entry.sub_index != sub)
+            return false;
+    return *keys == 0;
+}
+
+/* A line of a sequence, and the entries that it changes. */
+static void check_changes(bafokun_node *node, const char *line, const char *keys)
+{
+    check(run_line(node, line) && are_changed(node, 0, keys), "changes", line);
+}
+
+/* What SDO clients, RPDOs, resets and errors change is given once; what the application writes, never. */
+static void test_changes(void)
+{
+    bafokun_node node = BAFOKUN_EMPTY;
+    bafokun_fault fault;
+    bafokun_entry_info entry;
+    size_t number, with_bytes = 0, given = 0, next = 0;
+    check(bafokun_build(&node, sheet, strlen(sheet), 5, &config, &fault), "changes", "build");
+    for (number = 0; bafokun_entry(&node, number, &entry); number++) with_bytes += entry.length > 0;
+    for (; bafokun_next_changed(&node, next, &next); next++, given++)
+        if (!bafokun_entry(&node, next, &entry) || entry.length == 0) break;
+    check(given == with_bytes && given == 44, "changes", "first each entry that has bytes");
+    check(!bafokun_next_changed(&node, 0, &next) && next == 46, "changes", "then none, and nothing is written");
+    check_changes(&node, "605#2B03200034120000 = 585#6003200000000000", " 2003:0");
+    check_changes(&node, "605#2B03200034120000 = 585#6003200000000000", "");
+    check_changes(&node, "605#2B03200035120000 = 585#6003200000000000", " 2003:0");
+    check_changes(&node, "605#2B03200100000000 = 585#8003200111000906", "");
+    check_changes(&node, "write 2003:00 1234", "");
+    check(run_line(&node, "605#2B03200035120000 = 585#6003200000000000"), "changes", "download");
+    check(run_line(&node, "605#2302200001020304 = 585#6002200000000000"), "changes", "another");
+    check(are_changed(&node, 43, " 2003:0") && are_changed(&node, 0, " 2002:0"), "changes", "from a number on");
+    check(run_line(&node, "605#2302200000000000 = 585#6002200000000000"), "changes", "set");
+    check_changes(&node, "605#2302200001020304 = 585#6002200000000000", "");
+    check_changes(&node, "000#0105", "");
+    check_changes(&node, "205#05060708", " 2002:0");
+    check_changes(&node, "000#8105 = 705#00", " 2002:0 2003:0");
+    bafokun_free(&node);
+    check(!bafokun_next_changed(&node, 0, &next) && next == 46, "changes", "none of an empty place");
+}
+
 /* The words of the faults and abort codes: none is too long for the array, and an array with less room has a 0 at its end. */
 static void test_texts(void)
 {
@@ -706,6 +755,7 @@ int main(int argc, char **argv)
     test_small_arrays();
     test_ticks();
     test_entries();
+    test_changes();
     test_texts();
     test_empty_place();
     test_refused_memory();

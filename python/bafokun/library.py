@@ -87,6 +87,7 @@ _CALLS = {
     "value": (c_bool, _NODE, *_KEY, POINTER(c_uint8), c_size_t, POINTER(c_size_t)),
     "entry": (c_bool, _NODE, c_size_t, POINTER(CEntry)),
     "entry_name": (c_size_t, _NODE, c_size_t, c_char_p, c_size_t),
+    "next_changed": (c_bool, _NODE, c_size_t, POINTER(c_size_t)),
     "node_id": (c_uint8, _NODE),
     "state": (c_uint8, _NODE),
     "answer": (c_uint8, _NODE, POINTER(c_uint32)),

@@ -282,6 +282,18 @@ class Node:
 
     # ---- entries
 
+    def changed_entries(self) -> List[Entry]:
+        """The entries, by key, with other bytes than the application knows: those that it set, or that they had when this gave them.
+
+        So first each entry that has bytes; later each that SDO clients, RPDOs, a reset or an error gave other bytes, once.
+        """
+        entries, found, number = list(self), [], ctypes.c_size_t()
+        with self._lock:
+            while self._call("next_changed", number, number):
+                found.append(entries[number.value])
+                number.value += 1
+        return found
+
     def __iter__(self) -> Iterator[Entry]:
         return iter(self._entries.values())
 

@@ -253,6 +253,18 @@ class Entries(unittest.TestCase):
         with self.assertRaisesRegex(bafokun.Refused, "no such sub-index"):
             node.write(0x7130, 2, b"\xd7\0")
 
+    def test_changed_entries(self):
+        """First all that have bytes; then what comes from the bus and from resets, once, and nothing that the application sets."""
+        node = bafokun.Node.from_sheet(SENSOR, 5)
+        self.assertEqual(node.changed_entries(), [it for it in node if it.bytes])
+        self.assertEqual(node.changed_entries(), [])
+        node["AI input PV 1"] = -2
+        self.assertEqual(node.changed_entries(), [])
+        node.take((0x605, bytes.fromhex("2B002000F4010000")))
+        self.assertEqual([(it.name, it.raw) for it in node.changed_entries()], [("Measuring interval in ms", 500)])
+        node.take((0, bytes.fromhex("8105")))
+        self.assertEqual([it.name for it in node.changed_entries()], ["Measuring interval in ms", "AI input PV 1"])
+
 
 class Inputs(unittest.TestCase):
     def test_events_wait(self):

@@ -1,5 +1,5 @@
 -- Bus-off leads to the NMT state that a lost heartbeat leads to; and the bits that end with an error of the CAN interface, evaluated.
-use Rattle.std.proofs.Common.{◌≡◌, ℕ, List, [], ◌∷◌, map, Some, refl}
+use Rattle.std.proofs.Common.{◌≡◌, [], ◌∷◌, map, refl}
 use Rattle.co_frame.specs.declared.nmt.NmtService.TheVariants.{Stop, EnterPreOperational}
 use Rattle.co_node_parts.specs.declared.nmt_state.LossReaction.{LossReaction}
 use Rattle.co_node_parts.specs.declared.nmt_state.LossReaction.TheVariants.{LeaveOperational, NoChange, EnterStopped}
@@ -11,7 +11,7 @@ use Rattle.co_node_model.specs.Moments.{Constants}
 use Rattle.co_node_model.specs.Device.{contents_of, state_of}
 use Rattle.co_node_laws.specs.ByKind.{device_of, kind_of, state_with}
 use Rattle.co_profile.specs.Keys.{error_behaviour_key}
-use Rattle.bafokun.specs.Bus.{after_bus, bus_error, bus_input, by_reaction, byte_of, command_to_all, ended_bits}
+use Rattle.bafokun.specs.Bus.{after_bus, bus_input, by_reaction, byte_of, command_to_all, ended_bits}
 
 by_cases : (k : Constants) (before : Inputs) (r : LossReaction) (s : NodeState)
     → ((input : InputView) → state_of k (input ∷ before) ≡ state_with (kind_of k (device_of k before) input) (device_of k before))

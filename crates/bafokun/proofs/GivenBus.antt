@@ -1,5 +1,5 @@
 -- What is given back of a device after a change of the CAN controller.
-use Rattle.std.proofs.Common.{◌≡◌, ◌≤◌, ℕ, List, [], ◌∷◌, length, Option, Some, None, sym, ap, ◌∙◌, subst}
+use Rattle.std.proofs.Common.{◌≡◌, ◌≤◌, ℕ, List, ◌∷◌, length, Option, Some, None, sym, ap, ◌∙◌, subst}
 use Rattle.co_frame.specs.FrameContent.{FrameContent}
 use Rattle.co_node_model.specs.Inputs.{InputView, Inputs}
 use Rattle.co_node_model.specs.Moments.{Constants}

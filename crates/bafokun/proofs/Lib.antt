@@ -1,6 +1,7 @@
 pub mod AsBox
 pub mod AsLoss
 pub mod GivenBus
+pub mod KnownSoFar
 pub mod Nothing
 pub mod Refused
 pub mod Terminated

@@ -1,5 +1,5 @@
 -- An array into which no frame was put.
-use Rattle.std.proofs.Common.{◌≡◌, ◌≤◌, ℕ, List, [], ◌∷◌, length, refl, arith}
+use Rattle.std.proofs.Common.{◌≤◌, List, [], ◌∷◌, length, refl, arith}
 use Rattle.co_frame.specs.FrameContent.{FrameContent}
 use Rattle.bafokun.specs.declared.frames.CanFrame.{CanFrame}
 use Rattle.bafokun.specs.Frames.{ArePut}

@@ -1,5 +1,5 @@
 -- A device that is built for C, or why there is none.
-use Rattle.std.specs.Prelude.{◌≡◌, ℕ, List, [], Option, Some, None}
+use Rattle.std.specs.Prelude.{◌≡◌, ℕ, List, [], map, Option, Some, None}
 use Rattle.co_sheet_rows.specs.declared.fault.SheetFault.{SheetFault}
 use Rattle.co_sheet.specs.Accepted.{IsAnswered, first_fault}
 use Rattle.co_sheet.specs.Content.{SheetContent, IsSheet, IsWhole}
@@ -17,7 +17,8 @@ use Rattle.bafokun.specs.Faults.{device_fault, sheet_fault}
 use Rattle.bafokun.specs.declared.held.Held.{Held}
 use Rattle.bafokun.specs.declared.handle.Handle.{Handle}
 use Rattle.co_sheet_originals.specs.Originals.{original_at}
-use Rattle.co_dict_table.specs.Entries.{contents_of_rows}
+use Rattle.co_dict_table.specs.Entries.{EntryContent, contents_of_rows}
+use Rattle.co_dict_table.specs.Known.{Known, blank_of}
 
 -- the room of strings and of domains: no entry has a limit of its own
 abbrev pub limits_for : Settings → Limits
@@ -36,13 +37,25 @@ pub record IsNodeOf (node : ℕ) (settings : Settings) (sheet : SheetContent) (m
       → IsGreatestCapacity (built_description (plan_for node settings sheet)).rows greatest
       → Stands (node_constants (plan_for node settings sheet) greatest settings.time) made []
 
--- and of a text; it has what the text says of the entries
+-- it is held with these entries and these bytes of them
+pub record IsHeld (made : Node) (table : List EntryContent) (bytes : List Known) (held : Held) : Type 0 where
+  pub node : held.node ≡ made
+  pub entries : held.entries ≡ table
+  pub known : held.known ≡ bytes
+
+-- this device was built of this sheet; it has what the sheet says of the entries, with these original types by section lines, and
+-- the application knows no bytes of them
+pub record IsHeldOf (originals : ℕ → Option (List ℕ)) (node : ℕ) (settings : Settings) (sheet : SheetContent) (held : Held) : Type 0 where
+  pub is_built : IsNodeOf node settings sheet held.node
+  pub entries : held.entries ≡ contents_of_rows originals (limits_for settings) sheet.rows
+  pub known : held.known ≡ map blank_of held.entries
+
+-- and of a text
 pub record IsBuilt (text : List ℕ) (node : ℕ) (settings : Settings) (held : Held) : Type 0 where
   pub sheet : SheetContent
   pub is_sheet : IsSheet text sheet
   pub is_whole : IsWhole text sheet
-  pub is_built : IsNodeOf node settings sheet held.node
-  pub entries : held.entries ≡ contents_of_rows (original_at text) (limits_for settings) sheet.rows
+  pub is_held : IsHeldOf (original_at text) node settings sheet held
 
 abbrev pub IsFilled : List ℕ → ℕ → Settings → Option Held → Type 0
 IsFilled text node settings None = ⊥

@@ -10,6 +10,7 @@ use Rattle.bafokun.specs.declared.frames.CanFrame.{CanFrame}
 use Rattle.bafokun.specs.declared.held.Held.{Held}
 use Rattle.bafokun.specs.declared.handle.Handle.{Handle}
 use Rattle.co_dict_table.specs.Entries.{EntryContent}
+use Rattle.co_dict_table.specs.Known.{Known}
 use Rattle.bafokun.specs.Frames.{ArePut}
 
 -- this held device stands after these inputs, the newest first
@@ -40,6 +41,14 @@ entries_in (Some held) = held.entries
 -- what the data sheet of its device says of the entries, in increasing key
 abbrev pub entries_of : Handle → List EntryContent
 entries_of place = entries_in place.seal.value
+
+abbrev pub known_in : Option Held → List Known
+known_in None = []
+known_in (Some held) = held.known
+
+-- the bytes that the application knows of the entries of its device
+abbrev pub known_of : Handle → List Known
+known_of place = known_in place.seal.value
 
 -- after one more input
 pub record Gave (k : Constants) (before : Inputs) (input : InputView) (held : Held) : Type 0 where

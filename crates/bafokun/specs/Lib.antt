@@ -1,6 +1,7 @@
 pub mod Answers
 pub mod Builds
 pub mod Bus
+pub mod Changes
 pub mod Devices
 pub mod Entries
 pub mod Faults

@@ -1,12 +1,15 @@
 //! How C builds a device.
 
-ghost use Rattle.std.specs.Prelude.{◌≡◌, ◌≤◌, None, true, false, length, IfErr, IfOk};
+ghost use Rattle.std.specs.Prelude.{◌≡◌, ◌≤◌, None, true, false, length, map, IfErr, IfOk};
 ghost use Rattle.co_sheet_originals.specs.Originals.{original_at};
 ghost use Rattle.co_dict_build.specs.BuildFaults.{build_fault};
 ghost use Rattle.co_dict_build.specs.Built.{Plan};
 ghost use Rattle.co_dict_table.specs.Entries.{contents_of_rows};
+ghost use Rattle.co_dict_table.specs.Known.{blank_of};
 ghost use Rattle.bafokun.specs.Builds.{
   IsBuilt,
+  IsHeld,
+  IsHeldOf,
   IsNodeOf,
   IsPlaced,
   IsRefused,
@@ -20,7 +23,7 @@ ghost use Rattle.bafokun.specs.Devices.{IsEmpty};
 use crate::handle::Handle;
 use crate::held::Held;
 use co_dict_build::{BuildFault, Limits};
-use co_dict_table::EntryTable;
+use co_dict_table::{EntryTable, KnownBytes};
 use co_frame::Outbox;
 use co_node::{Config, Node};
 use co_sheet::{Sheet, SheetFault, read};
@@ -151,19 +154,35 @@ fn entries_of(
     }
 }
 
-// A node that has given no frame, and its entries, in memory of their own.
-fn boxed(alloc: Global, node: Node, entries: EntryTable) -> Result<Box<Held>, Fault>
-    ensures node { IfOk result (λ held. held.value.node ≡ node) }
-    ensures entries { IfOk result (λ held. held.value.entries ≡ entries) }
+// A node that has given no frame, and its entries, of which nothing is known, in memory of their own.
+fn boxed(
+    alloc: Global,
+    node: Node,
+    entries: EntryTable,
+    known: KnownBytes,
+) -> Result<Box<Held>, Fault>
+    ensures ok { IfOk result (λ held. IsHeld node entries known held.value) }
     ensures err { (plan : Plan) → IfErr result (IsUnbuilt plan) }
 {
     let held = Held {
         node,
         sent: Outbox::new(),
         entries,
+        known,
     };
     match Box::new(alloc, held) {
         Ok(held) => Ok(held),
+        Err(_) => Err(Fault::of_build(BuildFault::Memory)),
+    }
+}
+
+// Room for the bytes of entries, of which none is known.
+fn unknown(alloc: Global, entries: &EntryTable) -> Result<KnownBytes, Fault>
+    ensures ok { IfOk result (λ known. known ≡ map blank_of entries.now) }
+    ensures err { (plan : Plan) → IfErr result (IsUnbuilt plan) }
+{
+    match entries.known_bytes(alloc) {
+        Ok(known) => Ok(known),
         Err(_) => Err(Fault::of_build(BuildFault::Memory)),
     }
 }
@@ -177,14 +196,14 @@ fn held_of(
     settings: &Settings,
 ) -> Result<Box<Held>, Fault>
     requires { length text.now ≤ 1048576 }
-    ensures ok { IfOk result (λ held. IsNodeOf node_id settings.now sheet.now held.value.node) }
-    ensures entries { IfOk result (λ held. held.value.entries
-        ≡ contents_of_rows (original_at text.now) (limits_for settings.now) sheet.now.rows) }
+    ensures ok { IfOk result (λ held.
+        IsHeldOf (original_at text.now) node_id settings.now sheet.now held.value) }
     ensures err { IfErr result (IsUnbuilt (plan_for node_id settings.now sheet.now)) }
 {
     let node = node_of(alloc, sheet, node_id, settings)?;
     let entries = entries_of(alloc, text, sheet, node_id, settings)?;
-    boxed(alloc, node, entries)
+    let known = unknown(alloc, &entries)?;
+    boxed(alloc, node, entries, known)
 }
 
 // The device of a text.

@@ -4,7 +4,8 @@ ghost use Rattle.std.specs.Prelude.{◌≡◌, false};
 ghost use Rattle.co_node_model.specs.Inputs.{Inputs};
 ghost use Rattle.co_node_model.specs.Moments.{Constants};
 ghost use Rattle.co_node_model.specs.Device.{contents_of};
-ghost use Rattle.bafokun.specs.Devices.{IsDevice, IsEmpty, entries_of};
+ghost use Rattle.bafokun.specs.Changes.{IsGiven};
+ghost use Rattle.bafokun.specs.Devices.{IsDevice, IsEmpty, entries_of, known_of, sent_of};
 ghost use Rattle.co_dict_table.specs.Entries.{entry_at, name_at, number_of};
 ghost use Rattle.bafokun.specs.Entries.{IsEntry, IsNumber};
 ghost use Rattle.bafokun.specs.Texts.{IsText};
@@ -105,6 +106,43 @@ pub extern "C" fn bafokun_find(
             };
             *node = Handle::of(held);
             found
+        }
+        None => false,
+    }
+}
+
+/// Whether an entry, from a number on, has other bytes than those that the application knows: those of its own last write, or
+/// those that the entry had when this call gave it last; at first none. Then the first one goes into `number`, and its bytes are known.
+/// So a loop that goes on from the number after it comes to each such entry once. C owes what `bafokun_find` says.
+#[unsafe(no_mangle)]
+pub extern "C" fn bafokun_next_changed(
+    alloc: Global,
+    node: &mut Handle,
+    from: usize,
+    number: &mut usize,
+) -> bool
+    ensures given { (k : Constants) (before : Inputs) → IsDevice k node.old before →
+        IsGiven (contents_of k before) (entries_of node.old) (known_of node.old) from
+        number.old number.new result (known_of node.new) }
+    ensures device { (k : Constants) (before : Inputs) → IsDevice k node.old before →
+        IsDevice k node.new before }
+    ensures sent { sent_of node.new ≡ sent_of node.old }
+    ensures entries { entries_of node.new ≡ entries_of node.old }
+    ensures empty { IsEmpty node.old → IsEmpty node.new }
+    ensures nothing { IsEmpty node.old → result ≡ false }
+    ensures untouched { IsEmpty node.old → number.new ≡ number.old }
+{
+    match node.take(alloc) {
+        Some(mut held) => {
+            let found = held.next_changed(from);
+            *node = Handle::of(held);
+            match found {
+                Some(at) => {
+                    *number = at;
+                    true
+                }
+                None => false,
+            }
         }
         None => false,
     }

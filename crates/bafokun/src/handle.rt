@@ -9,6 +9,7 @@ use crate::parts::Parts;
 use crate::seal::Seal;
 use co_frame::Frame;
 use co_node::AppEvent;
+use co_value::Key;
 use std::alloc::Global;
 use std::mem::replace;
 
@@ -23,9 +24,10 @@ pub struct Handle {
 }
 
 impl Handle {
-    ghost use Rattle.co_node_model.specs.Inputs.{Inputs, Framed, Ticked, Applied, app_view};
+    ghost use Rattle.co_node_model.specs.Inputs.{Inputs, Framed, Ticked, Applied, Written, app_view};
     ghost use Rattle.co_node_model.specs.Moments.{Constants};
-    ghost use Rattle.bafokun.specs.Devices.{Gives, IsDevice, IsEmpty, IsQuiet, entries_of};
+    ghost use Rattle.bafokun.specs.Changes.{KnowsWritten};
+    ghost use Rattle.bafokun.specs.Devices.{Gives, IsDevice, IsEmpty, IsQuiet, entries_of, known_of};
     ghost use Rattle.bafokun.specs.Frames.{ArePut};
 
     fn empty(alloc: Global) -> Handle
@@ -93,6 +95,7 @@ impl Handle {
             Gives k before (Framed frame.now) self.new frames.old frames.new result }
         ensures empty { IsEmpty self.old → IsQuiet self.new frames.old frames.new result }
         ensures entries { entries_of self.new ≡ entries_of self.old }
+        ensures known { known_of self.new ≡ known_of self.old }
     {
         match self.take(alloc) {
             Some(mut held) => {
@@ -110,6 +113,7 @@ impl Handle {
             Gives k before Ticked self.new frames.old frames.new result }
         ensures empty { IsEmpty self.old → IsQuiet self.new frames.old frames.new result }
         ensures entries { entries_of self.new ≡ entries_of self.old }
+        ensures known { known_of self.new ≡ known_of self.old }
     {
         match self.take(alloc) {
             Some(mut held) => {
@@ -131,10 +135,35 @@ impl Handle {
             Gives k before (Applied (app_view event.entry)) self.new frames.old frames.new result }
         ensures empty { IsEmpty self.old → IsQuiet self.new frames.old frames.new result }
         ensures entries { entries_of self.new ≡ entries_of self.old }
+        ensures known { known_of self.new ≡ known_of self.old }
     {
         match self.take(alloc) {
             Some(mut held) => {
                 held.take_event(event);
+                self.give(held, frames)
+            }
+            None => 0,
+        }
+    }
+
+    /// The application writes an entry, whose bytes it knows then. What is sent goes into the array as by `take_frame`.
+    pub(crate) fn write(
+        &mut self,
+        alloc: Global,
+        key: Key,
+        bytes: &[u8],
+        frames: &mut [CanFrame],
+    ) -> usize
+        ensures gives { (k : Constants) (before : Inputs) → IsDevice k self.old before →
+            Gives k before (Applied (Written key bytes.now)) self.new frames.old frames.new result }
+        ensures empty { IsEmpty self.old → IsQuiet self.new frames.old frames.new result }
+        ensures entries { entries_of self.new ≡ entries_of self.old }
+        ensures known { (k : Constants) (before : Inputs) → IsDevice k self.old before → KnowsWritten
+            k before key bytes.now (entries_of self.old) (known_of self.old) (known_of self.new) }
+    {
+        match self.take(alloc) {
+            Some(mut held) => {
+                held.write(key, bytes);
                 self.give(held, frames)
             }
             None => 0,

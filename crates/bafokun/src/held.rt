@@ -1,25 +1,31 @@
 //! What C holds a device by.
 
 ghost use Rattle.std.specs.Prelude.{◌≡◌, [], ◌∷◌, true, false};
-ghost use Rattle.co_node_model.specs.Inputs.{Inputs, Framed, Ticked, Applied, app_view};
+ghost use Rattle.co_node_model.specs.Inputs.{Inputs, Framed, Ticked, Applied, Written, app_view};
 ghost use Rattle.co_node_model.specs.Moments.{Constants};
 ghost use Rattle.co_node_model.specs.Heartbeats.{boot_up};
 ghost use Rattle.co_node.specs.Nodes.{Stands};
+ghost use Rattle.co_node_model.specs.Device.{contents_of};
+ghost use Rattle.bafokun.specs.Changes.{IsNext, KnowsWritten, known_after};
 ghost use Rattle.bafokun.specs.Bus.{GaveBus, bus_input};
 ghost use Rattle.bafokun.specs.Devices.{Gave};
 ghost use Rattle.bafokun.specs.Ticks.{GaveTicks};
 
 use crate::bus::bus_input;
-use co_dict_table::EntryTable;
+use crate::changes::{next_changed, note, note_written};
+use co_dict_table::{EntryTable, KnownBytes};
 use co_frame::{Frame, Outbox};
 use co_node::{AppEvent, Node};
+use co_value::Key;
 
-/// A device, the frames that its last input gave, and what its data sheet says of the entries.
+/// A device, the frames that its last input gave, what its data sheet says of the entries, and the bytes of them that the application
+/// knows.
 #[derive(Drop)]
 pub struct Held {
     pub(crate) node: Node,
     pub(crate) sent: Outbox,
     pub(crate) entries: EntryTable,
+    pub(crate) known: KnownBytes,
 }
 
 impl Held {
@@ -29,6 +35,7 @@ impl Held {
         ensures gave { (k : Constants) (before : Inputs) → Stands k self.old.node before →
             Gave k before (Framed frame.now) self.new }
         ensures entries { self.new.entries ≡ self.old.entries }
+        ensures known { self.new.known ≡ self.old.known }
     {
         self.node.take_frame(frame, &mut self.sent);
     }
@@ -39,6 +46,7 @@ impl Held {
         ensures gave { (k : Constants) (before : Inputs) → Stands k self.old.node before →
             Gave k before Ticked self.new }
         ensures entries { self.new.entries ≡ self.old.entries }
+        ensures known { self.new.known ≡ self.old.known }
     {
         self.node.tick(&mut self.sent);
     }
@@ -48,6 +56,7 @@ impl Held {
         ensures gave { (k : Constants) (before : Inputs) → Stands k self.old.node before →
             GaveTicks k before most result self.new }
         ensures entries { self.new.entries ≡ self.old.entries }
+        ensures known { self.new.known ≡ self.old.known }
     {
         self.sent.clear();
         for i in 0..most {
@@ -73,8 +82,41 @@ impl Held {
         ensures gave { (k : Constants) (before : Inputs) → Stands k self.old.node before →
             Gave k before (Applied (app_view event.entry)) self.new }
         ensures entries { self.new.entries ≡ self.old.entries }
+        ensures known { self.new.known ≡ self.old.known }
     {
         self.node.take_event(event, &mut self.sent);
+    }
+
+    /// The application writes an entry, whose bytes it knows then.
+    pub(crate) fn write(&mut self, key: Key, bytes: &[u8])
+        ensures gave { (k : Constants) (before : Inputs) → Stands k self.old.node before →
+            Gave k before (Applied (Written key bytes.now)) self.new }
+        ensures entries { self.new.entries ≡ self.old.entries }
+        ensures known { (k : Constants) (before : Inputs) → Stands k self.old.node before →
+            KnowsWritten k before key bytes.now self.old.entries self.old.known self.new.known }
+    {
+        self.take_event(AppEvent::Write(key, bytes));
+        note_written(&self.node, &self.entries, &mut self.known, key);
+    }
+
+    /// The first entry from a number on whose bytes the application doesn't know; it knows them then.
+    pub(crate) fn next_changed(&mut self, from: usize) -> Option<usize>
+        ensures next { (k : Constants) (before : Inputs) → Stands k self.old.node before →
+            IsNext (contents_of k before) self.old.entries self.old.known from result }
+        ensures known { (k : Constants) (before : Inputs) → Stands k self.old.node before →
+            self.new.known
+            ≡ known_after (contents_of k before) self.old.entries self.old.known result }
+        ensures node { self.new.node ≡ self.old.node }
+        ensures sent { self.new.sent ≡ self.old.sent }
+        ensures entries { self.new.entries ≡ self.old.entries }
+    {
+        match next_changed(&self.node, &self.entries, &self.known, from) {
+            Some(number) => {
+                note(&self.node, &self.entries, &mut self.known, number);
+                Some(number)
+            }
+            None => None,
+        }
     }
 
     /// A change of the CAN controller.
@@ -82,6 +124,7 @@ impl Held {
         ensures gave { (k : Constants) (before : Inputs) → Stands k self.old.node before →
             GaveBus k before (bus_input k before change) self.new }
         ensures entries { self.new.entries ≡ self.old.entries }
+        ensures known { self.new.known ≡ self.old.known }
     {
         match bus_input(&self.node, change) {
             Some(input) => self.node.step(input, &mut self.sent),
@@ -95,6 +138,7 @@ impl Held {
         ensures sent { (k : Constants) (before : Inputs) → Stands k self.old.node before →
             self.new.sent.items ≡ boot_up k ∷ [] }
         ensures entries { self.new.entries ≡ self.old.entries }
+        ensures known { self.new.known ≡ self.old.known }
     {
         self.node.boot(&mut self.sent);
     }

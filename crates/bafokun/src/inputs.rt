@@ -14,7 +14,8 @@ ghost use Rattle.co_node_model.specs.Inputs.{
 };
 ghost use Rattle.co_node_model.specs.Moments.{Constants};
 ghost use Rattle.bafokun.specs.Bus.{GivesBus, bus_input};
-ghost use Rattle.bafokun.specs.Devices.{Gives, GivesBootUp, IsDevice, IsEmpty, IsQuiet, entries_of};
+ghost use Rattle.bafokun.specs.Devices.{Gives, GivesBootUp, IsDevice, IsEmpty, IsQuiet, entries_of, known_of};
+ghost use Rattle.bafokun.specs.Changes.{KnowsWritten};
 ghost use Rattle.bafokun.specs.Frames.{IsCan, content_of};
 ghost use Rattle.bafokun.specs.Ticks.{GivesTicks};
 
@@ -31,6 +32,7 @@ pub extern "C" fn bafokun_boot(alloc: Global, node: &mut Handle, frames: &mut [C
         GivesBootUp k before node.new frames.old frames.new result }
     ensures empty { IsEmpty node.old → IsQuiet node.new frames.old frames.new result }
     ensures entries { entries_of node.new ≡ entries_of node.old }
+    ensures known { known_of node.new ≡ known_of node.old }
 {
     match node.take(alloc) {
         Some(mut held) => {
@@ -54,6 +56,7 @@ pub extern "C" fn bafokun_take(
         Gives k before (Framed (content_of frame.now)) node.new frames.old frames.new result }
     ensures empty { IsEmpty node.old → IsQuiet node.new frames.old frames.new result }
     ensures entries { entries_of node.new ≡ entries_of node.old }
+    ensures known { known_of node.new ≡ known_of node.old }
     ensures no_frame { (IsCan frame.now → ⊥) → node.new ≡ node.old }
     ensures nothing { (IsCan frame.now → ⊥) → result ≡ 0 }
     ensures untouched { (IsCan frame.now → ⊥) → frames.new ≡ frames.old }
@@ -73,6 +76,7 @@ pub extern "C" fn bafokun_tick(alloc: Global, node: &mut Handle, frames: &mut [C
         Gives k before Ticked node.new frames.old frames.new result }
     ensures empty { IsEmpty node.old → IsQuiet node.new frames.old frames.new result }
     ensures entries { entries_of node.new ≡ entries_of node.old }
+    ensures known { known_of node.new ≡ known_of node.old }
 {
     node.tick(alloc, frames)
 }
@@ -93,6 +97,7 @@ pub extern "C" fn bafokun_ticks(
         GivesTicks k before most elapsed.new node.new frames.old frames.new result }
     ensures empty { IsEmpty node.old → IsQuiet node.new frames.old frames.new result }
     ensures entries { entries_of node.new ≡ entries_of node.old }
+    ensures known { known_of node.new ≡ known_of node.old }
     ensures all { IsEmpty node.old → elapsed.new ≡ most }
 {
     match node.take(alloc) {
@@ -107,7 +112,7 @@ pub extern "C" fn bafokun_ticks(
     }
 }
 
-/// The application writes an entry, also one that a client may only read. C owes what `bafokun_tick` says, and as many
+/// The application writes an entry, also one that a client may only read; it knows the bytes then. C owes what `bafokun_tick` says, and as many
 /// bytes as it says, which aren't part of the array.
 #[unsafe(no_mangle)]
 pub extern "C" fn bafokun_write(
@@ -123,12 +128,15 @@ pub extern "C" fn bafokun_write(
         node.new frames.old frames.new result }
     ensures empty { IsEmpty node.old → IsQuiet node.new frames.old frames.new result }
     ensures entries { entries_of node.new ≡ entries_of node.old }
+    ensures known { (k : Constants) (before : Inputs) → IsDevice k node.old before →
+        KnowsWritten k before (record { index = index; sub = sub_index }) bytes.now
+        (entries_of node.old) (known_of node.old) (known_of node.new) }
 {
     let key = Key {
         index,
         sub: sub_index,
     };
-    node.take_event(alloc, AppEvent::Write(key, bytes), frames)
+    node.write(alloc, key, bytes, frames)
 }
 
 /// An event on a TPDO, by its number from 0. C owes what `bafokun_tick` says.
@@ -143,6 +151,7 @@ pub extern "C" fn bafokun_event(
         Gives k before (Applied (EventOn tpdo)) node.new frames.old frames.new result }
     ensures empty { IsEmpty node.old → IsQuiet node.new frames.old frames.new result }
     ensures entries { entries_of node.new ≡ entries_of node.old }
+    ensures known { known_of node.new ≡ known_of node.old }
 {
     node.take_event(alloc, AppEvent::Event(tpdo), frames)
 }
@@ -161,6 +170,7 @@ pub extern "C" fn bafokun_changed(
         node.new frames.old frames.new result }
     ensures empty { IsEmpty node.old → IsQuiet node.new frames.old frames.new result }
     ensures entries { entries_of node.new ≡ entries_of node.old }
+    ensures known { known_of node.new ≡ known_of node.old }
 {
     let key = Key {
         index,
@@ -185,6 +195,7 @@ pub extern "C" fn bafokun_raise(
         node.new frames.old frames.new result }
     ensures empty { IsEmpty node.old → IsQuiet node.new frames.old frames.new result }
     ensures entries { entries_of node.new ≡ entries_of node.old }
+    ensures known { known_of node.new ≡ known_of node.old }
 {
     node.take_event(alloc, AppEvent::Raise(code, bits, *manufacturer), frames)
 }
@@ -201,6 +212,7 @@ pub extern "C" fn bafokun_clear(
         Gives k before (Applied (Cleared bits)) node.new frames.old frames.new result }
     ensures empty { IsEmpty node.old → IsQuiet node.new frames.old frames.new result }
     ensures entries { entries_of node.new ≡ entries_of node.old }
+    ensures known { known_of node.new ≡ known_of node.old }
 {
     node.take_event(alloc, AppEvent::Clear(bits), frames)
 }
@@ -221,6 +233,7 @@ pub extern "C" fn bafokun_bus(
         GivesBus k before (bus_input k before change) node.new frames.old frames.new result }
     ensures empty { IsEmpty node.old → IsQuiet node.new frames.old frames.new result }
     ensures entries { entries_of node.new ≡ entries_of node.old }
+    ensures known { known_of node.new ≡ known_of node.old }
 {
     match node.take(alloc) {
         Some(mut held) => {

@@ -3,6 +3,7 @@
 
 mod build;
 mod bus;
+mod changes;
 mod dictionary;
 mod entries;
 mod frames;
@@ -16,7 +17,7 @@ mod texts;
 
 pub use build::{Fault, Settings, bafokun_build};
 pub use bus::bus_off_as_lost_heartbeat;
-pub use dictionary::{bafokun_entry, bafokun_entry_name, bafokun_find};
+pub use dictionary::{bafokun_entry, bafokun_entry_name, bafokun_find, bafokun_next_changed};
 pub use entries::Entry;
 pub use frames::CanFrame;
 pub use handle::Handle;

@@ -1,5 +1,5 @@
 -- The rows of a sheet that makes a dictionary without a fault.
-use Rattle.std.proofs.Common.{◌≡◌, ◌≤◌, ℕ, Bool, true, false, List, Option, Some, None, refl, map, All, subst, sym, arith}
+use Rattle.std.proofs.Common.{◌≡◌, ◌≤◌, Bool, true, false, List, Option, Some, None, refl, map, All, subst, sym, arith}
 use Rattle.std.specs.Prelude.{not, option_map}
 use Rattle.std.specs.Option.{option_or}
 use Rattle.std.proofs.lemmas.Bool.Decides.{nat_tests}
@@ -10,8 +10,8 @@ use Rattle.co_sheet.specs.SheetViews.{row_view}
 use Rattle.co_sheet.specs.SheetLaws.{IsSheetRow}
 use Rattle.co_dict_build.specs.declared.build_fault.BuildFault.{BuildFault}
 use Rattle.co_dict_build.specs.declared.build_fault.BuildFault.TheVariants.{NodeId, ValueRange}
-use Rattle.co_dict_build.specs.BuildFaults.{build_fault, dictionary_fault, fault_if, first_there, is_node, value_out_of_range}
-use Rattle.co_dict_build.specs.Built.{Plan, built_contents, built_description}
+use Rattle.co_dict_build.specs.BuildFaults.{build_fault, fault_if, is_node, value_out_of_range}
+use Rattle.co_dict_build.specs.Built.{Plan}
 use Rattle.co_dict_build.specs.SheetRows.{IsReady}
 use Rattle.co_dict_build.proofs.Plans.{all_ready}
 

@@ -24,8 +24,10 @@ ghost use Rattle.co_sheet_originals.specs.Views.{text_at};
 ghost use Rattle.co_dict_build.specs.Capacities.{limits_view};
 ghost use Rattle.co_dict_build.specs.SheetRows.{IsReady};
 ghost use Rattle.co_dict_table.specs.Entries.{content_of_row, contents_of_rows, entry_at, facts_of_row, number_of};
+ghost use Rattle.co_dict_table.specs.Known.{blank_of};
 ghost use Rattle.co_dict_table.specs.Tables.{AreWithin, described_view, in_table};
 
+use crate::known::KnownBytes;
 use crate::original::code_or;
 use co_dict_build::{Limits, entry_of_row};
 use co_profile::Access;
@@ -51,7 +53,7 @@ pub struct EntryFacts {
 /// An entry of a table, and where its name is among the names.
 #[derive(Clone, Copy)]
 pub(crate) struct Line {
-    facts: EntryFacts,
+    pub(crate) facts: EntryFacts,
     size: u16,
     start: u32,
 }
@@ -126,6 +128,21 @@ impl EntryTable {
             lines: lines.into_boxed_slice(),
             names: names.into_boxed_slice(),
         })
+    }
+
+    /// Room for the bytes of all entries, of which none is known yet. `AllocError` where there is no memory.
+    #[tactic(auto, using(crate::proofs::Rooms::blank_entries))]
+    pub fn known_bytes(&self, alloc: Global) -> Result<KnownBytes, AllocError>
+        ensures { IfOk result (λ known. known ≡ map blank_of self.now) }
+    {
+        KnownBytes::of_lines(alloc, &self.lines)
+    }
+
+    /// How many entries there are.
+    pub fn len(&self) -> usize
+        ensures { result ≡ length self.now }
+    {
+        self.lines.len()
     }
 
     /// The entry with a number, from 0 on; `None` where there are not so many.

@@ -1,17 +1,16 @@
-use Rattle.std.proofs.lemmas.Result.{MatchResult-weaker}
+use Rattle.std.proofs.lemmas.Result.{IfOk-weaker, MatchResult-weaker}
 use Rattle.bafokun.specs.Builds.{OfText}
-use Rattle.bafokun.proofs.Refused.{by_both, refused}
+use Rattle.bafokun.proofs.Refused.{refused}
 use Rattle.bafokun.proofs.build.build.Goals as goal
 
 pub returns-in-Ok-clause-ok : goal.returns-in-Ok-clause-ok
 returns-in-Ok-clause-ok c =
-    by_both c.held_of.result (λ held made entries. record {
+    IfOk-weaker c.held_of.result _ _ (λ held is. record {
       sheet = c.in-Ok.sheet;
       is_sheet = c.in-Ok.ensures.sheet;
       is_whole = c.in-Ok.ensures.whole;
-      is_built = made;
-      entries = entries;
-    }) c.held_of.ensures.ok c.held_of.ensures.entries
+      is_held = is;
+    }) c.held_of.ensures.ok
 
 pub returns-in-Ok-clause-err : goal.returns-in-Ok-clause-err
 returns-in-Ok-clause-err c =

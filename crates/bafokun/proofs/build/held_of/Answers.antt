@@ -1,15 +1,18 @@
-use Rattle.std.proofs.Common.{subst, sym, ◌∙◌}
+use Rattle.std.proofs.Common.{List, map, subst, sym, ap, ◌∙◌}
 use Rattle.std.proofs.lemmas.Result.{IfOk-weaker}
+use Rattle.co_dict_table.specs.Entries.{EntryContent}
+use Rattle.co_dict_table.specs.Known.{blank_of}
 use Rattle.bafokun.specs.Builds.{IsNodeOf, plan_for}
 use Rattle.bafokun.proofs.build.held_of.Goals as goal
 
 pub returns-clause-ok : goal.returns-clause-ok
 returns-clause-ok c =
     IfOk-weaker c.boxed.result _ _
-    (λ held same. subst (IsNodeOf c.args.node_id c.args.settings.now c.args.sheet.now) (sym same) c.in_ok-node.ensures.ok) c.boxed.ensures.node
-
-pub returns-clause-entries : goal.returns-clause-entries
-returns-clause-entries c = IfOk-weaker c.boxed.result _ _ (λ held same. same ∙ c.in_ok-entries.ensures.ok) c.boxed.ensures.entries
+    (λ held is. record {
+      is_built = subst (IsNodeOf c.args.node_id c.args.settings.now c.args.sheet.now) (sym is.node) c.in_ok-node.ensures.ok;
+      entries = is.entries ∙ c.in_ok-entries.ensures.ok;
+      known = is.known ∙ c.in_ok-known.ensures.ok ∙ ap (λ (es : List EntryContent). map blank_of es) (sym is.entries);
+    }) c.boxed.ensures.ok
 
 pub returns-clause-err : goal.returns-clause-err
 returns-clause-err c = c.boxed.ensures.err (plan_for c.args.node_id c.args.settings.now c.args.sheet.now)
