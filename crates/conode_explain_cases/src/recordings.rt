@@ -1,7 +1,6 @@
 //! Recordings explained: what is written, and what is said of bad lines.
 
 use co_fixtures::Pieces;
-use conode_decode::Names;
 use conode_explain::{Form, Layout, LineFormat, Settings, StampForm, explain};
 use conode_explain_filter::Filter;
 use std::alloc::Global;
@@ -21,7 +20,7 @@ no frame
 (113.500000) can0 185#0";
 
 const RELATIVE: &str = "     0.000000  +0.000000  000  [2] 01 05                    NMT start 5
-     0.000412  +0.000412  185  [4] E8 03 10 27              TPDO1 node 5
+     0.000412  +0.000412  185  [4] E8 03 10 27              ~TPDO1 node 5
      0.000400  -0.000012  581  [8] 80 00 20 00 11 00 09 06  SDO answer node 1 abort 2000:00 06090011 (no such sub-index) (begun before the recording)  note: the stamp steps back
      0.750000  +0.749600  can1  00000185  [8] 01 02 03 04 05 06 07 08  frame with an identifier of 29 bits
     12.750000  +12.000000  can0  20000004  [8] 00 00 00 00 00 00 00 00  error frame
@@ -53,15 +52,8 @@ fn all_lines(filter: &Filter) -> Layout<'_> {
 }
 
 // No entry has a name.
-fn explained_as<'s>(form: Layout<'s>) -> Settings<'s, 's> {
-    Settings {
-        form,
-        names: Names {
-            sheet: None,
-            only: None,
-            originals: None,
-        },
-    }
+fn explained_as<'s>(form: Layout<'s>) -> Settings<'s, 's, 's, 's> {
+    Settings { form, sheets: &[] }
 }
 
 /// All of a recording is explained, over each cut of its bytes; a bad line is named and counted, and the last one, which
