@@ -1,9 +1,9 @@
 #!/bin/sh
 # Boots Debian's kernel under qemu, since many a machine has no CAN, and puts canopen-device on a virtual bus there: what it answers,
 # how exact its heartbeats are, what it takes while the bus is quiet, bus trouble, random frames at full speed for a minute,
-# or as many seconds as are given, and a recording, which conode replay answers in the same way: bench/vm.sh [SECONDS]. The
-# machine's files are there read-only, so its candump, canplayer, cansend, cangen and ip are used. ACCELERATOR=kvm makes it
-# faster where the machine can. Status 1 where something is wrong.
+# or as many seconds as are given, and a recording, which conode replay answers in the same way, and in which conode compare finds
+# no difference: bench/vm.sh [SECONDS]. The machine's files are there read-only, so its candump, canplayer, cansend, cangen and ip
+# are used. ACCELERATOR=kvm makes it faster where the machine can. Status 1 where something is wrong.
 #
 # Debian's packages: qemu-system-x86 linux-image-amd64 busybox-static cpio kmod can-utils iproute2 gcc make libc6-dev
 set -eu
@@ -157,6 +157,9 @@ sleep 0.5
 cansend vcan0 20000100#0000000000000000
 wait $!
 is 'recovered from bus-off' "$(cut -d ' ' -f 3 emergency | tr '\n' ' ')" '088#4081110000000000 088#0000000000000000 '
+# bus-off has made it pre-operational (1029:01)
+cansend vcan0 000#0108
+sleep 0.5
 ip link set vcan0 down
 sleep 1
 for value in 1 2 3; do echo "8 set 6000:01 $value" >&3; done
@@ -210,6 +213,9 @@ grep ' \(000\|080\|608\|208\|308\)#' recording > received
 is 'frames received' "$(wc -l < received)" 3000
 diff sent replayed > differences
 is "a recording with $(wc -l < sent) frames of the device, against conode replay" "$(head -n 5 differences)" ''
+./conode compare io-module.eds recording --node 8 > compared
+status=$?
+is "conode compare of it: $(tail -n 1 compared)" "$status $(head -n 1 compared)" "0 $(tail -n 1 compared)"
 echo "$failed failed"
 MACHINE
 

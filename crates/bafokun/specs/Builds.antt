@@ -1,20 +1,19 @@
 -- A device that is built for C, or why there is none.
 use Rattle.std.specs.Prelude.{◌≡◌, ℕ, List, [], Option, Some, None}
-use Rattle.co_value.specs.declared.key.Key.{Key}
 use Rattle.co_sheet_rows.specs.declared.fault.SheetFault.{SheetFault}
-use Rattle.co_sheet_rows.specs.FaultTexts.{fault_number as sheet_number}
 use Rattle.co_sheet.specs.Accepted.{IsAnswered, first_fault}
 use Rattle.co_sheet.specs.Content.{SheetContent, IsSheet, IsWhole}
 use Rattle.co_dict.specs.Stores.{IsGreatestCapacity}
 use Rattle.co_dict_build.specs.declared.build_fault.BuildFault.{BuildFault}
-use Rattle.co_dict_build.specs.declared.build_fault.BuildFault.TheVariants.{NodeId, ValueRange, BadCobId, PdoPair, BadMapping, TooMany, Memory}
-use Rattle.co_dict_build.specs.BuildFaultTexts.{fault_number}
+use Rattle.co_dict_build.specs.declared.build_fault.BuildFault.TheVariants.{Memory}
 use Rattle.co_dict_build.specs.BuildFaults.{IsBuildFault, build_fault}
 use Rattle.co_dict_build.specs.Built.{Plan, plan_of, built_description}
 use Rattle.co_dict_build.specs.Capacities.{Limits}
+use Rattle.co_node.specs.declared.node.Node.{Node}
 use Rattle.co_node.specs.Nodes.{Stands, node_constants}
 use Rattle.bafokun.specs.declared.build.Settings.{Settings}
 use Rattle.bafokun.specs.declared.build.Fault.{Fault}
+use Rattle.bafokun.specs.Faults.{device_fault, sheet_fault}
 use Rattle.bafokun.specs.declared.held.Held.{Held}
 use Rattle.bafokun.specs.declared.handle.Handle.{Handle}
 use Rattle.co_sheet_originals.specs.Originals.{original_at}
@@ -28,50 +27,21 @@ limits_for settings = record { strings = settings.strings; domains = settings.do
 abbrev pub plan_for : ℕ → Settings → SheetContent → Plan
 plan_for node settings sheet = plan_of node (limits_for settings) sheet
 
--- ---- faults as C has them
-
-abbrev pub no_fault : Fault
-no_fault = record { line = 0; stage = 0; number = 0; index = 0; sub_index = 0 }
-
--- a fault of the data sheet
-abbrev pub sheet_fault : SheetFault → Fault
-sheet_fault f = record { line = f.line; stage = 1; number = sheet_number f.kind; index = 0; sub_index = 0 }
-
--- the entry that a fault of the device names
-abbrev pub named_entry : BuildFault → Key
-named_entry NodeId = record { index = 0; sub = 0 }
-named_entry (ValueRange key) = key
-named_entry (BadCobId key) = key
-named_entry (PdoPair index) = record { index = index; sub = 0 }
-named_entry (BadMapping key) = key
-named_entry TooMany = record { index = 0; sub = 0 }
-named_entry Memory = record { index = 0; sub = 0 }
-
--- a fault of the device
-abbrev pub device_fault : BuildFault → Fault
-device_fault f = record {
-  line = 0;
-  stage = 2;
-  number = fault_number f;
-  index = (named_entry f).index;
-  sub_index = (named_entry f).sub;
-}
-
 -- ---- both outcomes
 
--- this device was built of this sheet, and nothing has come to it
-pub record IsBuiltOf (node : ℕ) (settings : Settings) (sheet : SheetContent) (held : Held) : Type 0 where
+-- this node was built of this sheet, and nothing has come to it
+pub record IsNodeOf (node : ℕ) (settings : Settings) (sheet : SheetContent) (made : Node) : Type 0 where
   pub accepted : build_fault (plan_for node settings sheet) ≡ None
   pub stands : (greatest : ℕ)
       → IsGreatestCapacity (built_description (plan_for node settings sheet)).rows greatest
-      → Stands (node_constants (plan_for node settings sheet) greatest settings.time) held.node []
+      → Stands (node_constants (plan_for node settings sheet) greatest settings.time) made []
 
 -- and of a text; it has what the text says of the entries
 pub record IsBuilt (text : List ℕ) (node : ℕ) (settings : Settings) (held : Held) : Type 0 where
   pub sheet : SheetContent
   pub is_sheet : IsSheet text sheet
   pub is_whole : IsWhole text sheet
-  pub is_built : IsBuiltOf node settings sheet held
+  pub is_built : IsNodeOf node settings sheet held.node
   pub entries : held.entries ≡ contents_of_rows (original_at text) (limits_for settings) sheet.rows
 
 abbrev pub IsFilled : List ℕ → ℕ → Settings → Option Held → Type 0
@@ -81,6 +51,11 @@ IsFilled text node settings (Some held) = IsBuilt text node settings held
 -- a place has it
 abbrev pub IsPlaced : List ℕ → ℕ → Settings → Handle → Type 0
 IsPlaced text node settings place = IsFilled text node settings place.seal.value
+
+-- there is none of what a sheet says: by a fault of the device that it makes, or since memory ran out
+pub data IsUnbuilt (plan : Plan) (fault : Fault) : Type 0 where
+  ByFault : (f : BuildFault) → IsBuildFault plan f → fault ≡ device_fault f → IsUnbuilt plan fault
+  ByMemory : fault ≡ device_fault Memory → IsUnbuilt plan fault
 
 -- there is none: by a fault of the text, by one of the device that its sheet makes, or since memory ran out
 pub data IsRefused (text : List ℕ) (node : ℕ) (settings : Settings) (fault : Fault) : Type 0 where

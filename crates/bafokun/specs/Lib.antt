@@ -3,6 +3,7 @@ pub mod Builds
 pub mod Bus
 pub mod Devices
 pub mod Entries
+pub mod Faults
 pub mod Frames
 pub mod Seals
 pub mod Texts

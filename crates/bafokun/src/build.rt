@@ -1,7 +1,20 @@
 //! How C builds a device.
 
-ghost use Rattle.std.specs.Prelude.{◌≡◌, true, false, IfErr, IfOk};
-ghost use Rattle.bafokun.specs.Builds.{IsBuilt, IsPlaced, IsRefused, device_fault, no_fault, sheet_fault};
+ghost use Rattle.std.specs.Prelude.{◌≡◌, ◌≤◌, None, true, false, length, IfErr, IfOk};
+ghost use Rattle.co_sheet_originals.specs.Originals.{original_at};
+ghost use Rattle.co_dict_build.specs.BuildFaults.{build_fault};
+ghost use Rattle.co_dict_build.specs.Built.{Plan};
+ghost use Rattle.co_dict_table.specs.Entries.{contents_of_rows};
+ghost use Rattle.bafokun.specs.Builds.{
+  IsBuilt,
+  IsNodeOf,
+  IsPlaced,
+  IsRefused,
+  IsUnbuilt,
+  limits_for,
+  plan_for,
+};
+ghost use Rattle.bafokun.specs.Faults.{device_fault, no_fault, sheet_fault};
 ghost use Rattle.bafokun.specs.Devices.{IsEmpty};
 
 use crate::handle::Handle;
@@ -10,7 +23,7 @@ use co_dict_build::{BuildFault, Limits};
 use co_dict_table::EntryTable;
 use co_frame::Outbox;
 use co_node::{Config, Node};
-use co_sheet::{SheetFault, read};
+use co_sheet::{Sheet, SheetFault, read};
 use co_value::Key;
 use std::alloc::Global;
 
@@ -88,15 +101,16 @@ impl Fault {
     }
 }
 
-// The device of a data sheet.
-fn build(alloc: Global, text: &[u8], node_id: u8, settings: &Settings) -> Result<Box<Held>, Fault>
-    ensures ok { IfOk result (λ held. IsBuilt text.now node_id settings.now held.value) }
-    ensures err { IfErr result (IsRefused text.now node_id settings.now) }
+// The node of a sheet.
+fn node_of(
+    alloc: Global,
+    sheet: &Sheet<'_>,
+    node_id: u8,
+    settings: &Settings,
+) -> Result<Node, Fault>
+    ensures ok { IfOk result (IsNodeOf node_id settings.now sheet.now) }
+    ensures err { IfErr result (IsUnbuilt (plan_for node_id settings.now sheet.now)) }
 {
-    let sheet = match read(alloc, text) {
-        Ok(sheet) => sheet,
-        Err(fault) => return Err(Fault::of_sheet(fault)),
-    };
     let limits = Limits {
         strings: settings.strings,
         domains: settings.domains,
@@ -106,14 +120,43 @@ fn build(alloc: Global, text: &[u8], node_id: u8, settings: &Settings) -> Result
         limits,
         time: settings.time,
     };
-    let node = match Node::build(alloc, &sheet, node_id, &config) {
-        Ok(node) => node,
-        Err(fault) => return Err(Fault::of_build(fault)),
+    match Node::build(alloc, sheet, node_id, &config) {
+        Ok(node) => Ok(node),
+        Err(fault) => Err(Fault::of_build(fault)),
+    }
+}
+
+// What a text, with this sheet, says of the entries.
+fn entries_of(
+    alloc: Global,
+    text: &[u8],
+    sheet: &Sheet<'_>,
+    node_id: u8,
+    settings: &Settings,
+) -> Result<EntryTable, Fault>
+    requires size { length text.now ≤ 1048576 }
+    requires faultless { build_fault (plan_for node_id settings.now sheet.now) ≡ None }
+    ensures ok { IfOk result (λ entries. entries
+        ≡ contents_of_rows (original_at text.now) (limits_for settings.now) sheet.now.rows) }
+    ensures err { IfErr result (IsUnbuilt (plan_for node_id settings.now sheet.now)) }
+{
+    let limits = Limits {
+        strings: settings.strings,
+        domains: settings.domains,
+        own: &[],
     };
-    let entries = match EntryTable::of(alloc, node_id, &limits, text, sheet.entries()) {
-        Ok(entries) => entries,
-        Err(_) => return Err(Fault::of_build(BuildFault::Memory)),
-    };
+    match EntryTable::of(alloc, node_id, &limits, text, sheet.entries()) {
+        Ok(entries) => Ok(entries),
+        Err(_) => Err(Fault::of_build(BuildFault::Memory)),
+    }
+}
+
+// A node that has given no frame, and its entries, in memory of their own.
+fn boxed(alloc: Global, node: Node, entries: EntryTable) -> Result<Box<Held>, Fault>
+    ensures node { IfOk result (λ held. held.value.node ≡ node) }
+    ensures entries { IfOk result (λ held. held.value.entries ≡ entries) }
+    ensures err { (plan : Plan) → IfErr result (IsUnbuilt plan) }
+{
     let held = Held {
         node,
         sent: Outbox::new(),
@@ -122,6 +165,36 @@ fn build(alloc: Global, text: &[u8], node_id: u8, settings: &Settings) -> Result
     match Box::new(alloc, held) {
         Ok(held) => Ok(held),
         Err(_) => Err(Fault::of_build(BuildFault::Memory)),
+    }
+}
+
+// The device of a text's sheet.
+fn held_of(
+    alloc: Global,
+    text: &[u8],
+    sheet: &Sheet<'_>,
+    node_id: u8,
+    settings: &Settings,
+) -> Result<Box<Held>, Fault>
+    requires { length text.now ≤ 1048576 }
+    ensures ok { IfOk result (λ held. IsNodeOf node_id settings.now sheet.now held.value.node) }
+    ensures entries { IfOk result (λ held. held.value.entries
+        ≡ contents_of_rows (original_at text.now) (limits_for settings.now) sheet.now.rows) }
+    ensures err { IfErr result (IsUnbuilt (plan_for node_id settings.now sheet.now)) }
+{
+    let node = node_of(alloc, sheet, node_id, settings)?;
+    let entries = entries_of(alloc, text, sheet, node_id, settings)?;
+    boxed(alloc, node, entries)
+}
+
+// The device of a text.
+fn build(alloc: Global, text: &[u8], node_id: u8, settings: &Settings) -> Result<Box<Held>, Fault>
+    ensures ok { IfOk result (λ held. IsBuilt text.now node_id settings.now held.value) }
+    ensures err { IfErr result (IsRefused text.now node_id settings.now) }
+{
+    match read(alloc, text) {
+        Ok(sheet) => held_of(alloc, text, &sheet, node_id, settings),
+        Err(fault) => Err(Fault::of_sheet(fault)),
     }
 }
 

@@ -10,7 +10,7 @@ ghost use Rattle.co_sheet_faults.specs.FaultWords.{fix_of, meaning_of};
 ghost use Rattle.co_words.specs.declared.abort_reason.AbortReason.{AbortReason};
 ghost use Rattle.co_words.specs.AbortReasons.{code_of, text_of};
 ghost use Rattle.co_words.specs.BuildFaultWords.{build_fix_of, build_meaning_of};
-ghost use Rattle.bafokun.specs.Builds.{device_fault, no_fault, sheet_fault};
+ghost use Rattle.bafokun.specs.Faults.{device_fault, no_fault, sheet_fault};
 ghost use Rattle.bafokun.specs.Texts.{HasWordsOf, IsText};
 
 use crate::build::Fault;

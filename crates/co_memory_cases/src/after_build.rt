@@ -2,8 +2,9 @@
 
 use co_frame::Outbox;
 use co_node::{AppEvent, Input, Node, Record};
-use co_node_scripts::{APPLICATION, BLOCKS, EMERGENCIES, RPDOS, SEGMENTED, TPDOS, first_wrong};
-use co_sdo_scripts::{BadScript, frame_of};
+use co_scripts::{
+    APPLICATION, BLOCKS, BadScript, EMERGENCIES, RPDOS, SEGMENTED, TPDOS, first_wrong, frame_of,
+};
 use std::alloc::{AllocError, Global};
 use std::string::String;
 

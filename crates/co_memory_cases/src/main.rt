@@ -1,33 +1,31 @@
-//! Each call that takes memory, over a data sheet, with the dialogue that it begins. A call that answers that it is out
-//! of memory is made again. The status is 0 where all were right at once, 2 where one of all was out of memory, and 1
-//! where one was wrong, whose name is then written. Where there is no memory for the text that the calls write to, the
-//! worked sequences of devices that are already built are run in place of the calls, and the status is 4 where all were
-//! right. `tests/refused_memory` refuses each allocation of a run in turn, from that text on, and all of them at once.
+//! Each call of the libraries that takes memory, over a data sheet, with the dialogue that it begins. A call that answers
+//! that it is out of memory is made again. The status is 0 where all were right at once, 2 where one of all was out of
+//! memory, and 1 where one was wrong, whose name is then written. Before the calls a block of a size of its own is asked
+//! for. Where it is refused, the worked sequences of devices that are already built are run in place of the calls, and
+//! the status is 4 where all were right. `tests/refused_memory` refuses each allocation of a run in turn, from that
+//! block on, and all of them at once.
 #![tactic(auto)]
 
 mod after_build;
-mod commands;
 mod minimal;
 mod outcome;
 mod transfers;
 
 use crate::after_build::{are_right, script_of};
-use crate::commands::{checked, decoded, linted, looped, replayed, words_read};
 use crate::minimal::minimal;
 use crate::outcome::{Outcome, refused_if, right_if};
-use crate::transfers::{timed_out, uploaded, uploaded_too_long};
+use crate::transfers::{timed_out, uploaded, uploaded_by_blocks, uploaded_too_long};
 use co_dict::ObjectStore;
 use co_dict_image::ImageStore;
 use co_dict_list::{BuildFault, Limits, ListStore};
-use co_fixtures::{MANUFACTURER, PDOS, PROFILE, sheet_of};
 use co_node::{Config, Node, Record};
-use co_node_scripts::devices_of;
 use co_node_worked::worked;
 use co_pdo::Schedule;
+use co_scripts::{MANUFACTURER, PDOS, PROFILE, devices_of, sheet_of};
 use co_sheet::{FaultKind, Sheet, SheetFault, read};
 use co_stream::{StreamFault, read_text};
 use co_value::Key;
-use std::alloc::Global;
+use std::alloc::{AllocError, Global};
 use std::process::ExitCode;
 
 pub(crate) const LIMITS: Limits<'static> = Limits {
@@ -45,8 +43,6 @@ const DEVICE_TYPE: Key = Key {
 /// The greatest room of an entry: a domain's.
 const GREATEST: u16 = 889;
 
-const CHECKED: &str = "ok: 22 objects, 46 entries, 0 notes\n";
-
 #[derive(Clone, Copy)]
 enum Call {
     ReadText,
@@ -58,21 +54,16 @@ enum Call {
     Channel,
     Upload,
     UploadTooLong,
+    UploadByBlocks,
     Node,
     Record,
     Worked,
     Minimal,
     NodeIdZero,
     TooLarge,
-    Check,
-    Lint,
-    Decode,
-    Replay,
-    LoopBack,
-    Task,
 }
 
-const CALLS: [Call; 21] = [
+const CALLS: [Call; 16] = [
     Call::ReadText,
     Call::Read,
     Call::ReadFaulty,
@@ -82,18 +73,13 @@ const CALLS: [Call; 21] = [
     Call::Channel,
     Call::Upload,
     Call::UploadTooLong,
+    Call::UploadByBlocks,
     Call::Node,
     Call::Record,
     Call::Worked,
     Call::Minimal,
     Call::NodeIdZero,
     Call::TooLarge,
-    Call::Check,
-    Call::Lint,
-    Call::Decode,
-    Call::Replay,
-    Call::LoopBack,
-    Call::Task,
 ];
 
 impl Call {
@@ -108,18 +94,13 @@ impl Call {
             Call::Channel => "Channel::new",
             Call::Upload => "Client::upload",
             Call::UploadTooLong => "Client::upload of too many bytes",
+            Call::UploadByBlocks => "Client::upload by blocks",
             Call::Node => "Node::build",
             Call::Record => "Record::new",
             Call::Worked => "worked",
             Call::Minimal => "calls over the mandatory objects alone",
             Call::NodeIdZero => "builds with node-ID 0",
             Call::TooLarge => "read of a sheet that is too large",
-            Call::Check => "check",
-            Call::Lint => "lint",
-            Call::Decode => "decode",
-            Call::Replay => "replay",
-            Call::LoopBack => "loop_back",
-            Call::Task => "task",
         }
     }
 }
@@ -244,7 +225,7 @@ struct Given<'a, 's> {
     too_large: &'a [u8],
 }
 
-fn outcome_of(call: Call, given: &Given<'_, '_>, out: &mut Vec<u8>) -> Outcome {
+fn outcome_of(call: Call, given: &Given<'_, '_>) -> Outcome {
     let Given {
         alloc,
         text,
@@ -262,29 +243,24 @@ fn outcome_of(call: Call, given: &Given<'_, '_>, out: &mut Vec<u8>) -> Outcome {
         Call::Channel => timed_out(alloc, sheet),
         Call::Upload => uploaded(alloc),
         Call::UploadTooLong => uploaded_too_long(alloc),
+        Call::UploadByBlocks => uploaded_by_blocks(alloc),
         Call::Node => node_built(alloc, sheet),
         Call::Record => record_made(alloc),
         Call::Worked => worked_out(alloc),
-        Call::Minimal => minimal(alloc, text, out),
+        Call::Minimal => minimal(alloc, text),
         Call::NodeIdZero => node_id_refused(alloc, sheet),
         Call::TooLarge => size_refused(alloc, too_large),
-        Call::Check => checked(alloc, text, Some(5), CHECKED, out),
-        Call::Lint => linted(alloc, text),
-        Call::Decode => decoded(alloc, sheet, out),
-        Call::Replay => replayed(alloc, sheet, out),
-        Call::LoopBack => looped(alloc, sheet, out),
-        Call::Task => words_read(alloc),
     }
 }
 
 /// Makes each call. The first that is wrong, or out of memory a second time in the run; else whether one was refused.
-fn make_calls(given: &Given<'_, '_>, out: &mut Vec<u8>) -> Result<bool, Call> {
+fn make_calls(given: &Given<'_, '_>) -> Result<bool, Call> {
     let mut was_refused = false;
     for call in CALLS {
-        let mut outcome = outcome_of(call, given, out);
+        let mut outcome = outcome_of(call, given);
         if outcome == Outcome::Refused && !was_refused {
             was_refused = true;
-            outcome = outcome_of(call, given, out);
+            outcome = outcome_of(call, given);
         }
         if outcome != Outcome::Right {
             return Err(call);
@@ -293,8 +269,8 @@ fn make_calls(given: &Given<'_, '_>, out: &mut Vec<u8>) -> Result<bool, Call> {
     Ok(was_refused)
 }
 
-fn status_of_calls(rt: &HostRuntime, given: &Given<'_, '_>, out: &mut Vec<u8>) -> ExitCode {
-    match make_calls(given, out) {
+fn status_of_calls(rt: &HostRuntime, given: &Given<'_, '_>) -> ExitCode {
+    match make_calls(given) {
         Ok(false) => ExitCode::SUCCESS,
         Ok(true) => ExitCode::from(2),
         Err(call) => {
@@ -318,8 +294,12 @@ fn status_after_build(
     ExitCode::FAILURE
 }
 
-/// The room of the text that calls write to: an allocation of this size is the first that is refused.
+/// An allocation of this size is the first that is refused.
 const ROOM: usize = 54_321;
+
+fn block(alloc: Global) -> Result<Vec<u8>, AllocError> {
+    Vec::with_capacity(alloc, ROOM)
+}
 
 /// There is no memory before the first that is refused.
 const NO_MEMORY: u8 = 3;
@@ -335,8 +315,8 @@ fn with_record(
     let Ok(mut kept) = Record::new(given.alloc, 130, 4) else {
         return ExitCode::from(NO_MEMORY);
     };
-    match Vec::with_capacity(given.alloc, ROOM) {
-        Ok(mut out) => status_of_calls(rt, given, &mut out),
+    match block(given.alloc) {
+        Ok(_) => status_of_calls(rt, given),
         Err(_) => status_after_build(rt, devices, script, &mut kept),
     }
 }

@@ -1,18 +1,15 @@
-//! The least data sheet, with the mandatory objects alone: it is checked and read; its device is built, boots, and
-//! answers a frame into a record; and a schedule is made over its dictionary.
+//! The least data sheet, with the mandatory objects alone: it is read; its device is built, boots, and answers a frame
+//! into a record; and a schedule is made over its dictionary.
 
 use crate::LIMITS;
-use crate::commands::checked;
 use crate::outcome::{Outcome, refused_if, right_if};
 use co_dict_list::{BuildFault, ListStore};
 use co_frame::Outbox;
 use co_node::{Config, Input, Node, Record};
 use co_pdo::Schedule;
-use co_sdo_scripts::{BadScript, are_frames, frame_of};
+use co_scripts::{BadScript, are_frames, frame_of};
 use co_sheet::{FaultKind, Sheet, read};
 use std::alloc::Global;
-
-const CHECKED: &str = "ok: 3 objects, 4 entries, 0 notes\n";
 
 fn scheduled_over(alloc: Global, store: &ListStore) -> Outcome {
     match Schedule::new(alloc, store) {
@@ -77,10 +74,6 @@ fn mandatory(text: &str) -> &str {
     }
 }
 
-pub(crate) fn minimal(alloc: Global, sheet: &str, out: &mut Vec<u8>) -> Outcome {
-    let text = mandatory(sheet);
-    match checked(alloc, text, None, CHECKED, out) {
-        Outcome::Right => sheet_read(alloc, text),
-        other => other,
-    }
+pub(crate) fn minimal(alloc: Global, sheet: &str) -> Outcome {
+    sheet_read(alloc, mandatory(sheet))
 }

@@ -4,10 +4,10 @@ use crate::LIMITS;
 use crate::outcome::{Outcome, refused_if, right_if};
 use co_dict_list::{BuildFault, ListStore};
 use co_frame::{AbortCode, Ids};
-use co_sdo_client::{Client, ClientState, Mode};
-use co_sdo_scripts::{
+use co_scripts::{
     BLOCK_UPLOAD, Served, TIMED_OUT, UPLOAD, UPLOAD_TOO_LONG, client_follows, server_follows,
 };
+use co_sdo_client::{Client, ClientState, Mode};
 use co_sheet::Sheet;
 use co_value::Key;
 use std::alloc::Global;

@@ -14,7 +14,7 @@ use Rattle.conode_compare_rules.specs.declared.nmt.Nmt.{Nmt}
 use Rattle.conode_compare_rules.specs.Times.{is_past}
 
 abbrev pub nothing_commanded : Nmt
-nothing_commanded = record { state = Unknown; commanded = None; booted = None }
+nothing_commanded = record { state = Unknown; commanded = None; several = false; booted = None }
 
 -- ---- commands
 
@@ -37,10 +37,21 @@ state_commanded service Unknown = if is_reset service then Initialising else Unk
 state_commanded service Initialising = Initialising
 state_commanded service state = goes_to service
 
+-- the device has booted up and wasn't reset since
+abbrev pub is_up : NmtState → Bool
+is_up Unknown = false
+is_up Initialising = false
+is_up state = true
+
+-- More than one boot-up may come: a reset is commanded, and one that was commanded before, or power on, may not have its boot-up yet.
+abbrev pub several_after : NmtService → Nmt → Bool
+several_after service nmt = nmt.several || (is_reset service && not (is_up nmt.state))
+
 unfoldable pub after_command : Nmt → NmtService → ℕ → Nmt
 after_command nmt service micros = record {
   state = state_commanded service nmt.state;
   commanded = Some (record { service = service; micros = micros });
+  several = several_after service nmt;
   booted = if is_reset service then None else nmt.booted;
 }
 
@@ -66,8 +77,8 @@ awaits_boot_up limits nmt micros = overdue_in limits nmt.state nmt.commanded mic
 unfoldable pub boot_finding : Limits → Nmt → ℕ → Option Finding
 boot_finding limits nmt micros = option_map (λ waited. BootMissing waited) (awaits_boot_up limits nmt micros)
 
--- `second-sender`: another boot-up within a second, and nothing between them. A device that is switched off and on by hand
--- takes longer.
+-- `second-sender`: another boot-up within a second, nothing between them, and only one was due. A device that is switched off and on
+-- by hand takes longer.
 unfoldable pub second_boot_up : Option ℕ → ℕ → Option Finding
 second_boot_up None micros = None
 second_boot_up (Some booted) micros = if is_past booted 1000 micros then None else Some (SecondBootUp (micros - booted))
@@ -80,7 +91,8 @@ unfoldable pub after_boot_up : Limits → Nmt → ℕ → Nmt
 after_boot_up limits nmt micros = record {
   state = if boots_known limits nmt.commanded micros then PreOperational else Unknown;
   commanded = nmt.commanded;
-  booted = Some micros;
+  several = nmt.several;
+  booted = if nmt.several then None else Some micros;
 }
 
 -- another frame of the device; after a boot-up that is missing its state is unknown
@@ -88,6 +100,7 @@ unfoldable pub after_other : Limits → Nmt → ℕ → Nmt
 after_other limits nmt micros = record {
   state = if is_some (awaits_boot_up limits nmt micros) then Unknown else nmt.state;
   commanded = nmt.commanded;
+  several = false;
   booted = None;
 }
 

@@ -14,6 +14,7 @@ ghost use Rattle.conode_compare_rules.specs.States.{
   is_reset,
   is_settled,
   is_state,
+  is_up,
   is_wrong,
   state_commanded,
   state_of,
@@ -42,7 +43,9 @@ pub(crate) struct Nmt {
     pub(crate) state: NmtState,
     /// The newest command.
     pub(crate) commanded: Option<Commanded>,
-    /// The stamp of its newest boot-up, where it sent nothing since and no reset was commanded.
+    /// Whether more than one boot-up may come, since a reset was commanded before the boot-up of another one.
+    pub(crate) several: bool,
+    /// The stamp of its newest boot-up, where it sent nothing since, no reset was commanded, and no other boot-up may come.
     pub(crate) booted: Option<u64>,
 }
 
@@ -71,6 +74,13 @@ fn state_commanded(service: NmtService, state: NmtState) -> NmtState
         NmtService::Stop => NmtState::Stopped,
         _ => NmtState::PreOperational,
     }
+}
+
+// whether a device has booted up and wasn't reset since
+fn is_up(state: NmtState) -> bool
+    ensures { result ≡ is_up state }
+{
+    !matches!(state, NmtState::Unknown | NmtState::Initialising)
 }
 
 // the state that a heartbeat's byte names
@@ -117,6 +127,7 @@ impl Nmt {
         Nmt {
             state: NmtState::Unknown,
             commanded: None,
+            several: false,
             booted: None,
         }
     }
@@ -237,6 +248,7 @@ impl Nmt {
         Nmt {
             state: state_commanded(service, self.state),
             commanded: Some(Commanded { service, micros }),
+            several: self.several || is_reset(service) && !is_up(self.state),
             booted: if is_reset(service) { None } else { self.booted },
         }
     }
@@ -254,7 +266,8 @@ impl Nmt {
                 NmtState::Unknown
             },
             commanded: self.commanded,
-            booted: Some(micros),
+            several: self.several,
+            booted: if self.several { None } else { Some(micros) },
         }
     }
 
@@ -271,6 +284,7 @@ impl Nmt {
                 self.state
             },
             commanded: self.commanded,
+            several: false,
             booted: None,
         }
     }
@@ -291,6 +305,7 @@ impl Nmt {
         Nmt {
             state: state_of(byte),
             commanded: next.commanded,
+            several: next.several,
             booted: next.booted,
         }
     }

@@ -9,17 +9,29 @@ use Rattle.conode_io.specs.declared.fault.CmdFault.TheVariants.{Read, Write, Bad
 use Rattle.conode_io.specs.Endings.{stopped_line, SomeStopped, WritesStopped}
 use Rattle.conode_io.specs.Written.{WritesFrontOrLines, WritesLines, WritesSome}
 use Rattle.conode_io.proofs.StoppedLemmas.{some_stopped, stopped_after}
-use Rattle.conode_lines.specs.TraceTexts.{FailsWithinLine}
+use Rattle.conode_lines.specs.TraceTexts.{FailsWithinLine, trace_in}
 use Rattle.conode_decode.specs.Names.{Names}
 use Rattle.conode_decode.specs.DecodedTraces.{Decoded, lines_of, trace_lines}
 
 -- ---- how decoding ended, by its result
+
+first : (known : Option (List ℕ)) (P Q : List ℕ → Type 0) → IfSome known (λ text. P text × Q text) → IfSome known P
+first None P Q h = tt
+first (Some text) P Q h = h.0
 
 second : (known : Option (List ℕ)) (P Q : List ℕ → Type 0) → IfSome known (λ text. P text × Q text) → IfSome known Q
 second None P Q h = tt
 second (Some text) P Q h = h.1
 
 module _ (names : Names) (known rest old mid : Option (List ℕ)) where
+  pub good_whole : (outcome : Result (Unit {0}) CmdFault) → Decoded names known rest old mid outcome → OnOk outcome (IfSome known (λ text. (trace_in text).bad ≡ None))
+  good_whole (Ok done) h = first known (λ text. (trace_in text).bad ≡ None) (λ text. WritesLines old mid (trace_lines names text)) h
+  good_whole (Err fault) h = tt
+
+  pub bad_line_named : (outcome : Result (Unit {0}) CmdFault) (number : ℕ) → outcome ≡ Err (BadLine number) → Decoded names known rest old mid outcome → IfSome known (λ text. (trace_in text).bad ≡ Some number)
+  bad_line_named outcome number is h =
+      first known (λ text. (trace_in text).bad ≡ Some number) (λ text. WritesLines old mid (trace_lines names text)) (subst (λ (r : Result (Unit {0}) CmdFault). Decoded names known rest old mid r) is h)
+
   pub lines_before : (outcome : Result (Unit {0}) CmdFault) (number : ℕ) → outcome ≡ Err (BadLine number) → Decoded names known rest old mid outcome → IfSome known (λ text. WritesLines old mid (trace_lines names text))
   lines_before outcome number is h = second known _ (λ text. WritesLines old mid (trace_lines names text)) (subst (λ (r : Result (Unit {0}) CmdFault). Decoded names known rest old mid r) is h)
 

@@ -1,0 +1,51 @@
+//! The data of PDOs.
+
+use co_dict_list::{Limits, ListStore};
+use co_pdo::{Mapping, PdoFault, PdoNumber, Side, apply, image};
+use co_scripts::{COUNTER, MANUFACTURER, PDOS, sheet_of};
+use co_sheet::read;
+use std::alloc::Global;
+use std::test::Fail;
+
+/// What comes into 2002h and 2003h, the answer, and what is sent of them then.
+const ROWS: [(&[u8], Result<(), PdoFault>, [u8; 6]); 4] = [
+    (&[1, 2, 3, 4, 5], Err(PdoFault::Short), [0; 6]),
+    (&[1, 2, 3, 4, 5, 0], Ok(()), [1, 2, 3, 4, 5, 0]),
+    (
+        &[6, 7, 8, 9, 0xE9, 3],
+        Err(PdoFault::OutOfLimits),
+        [1, 2, 3, 4, 5, 0],
+    ),
+    (
+        &[6, 7, 8, 9, 0xE8, 3, 0],
+        Err(PdoFault::Long),
+        [6, 7, 8, 9, 0xE8, 3],
+    ),
+];
+
+// A dictionary with an RPDO of two entries, and two TPDOs.
+fn device(alloc: Global) -> Result<ListStore, Fail> {
+    let changes = "1600sub0=2 1600sub2=0x20030010";
+    let text = sheet_of(alloc, &[PDOS, COUNTER], &[MANUFACTURER], changes)?;
+    let sheet = read(alloc, text.as_bytes())?;
+    let limits = Limits {
+        strings: 16,
+        domains: 0,
+        own: &[],
+    };
+    Ok(ListStore::build(alloc, &sheet, 5, &limits)?)
+}
+
+#[test]
+fn data(rt: HostRuntime) -> Result<(), Fail> {
+    let mut store = device(rt.alloc())?;
+    for (bytes, answer, sent) in ROWS {
+        let rpdo = Mapping::read(&store, Side::Rpdo, PdoNumber::of(0));
+        assert_eq!(rt; apply(&mut store, &rpdo, bytes), answer, "{bytes:?}");
+        let number = Mapping::read(&store, Side::Tpdo, PdoNumber::of(0));
+        assert_eq!(rt; image(&store, &number).as_slice(), &sent[..4]);
+        let limited = Mapping::read(&store, Side::Tpdo, PdoNumber::of(1));
+        assert_eq!(rt; image(&store, &limited).as_slice(), &sent[4..]);
+    }
+    Ok(())
+}

@@ -1,0 +1,51 @@
+//! A client as an end of a dialogue.
+
+use crate::bad_script::BadScript;
+use crate::dialogue::{End, follows};
+use crate::frames::frame_of;
+use co_frame::{Frame, Outbox};
+use co_sdo_client::Client;
+
+/// What a client sends when it begins.
+pub fn begun(client: &mut Client<'_>) -> Outbox {
+    let mut sent = Outbox::new();
+    client.begin(&mut sent);
+    sent
+}
+
+/// What it sends on a frame.
+pub fn answered(client: &mut Client<'_>, frame: &Frame) -> Outbox {
+    let mut sent = Outbox::new();
+    client.take(frame, &mut sent);
+    sent
+}
+
+/// Lets so many ms go by. Whether the client sends nothing before the last, whose frames are put into the place of
+/// what was sent.
+fn elapsed(client: &mut Client<'_>, ticks: u16, sent: &mut Outbox) -> bool {
+    sent.clear();
+    for _ in 0..ticks {
+        if !sent.is_empty() {
+            return false;
+        }
+        client.tick(sent);
+    }
+    true
+}
+
+impl End for Client<'_> {
+    fn hear(&mut self, word: &str, sent: &mut Outbox) -> Result<bool, BadScript> {
+        if word == "ticks" {
+            return Ok(elapsed(self, 10, sent));
+        }
+        sent.clear();
+        self.take(&frame_of(word)?, sent);
+        Ok(true)
+    }
+}
+
+/// Begins, and then does what a dialogue says: `Ok` with the number of its requests, else the first word that isn't so.
+pub fn client_follows<'a>(client: &mut Client<'_>, dialogue: &'a str) -> Result<u64, &'a str> {
+    let mut sent = begun(client);
+    follows(client, "605#", dialogue, &mut sent)
+}

@@ -1,0 +1,68 @@
+//! The inputs of a script's line.
+
+use crate::bad_script::BadScript;
+use crate::device::{apply, elapse, take, write};
+use crate::frames::frame_of;
+use co_frame::{Frame, Outbox};
+use co_node::{AppEvent, Node};
+use conode_trace::{AppLine, EventLine, TraceLine};
+
+// An event line of the application.
+fn apply_line(node: &mut Node, event: &AppLine<'_>, sent: &mut Outbox) -> bool {
+    let event = match event {
+        AppLine::Write(key, bytes) => {
+            if bytes.len() > 256 {
+                return false;
+            }
+            write(node, *key, bytes.bytes().as_slice(), sent);
+            return true;
+        }
+        AppLine::Event(number) => AppEvent::Event(*number),
+        AppLine::Changed(key) => AppEvent::Changed(*key),
+        AppLine::Raise(code, bits, extra) => AppEvent::Raise(*code, *bits, *extra),
+        AppLine::Clear(bits) => AppEvent::Clear(*bits),
+    };
+    apply(node, event, sent);
+    true
+}
+
+// So many ticks; false where one before the last sends something.
+fn tick(node: &mut Node, count: u32, sent: &mut Outbox) -> bool {
+    for left in (0..count).rev() {
+        elapse(node, sent);
+        if left > 0 && !sent.is_empty() {
+            return false;
+        }
+    }
+    true
+}
+
+// The segments of a sub-block up to this one; false where one before the last is answered.
+fn send_segments(node: &mut Node, last: u8, sent: &mut Outbox) -> Result<bool, BadScript> {
+    for sequence in 1..=last {
+        let data = [sequence, 0, 0, 0, 0, 0, 0, 0];
+        let frame = Frame::new(0x605, &data).ok().ok_or(BadScript)?;
+        take(node, frame, sent);
+        if sequence < last && !sent.is_empty() {
+            return Ok(false);
+        }
+    }
+    Ok(true)
+}
+
+/// Gives a device the inputs of a line. False where one before the last sends something.
+pub(crate) fn give(node: &mut Node, line: &str, sent: &mut Outbox) -> Result<bool, BadScript> {
+    if let Some(last) = line.strip_prefix("segments ") {
+        let last = last.parse().ok().ok_or(BadScript)?;
+        return send_segments(node, last, sent);
+    }
+    if line.starts_with('!') {
+        return match &TraceLine::read(line.as_bytes()) {
+            Some(TraceLine::Event(EventLine::Ticks(count))) => Ok(tick(node, *count, sent)),
+            Some(TraceLine::Event(EventLine::App(event))) => Ok(apply_line(node, event, sent)),
+            _ => Err(BadScript),
+        };
+    }
+    take(node, frame_of(line)?, sent);
+    Ok(true)
+}
