@@ -1,9 +1,9 @@
 -- How far a log is explained.
-use Rattle.std.proofs.Common.{◌≡◌, ℕ, ◌+◌, ◌<◌, ◌≤◌, Bool, false, true, cond, ◌⊎◌, inl, inr, List, [], ◌∷◌, ◌++◌, length, Option, None, Some, IfSome, ltb, refl, sym, ap, ap₂, subst, ◌∙◌, arith, append_assoc, append-nil}
-use Rattle.std.specs.Prelude.{⊤, ◌||◌, ◌==◌}
+use Rattle.std.proofs.Common.{◌≡◌, ℕ, ◌+◌, ◌<◌, ◌≤◌, Bool, false, true, ◌⊎◌, inl, inr, List, [], ◌∷◌, ◌++◌, length, Option, None, Some, IfSome, ltb, refl, sym, ap, ap₂, subst, ◌∙◌, arith, append_assoc}
+use Rattle.std.specs.Prelude.{◌||◌, ◌==◌}
 use Rattle.std.specs.List.{flat_map, before_first, after_first}
-use Rattle.std.specs.Io.KnownBytes.{Appends, Consumes, Keeps, IsAtEnd}
-use Rattle.std.specs.Str.Lines.{lines, strip_carriage_return}
+use Rattle.std.specs.Io.KnownBytes.{Keeps, IsAtEnd}
+use Rattle.std.specs.Str.Lines.{lines}
 use Rattle.std.proofs.KnownBytes.{Appends-nil, Appends-kept}
 use Rattle.std.proofs.lemmas.Bool.Decides.{nat_tests}
 use Rattle.co_text.proofs.Tests.{by_test}
@@ -11,10 +11,10 @@ use Rattle.co_bounded_lines.specs.declared.bounded_lines.Found.TheVariants.{Line
 use Rattle.co_bounded_lines.specs.Founds.{is_closed, ClosesAlike, Finds}
 use Rattle.co_bounded_lines.specs.Held.{Held, nothing_held, to_come}
 use Rattle.co_stream.specs.Lines.{has_line_feed, GivesLine}
-use Rattle.co_stream.specs.Readings.{Gave, known_bytes}
+use Rattle.co_stream.specs.Readings.{Gave}
 use Rattle.co_stream.proofs.LineLemmas.{cut_at_feed, lines-feed, lines-last}
 use Rattle.co_stream.proofs.Readers.{gave_nothing, gave_so, gave_then, of_given, of_known}
-use Rattle.conode_decode.specs.Names.{Names}
+use Rattle.conode_explain_pdo.specs.Known.{KnownSheet}
 use Rattle.conode_io.specs.Written.{WritesLines}
 use Rattle.conode_io.proofs.WriteLemmas.{lines_after}
 use Rattle.conode_lines.specs.TraceTexts.{GaveText}
@@ -30,21 +30,21 @@ use Rattle.conode_explain.specs.Taking.{Explains, Gives, Takes}
 -- ---- the lines of frames
 
 -- a line of at most 512 bytes
-one_line : (form : Layout) (names : Names) (log : Log) (so_far : Progress) (line : List ℕ) (more : List (List ℕ)) → length line ≤ 512
-    → explained_from form names log so_far (line ∷ more)
-    ≡ said_lines form names so_far (line_at log line) ++ explained_from form names (says log line).0 (progress_after form names so_far (line_at log line)) more
+one_line : (form : Layout) (sheets : List KnownSheet) (log : Log) (so_far : Progress) (line : List ℕ) (more : List (List ℕ)) → length line ≤ 512
+    → explained_from form sheets log so_far (line ∷ more)
+    ≡ said_lines form sheets so_far (line_at log line) ++ explained_from form sheets (says log line).0 (progress_after form sheets so_far (line_at log line)) more
 unfolding explained_from
-one_line form names log so_far line more few = let short : ltb 512 (length line) ≡ false = grind (arith, nat_tests) in rw short refl
+one_line form sheets log so_far line more few = let short : ltb 512 (length line) ≡ false = grind (arith, nat_tests) in rw short refl
 
 -- a longer one
-long_line : (form : Layout) (names : Names) (log : Log) (so_far : Progress) (line : List ℕ) (more : List (List ℕ)) → 512 < length line
-    → explained_from form names log so_far (line ∷ more) ≡ explained_from form names log so_far more
+long_line : (form : Layout) (sheets : List KnownSheet) (log : Log) (so_far : Progress) (line : List ℕ) (more : List (List ℕ)) → 512 < length line
+    → explained_from form sheets log so_far (line ∷ more) ≡ explained_from form sheets log so_far more
 unfolding explained_from
-long_line form names log so_far line more many = let long : ltb 512 (length line) ≡ true = grind (arith, nat_tests) in rw long refl
+long_line form sheets log so_far line more many = let long : ltb 512 (length line) ≡ true = grind (arith, nat_tests) in rw long refl
 
-no_line : (form : Layout) (names : Names) (log : Log) (so_far : Progress) → explained_from form names log so_far (lines []) ≡ unfinished_lines form names so_far
+no_line : (form : Layout) (sheets : List KnownSheet) (log : Log) (so_far : Progress) → explained_from form sheets log so_far (lines []) ≡ unfinished_lines form sheets so_far
 unfolding explained_from
-no_line form names log so_far = refl
+no_line form sheets log so_far = refl
 
 -- ---- bad lines
 
@@ -124,72 +124,72 @@ faults_long log line many = let long : ltb 512 (length line) ≡ true = grind (a
 
 -- ---- what bytes give
 
-module _ (form : Layout) (names : Names) where
-  gives_none : (known : Option (List ℕ)) (log : Log) (so_far : Progress) → Gives form names known known log log so_far so_far [] 0
+module _ (form : Layout) (sheets : List KnownSheet) where
+  gives_none : (known : Option (List ℕ)) (log : Log) (so_far : Progress) → Gives form sheets known known log log so_far so_far [] 0
   gives_none None log so_far = tt
   gives_none (Some text) log so_far = (refl, omega arith)
 
   gives_then : (a b c : Option (List ℕ)) (log next left : Log) (first mid last : Progress) (lines more : List (List ℕ)) (bad also : ℕ)
-      → Gives form names a b log next first mid lines bad → Gives form names b c next left mid last more also
-      → Gives form names a c log left first last (lines ++ more) (bad + also)
+      → Gives form sheets a b log next first mid lines bad → Gives form sheets b c next left mid last more also
+      → Gives form sheets a c log left first last (lines ++ more) (bad + also)
   gives_then None b c log next left first mid last lines more bad also h k = tt
   gives_then (Some xs) None c log next left first mid last lines more bad also h k = absurd h
   gives_then (Some xs) (Some ys) None log next left first mid last lines more bad also h k = absurd k
   gives_then (Some xs) (Some ys) (Some zs) log next left first mid last ls more bad also h k = (
-    h.0 ∙ ap (λ (all : List (List ℕ)). ls ++ all) k.0 ∙ sym (append_assoc ls more (explained_from form names left last (lines zs))),
+    h.0 ∙ ap (λ (all : List (List ℕ)). ls ++ all) k.0 ∙ sym (append_assoc ls more (explained_from form sheets left last (lines zs))),
     omega (arith, h.1, k.1),
   )
 
   module _ (log : Log) (so_far : Progress) (line : List ℕ) where
     -- a line with its line feed
     gives_line : (old new : Option (List ℕ)) → GivesLine old new line → length line ≤ 512 → ClosesAlike old new
-        → Gives form names old new log (says log line).0 so_far (progress_after form names so_far (line_at log line)) (said_lines form names so_far (line_at log line)) (faults_in (line_at log line))
+        → Gives form sheets old new log (says log line).0 so_far (progress_after form sheets so_far (line_at log line)) (said_lines form sheets so_far (line_at log line)) (faults_in (line_at log line))
     gives_line None new gives few alike = tt
     gives_line (Some xs) None gives few alike = absurd gives
     gives_line (Some xs) (Some ys) gives few alike = (
-      ap (explained_from form names log so_far) gives ∙ one_line form names log so_far line (lines ys) few,
+      ap (explained_from form sheets log so_far) gives ∙ one_line form sheets log so_far line (lines ys) few,
       counted log xs ys line gives alike ∙ ap₂ (λ (n : ℕ) (l : Log). n + bad_count l ys) (faults_short log line few) (after_short log line few),
     )
 
     -- the last one, without it
     gives_last : (old new : Option (List ℕ)) → GivesLine old new line → length line ≤ 512 → IfSome old (λ bytes. has_line_feed bytes ≡ false)
-        → Gives form names old new log (says log line).0 so_far (progress_after form names so_far (line_at log line)) (said_lines form names so_far (line_at log line)) 0
+        → Gives form sheets old new log (says log line).0 so_far (progress_after form sheets so_far (line_at log line)) (said_lines form sheets so_far (line_at log line)) 0
     gives_last None new gives few none = tt
     gives_last (Some xs) None gives few none = absurd gives
     gives_last (Some xs) (Some ys) gives few none = (
-      ap (explained_from form names log so_far) gives ∙ one_line form names log so_far line (lines ys) few,
+      ap (explained_from form sheets log so_far) gives ∙ one_line form sheets log so_far line (lines ys) few,
       counted_last log (says log line).0 xs ys line gives none few ∙ omega arith,
     )
 
     -- one that is too long
-    gives_long : (old new : Option (List ℕ)) → GivesLine old new line → 512 < length line → IsAtEnd new ⊎ ClosesAlike old new → Gives form names old new log log so_far so_far [] 1
+    gives_long : (old new : Option (List ℕ)) → GivesLine old new line → 512 < length line → IsAtEnd new ⊎ ClosesAlike old new → Gives form sheets old new log log so_far so_far [] 1
     gives_long None new gives many ends = tt
     gives_long (Some xs) None gives many ends = absurd gives
     gives_long (Some xs) (Some ys) gives many (inl empty) = (
-      ap (explained_from form names log so_far) gives ∙ long_line form names log so_far line (lines ys) many,
+      ap (explained_from form sheets log so_far) gives ∙ long_line form sheets log so_far line (lines ys) many,
       counted_at_end log xs ys line gives empty many ∙ ap (λ (n : ℕ). n + bad_count log ys) (faults_long log line many),
     )
     gives_long (Some xs) (Some ys) gives many (inr alike) = (
-      ap (explained_from form names log so_far) gives ∙ long_line form names log so_far line (lines ys) many,
+      ap (explained_from form sheets log so_far) gives ∙ long_line form sheets log so_far line (lines ys) many,
       counted log xs ys line gives alike ∙ ap₂ (λ (n : ℕ) (l : Log). n + bad_count l ys) (faults_long log line many) (after_long log line many),
     )
 
   -- the end
   gives_all : (known rest : Option (List ℕ)) (log : Log) (so_far : Progress) (written : List (List ℕ)) (bad : ℕ)
-      → Gives form names known rest (at_start form.log) log nothing_known so_far written bad → IsAtEnd rest
-      → IfSome known (λ text. (explained form names text ≡ written ++ unfinished_lines form names so_far) × (bad_count (at_start form.log) text ≡ bad))
+      → Gives form sheets known rest (at_start form.log) log nothing_known so_far written bad → IsAtEnd rest
+      → IfSome known (λ text. (explained form sheets text ≡ written ++ unfinished_lines form sheets so_far) × (bad_count (at_start form.log) text ≡ bad))
   gives_all None rest log so_far written bad h end = tt
   gives_all (Some text) None log so_far written bad h end = absurd h
   gives_all (Some text) (Some rest) log so_far written bad h end = (
-    h.0 ∙ ap (λ (bytes : List ℕ). written ++ explained_from form names log so_far (lines bytes)) end
-        ∙ ap (λ (ls : List (List ℕ)). written ++ ls) (no_line form names log so_far),
+    h.0 ∙ ap (λ (bytes : List ℕ). written ++ explained_from form sheets log so_far (lines bytes)) end
+        ∙ ap (λ (ls : List (List ℕ)). written ++ ls) (no_line form sheets log so_far),
     h.1 ∙ ap (λ (bytes : List ℕ). bad + bad_count log bytes) end ∙ ap (λ (n : ℕ). bad + n) (no_bad log) ∙ omega arith,
   )
 
   -- ---- lines taken
 
   pub takes_none : (held : Held) (known : Option (List ℕ)) (log : Log) (so_far : Progress) (has : Option (List ℕ))
-      → Takes form names held held known known log log so_far so_far has has 0
+      → Takes form sheets held held known known log log so_far so_far has has 0
   takes_none held known log so_far has = record {
     written = [];
     appended = Appends-nil has;
@@ -198,18 +198,18 @@ module _ (form : Layout) (names : Names) where
 
   -- what is found next
   module _ (held holds : Held) (before after : Option (List ℕ)) (log : Log) (so_far : Progress) (old new : Option (List ℕ)) where
-    module _ (line : List ℕ) (then : Log) (next : Progress) (left : then ≡ (says log line).0) (is : next ≡ progress_after form names so_far (line_at log line))
-        (written : WritesLines old new (said_lines form names so_far (line_at log line))) where
-      so : (bad : ℕ) → Takes form names held holds before after log (says log line).0 so_far (progress_after form names so_far (line_at log line)) old new bad
-          → Takes form names held holds before after log then so_far next old new bad
+    module _ (line : List ℕ) (then : Log) (next : Progress) (left : then ≡ (says log line).0) (is : next ≡ progress_after form sheets so_far (line_at log line))
+        (written : WritesLines old new (said_lines form sheets so_far (line_at log line))) where
+      so : (bad : ℕ) → Takes form sheets held holds before after log (says log line).0 so_far (progress_after form sheets so_far (line_at log line)) old new bad
+          → Takes form sheets held holds before after log then so_far next old new bad
       so bad h =
-          subst (λ (n : Progress). Takes form names held holds before after log then so_far n old new bad) (sym is)
-          (subst (λ (l : Log). Takes form names held holds before after log l so_far (progress_after form names so_far (line_at log line)) old new bad) (sym left) h)
+          subst (λ (n : Progress). Takes form sheets held holds before after log then so_far n old new bad) (sym is)
+          (subst (λ (l : Log). Takes form sheets held holds before after log l so_far (progress_after form sheets so_far (line_at log line)) old new bad) (sym left) h)
 
       whole_line : Gave held.ended holds.ended before after (λ had has. Finds (to_come held had) (to_come holds has) line Line)
-          → Takes form names held holds before after log (says log line).0 so_far (progress_after form names so_far (line_at log line)) old new (faults_in (line_at log line))
+          → Takes form sheets held holds before after log (says log line).0 so_far (progress_after form sheets so_far (line_at log line)) old new (faults_in (line_at log line))
       whole_line found = record {
-        written = said_lines form names so_far (line_at log line);
+        written = said_lines form sheets so_far (line_at log line);
         appended = written;
         gives = gave_so held.ended holds.ended before after _ _ found
             (λ had has f. gives_line log so_far line (to_come held had) (to_come holds has) f.0 f.1 f.2);
@@ -217,26 +217,26 @@ module _ (form : Layout) (names : Names) where
 
       pub takes_line : (bad : ℕ) → bad ≡ faults_in (line_at log line)
           → Gave held.ended holds.ended before after (λ had has. Finds (to_come held had) (to_come holds has) line Line)
-          → Takes form names held holds before after log then so_far next old new bad
+          → Takes form sheets held holds before after log then so_far next old new bad
       takes_line bad counts found =
-          subst (λ (b : ℕ). Takes form names held holds before after log then so_far next old new b) (sym counts)
+          subst (λ (b : ℕ). Takes form sheets held holds before after log then so_far next old new b) (sym counts)
           (so (faults_in (line_at log line)) (whole_line found))
 
       last_line : Gave held.ended holds.ended before after (λ had has. Finds (to_come held had) (to_come holds has) line Last)
-          → Takes form names held holds before after log (says log line).0 so_far (progress_after form names so_far (line_at log line)) old new 0
+          → Takes form sheets held holds before after log (says log line).0 so_far (progress_after form sheets so_far (line_at log line)) old new 0
       last_line found = record {
-        written = said_lines form names so_far (line_at log line);
+        written = said_lines form sheets so_far (line_at log line);
         appended = written;
         gives = gave_so held.ended holds.ended before after _ _ found
             (λ had has f. gives_last log so_far line (to_come held had) (to_come holds has) f.0 f.1 f.2);
       }
 
       pub takes_last : Gave held.ended holds.ended before after (λ had has. Finds (to_come held had) (to_come holds has) line Last)
-          → Takes form names held holds before after log then so_far next old new 0
+          → Takes form sheets held holds before after log then so_far next old new 0
       takes_last found = so 0 (last_line found)
 
     pub takes_long : (line : List ℕ) → Gave held.ended holds.ended before after (λ had has. Finds (to_come held had) (to_come holds has) line TooLong)
-        → old ≡ new → Takes form names held holds before after log log so_far so_far old new 1
+        → old ≡ new → Takes form sheets held holds before after log log so_far so_far old new 1
     takes_long line found same = record {
       written = [];
       appended = subst (λ (held : Option (List ℕ)). WritesLines old held []) same (Appends-nil old);
@@ -244,9 +244,9 @@ module _ (form : Layout) (names : Names) where
     }
 
   module _ (held mid : Held) (before between : Option (List ℕ)) (log then : Log) (first next : Progress) (old has : Option (List ℕ)) (bad : ℕ)
-      (h : Takes form names held mid before between log then first next old has bad) where
+      (h : Takes form sheets held mid before between log then first next old has bad) where
     -- a flush
-    pub takes_flushed : (new : Option (List ℕ)) → Keeps has new → Takes form names held mid before between log then first next old new bad
+    pub takes_flushed : (new : Option (List ℕ)) → Keeps has new → Takes form sheets held mid before between log then first next old new bad
     takes_flushed new kept = record {
       written = h.written;
       appended = Appends-kept old has new (flat_map (λ line. line) h.written) h.appended kept;
@@ -255,8 +255,8 @@ module _ (form : Layout) (names : Names) where
 
     -- more lines
     pub takes_more : (holds : Held) (after : Option (List ℕ)) (left : Log) (last : Progress) (new : Option (List ℕ)) (also : ℕ)
-        → Takes form names mid holds between after then left next last has new also
-        → Takes form names held holds before after log left first last old new (bad + also)
+        → Takes form sheets mid holds between after then left next last has new also
+        → Takes form sheets held holds before after log left first last old new (bad + also)
     takes_more holds after left last new also k = record {
       written = h.written ++ k.written;
       appended = lines_after old has new h.written k.written h.appended k.appended;
@@ -270,24 +270,24 @@ all_to_come : (known : Option (List ℕ)) → to_come nothing_held known ≡ kno
 all_to_come None = refl
 all_to_come (Some bytes) = refl
 
-explained_if : (form : Layout) (names : Names) (written : List (List ℕ)) (bad : ℕ) (old new : Option (List ℕ)) (known : Option (List ℕ)) → WritesLines old new written
-    → IfSome known (λ text. (explained form names text ≡ written) × (bad_count (at_start form.log) text ≡ bad)) → IfSome known (Explains form names old new bad)
-explained_if form names written bad old new None appended h = tt
-explained_if form names written bad old new (Some text) appended h = (subst (WritesLines old new) (sym h.0) appended, sym h.1)
+explained_if : (form : Layout) (sheets : List KnownSheet) (written : List (List ℕ)) (bad : ℕ) (old new : Option (List ℕ)) (known : Option (List ℕ)) → WritesLines old new written
+    → IfSome known (λ text. (explained form sheets text ≡ written) × (bad_count (at_start form.log) text ≡ bad)) → IfSome known (Explains form sheets old new bad)
+explained_if form sheets written bad old new None appended h = tt
+explained_if form sheets written bad old new (Some text) appended h = (subst (WritesLines old new) (sym h.0) appended, sym h.1)
 
-module _ (form : Layout) (names : Names) (mid holds : Held) (before between after : Option (List ℕ)) (log : Log) (so_far : Progress) (old out new : Option (List ℕ)) (bad : ℕ)
-    (h : Takes form names nothing_held mid before between (at_start form.log) log nothing_known so_far old out bad)
-    (rest : WritesLines out new (unfinished_lines form names so_far))
+module _ (form : Layout) (sheets : List KnownSheet) (mid holds : Held) (before between after : Option (List ℕ)) (log : Log) (so_far : Progress) (old out new : Option (List ℕ)) (bad : ℕ)
+    (h : Takes form sheets nothing_held mid before between (at_start form.log) log nothing_known so_far old out bad)
+    (rest : WritesLines out new (unfinished_lines form sheets so_far))
     (end : Gave mid.ended holds.ended between after (λ had has. IsAtEnd (to_come mid had))) where
-  all : Gave false holds.ended before after (λ had has. IfSome had (Explains form names old new bad))
+  all : Gave false holds.ended before after (λ had has. IfSome had (Explains form sheets old new bad))
   all = gave_then false mid.ended holds.ended before between after _ _ _ h.gives end
-      (λ had middle left p q. explained_if form names (h.written ++ unfinished_lines form names so_far) bad old new had
-      (lines_after old out new h.written (unfinished_lines form names so_far) h.appended rest)
-      (subst (λ (known : Option (List ℕ)). IfSome known (λ text. (explained form names text ≡ h.written ++ unfinished_lines form names so_far) × (bad_count (at_start form.log) text ≡ bad))) (all_to_come had)
-      (gives_all form names (to_come nothing_held had) (to_come mid middle) log so_far h.written bad p q)))
+      (λ had middle left p q. explained_if form sheets (h.written ++ unfinished_lines form sheets so_far) bad old new had
+      (lines_after old out new h.written (unfinished_lines form sheets so_far) h.appended rest)
+      (subst (λ (known : Option (List ℕ)). IfSome known (λ text. (explained form sheets text ≡ h.written ++ unfinished_lines form sheets so_far) × (bad_count (at_start form.log) text ≡ bad))) (all_to_come had)
+      (gives_all form sheets (to_come nothing_held had) (to_come mid middle) log so_far h.written bad p q)))
 
-  pub explained_known : IfSome before (Explains form names old new bad)
+  pub explained_known : IfSome before (Explains form sheets old new bad)
   explained_known = of_known false holds.ended before after _ all
 
-  pub explained_any : GaveText before after (Explains form names old new bad)
+  pub explained_any : GaveText before after (Explains form sheets old new bad)
   explained_any = (all.bytes, all.taken, of_given false holds.ended before after _ all)

@@ -1,10 +1,9 @@
 -- What a log is explained as: the lines of its frames that are asked for, in order, each with that of the transfer that ended with it,
 -- and at the end those of the transfers that are open. A bad line has none here, and is counted.
-use Rattle.std.specs.Prelude.{ℕ, ◌+◌, Bool, true, false, nat_lt, ◌&&◌, ◌||◌, if◌then◌else◌, List, [], ◌∷◌, ◌++◌, length, Option, Some, None, Result, Ok, Err}
+use Rattle.std.specs.Prelude.{ℕ, ◌+◌, Bool, nat_lt, ◌||◌, if◌then◌else◌, List, [], ◌∷◌, ◌++◌, length, Option, Some, None}
 use Rattle.std.specs.List.{flat_map}
 use Rattle.std.specs.Str.Lines.{lines}
 use Rattle.co_bounded_lines.specs.Founds.{is_closed}
-use Rattle.conode_decode.specs.Names.{Names}
 use Rattle.conode_convert.specs.Converted.{at_start}
 use Rattle.conode_logs.specs.declared.log.Log.{Log}
 use Rattle.conode_logs.specs.Logs.{says}
@@ -19,12 +18,20 @@ use Rattle.conode_explain_channels.specs.declared.told.Told.{Told}
 use Rattle.conode_explain_channels.specs.declared.track.Track.{Track}
 use Rattle.conode_explain_channels.specs.Tellings.{telling}
 use Rattle.conode_explain_channels.specs.Tracks.{Telling}
+use Rattle.conode_explain_entries.specs.declared.entries.ShownPdo.{ShownPdo}
+use Rattle.conode_explain_entries.specs.Tables.{entries_with}
+use Rattle.conode_explain_pdo.specs.Buses.{Bus}
+use Rattle.conode_explain_pdo.specs.declared.claim.Claim.{Claim}
+use Rattle.conode_explain_pdo.specs.Known.{KnownSheet}
+use Rattle.conode_explain_pdo.specs.Claims.{claims_with}
+use Rattle.conode_explain_pdo.specs.Known.{names_for}
 use Rattle.conode_explain_transfers.specs.declared.ended.Ended.{Ended}
 use Rattle.conode_explain_transfers.specs.declared.ended.Ending.TheVariants.{Unfinished}
 use Rattle.conode_explain_transfers.specs.Followed.{closed}
 use Rattle.conode_explain_changes.specs.Changes.{Said}
 use Rattle.conode_explain_filter.specs.declared.kind.Kind.{Kind}
 use Rattle.conode_explain_filter.specs.declared.kind.Kind.TheVariants.{Sdo}
+use Rattle.conode_explain_filter.specs.declared.subject.Subject.{Subject}
 use Rattle.conode_explain_json.specs.JsonLines.{json_line}
 use Rattle.conode_explain_text.specs.Lines.{Part, line_parts, line_text, own_parts}
 use Rattle.conode_explain_text.specs.SoFar.{SoFar, nothing_seen, seen_with, shows_interface, times_at}
@@ -40,7 +47,7 @@ use Rattle.conode_explain.specs.ToldWords.{ended_words, told_words}
 
 -- nothing came
 abbrev pub nothing_known : Progress
-nothing_known = record { seen = nothing_seen; channels = []; lasts = [] }
+nothing_known = record { seen = nothing_seen; channels = []; entries = []; lasts = [] }
 
 -- what is told of a frame, and the channels after it: frames of data with an identifier of 11 bits alone are followed
 abbrev pub telling_in : List Track → Record → Identifier → Content → Telling
@@ -50,97 +57,118 @@ telling_in channels frame _ _ = record { told = None; tracks = channels }
 unfoldable pub telling_of : List Track → Record → Telling
 telling_of channels frame = telling_in channels frame frame.id frame.content
 
+-- what is known of the PDOs of a frame's bus
+abbrev pub bus_of : List KnownSheet → List ShownPdo → Record → Bus
+bus_of sheets entries frame = record { sheets = sheets; entries = entries; interface = frame.interface }
+
+-- the PDOs that have its identifier
+abbrev pub claims_at : Bus → Identifier → List Claim
+claims_at bus (Base id) = claims_with bus id
+claims_at bus _ = []
+
 -- a line as text or as an object of JSON, of a kind and a node
 abbrev pub line_as : LineFormat → Kind → Option ℕ → List Part → List ℕ
 line_as Text kind whose parts = line_text parts
 line_as Json kind whose parts = json_line kind whose parts
 
 -- the line of a frame that says these words
-unfoldable pub frame_line : Layout → Names → SoFar → Record → List ℕ → List ℕ
-frame_line form names so_far frame words =
-    line_as form.format (subject_in names frame).kind (subject_in names frame).node (line_parts form.stamps so_far frame words)
+unfoldable pub frame_line : Layout → SoFar → Subject → Record → List ℕ → List ℕ
+frame_line form so_far subject frame words =
+    line_as form.format subject.kind subject.node (line_parts form.stamps so_far frame words)
 
 -- where it says something new
-abbrev pub news_lines : Layout → Names → SoFar → List Said → Record → List ℕ → List (List ℕ)
-news_lines form names so_far lasts frame words =
-    if is_news form names lasts frame words then frame_line form names so_far frame words ∷ [] else []
+abbrev pub news_lines : Layout → SoFar → List Said → Subject → Record → List ℕ → List (List ℕ)
+news_lines form so_far lasts subject frame words =
+    if is_news form lasts subject frame words then frame_line form so_far subject frame words ∷ [] else []
 
 -- and is asked for
-unfoldable pub shown_lines : Layout → Names → SoFar → List Said → Record → List ℕ → List (List ℕ)
-shown_lines form names so_far lasts frame words =
-    if shows_frame form names so_far frame then news_lines form names so_far lasts frame words else []
+unfoldable pub shown_lines : Layout → SoFar → List Said → Subject → Record → List ℕ → List (List ℕ)
+shown_lines form so_far lasts subject frame words =
+    if shows_frame form so_far subject frame.micros then news_lines form so_far lasts subject frame words else []
 
 -- what was said last after it: a frame whose line isn't asked for doesn't count
-unfoldable pub lasts_after : Layout → Names → SoFar → List Said → Record → List ℕ → List Said
-lasts_after form names so_far lasts frame words =
-    if shows_frame form names so_far frame then lasts_told form names lasts frame words else lasts
+unfoldable pub lasts_after : Layout → SoFar → List Said → Subject → Record → List ℕ → List Said
+lasts_after form so_far lasts subject frame words =
+    if shows_frame form so_far subject frame.micros then lasts_told form lasts subject frame words else lasts
 
--- the line of a transfer that ended, where one did and it is asked for
-unfoldable pub end_line : Layout → Names → SoFar → ℕ → List ℕ → ℕ → Ended → List ℕ
-end_line form names so_far micros interface node e =
+-- the line of a transfer of a node that ended, where one did and it is asked for
+unfoldable pub end_line : Layout → List KnownSheet → SoFar → ℕ → List ℕ → ℕ → Ended → List ℕ
+end_line form sheets so_far micros interface node e =
     line_as form.format Sdo (Some node)
-    (own_parts form.stamps (times_at so_far micros) (shows_interface so_far interface) interface (ended_words names node e))
+    (own_parts form.stamps (times_at so_far micros) (shows_interface so_far interface) interface (ended_words (names_for sheets interface node) node e))
 
-abbrev pub ended_lines : Layout → Names → SoFar → ℕ → List ℕ → ℕ → Option Ended → List (List ℕ)
-ended_lines form names so_far micros interface node None = []
-ended_lines form names so_far micros interface node (Some e) =
-    if shows_end form so_far micros node then end_line form names so_far micros interface node e ∷ [] else []
+abbrev pub ended_lines : Layout → List KnownSheet → SoFar → ℕ → List ℕ → ℕ → Option Ended → List (List ℕ)
+ended_lines form sheets so_far micros interface node None = []
+ended_lines form sheets so_far micros interface node (Some e) =
+    if shows_end form so_far micros node then end_line form sheets so_far micros interface node e ∷ [] else []
 
-abbrev pub told_lines : Layout → Names → SoFar → Record → Option Told → List (List ℕ)
-told_lines form names so_far frame None = []
-told_lines form names so_far frame (Some told) = ended_lines form names so_far frame.micros frame.interface told.node told.ended
+abbrev pub told_lines : Layout → List KnownSheet → SoFar → Record → Option Told → List (List ℕ)
+told_lines form sheets so_far frame None = []
+told_lines form sheets so_far frame (Some told) = ended_lines form sheets so_far frame.micros frame.interface told.node told.ended
+
+-- the lines of a frame on a bus that is these PDOs, with what is told of it
+abbrev pub lines_with : Layout → List KnownSheet → Bus → List Claim → SoFar → List Said → Record → Option Told → List (List ℕ)
+lines_with form sheets bus claims so_far lasts frame told =
+    shown_lines form so_far lasts (subject_in claims frame) frame (told_words bus claims frame told)
+    ++ told_lines form sheets so_far frame told
+
+-- and what was said last after it
+abbrev pub lasts_with : Layout → Bus → List Claim → SoFar → List Said → Record → Option Told → List Said
+lasts_with form bus claims so_far lasts frame told =
+    lasts_after form so_far lasts (subject_in claims frame) frame (told_words bus claims frame told)
 
 -- the lines of a frame
-unfoldable pub frame_lines : Layout → Names → Progress → Record → List (List ℕ)
-frame_lines form names progress frame =
-    let told = (telling_of progress.channels frame).told in
-    shown_lines form names progress.seen progress.lasts frame (told_words names frame told)
-    ++ told_lines form names progress.seen frame told
+unfoldable pub frame_lines : Layout → List KnownSheet → Progress → Record → List (List ℕ)
+frame_lines form sheets progress frame =
+    let bus = bus_of sheets progress.entries frame in
+    lines_with form sheets bus (claims_at bus frame.id) progress.seen progress.lasts frame (telling_of progress.channels frame).told
 
-unfoldable pub progress_with : Layout → Names → Progress → Record → Progress
-progress_with form names progress frame =
+unfoldable pub progress_with : Layout → List KnownSheet → Progress → Record → Progress
+progress_with form sheets progress frame =
     let telling = telling_of progress.channels frame in
+    let bus = bus_of sheets progress.entries frame in
     record {
       seen = seen_with progress.seen frame.micros frame.interface;
       channels = telling.tracks;
-      lasts = lasts_after form names progress.seen progress.lasts frame (told_words names frame telling.told);
+      lasts = lasts_with form bus (claims_at bus frame.id) progress.seen progress.lasts frame telling.told;
+      entries = entries_with progress.entries frame.interface telling.told;
     }
 
 -- the lines of what a line says, if that is a frame
-abbrev pub said_lines : Layout → Names → Progress → Option RecordLine → List (List ℕ)
-said_lines form names progress (Some (Frame frame)) = frame_lines form names progress frame
-said_lines form names progress (Some Skipped) = []
-said_lines form names progress None = []
+abbrev pub said_lines : Layout → List KnownSheet → Progress → Option RecordLine → List (List ℕ)
+said_lines form sheets progress (Some (Frame frame)) = frame_lines form sheets progress frame
+said_lines form sheets progress (Some Skipped) = []
+said_lines form sheets progress None = []
 
 -- how far it is after it
-abbrev pub progress_after : Layout → Names → Progress → Option RecordLine → Progress
-progress_after form names progress (Some (Frame frame)) = progress_with form names progress frame
-progress_after form names progress (Some Skipped) = progress
-progress_after form names progress None = progress
+abbrev pub progress_after : Layout → List KnownSheet → Progress → Option RecordLine → Progress
+progress_after form sheets progress (Some (Frame frame)) = progress_with form sheets progress frame
+progress_after form sheets progress (Some Skipped) = progress
+progress_after form sheets progress None = progress
 
 -- ---- the end
 
 -- a transfer that is open at the end, at the stamp of the last frame
-abbrev pub unfinished_in : Layout → Names → SoFar → Track → List (List ℕ)
-unfinished_in form names so_far track =
-    ended_lines form names so_far so_far.last track.interface.items track.node (closed track.channel.transfer so_far.last Unfinished)
+abbrev pub unfinished_in : Layout → List KnownSheet → SoFar → Track → List (List ℕ)
+unfinished_in form sheets so_far track =
+    ended_lines form sheets so_far so_far.last track.interface.items track.node (closed track.channel.transfer so_far.last Unfinished)
 
-unfoldable pub unfinished_lines : Layout → Names → Progress → List (List ℕ)
-unfinished_lines form names progress = flat_map (unfinished_in form names progress.seen) progress.channels
+unfoldable pub unfinished_lines : Layout → List KnownSheet → Progress → List (List ℕ)
+unfinished_lines form sheets progress = flat_map (unfinished_in form sheets progress.seen) progress.channels
 
 -- ---- all of it
 
 -- lines explained, where it was so far before them; one of more than 512 bytes is bad, and says nothing of the log
-unfoldable pub explained_from : Layout → Names → Log → Progress → List (List ℕ) → List (List ℕ)
-explained_from form names log progress [] = unfinished_lines form names progress
-explained_from form names log progress (line ∷ more) =
-    if nat_lt 512 (length line) then explained_from form names log progress more
-    else said_lines form names progress (line_at log line)
-    ++ explained_from form names (says log line).0 (progress_after form names progress (line_at log line)) more
+unfoldable pub explained_from : Layout → List KnownSheet → Log → Progress → List (List ℕ) → List (List ℕ)
+explained_from form sheets log progress [] = unfinished_lines form sheets progress
+explained_from form sheets log progress (line ∷ more) =
+    if nat_lt 512 (length line) then explained_from form sheets log progress more
+    else said_lines form sheets progress (line_at log line)
+    ++ explained_from form sheets (says log line).0 (progress_after form sheets progress (line_at log line)) more
 
 -- a log explained
-abbrev pub explained : Layout → Names → List ℕ → List (List ℕ)
-explained form names text = explained_from form names (at_start form.log) nothing_known (lines text)
+abbrev pub explained : Layout → List KnownSheet → List ℕ → List (List ℕ)
+explained form sheets text = explained_from form sheets (at_start form.log) nothing_known (lines text)
 
 -- ---- how many lines are bad
 

@@ -1,11 +1,7 @@
 -- Which lines are printed.
-use Rattle.std.specs.Prelude.{ℕ, Bool, true, false, not, ◌&&◌, ◌||◌, if◌then◌else◌, List, [], ◌∷◌, Option, Some, None}
-use Rattle.std.specs.Option.{option_map_or}
-use Rattle.conode_decode.specs.Names.{Names}
+use Rattle.std.specs.Prelude.{ℕ, Bool, true, false, not, ◌&&◌, if◌then◌else◌, List, [], ◌∷◌, Option, Some, None}
 use Rattle.conode_record.specs.declared.content.Content.{Content}
 use Rattle.conode_record.specs.declared.content.Content.TheVariants.{Data}
-use Rattle.conode_record.specs.declared.fields.Identifier.{Identifier}
-use Rattle.conode_record.specs.declared.fields.Identifier.TheVariants.{Base}
 use Rattle.conode_record.specs.declared.line.Record.{Record}
 use Rattle.conode_explain_changes.specs.Changes.{Said, is_new, kept}
 use Rattle.conode_explain_filter.specs.declared.kind.Kind.{Kind}
@@ -13,36 +9,26 @@ use Rattle.conode_explain_filter.specs.declared.kind.Kind.TheVariants.{Pdo, Hear
 use Rattle.conode_explain_filter.specs.declared.subject.Subject.{Subject}
 use Rattle.conode_explain_filter.specs.Filters.{passes, passes_transfer}
 use Rattle.conode_explain_filter.specs.Subjects.{subject_of}
-use Rattle.conode_explain_pdo.specs.declared.sheet.SheetPdo.{SheetPdo}
-use Rattle.conode_explain_pdo.specs.CobIds.{node_with}
-use Rattle.conode_explain_pdo.specs.Pdos.{is_pdo}
-use Rattle.conode_explain_pdo.specs.Sheets.{sheet_pdos}
+use Rattle.conode_explain_pdo.specs.declared.claim.Claim.{Claim}
 use Rattle.conode_explain_text.specs.SoFar.{SoFar, times_at}
 use Rattle.conode_explain.specs.declared.progress.Layout.{Layout}
 
--- the node of the first of these PDOs that has an identifier
-unfoldable pub first_node : Option ℕ → ℕ → List SheetPdo → Option ℕ
-first_node only id [] = None
-first_node only id (pdo ∷ pdos) = option_map_or (λ node. Some node) (node_with only pdo.cob_id id) (first_node only id pdos)
+-- the node of the first of the PDOs that a frame is
+abbrev pub first_node : List Claim → Option ℕ
+first_node [] = None
+first_node (claim ∷ claims) = Some claim.node
 
--- the node of the data sheet's PDO that has an identifier
-abbrev pub pdo_node : Names → Identifier → Option ℕ
-pdo_node names (Base id) =
-    if is_pdo names.only (sheet_pdos names) id then first_node names.only id (sheet_pdos names) else None
-pdo_node names _ = None
+-- the kind and the node of a frame that is these PDOs
+abbrev pub subject_in : List Claim → Record → Subject
+subject_in claims frame = subject_of (first_node claims) frame.id frame.content
 
--- the kind and the node of a frame
-unfoldable pub subject_in : Names → Record → Subject
-subject_in names frame = subject_of (pdo_node names frame.id) frame.id frame.content
-
--- a frame passes the filter
-unfoldable pub passes_frame : Layout → Names → SoFar → Record → Bool
-passes_frame form names so_far frame =
-    passes form.filter.now (subject_in names frame) (times_at so_far frame.micros)
+-- a frame at a stamp passes the filter
+unfoldable pub passes_frame : Layout → SoFar → Subject → ℕ → Bool
+passes_frame form so_far subject micros = passes form.filter.now subject (times_at so_far micros)
 
 -- the line of a frame is left out where only the ends of transfers are asked for
-abbrev pub shows_frame : Layout → Names → SoFar → Record → Bool
-shows_frame form names so_far frame = not form.transfers && passes_frame form names so_far frame
+abbrev pub shows_frame : Layout → SoFar → Subject → ℕ → Bool
+shows_frame form so_far subject micros = not form.transfers && passes_frame form so_far subject micros
 
 -- the line of a transfer of a node that ended at a stamp
 abbrev pub shows_end : Layout → SoFar → ℕ → ℕ → Bool
@@ -57,8 +43,8 @@ repeats Heartbeat = true
 repeats Sync = true
 repeats _ = false
 
-unfoldable pub is_repeating : Layout → Names → Record → Bool
-is_repeating form names frame = form.changes && repeats (subject_in names frame).kind
+abbrev pub is_repeating : Layout → Subject → Bool
+is_repeating form subject = form.changes && repeats subject.kind
 
 -- the bytes of a frame of data
 abbrev pub data_of : Content → List ℕ
@@ -66,20 +52,20 @@ data_of (Data bytes) = bytes
 data_of other = []
 
 -- what a frame says, by its interface and identifier
-abbrev pub said_of : Names → Record → List ℕ → Said
-said_of names frame words = record {
+abbrev pub said_of : Subject → Record → List ℕ → Said
+said_of subject frame words = record {
   interface = frame.interface;
-  id = (subject_in names frame).id.number;
+  id = subject.id.number;
   bytes = data_of frame.content;
   words = words;
 }
 
 -- a frame says something new since what was said last
-unfoldable pub is_news : Layout → Names → List Said → Record → List ℕ → Bool
-is_news form names lasts frame words =
-    if is_repeating form names frame then is_new lasts (said_of names frame words) else true
+unfoldable pub is_news : Layout → List Said → Subject → Record → List ℕ → Bool
+is_news form lasts subject frame words =
+    if is_repeating form subject then is_new lasts (said_of subject frame words) else true
 
 -- and what was said last after it
-unfoldable pub lasts_told : Layout → Names → List Said → Record → List ℕ → List Said
-lasts_told form names lasts frame words =
-    if is_repeating form names frame then kept lasts (said_of names frame words) else lasts
+unfoldable pub lasts_told : Layout → List Said → Subject → Record → List ℕ → List Said
+lasts_told form lasts subject frame words =
+    if is_repeating form subject then kept lasts (said_of subject frame words) else lasts

@@ -3,7 +3,7 @@ use Rattle.std.specs.Prelude.{◌≡◌, ℕ, ◌+◌, List, ◌++◌, Option, S
 use Rattle.std.specs.Str.Lines.{lines}
 use Rattle.co_bounded_lines.specs.Held.{Held, to_come}
 use Rattle.co_stream.specs.Readings.{Gave}
-use Rattle.conode_decode.specs.Names.{Names}
+use Rattle.conode_explain_pdo.specs.Known.{KnownSheet}
 use Rattle.conode_convert.specs.Converted.{at_start}
 use Rattle.conode_io.specs.Written.{WritesLines}
 use Rattle.conode_logs.specs.declared.log.Log.{Log}
@@ -12,24 +12,24 @@ use Rattle.conode_explain.specs.declared.progress.Progress.{Progress}
 use Rattle.conode_explain.specs.Explained.{bad_count, explained, explained_from}
 
 -- known bytes give these lines, and what those that are left give; and so many bad lines, and those that are left have
-abbrev pub Gives : Layout → Names → Option (List ℕ) → Option (List ℕ)
+abbrev pub Gives : Layout → List KnownSheet → Option (List ℕ) → Option (List ℕ)
     → Log → Log → Progress → Progress → List (List ℕ) → ℕ → Type 0
-Gives form names None left log after first next written bad = ⊤
-Gives form names (Some text) None log after first next written bad = ⊥
-Gives form names (Some text) (Some rest) log after first next written bad =
-    (explained_from form names log first (lines text) ≡ written ++ explained_from form names after next (lines rest))
+Gives form sheets None left log after first next written bad = ⊤
+Gives form sheets (Some text) None log after first next written bad = ⊥
+Gives form sheets (Some text) (Some rest) log after first next written bad =
+    (explained_from form sheets log first (lines text) ≡ written ++ explained_from form sheets after next (lines rest))
     × (bad_count log text ≡ bad + bad_count after rest)
 
 -- Lines were taken: a writer has those of their frames, and so many of them are bad. `held` and `holds` are what is held of
 -- the reader before and after, `before` and `after` what is known of its bytes, `old` and `new` the writer's.
-pub record Takes (form : Layout) (names : Names)
+pub record Takes (form : Layout) (sheets : List KnownSheet)
     (held holds : Held) (before after : Option (List ℕ)) (log left : Log) (first next : Progress) (old new : Option (List ℕ)) (bad : ℕ) : Type 0 where
   pub written : List (List ℕ)
   pub appended : WritesLines old new written
   pub gives : Gave held.ended holds.ended before after
-      (λ had has. Gives form names (to_come held had) (to_come holds has) log left first next written bad)
+      (λ had has. Gives form sheets (to_come held had) (to_come holds has) log left first next written bad)
 
 -- all of a text is explained, and so many of its lines are bad
-abbrev pub Explains : Layout → Names → Option (List ℕ) → Option (List ℕ) → ℕ → List ℕ → Type 0
-Explains form names old new bad text =
-    WritesLines old new (explained form names text) × (bad ≡ bad_count (at_start form.log) text)
+abbrev pub Explains : Layout → List KnownSheet → Option (List ℕ) → Option (List ℕ) → ℕ → List ℕ → Type 0
+Explains form sheets old new bad text =
+    WritesLines old new (explained form sheets text) × (bad ≡ bad_count (at_start form.log) text)

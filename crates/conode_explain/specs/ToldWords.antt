@@ -1,5 +1,5 @@
 -- What is said of SDO transfers: of their frames, and of those that ended.
-use Rattle.std.specs.Prelude.{ℕ, Bool, List, [], ◌++◌, codes, decimal, Option, Some, None, option_and_then, unwrap_or}
+use Rattle.std.specs.Prelude.{ℕ, List, [], ◌++◌, codes, decimal, Option, Some, None, option_and_then, unwrap_or}
 use Rattle.co_value.specs.declared.key.Key.{Key}
 use Rattle.conode_decode.specs.Names.{Names, entry_of, shown_name}
 use Rattle.conode_record.specs.declared.line.Record.{Record}
@@ -9,6 +9,8 @@ use Rattle.conode_explain_transfers.specs.declared.ended.Ended.{Ended}
 use Rattle.conode_explain_transfers.specs.declared.ended.Ending.{Ending}
 use Rattle.conode_explain_transfers.specs.declared.ended.Ending.TheVariants.{Aborted}
 use Rattle.conode_explain_transfers.specs.declared.kinds.Side.{Side}
+use Rattle.conode_explain_pdo.specs.declared.claim.Claim.{Claim}
+use Rattle.conode_explain_pdo.specs.Buses.{Bus, names_at}
 use Rattle.conode_explain_transfer_text.specs.Ends.{end_text}
 use Rattle.conode_explain_transfer_text.specs.Frames.{after_text, segment_number, segment_text}
 use Rattle.conode_explain.specs.AbortWords.{words_of}
@@ -25,22 +27,22 @@ name_in names node None = []
 name_in names node (Some key) = name_bytes names node key
 
 -- a segment of a sub-block has its number, every other frame its own text
-abbrev pub part_front : Names → Record → ℕ → Side → Option ℕ → List ℕ
-part_front names frame node side None = words_of_content names frame.id frame.content
-part_front names frame node side (Some number) = segment_text side node number
+abbrev pub part_front : Bus → List Claim → Record → ℕ → Side → Option ℕ → List ℕ
+part_front bus claims frame node side None = words_of_content bus claims frame.id frame.content
+part_front bus claims frame node side (Some number) = segment_text side node number
 
-unfoldable pub part_words : Names → Record → ℕ → Part → List ℕ
-part_words names frame node part =
-    part_front names frame node part.side (segment_number part.what) ++ after_text part.what part.of (name_in names node part.of)
+unfoldable pub part_words : Bus → List Claim → Record → ℕ → Part → List ℕ
+part_words bus claims frame node part =
+    part_front bus claims frame node part.side (segment_number part.what) ++ after_text part.what part.of (name_in (names_at bus node) node part.of)
 
-abbrev pub words_in : Names → Record → ℕ → Option Part → List ℕ
-words_in names frame node None = words_of_content names frame.id frame.content
-words_in names frame node (Some part) = part_words names frame node part
+abbrev pub words_in : Bus → List Claim → Record → ℕ → Option Part → List ℕ
+words_in bus claims frame node None = words_of_content bus claims frame.id frame.content
+words_in bus claims frame node (Some part) = part_words bus claims frame node part
 
 -- what a frame says, with what is told of it
-abbrev pub told_words : Names → Record → Option Told → List ℕ
-told_words names frame None = words_of_content names frame.id frame.content
-told_words names frame (Some told) = words_in names frame told.node told.part
+abbrev pub told_words : Bus → List Claim → Record → Option Told → List ℕ
+told_words bus claims frame None = words_of_content bus claims frame.id frame.content
+told_words bus claims frame (Some told) = words_in bus claims frame told.node told.part
 
 -- ---- transfers that ended
 

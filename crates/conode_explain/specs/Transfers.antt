@@ -14,6 +14,7 @@ use Rattle.co_frame.specs.SdoResponses.{response_in}
 use Rattle.co_sheet.specs.Content.{Row}
 use Rattle.conode_decode.specs.Names.{Names, entry_of, shown_name}
 use Rattle.conode_explain.specs.declared.transfer.Transfer.{Transfer}
+use Rattle.conode_explain_pdo.specs.Buses.{Bus, names_at}
 use Rattle.conode_explain_pdo.specs.Types.{type_in}
 use Rattle.conode_explain_values.specs.Values.{entry_text}
 
@@ -62,8 +63,10 @@ transfer_text names transfer row =
     let bytes = value_bytes row.data_type transfer.content in
     front_of transfer ++ entry_text (shown_name row) transfer.key (type_in names row) (8 * length bytes) bytes
 
--- what a frame says of the entry of an expedited transfer, where the sheet has it
-unfoldable pub transfer_words : Names → FrameContent → Option (List ℕ)
-transfer_words names frame =
-    option_and_then (λ transfer. option_map (transfer_text names transfer) (entry_of names transfer.node transfer.key))
-    (transfer_in frame)
+-- where the node's sheet has the entry
+abbrev pub entry_words : Names → Transfer → Option (List ℕ)
+entry_words names transfer = option_map (transfer_text names transfer) (entry_of names transfer.node transfer.key)
+
+-- what a frame says of the entry of an expedited transfer
+unfoldable pub transfer_words : Bus → FrameContent → Option (List ℕ)
+transfer_words bus frame = option_and_then (λ transfer. entry_words (names_at bus transfer.node) transfer) (transfer_in frame)

@@ -6,11 +6,12 @@ ghost use Rattle.std.specs.Process.{exit_status};
 use crate::explained::explain;
 use crate::progress::{Layout, LineFormat};
 use crate::writes::Settings;
-use co_sheet::{FaultKind, GREATEST_SIZE, SheetFault, read};
+use co_sheet::{FaultKind, GREATEST_SIZE, Sheet, SheetFault, read};
 use co_sheet_originals::Originals;
 use co_text::decimal_in;
 use conode_decode::Names;
 use conode_explain_filter::{Filter, FilterFault, FilterWords};
+use conode_explain_pdo::KnownSheet;
 use conode_explain_text::StampForm;
 use conode_io::{CmdFault, cannot_read, faulty_sheet, file_text, flushed, no_text, stopped};
 use conode_logs::Form;
@@ -27,7 +28,7 @@ const STANDARD_INPUT: &str = "-";
 fn explain_input<R: Read, O: Write, E: Write>(
     alloc: Global,
     input: &mut R,
-    settings: &Settings<'_, '_>,
+    settings: &Settings<'_, '_, '_, '_>,
     out: &mut O,
     err: &mut E,
 ) -> ExitCode
@@ -48,7 +49,7 @@ fn explain_input<R: Read, O: Write, E: Write>(
 fn explain_path<R: Files + AllocGlobal + Input, O: Write, E: Write>(
     rt: &R,
     path: &str,
-    settings: &Settings<'_, '_>,
+    settings: &Settings<'_, '_, '_, '_>,
     out: &mut O,
     err: &mut E,
 ) -> ExitCode
@@ -80,6 +81,48 @@ fn originals_in(alloc: Global, text: &[u8]) -> Result<Originals, SheetFault> {
     }
 }
 
+// explains the recording of a path by these data sheets
+fn explain_by<R: Files + AllocGlobal + Input, O: Write, E: Write>(
+    rt: &R,
+    path: &str,
+    form: Layout<'_>,
+    sheets: &[KnownSheet<'_, '_>],
+    out: &mut O,
+    err: &mut E,
+) -> ExitCode
+    ensures { (exit_status result ≡ 0) ⊎ (exit_status result ≡ 1) }
+{
+    let settings = Settings { form, sheets };
+    explain_path(rt, path, &settings, out, err)
+}
+
+// explains the recording of a path by a sheet and its original data types
+fn explain_sheet<'s, R: Files + AllocGlobal + Input, O: Write, E: Write>(
+    rt: &R,
+    path: &str,
+    sheet: &'s Sheet<'_>,
+    originals: &'s Originals,
+    node: Option<u8>,
+    form: Layout<'_>,
+    out: &mut O,
+    err: &mut E,
+) -> ExitCode
+    ensures { (exit_status result ≡ 0) ⊎ (exit_status result ≡ 1) }
+{
+    let names = Names {
+        sheet: Some(sheet),
+        only: node,
+        originals: Some(originals),
+    };
+    match KnownSheet::new(rt.alloc(), None, names) {
+        Ok(known) => {
+            let sheets = [known];
+            explain_by(rt, path, form, &sheets, out, err)
+        }
+        Err(_) => stopped(CmdFault::Memory, out, err).status(),
+    }
+}
+
 // explains the recording of a path with the names of a sheet, if the text is one
 fn explain_named<R: Files + AllocGlobal + Input, O: Write, E: Write>(
     rt: &R,
@@ -96,16 +139,10 @@ fn explain_named<R: Files + AllocGlobal + Input, O: Write, E: Write>(
         Ok(sheet) => sheet,
         Err(fault) => return faulty_sheet(fault, out),
     };
-    let originals = match originals_in(rt.alloc(), text) {
-        Ok(originals) => originals,
-        Err(fault) => return faulty_sheet(fault, out),
-    };
-    let names = Names {
-        sheet: Some(&sheet),
-        only: node,
-        originals: Some(&originals),
-    };
-    explain_path(rt, path, &Settings { form, names }, out, err)
+    match originals_in(rt.alloc(), text) {
+        Ok(originals) => explain_sheet(rt, path, &sheet, &originals, node, form, out, err),
+        Err(fault) => faulty_sheet(fault, out),
+    }
 }
 
 // The node-ID that a sheet is for, and its path: `5=sensor.eds` is for node 5, and a word that doesn't begin with a
@@ -132,12 +169,8 @@ fn explain_in<R: Files + AllocGlobal + Input, O: Write, E: Write>(
     ensures { (exit_status result ≡ 0) ⊎ (exit_status result ≡ 1) }
 {
     let Some(word) = sheet else {
-        let names = Names {
-            sheet: None,
-            only: None,
-            originals: None,
-        };
-        return explain_path(rt, recording, &Settings { form, names }, out, err);
+        let settings = Settings { form, sheets: &[] };
+        return explain_path(rt, recording, &settings, out, err);
     };
     let (node, path) = node_and_path(word);
     match file_text(rt, path) {

@@ -1,13 +1,12 @@
 //! A recording explained: each of its frames on a line.
 
 ghost use Rattle.std.specs.Prelude.{IfOk, IfSome};
-ghost use Rattle.conode_decode.specs.Names.{names_view};
 ghost use Rattle.conode_lines.specs.TraceTexts.{GaveText};
 ghost use Rattle.conode_explain.specs.Taking.{Explains};
+ghost use Rattle.conode_explain.specs.Sheets.{sheets_of};
 
 use crate::step::Explaining;
 use crate::writes::Settings;
-use conode_explain_pdo::sheet_pdos;
 use conode_io::CmdFault;
 use std::alloc::Global;
 use std::io::{Read, Write};
@@ -25,26 +24,25 @@ use std::io::{Read, Write};
 pub fn explain<R: Read, W: Write, E: Write>(
     alloc: Global,
     reader: &mut R,
-    settings: &Settings<'_, '_>,
+    settings: &Settings<'_, '_, '_, '_>,
     out: &mut W,
     err: &mut E,
 ) -> Result<u64, CmdFault>
     // The lines of all frames are written, and those of transfers, and so many lines are bad.
     ensures known { IfOk result (λ bad. IfSome (R.remaining reader.old)
-        (Explains settings.now.form (names_view settings.now.names)
+        (Explains settings.now.form (sheets_of settings.now)
         (W.contents out.old) (W.contents out.new) bad)) }
     // Whatever the reader: it gave a text, and this is so of that text.
     ensures any_reader { IfOk result (λ bad.
         GaveText (R.remaining reader.old) (R.remaining reader.new)
-        (Explains settings.now.form (names_view settings.now.names)
+        (Explains settings.now.form (sheets_of settings.now)
         (W.contents out.old) (W.contents out.new) bad)) }
 {
-    let pdos = sheet_pdos(alloc, settings.names)?;
     let mut explaining = Explaining::new(alloc, settings.form.log);
     let mut bad: u64 = 0;
     for number in 1..u64::MAX {
         explaining.let_out(out)?;
-        match explaining.take_line(reader, settings, pdos.as_slice(), number, out, err)? {
+        match explaining.take_line(reader, settings, number, out, err)? {
             Some(more) => bad += more,
             None => {
                 explaining.finish(settings, out)?;

@@ -2,75 +2,115 @@
 
 ghost use Rattle.std.specs.Prelude.{◌≡◌, ◌++◌, OnOk, string_bytes};
 ghost use Rattle.conode_decode.specs.Names.{names_view};
-ghost use Rattle.conode_explain_pdo.specs.Sheets.{sheet_pdos};
+ghost use Rattle.conode_explain_pdo.specs.Buses.{bus_view};
 ghost use Rattle.conode_record.specs.Grammar.{IsIdentifier};
-ghost use Rattle.conode_explain.specs.FrameWords.{data_words, frame_words, other_words, remote_content, words_of_content};
+ghost use Rattle.conode_explain.specs.FrameWords.{assumed_mark, data_words, frame_words, is_default_pdo, other_words, plain_words, remote_content, served_words, words_of_content};
 
 use crate::abort_words::push_abort_words;
 use crate::transfer::{push_transfer, transfer_in};
 use co_frame::Frame;
 use co_value::PackedBytes;
 use conode_decode::{Names, push_text};
-use conode_explain_pdo::{SheetPdo, is_pdo, push_pdos};
+use conode_explain_pdo::{Bus, Claim, push_pdos};
 use conode_explain_services::{Last, push_remote, push_service};
 use conode_record::{Content, Identifier};
 use std::alloc::AllocError;
 
-// what a frame says as PDOs of the data sheet, else by its service, else by its text
-#[tactic(auto, unfolding(crate::specs::FrameWords::other_words), using(crate::proofs::ServiceLemmas::said_alone, crate::proofs::ServiceLemmas::others_alone))]
-fn push_other_words(
+fn is_default_pdo(id: u16) -> bool
+    ensures { result ≡ is_default_pdo id }
+{
+    (0x180 < id && id < 0x580) && id % 0x80 != 0
+}
+
+fn push_assumed_mark(said: &mut String, id: u16) -> Result<(), AllocError>
+    ensures { OnOk result (string_bytes said.new ≡ string_bytes said.old ++ assumed_mark id) }
+{
+    if is_default_pdo(id) {
+        said.push_str("~")
+    } else {
+        Ok(())
+    }
+}
+
+// the text of a frame, and what an abort's code means
+fn push_plain_words(
     said: &mut String,
     names: Names<'_, '_>,
-    pdos: &[SheetPdo],
     frame: &Frame,
 ) -> Result<(), AllocError>
-    requires { pdos.now ≡ sheet_pdos (names_view names) }
     ensures { OnOk result (string_bytes said.new
-        ≡ string_bytes said.old ++ other_words (names_view names.entry) frame.now) }
+        ≡ string_bytes said.old ++ plain_words (names_view names.entry) frame.now) }
 {
-    if is_pdo(names.only, pdos, frame.id()) {
-        return push_pdos(said, names, pdos, frame);
-    }
+    push_assumed_mark(said, frame.id())?;
+    push_text(said, names, frame)?;
+    push_abort_words(said, frame)
+}
+
+// by its service, else by its text
+#[tactic(auto, unfolding(crate::specs::FrameWords::served_words), using(crate::proofs::ServiceLemmas::said_alone, crate::proofs::ServiceLemmas::others_alone))]
+fn push_served_words(
+    said: &mut String,
+    names: Names<'_, '_>,
+    frame: &Frame,
+) -> Result<(), AllocError>
+    ensures { OnOk result (string_bytes said.new
+        ≡ string_bytes said.old ++ served_words (names_view names.entry) frame.now) }
+{
     if push_service(said, Last::new(), frame)? {
         return Ok(());
     }
-    push_text(said, names, frame)?;
-    push_abort_words(said, frame)
+    push_plain_words(said, names, frame)
+}
+
+// what a frame says as these PDOs, else by its service or its text
+#[tactic(auto, unfolding(crate::specs::FrameWords::other_words))]
+fn push_other_words(
+    said: &mut String,
+    bus: Bus<'_, '_, '_, '_, '_>,
+    claims: &[Claim],
+    frame: &Frame,
+) -> Result<(), AllocError>
+    ensures { OnOk result (string_bytes said.new
+        ≡ string_bytes said.old ++ other_words (bus_view bus.entry) claims.now frame.now) }
+{
+    match claims {
+        [] => push_served_words(said, bus.names((frame.id() % 128) as u8), frame),
+        _ => push_pdos(said, bus, frame.bytes(), claims),
+    }
 }
 
 #[tactic(auto, unfolding(crate::specs::FrameWords::frame_words, crate::specs::Transfers::transfer_words))]
 fn push_frame_words(
     said: &mut String,
-    names: Names<'_, '_>,
-    pdos: &[SheetPdo],
+    bus: Bus<'_, '_, '_, '_, '_>,
+    claims: &[Claim],
     frame: &Frame,
 ) -> Result<(), AllocError>
-    requires { pdos.now ≡ sheet_pdos (names_view names) }
     ensures { OnOk result (string_bytes said.new
-        ≡ string_bytes said.old ++ frame_words (names_view names.entry) frame.now) }
+        ≡ string_bytes said.old ++ frame_words (bus_view bus.entry) claims.now frame.now) }
 {
     if let Some(transfer) = transfer_in(frame) {
+        let names = bus.names(transfer.node);
         if let Some(row) = names.entry(transfer.node, transfer.key) {
             return push_transfer(said, names, &transfer, row);
         }
     }
-    push_other_words(said, names, pdos, frame)
+    push_other_words(said, bus, claims, frame)
 }
 
 fn push_data_words(
     said: &mut String,
-    names: Names<'_, '_>,
-    pdos: &[SheetPdo],
+    bus: Bus<'_, '_, '_, '_, '_>,
+    claims: &[Claim],
     id: Identifier,
     bytes: &PackedBytes,
 ) -> Result<(), AllocError>
-    requires id { IsIdentifier id }
-    requires pdos { pdos.now ≡ sheet_pdos (names_view names) }
+    requires { IsIdentifier id }
     ensures { OnOk result (string_bytes said.new
-        ≡ string_bytes said.old ++ data_words (names_view names.entry) id bytes.now) }
+        ≡ string_bytes said.old ++ data_words (bus_view bus.entry) claims.now id bytes.now) }
 {
     match id {
-        Identifier::Base(id) => push_frame_words(said, names, pdos, &Frame::packed(id, bytes)),
+        Identifier::Base(id) => push_frame_words(said, bus, claims, &Frame::packed(id, bytes)),
         Identifier::Extended(_) => said.push_str("frame with an identifier of 29 bits"),
         Identifier::Error(_) => said.push_str("error frame"),
     }
@@ -86,24 +126,22 @@ fn push_remote_words(said: &mut String, id: Identifier) -> Result<(), AllocError
     }
 }
 
-/// Makes `said` what a frame says, where the data sheet has these PDOs. On an `Err` memory ran out, and it is any part of
-/// it.
+/// Makes `said` what a frame says that is these PDOs. On an `Err` memory ran out, and it is any part of it.
 #[tactic(auto, unfolding(crate::specs::FrameWords::words_of_content))]
 pub(crate) fn set_words(
     said: &mut String,
-    names: Names<'_, '_>,
-    pdos: &[SheetPdo],
+    bus: Bus<'_, '_, '_, '_, '_>,
+    claims: &[Claim],
     id: Identifier,
     content: &Content,
 ) -> Result<(), AllocError>
-    requires id { IsIdentifier id }
-    requires pdos { pdos.now ≡ sheet_pdos (names_view names) }
+    requires { IsIdentifier id }
     ensures { OnOk result (string_bytes said.new
-        ≡ words_of_content (names_view names.entry) id content.now) }
+        ≡ words_of_content (bus_view bus.entry) claims.now id content.now) }
 {
     said.clear();
     match content {
-        Content::Data(bytes) => push_data_words(said, names, pdos, id, bytes),
+        Content::Data(bytes) => push_data_words(said, bus, claims, id, bytes),
         Content::Remote(_) => push_remote_words(said, id),
         Content::Fd(_, _) => said.push_str("CAN FD frame"),
     }

@@ -2,11 +2,14 @@
 
 ghost use Rattle.std.specs.Prelude.{◌≡◌, IfOk, OnOk};
 ghost use Rattle.conode_record.specs.Grammar.{IsIdentifier};
+ghost use Rattle.conode_explain_entries.specs.Tables.{entries_with};
+ghost use Rattle.conode_explain_text.specs.SoFar.{seen_with};
 ghost use Rattle.conode_explain.specs.Explained.{nothing_known, telling_of};
 
 use co_frame::Frame;
 use conode_explain_changes::Lasts;
 use conode_explain_channels::{Channels, Told};
+use conode_explain_entries::Entries;
 use conode_explain_filter::Filter;
 use conode_explain_text::{Seen, StampForm};
 use conode_logs::Form;
@@ -39,11 +42,13 @@ pub struct Layout<'f> {
     pub filter: &'f Filter,
 }
 
-/// What a recording showed so far: its stamps and interfaces, the SDO channels, and what was said last of identifiers.
+/// What a recording showed so far: its stamps and interfaces, the SDO channels, entries of nodes, and what was said last of
+/// identifiers.
 #[derive(Drop)]
 pub(crate) struct Progress {
     pub(crate) seen: Seen,
     pub(crate) channels: Channels,
+    pub(crate) entries: Entries,
     pub(crate) lasts: Lasts,
 }
 
@@ -55,6 +60,7 @@ impl Progress {
         Progress {
             seen: Seen::new(),
             channels: Channels::new(alloc),
+            entries: Entries::new(alloc),
             lasts: Lasts::new(alloc),
         }
     }
@@ -69,6 +75,7 @@ impl Progress {
         ensures channels { OnOk result
             (self.new.channels ≡ (telling_of self.old.channels frame.now).tracks) }
         ensures seen { self.new.seen ≡ self.old.seen }
+        ensures entries { self.new.entries ≡ self.old.entries }
         ensures lasts { self.new.lasts ≡ self.old.lasts }
     {
         let Identifier::Base(id) = frame.id else {
@@ -80,5 +87,18 @@ impl Progress {
         let name = frame.interface.bytes();
         self.channels
             .take(name, frame.micros, &Frame::packed(id, bytes))
+    }
+    /// Takes a frame in, with what is told of it: its stamp, its interface, and what it shows of entries. On an `Err`
+    /// memory ran out.
+    pub(crate) fn add(&mut self, frame: &Record<'_>, told: &Option<Told>) -> Result<(), AllocError>
+        ensures seen { OnOk result (self.new.seen
+            ≡ seen_with self.old.seen frame.now.micros frame.now.interface) }
+        ensures channels { OnOk result (self.new.channels ≡ self.old.channels) }
+        ensures lasts { OnOk result (self.new.lasts ≡ self.old.lasts) }
+        ensures entries { OnOk result (self.new.entries
+            ≡ entries_with self.old.entries frame.now.interface told.now) }
+    {
+        self.seen.add(frame);
+        self.entries.take(frame.interface.bytes(), told)
     }
 }

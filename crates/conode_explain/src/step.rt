@@ -4,8 +4,6 @@ ghost use Rattle.std.specs.Prelude.{◌≡◌, ◌⊎◌, ◌≤◌, OnOk, IfOk,
 ghost use Rattle.std.specs.Io.KnownBytes.{Keeps, IsAtEnd};
 ghost use Rattle.co_bounded_lines.specs.Held.{nothing_held, to_come};
 ghost use Rattle.co_stream.specs.Readings.{Gave};
-ghost use Rattle.conode_decode.specs.Names.{names_view};
-ghost use Rattle.conode_explain_pdo.specs.Sheets.{sheet_pdos};
 ghost use Rattle.conode_io.specs.Written.{WritesLines};
 ghost use Rattle.conode_convert.specs.Converted.{at_start};
 ghost use Rattle.conode_logs.specs.Logs.{says};
@@ -19,13 +17,14 @@ ghost use Rattle.conode_explain.specs.Explained.{
 };
 ghost use Rattle.conode_explain.specs.LogLines.{good, line_at};
 ghost use Rattle.conode_explain.specs.Taking.{Takes};
+ghost use Rattle.conode_explain.specs.Sheets.{sheets_of};
 
 use crate::bad_words::{TOO_LONG, bad_words};
 use crate::progress::Progress;
 use crate::writes::{Room, Settings, write_frame, write_unfinished};
 use co_bounded_lines::{BoundedLines, Found, ReadFault};
 use conode_convert::add_frame;
-use conode_explain_pdo::SheetPdo;
+use conode_explain_pdo::Claim;
 use conode_io::{CmdFault, flush};
 use conode_log_parts::LogLine;
 use conode_logs::{Form, Log};
@@ -41,6 +40,7 @@ pub(crate) struct Explaining {
     progress: Progress,
     room: Room,
     frame: Vec<u8>,
+    claims: Vec<Claim>,
 }
 
 // Names a bad line. Where even this can't be written, the status alone tells of it.
@@ -60,20 +60,19 @@ fn read_fault(fault: ReadFault) -> CmdFault {
 // line is bad: then it is named.
 fn explain_record<W: Write, E: Write>(
     room: &mut Room,
+    claims: &mut Vec<Claim>,
     progress: &mut Progress,
-    settings: &Settings<'_, '_>,
-    pdos: &[SheetPdo],
+    settings: &Settings<'_, '_, '_, '_>,
     number: u64,
     line: &[u8],
     out: &mut W,
     err: &mut E,
 ) -> Result<u64, CmdFault>
-    requires { pdos.now ≡ sheet_pdos (names_view settings.now.names) }
     ensures lines { OnOk result (WritesLines (W.contents out.old) (W.contents out.new)
-        (said_lines settings.now.form (names_view settings.now.names) progress.old
+        (said_lines settings.now.form (sheets_of settings.now) progress.old
         (good (line_in line.now)))) }
     ensures progress { OnOk result
-        (progress.new ≡ progress_after settings.now.form (names_view settings.now.names)
+        (progress.new ≡ progress_after settings.now.form (sheets_of settings.now)
         progress.old (good (line_in line.now))) }
     ensures bad { IfOk result (λ bad. bad ≡ faults_in (good (line_in line.now))) }
     ensures err { IfErr result (λ fault. (fault ≡ CmdFault.Write) ⊎ (fault ≡ CmdFault.Memory)) }
@@ -81,7 +80,7 @@ fn explain_record<W: Write, E: Write>(
     match RecordLine::read(line) {
         Ok(RecordLine::Skipped) => Ok(0),
         Ok(RecordLine::Frame(frame)) => {
-            write_frame(room, progress, settings, pdos, &frame, out)?;
+            write_frame(room, claims, progress, settings, &frame, out)?;
             Ok(0)
         }
         Err(bad) => {
@@ -95,40 +94,39 @@ fn explain_record<W: Write, E: Write>(
 #[tactic(auto, unfolding(crate::specs::LogLines::line_at), using(crate::proofs::LogLemmas::candump_line, crate::proofs::LogLemmas::candump_log))]
 fn explain_line<W: Write, E: Write>(
     room: &mut Room,
+    claims: &mut Vec<Claim>,
     text: &mut Vec<u8>,
     log: &mut Log,
     progress: &mut Progress,
-    settings: &Settings<'_, '_>,
-    pdos: &[SheetPdo],
+    settings: &Settings<'_, '_, '_, '_>,
     number: u64,
     line: &[u8],
     out: &mut W,
     err: &mut E,
 ) -> Result<u64, CmdFault>
-    requires { pdos.now ≡ sheet_pdos (names_view settings.now.names) }
     ensures lines { OnOk result (WritesLines (W.contents out.old) (W.contents out.new)
-        (said_lines settings.now.form (names_view settings.now.names) progress.old
+        (said_lines settings.now.form (sheets_of settings.now) progress.old
         (line_at log.old line.now))) }
     ensures log { OnOk result (log.new ≡ (says log.old line.now).0) }
     ensures progress { OnOk result
-        (progress.new ≡ progress_after settings.now.form (names_view settings.now.names)
+        (progress.new ≡ progress_after settings.now.form (sheets_of settings.now)
         progress.old (line_at log.old line.now)) }
     ensures bad { IfOk result (λ bad. bad ≡ faults_in (line_at log.old line.now)) }
     ensures err { IfErr result (λ fault. (fault ≡ CmdFault.Write) ⊎ (fault ≡ CmdFault.Memory)) }
 {
     if let Form::Candump = log.form {
-        return explain_record(room, progress, settings, pdos, number, line, out, err);
+        return explain_record(room, claims, progress, settings, number, line, out, err);
     }
     match log.read(line) {
         Ok(LogLine::Skipped) => Ok(0),
         Ok(LogLine::AsItIs) => {
-            explain_record(room, progress, settings, pdos, number, line, out, err)
+            explain_record(room, claims, progress, settings, number, line, out, err)
         }
         Ok(LogLine::Frame(frame)) => {
             text.clear();
             add_frame(text, &frame)?;
             let line = text.as_slice();
-            explain_record(room, progress, settings, pdos, number, line, out, err)
+            explain_record(room, claims, progress, settings, number, line, out, err)
         }
         Err(bad) => {
             name_bad_line(number, bad.words(), err);
@@ -150,6 +148,7 @@ impl Explaining {
             progress: Progress::new(alloc),
             room: Room::new(alloc),
             frame: Vec::new(alloc),
+            claims: Vec::new(alloc),
         }
     }
 
@@ -168,15 +167,13 @@ impl Explaining {
     pub(crate) fn take_line<R: Read, W: Write, E: Write>(
         &mut self,
         reader: &mut R,
-        settings: &Settings<'_, '_>,
-        pdos: &[SheetPdo],
+        settings: &Settings<'_, '_, '_, '_>,
         number: u64,
         out: &mut W,
         err: &mut E,
     ) -> Result<Option<u64>, CmdFault>
-        requires { pdos.now ≡ sheet_pdos (names_view settings.now.names) }
         ensures line { IfOk result (λ next. IfSome next (λ bad.
-            Takes settings.now.form (names_view settings.now.names)
+            Takes settings.now.form (sheets_of settings.now)
             self.old.lines self.new.lines (R.remaining reader.old) (R.remaining reader.new)
             self.old.log self.new.log self.old.progress self.new.progress
             (W.contents out.old) (W.contents out.new) bad)) }
@@ -198,11 +195,11 @@ impl Explaining {
                 let line = self.lines.line();
                 let bad = explain_line(
                     &mut self.room,
+                    &mut self.claims,
                     &mut self.frame,
                     &mut self.log,
                     &mut self.progress,
                     settings,
-                    pdos,
                     number,
                     line,
                     out,
@@ -214,11 +211,11 @@ impl Explaining {
                 let line = self.lines.line();
                 explain_line(
                     &mut self.room,
+                    &mut self.claims,
                     &mut self.frame,
                     &mut self.log,
                     &mut self.progress,
                     settings,
-                    pdos,
                     number,
                     line,
                     out,
@@ -233,11 +230,11 @@ impl Explaining {
     /// Writes the lines of the transfers that are open where the recording ends.
     pub(crate) fn finish<W: Write>(
         &mut self,
-        settings: &Settings<'_, '_>,
+        settings: &Settings<'_, '_, '_, '_>,
         out: &mut W,
     ) -> Result<(), CmdFault>
         ensures lines { OnOk result (WritesLines (W.contents out.old) (W.contents out.new)
-            (unfinished_lines settings.now.form (names_view settings.now.names)
+            (unfinished_lines settings.now.form (sheets_of settings.now)
             self.old.progress)) }
         ensures err { IfErr result
             (λ fault. (fault ≡ CmdFault.Write) ⊎ (fault ≡ CmdFault.Memory)) }

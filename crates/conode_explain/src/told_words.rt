@@ -2,7 +2,7 @@
 
 ghost use Rattle.std.specs.Prelude.{◌≡◌, ◌++◌, OnOk, string_bytes};
 ghost use Rattle.conode_decode.specs.Names.{names_view};
-ghost use Rattle.conode_explain_pdo.specs.Sheets.{sheet_pdos};
+ghost use Rattle.conode_explain_pdo.specs.Buses.{bus_view};
 ghost use Rattle.conode_record.specs.Grammar.{IsIdentifier};
 ghost use Rattle.conode_explain.specs.ToldWords.{
   ended_words,
@@ -20,7 +20,7 @@ use co_text::push_decimal;
 use co_value::Key;
 use conode_decode::{Names, shown_name};
 use conode_explain_channels::{Part, Told};
-use conode_explain_pdo::SheetPdo;
+use conode_explain_pdo::{Bus, Claim};
 use conode_explain_transfer_text::{push_after, push_end, push_segment, segment_number};
 use conode_explain_transfers::{Ended, Ending, Side};
 use conode_record::Record;
@@ -51,20 +51,19 @@ fn name_in<'s>(names: Names<'s, '_>, node: u8, of: Option<Key>) -> &'s str
 
 fn set_part_front(
     said: &mut String,
-    names: Names<'_, '_>,
-    pdos: &[SheetPdo],
+    bus: Bus<'_, '_, '_, '_, '_>,
+    claims: &[Claim],
     frame: &Record<'_>,
     node: u8,
     side: Side,
     number: Option<u8>,
 ) -> Result<(), AllocError>
-    requires id { IsIdentifier frame.now.id }
-    requires pdos { pdos.now ≡ sheet_pdos (names_view names) }
+    requires { IsIdentifier frame.now.id }
     ensures { OnOk result (string_bytes said.new
-        ≡ part_front (names_view names.entry) frame.now node side number) }
+        ≡ part_front (bus_view bus.entry) claims.now frame.now node side number) }
 {
     let Some(number) = number else {
-        return set_words(said, names, pdos, frame.id, &frame.content);
+        return set_words(said, bus, claims, frame.id, &frame.content);
     };
     said.clear();
     push_segment(said, side, node, number)
@@ -73,42 +72,45 @@ fn set_part_front(
 #[tactic(auto, unfolding(crate::specs::ToldWords::part_words))]
 fn set_part_words(
     said: &mut String,
-    names: Names<'_, '_>,
-    pdos: &[SheetPdo],
+    bus: Bus<'_, '_, '_, '_, '_>,
+    claims: &[Claim],
     frame: &Record<'_>,
     node: u8,
     part: Part,
 ) -> Result<(), AllocError>
-    requires id { IsIdentifier frame.now.id }
-    requires pdos { pdos.now ≡ sheet_pdos (names_view names) }
+    requires { IsIdentifier frame.now.id }
     ensures { OnOk result (string_bytes said.new
-        ≡ part_words (names_view names.entry) frame.now node part) }
+        ≡ part_words (bus_view bus.entry) claims.now frame.now node part) }
 {
     let number = segment_number(part.what);
-    set_part_front(said, names, pdos, frame, node, part.side, number)?;
-    push_after(said, part.what, part.of, name_in(names, node, part.of))
+    set_part_front(said, bus, claims, frame, node, part.side, number)?;
+    push_after(
+        said,
+        part.what,
+        part.of,
+        name_in(bus.names(node), node, part.of),
+    )
 }
 
-/// Makes `said` what a frame says, with what is told of it. On an `Err` memory ran out, and it is any part of it.
+/// Makes `said` what a frame says that is these PDOs, with what is told of it. On an `Err` memory ran out, and it is any part of it.
 pub(crate) fn set_told_words(
     said: &mut String,
-    names: Names<'_, '_>,
-    pdos: &[SheetPdo],
+    bus: Bus<'_, '_, '_, '_, '_>,
+    claims: &[Claim],
     frame: &Record<'_>,
     told: &Option<Told>,
 ) -> Result<(), AllocError>
-    requires id { IsIdentifier frame.now.id }
-    requires pdos { pdos.now ≡ sheet_pdos (names_view names) }
+    requires { IsIdentifier frame.now.id }
     ensures { OnOk result (string_bytes said.new
-        ≡ told_words (names_view names.entry) frame.now told.now) }
+        ≡ told_words (bus_view bus.entry) claims.now frame.now told.now) }
 {
     let Some(told) = told else {
-        return set_words(said, names, pdos, frame.id, &frame.content);
+        return set_words(said, bus, claims, frame.id, &frame.content);
     };
     let Some(part) = told.part else {
-        return set_words(said, names, pdos, frame.id, &frame.content);
+        return set_words(said, bus, claims, frame.id, &frame.content);
     };
-    set_part_words(said, names, pdos, frame, told.node, part)
+    set_part_words(said, bus, claims, frame, told.node, part)
 }
 
 // what the code of an abort means

@@ -1,50 +1,54 @@
 //! The lines of frames, and of transfers that ended.
 
 ghost use Rattle.std.specs.Prelude.{◌≡◌, ◌⊎◌, ◌++◌, OnOk, IfErr};
-ghost use Rattle.conode_decode.specs.Names.{names_view};
-ghost use Rattle.conode_explain_pdo.specs.Sheets.{sheet_pdos};
+ghost use Rattle.conode_explain_pdo.specs.Buses.{bus_view};
 ghost use Rattle.conode_io.specs.Written.{WritesLines};
 ghost use Rattle.conode_record.specs.Grammar.{IsIdentifier};
 ghost use Rattle.conode_explain_text.specs.Lines.{own_parts};
 ghost use Rattle.conode_explain_text.specs.SoFar.{shows_interface, times_at};
 ghost use Rattle.conode_explain.specs.Explained.{
+  bus_of,
+  claims_at,
   ended_lines,
   frame_line,
   frame_lines,
   lasts_after,
+  lasts_with,
   line_as,
+  lines_with,
   news_lines,
   progress_with,
   shown_lines,
   told_lines,
   unfinished_lines,
 };
-ghost use Rattle.conode_explain.specs.Filtered.{lasts_told};
+ghost use Rattle.conode_explain.specs.Filtered.{lasts_told, subject_in};
 ghost use Rattle.conode_explain.specs.ToldWords.{told_words};
+ghost use Rattle.conode_explain.specs.Sheets.{sheets_of};
 
 use crate::filtered::{is_news, shows_end, shows_frame, subject_in};
 use crate::progress::{Layout, LineFormat, Progress};
 use crate::told_words::{set_ended_words, set_told_words};
-use conode_decode::Names;
 use conode_explain_changes::Lasts;
 use conode_explain_channels::Told;
-use conode_explain_filter::Kind;
+use conode_explain_entries::Entries;
+use conode_explain_filter::{Kind, Subject};
 use conode_explain_json::{json_line, own_json_line};
-use conode_explain_pdo::SheetPdo;
+use conode_explain_pdo::{Bus, Claim, KnownSheet, add_claims, names_for};
 use conode_explain_text::{Seen, set_line, set_own_line};
 use conode_explain_transfers::Ended;
 use conode_io::{CmdFault, hand_over};
-use conode_record::Record;
+use conode_record::{Identifier, Record};
 use std::alloc::{AllocError, Global};
 use std::io::Write;
 
 /// How a recording is explained.
 #[derive(Clone, Copy)]
-pub struct Settings<'s, 'a> {
+pub struct Settings<'f, 'k, 's, 'a> {
     /// In which form.
-    pub form: Layout<'s>,
-    /// Where the names of entries come from.
-    pub names: Names<'s, 'a>,
+    pub form: Layout<'f>,
+    /// The data sheets that are known.
+    pub sheets: &'k [KnownSheet<'s, 'a>],
 }
 
 /// Room for the work on a line, which is used again for each.
@@ -67,28 +71,56 @@ impl Room {
     }
 }
 
+// what is known of the PDOs of a frame's bus
+fn bus_of<'k, 'e, 'i, 's, 'a>(
+    settings: &Settings<'_, 'k, 's, 'a>,
+    entries: &'e Entries,
+    frame: &'i Record<'_>,
+) -> Bus<'k, 'e, 'i, 's, 'a>
+    ensures { bus_view result ≡ bus_of (sheets_of settings.now) entries.now frame.now }
+{
+    Bus {
+        sheets: settings.sheets,
+        entries,
+        interface: frame.interface.bytes(),
+    }
+}
+
+// Makes `claims` the PDOs that have an identifier.
+fn set_claims(
+    claims: &mut Vec<Claim>,
+    bus: Bus<'_, '_, '_, '_, '_>,
+    id: Identifier,
+) -> Result<(), AllocError>
+    ensures { OnOk result (claims.new.items ≡ claims_at (bus_view bus.entry) id) }
+{
+    claims.clear();
+    match id {
+        Identifier::Base(id) => add_claims(claims, bus, id),
+        _ => Ok(()),
+    }
+}
+
 // Makes `line` the line of a frame that says these words.
 #[tactic(auto, unfolding(crate::specs::Explained::frame_line))]
 fn set_frame_line(
     alloc: Global,
     line: &mut Vec<u8>,
     text: &mut String,
+    form: &Layout<'_>,
     seen: &Seen,
-    settings: &Settings<'_, '_>,
-    pdos: &[SheetPdo],
+    subject: &Subject,
     frame: &Record<'_>,
     words: &[u8],
 ) -> Result<(), AllocError>
-    requires id { IsIdentifier frame.now.id }
-    requires pdos { pdos.now ≡ sheet_pdos (names_view settings.now.names) }
-    ensures { OnOk result (line.new.items ≡ frame_line settings.now.form
-        (names_view settings.now.names) seen.now frame.now words.now) }
+    requires { IsIdentifier frame.now.id }
+    ensures { OnOk result (line.new.items
+        ≡ frame_line form.now seen.now subject.now frame.now words.now) }
 {
-    let stamps = settings.form.stamps;
-    match settings.form.format {
+    let stamps = form.stamps;
+    match form.format {
         LineFormat::Text => set_line(line, text, stamps, seen, frame, words),
         LineFormat::Json => {
-            let subject = subject_in(settings.names, pdos, frame);
             let (kind, node) = (subject.kind, subject.node);
             *line = json_line(alloc, stamps, seen, frame, words, kind, node)?;
             Ok(())
@@ -102,92 +134,92 @@ fn write_said<W: Write>(
     alloc: Global,
     line: &mut Vec<u8>,
     text: &mut String,
+    form: &Layout<'_>,
     seen: &Seen,
     lasts: &mut Lasts,
-    settings: &Settings<'_, '_>,
-    pdos: &[SheetPdo],
+    subject: &Subject,
     frame: &Record<'_>,
     words: &[u8],
     out: &mut W,
 ) -> Result<(), CmdFault>
-    requires id { IsIdentifier frame.now.id }
-    requires pdos { pdos.now ≡ sheet_pdos (names_view settings.now.names) }
+    requires { IsIdentifier frame.now.id }
     ensures lines { OnOk result (WritesLines (W.contents out.old) (W.contents out.new)
-        (news_lines settings.now.form (names_view settings.now.names) seen.now lasts.old frame.now
-        words.now)) }
-    ensures lasts { OnOk result (lasts.new ≡ lasts_told settings.now.form
-        (names_view settings.now.names) lasts.old frame.now words.now) }
+        (news_lines form.now seen.now lasts.old subject.now frame.now words.now)) }
+    ensures lasts { OnOk result
+        (lasts.new ≡ lasts_told form.now lasts.old subject.now frame.now words.now) }
     ensures err { IfErr result (λ fault. (fault ≡ CmdFault.Write) ⊎ (fault ≡ CmdFault.Memory)) }
 {
-    if !is_news(lasts, settings, pdos, frame, words)? {
+    if !is_news(lasts, form, subject, frame, words)? {
         return Ok(());
     }
-    set_frame_line(alloc, line, text, seen, settings, pdos, frame, words)?;
+    set_frame_line(alloc, line, text, form, seen, subject, frame, words)?;
     hand_over(line.as_slice(), out)
 }
 
-// Writes the line of a frame that is asked for, with what is told of it, if it says something new.
+// Writes the line of a frame that is these PDOs and is asked for, with what is told of it, if it says something new.
 fn write_news<W: Write>(
     room: &mut Room,
+    form: &Layout<'_>,
     seen: &Seen,
     lasts: &mut Lasts,
-    settings: &Settings<'_, '_>,
-    pdos: &[SheetPdo],
+    bus: Bus<'_, '_, '_, '_, '_>,
+    claims: &[Claim],
+    subject: &Subject,
     frame: &Record<'_>,
     told: &Option<Told>,
     out: &mut W,
 ) -> Result<(), CmdFault>
-    requires id { IsIdentifier frame.now.id }
-    requires pdos { pdos.now ≡ sheet_pdos (names_view settings.now.names) }
+    requires { IsIdentifier frame.now.id }
     ensures lines { OnOk result (WritesLines (W.contents out.old) (W.contents out.new)
-        (news_lines settings.now.form (names_view settings.now.names) seen.now lasts.old frame.now
-        (told_words (names_view settings.now.names) frame.now told.now))) }
-    ensures lasts { OnOk result (lasts.new ≡ lasts_told settings.now.form
-        (names_view settings.now.names) lasts.old frame.now
-        (told_words (names_view settings.now.names) frame.now told.now)) }
+        (news_lines form.now seen.now lasts.old subject.now frame.now
+        (told_words (bus_view bus.entry) claims.now frame.now told.now))) }
+    ensures lasts { OnOk result (lasts.new ≡ lasts_told form.now lasts.old subject.now
+        frame.now (told_words (bus_view bus.entry) claims.now frame.now told.now)) }
     ensures err { IfErr result (λ fault. (fault ≡ CmdFault.Write) ⊎ (fault ≡ CmdFault.Memory)) }
 {
-    set_told_words(&mut room.said, settings.names, pdos, frame, told)?;
+    set_told_words(&mut room.said, bus, claims, frame, told)?;
     write_said(
         room.alloc,
         &mut room.line,
         &mut room.text,
+        form,
         seen,
         lasts,
-        settings,
-        pdos,
+        subject,
         frame,
         room.said.as_bytes(),
         out,
     )
 }
 
-// Writes the line of a frame, if it is asked for, and says something new.
+// Writes the line of a frame that is these PDOs, if it is asked for, and says something new.
 #[tactic(auto, unfolding(crate::specs::Explained::shown_lines, crate::specs::Explained::lasts_after), using(crate::proofs::WriteLemmas::are_shown, crate::proofs::WriteLemmas::are_hidden))]
 fn write_shown<W: Write>(
     room: &mut Room,
+    form: &Layout<'_>,
     seen: &Seen,
     lasts: &mut Lasts,
-    settings: &Settings<'_, '_>,
-    pdos: &[SheetPdo],
+    bus: Bus<'_, '_, '_, '_, '_>,
+    claims: &[Claim],
     frame: &Record<'_>,
     told: &Option<Told>,
     out: &mut W,
 ) -> Result<(), CmdFault>
-    requires id { IsIdentifier frame.now.id }
-    requires pdos { pdos.now ≡ sheet_pdos (names_view settings.now.names) }
+    requires { IsIdentifier frame.now.id }
     ensures lines { OnOk result (WritesLines (W.contents out.old) (W.contents out.new)
-        (shown_lines settings.now.form (names_view settings.now.names) seen.now lasts.old
-        frame.now (told_words (names_view settings.now.names) frame.now told.now))) }
-    ensures lasts { OnOk result (lasts.new ≡ lasts_after settings.now.form
-        (names_view settings.now.names) seen.now lasts.old frame.now
-        (told_words (names_view settings.now.names) frame.now told.now)) }
+        (shown_lines form.now seen.now lasts.old (subject_in claims.now frame.now) frame.now
+        (told_words (bus_view bus.entry) claims.now frame.now told.now))) }
+    ensures lasts { OnOk result (lasts.new
+        ≡ lasts_with form.now (bus_view bus.entry) claims.now seen.now lasts.old frame.now told.now) }
     ensures err { IfErr result (λ fault. (fault ≡ CmdFault.Write) ⊎ (fault ≡ CmdFault.Memory)) }
 {
-    if !shows_frame(settings, pdos, seen, frame) {
+    let subject = subject_in(claims, frame);
+    if !shows_frame(form, seen, &subject, frame.micros) {
         return Ok(());
     }
-    write_news(room, seen, lasts, settings, pdos, frame, told, out)
+    write_news(
+        room, form, seen, lasts, bus, claims, &subject, frame, told, out,
+    )
 }
 
 // Makes `line` that of a transfer that ended, of which these words are said.
@@ -224,7 +256,7 @@ fn set_end_line(
 fn write_end<W: Write>(
     room: &mut Room,
     seen: &Seen,
-    settings: &Settings<'_, '_>,
+    settings: &Settings<'_, '_, '_, '_>,
     micros: u64,
     interface: &[u8],
     node: u8,
@@ -232,7 +264,7 @@ fn write_end<W: Write>(
     out: &mut W,
 ) -> Result<(), CmdFault>
     ensures lines { OnOk result (WritesLines (W.contents out.old) (W.contents out.new)
-        (ended_lines settings.now.form (names_view settings.now.names) seen.now micros
+        (ended_lines settings.now.form (sheets_of settings.now) seen.now micros
         interface.now node ended.now)) }
     ensures err { IfErr result (λ fault. (fault ≡ CmdFault.Write) ⊎ (fault ≡ CmdFault.Memory)) }
 {
@@ -242,7 +274,8 @@ fn write_end<W: Write>(
     if !shows_end(&settings.form, seen, micros, node) {
         return Ok(());
     }
-    set_ended_words(&mut room.said, settings.names, node, ended)?;
+    let names = names_for(settings.sheets, interface, node);
+    set_ended_words(&mut room.said, names, node, ended)?;
     set_end_line(
         room.alloc,
         &mut room.line,
@@ -260,13 +293,13 @@ fn write_end<W: Write>(
 fn write_told_end<W: Write>(
     room: &mut Room,
     seen: &Seen,
-    settings: &Settings<'_, '_>,
+    settings: &Settings<'_, '_, '_, '_>,
     frame: &Record<'_>,
     told: &Option<Told>,
     out: &mut W,
 ) -> Result<(), CmdFault>
     ensures lines { OnOk result (WritesLines (W.contents out.old) (W.contents out.new)
-        (told_lines settings.now.form (names_view settings.now.names) seen.now frame.now
+        (told_lines settings.now.form (sheets_of settings.now) seen.now frame.now
         told.now)) }
     ensures err { IfErr result (λ fault. (fault ≡ CmdFault.Write) ⊎ (fault ≡ CmdFault.Memory)) }
 {
@@ -286,64 +319,73 @@ fn write_told_end<W: Write>(
     )
 }
 
-// Writes the line of a frame and that of the transfer that ended with it, those that are asked for.
+// Writes the line of a frame that is these PDOs and that of the transfer that ended with it, those that are asked for.
 #[tactic(auto, using(conode_io::proofs::WriteLemmas::lines_after))]
 fn write_told<W: Write>(
     room: &mut Room,
+    settings: &Settings<'_, '_, '_, '_>,
     seen: &Seen,
     lasts: &mut Lasts,
-    settings: &Settings<'_, '_>,
-    pdos: &[SheetPdo],
+    bus: Bus<'_, '_, '_, '_, '_>,
+    claims: &[Claim],
     frame: &Record<'_>,
     told: &Option<Told>,
     out: &mut W,
 ) -> Result<(), CmdFault>
-    requires id { IsIdentifier frame.now.id }
-    requires pdos { pdos.now ≡ sheet_pdos (names_view settings.now.names) }
+    requires { IsIdentifier frame.now.id }
     ensures lines { OnOk result (WritesLines (W.contents out.old) (W.contents out.new)
-        (shown_lines settings.now.form (names_view settings.now.names) seen.now lasts.old
-        frame.now (told_words (names_view settings.now.names) frame.now told.now)
-        ++ told_lines settings.now.form (names_view settings.now.names) seen.now frame.now
-        told.now)) }
-    ensures lasts { OnOk result (lasts.new ≡ lasts_after settings.now.form
-        (names_view settings.now.names) seen.now lasts.old frame.now
-        (told_words (names_view settings.now.names) frame.now told.now)) }
+        (lines_with settings.now.form (sheets_of settings.now) (bus_view bus.entry) claims.now
+        seen.now lasts.old frame.now told.now)) }
+    ensures lasts { OnOk result (lasts.new ≡ lasts_with settings.now.form
+        (bus_view bus.entry) claims.now seen.now lasts.old frame.now told.now) }
     ensures err { IfErr result (λ fault. (fault ≡ CmdFault.Write) ⊎ (fault ≡ CmdFault.Memory)) }
 {
-    write_shown(room, seen, lasts, settings, pdos, frame, told, out)?;
+    write_shown(
+        room,
+        &settings.form,
+        seen,
+        lasts,
+        bus,
+        claims,
+        frame,
+        told,
+        out,
+    )?;
     write_told_end(room, seen, settings, frame, told, out)
 }
 
-/// Writes the lines of a frame, and takes the frame in.
+/// Writes the lines of a frame, and takes the frame in; in `claims` is room for the PDOs that it is.
 #[tactic(auto, unfolding(crate::specs::Explained::frame_lines, crate::specs::Explained::progress_with))]
 pub(crate) fn write_frame<W: Write>(
     room: &mut Room,
+    claims: &mut Vec<Claim>,
     progress: &mut Progress,
-    settings: &Settings<'_, '_>,
-    pdos: &[SheetPdo],
+    settings: &Settings<'_, '_, '_, '_>,
     frame: &Record<'_>,
     out: &mut W,
 ) -> Result<(), CmdFault>
-    requires id { IsIdentifier frame.now.id }
-    requires pdos { pdos.now ≡ sheet_pdos (names_view settings.now.names) }
+    requires { IsIdentifier frame.now.id }
     ensures lines { OnOk result (WritesLines (W.contents out.old) (W.contents out.new)
-        (frame_lines settings.now.form (names_view settings.now.names) progress.old frame.now)) }
-    ensures progress { OnOk result (progress.new ≡ progress_with settings.now.form
-        (names_view settings.now.names) progress.old frame.now) }
+        (frame_lines settings.now.form (sheets_of settings.now) progress.old frame.now)) }
+    ensures progress { OnOk result (progress.new
+        ≡ progress_with settings.now.form (sheets_of settings.now) progress.old frame.now) }
     ensures err { IfErr result (λ fault. (fault ≡ CmdFault.Write) ⊎ (fault ≡ CmdFault.Memory)) }
 {
     let told = progress.tell(frame)?;
+    let bus = bus_of(settings, &progress.entries, frame);
+    set_claims(claims, bus, frame.id)?;
     write_told(
         room,
+        settings,
         &progress.seen,
         &mut progress.lasts,
-        settings,
-        pdos,
+        bus,
+        claims.as_slice(),
         frame,
         &told,
         out,
     )?;
-    progress.seen.add(frame);
+    progress.add(frame, &told)?;
     Ok(())
 }
 
@@ -352,11 +394,11 @@ pub(crate) fn write_frame<W: Write>(
 pub(crate) fn write_unfinished<W: Write>(
     room: &mut Room,
     progress: &Progress,
-    settings: &Settings<'_, '_>,
+    settings: &Settings<'_, '_, '_, '_>,
     out: &mut W,
 ) -> Result<(), CmdFault>
     ensures lines { OnOk result (WritesLines (W.contents out.old) (W.contents out.new)
-        (unfinished_lines settings.now.form (names_view settings.now.names) progress.now)) }
+        (unfinished_lines settings.now.form (sheets_of settings.now) progress.now)) }
     ensures err { IfErr result (λ fault. (fault ≡ CmdFault.Write) ⊎ (fault ≡ CmdFault.Memory)) }
 {
     let seen = &progress.seen;

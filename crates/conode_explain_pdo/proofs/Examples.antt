@@ -1,25 +1,31 @@
 -- The data of PDOs, evaluated on both sides of each edge.
-use Rattle.std.proofs.Common.{◌≡◌, ℕ, true, false, [], ◌∷◌, ◌++◌, List, Some, None, refl, pos}
-use Rattle.std.specs.Prelude.{codes, replicate, ◌==◌, if◌then◌else◌}
+use Rattle.std.proofs.Common.{◌≡◌, ℕ, Bool, true, false, [], ◌∷◌, List, Some, None, refl, pos}
+use Rattle.std.specs.Prelude.{codes, length, not, ◌==◌, if◌then◌else◌}
 use Rattle.std.specs.Fmt.{digits}
 use Rattle.std.specs.Str.{is_utf8, chars}
 use lib.Utf8.{encode}
 use Rattle.co_value.specs.declared.data_type.DataType.{DataType}
 use Rattle.co_value.specs.declared.data_type.DataType.TheVariants.{Boolean, Integer16, Unsigned8, Unsigned16, Unsigned32, OctetString}
-use Rattle.co_frame.specs.FrameContent.{FrameContent}
 use Rattle.co_profile.specs.declared.access.Access.TheVariants.{Rw}
 use Rattle.co_sheet.specs.Limits.{Default, absent, number, node_id}
-use Rattle.co_sheet.specs.Content.{Row, SheetContent}
+use Rattle.co_sheet.specs.Content.{Row}
 use Rattle.co_text.specs.Printed.{digits_text}
 use Rattle.conode_decode.specs.Names.{Names, entry_of}
 use Rattle.conode_explain_values.specs.Numbers.{number_text}
 use Rattle.conode_explain_values.specs.Unicode.{characters_text}
 use Rattle.conode_explain_values.specs.Values.{entry_text, value_text}
 use Rattle.conode_explain_pdo.specs.declared.cob_id.SheetCobId.{SheetCobId}
-use Rattle.conode_explain_pdo.specs.Content.{Mapping}
 use Rattle.conode_explain_pdo.specs.Mappings.{addressing_word, bits_at, bytes_words, data_text, mapped_text, more_parts, more_text, multiplexed_data, multiplexed_text, part_bytes, part_text, parts_text, short_text}
 use Rattle.conode_explain_pdo.specs.CobIds.{has_identifier, is_of, may_be_pdo, node_with}
-use Rattle.conode_explain_pdo.specs.Pdos.{is_pdo, pdo_front, pdo_text, pdos_text}
+use Rattle.conode_explain_entries.specs.declared.entries.ShownPdo.{ShownPdo}
+use Rattle.conode_explain_entries.specs.declared.state.Value.{Value}
+use Rattle.conode_explain_entries.specs.declared.state.Value.TheVariants.{Assumed, Seen, Saved, Unknown}
+use Rattle.conode_explain_entries.specs.Histories.{assumed_values}
+use Rattle.conode_explain_pdo.specs.Buses.{Bus}
+use Rattle.conode_explain_pdo.specs.InForce.{data_in_force, mapping_in_force, raw_text, shown_text, words_in_force}
+use Rattle.conode_explain_pdo.specs.Claims.{claims_with, sheet_claim, sheets_claims, shown_claim}
+use Rattle.conode_explain_pdo.specs.Known.{KnownSheet, known_sheet, names_for}
+use Rattle.conode_explain_pdo.specs.Pdos.{more_pdos, pdo_front, pdo_text, pdos_text}
 use Rattle.conode_explain_pdo.specs.Sheets.{mapping_at, number_at, pdo_of, pdos_in, sheet_pdos, words_at}
 
 -- ---- the bits at an offset
@@ -211,33 +217,217 @@ last_free = refl
 
 -- ---- the PDOs of a sheet
 
+abbrev rows_of_tpdo : List Row
+rows_of_tpdo =
+    row 0x1800 1 Unsigned32 (node_id 0x180) [] ∷ row 0x1A00 0 Unsigned8 (number (pos 1)) [] ∷ row 0x1A00 1 Unsigned32 (number (pos 0x20020008)) []
+    ∷ row 0x2001 1 Integer16 absent (codes "T") ∷ row 0x2002 0 Boolean absent (codes "B") ∷ []
+
 abbrev rows_of_pdos : List Row
 rows_of_pdos =
     row 0x1400 1 Unsigned32 (number (pos 0x185)) [] ∷ row 0x1600 0 Unsigned8 (number (pos 0)) []
     ∷ row 0x1800 1 Unsigned32 (node_id 0x180) [] ∷ row 0x1A00 0 Unsigned8 (number (pos 1)) [] ∷ row 0x1A00 1 Unsigned32 (number (pos 0x20020008)) []
     ∷ row 0x2002 0 Boolean absent (codes "B") ∷ []
 
--- what a frame with one byte says
+-- of can0, by these sheets and by what was shown of PDOs
+abbrev bus_with : List KnownSheet → List ShownPdo → Bus
+bus_with sheets entries = record { sheets = sheets; entries = entries; interface = codes "can0" }
+
+-- a sheet for each interface
+abbrev sheet_of : Names → KnownSheet
+sheet_of names = known_sheet None names
+
+abbrev said_by : List KnownSheet → List ShownPdo → ℕ → List ℕ → List ℕ
+said_by sheets entries id bytes = pdos_text (bus_with sheets entries) bytes (claims_with (bus_with sheets entries) id)
+
+-- what a frame with these bytes says by one sheet
+abbrev said_with : Names → List ShownPdo → ℕ → List ℕ → List ℕ
+said_with names entries id bytes = said_by (sheet_of names ∷ []) entries id bytes
+
+-- what a frame with one byte says by the sheet alone
 abbrev said : ℕ → List ℕ
-said id = pdos_text (names_with rows_of_pdos) (record { id = id; bytes = 1 ∷ [] }) false (sheet_pdos (names_with rows_of_pdos))
+said id = said_with (names_with rows_of_pdos) [] id (1 ∷ [])
 
 -- the PDO that the node sends, and after it the one that it receives
 two_pdos : said 0x185 ≡ codes "TPDO1 node 5: B 2002:00 = true | RPDO1 node 5"
-unfolding pdos_text pdo_text pdo_front node_with is_of sheet_pdos pdos_in pdo_of mapping_at words_at number_at data_text mapped_text parts_text more_parts part_text part_bytes short_text more_text bytes_words entry_of entry_text value_text number_text digits digits_text is_utf8 chars encode
+unfolding claims_with sheets_claims sheet_claim shown_claim names_for pdos_text more_pdos pdo_text pdo_front data_in_force shown_text raw_text mapping_in_force words_in_force node_with is_of sheet_pdos pdos_in pdo_of mapping_at words_at number_at data_text mapped_text parts_text more_parts part_text part_bytes short_text more_text bytes_words entry_of entry_text value_text number_text digits digits_text is_utf8 chars encode
 two_pdos = refl
 
 one_pdo : said 0x186 ≡ codes "TPDO1 node 6: B 2002:00 = true"
-unfolding pdos_text pdo_text pdo_front node_with is_of sheet_pdos pdos_in pdo_of mapping_at words_at number_at data_text mapped_text parts_text more_parts part_text part_bytes short_text more_text bytes_words entry_of entry_text value_text number_text digits digits_text is_utf8 chars encode
+unfolding claims_with sheets_claims sheet_claim shown_claim names_for pdos_text more_pdos pdo_text pdo_front data_in_force shown_text raw_text mapping_in_force words_in_force node_with is_of sheet_pdos pdos_in pdo_of mapping_at words_at number_at data_text mapped_text parts_text more_parts part_text part_bytes short_text more_text bytes_words entry_of entry_text value_text number_text digits digits_text is_utf8 chars encode
 one_pdo = refl
 
 no_pdo : said 0x205 ≡ []
-unfolding pdos_text node_with is_of sheet_pdos pdos_in pdo_of mapping_at words_at number_at
+unfolding claims_with sheets_claims sheet_claim shown_claim pdos_text node_with is_of sheet_pdos pdos_in pdo_of mapping_at words_at number_at
 no_pdo = refl
 
-is_one : is_pdo None (sheet_pdos (names_with rows_of_pdos)) 0x186 ≡ true
-unfolding is_pdo node_with is_of sheet_pdos pdos_in pdo_of mapping_at words_at number_at
-is_one = refl
+-- ---- what the recording shows
 
-is_none : is_pdo None (sheet_pdos (names_with rows_of_pdos)) 0x205 ≡ false
-unfolding is_pdo node_with is_of sheet_pdos pdos_in pdo_of mapping_at words_at number_at
-is_none = refl
+-- of a PDO of node 5 on can0: its COB-ID, the first sub-indices of its mapping, and whether that is being changed
+abbrev shown : ℕ → Value → List Value → Bool → ShownPdo
+shown index cob_id mapping changes = record {
+  index = index;
+  node = 5;
+  interface = record { items = codes "can0" };
+  state = record { now = record { cob_id = cob_id; mapping = mapping }; stored = assumed_values; is_being_changed = changes };
+}
+
+abbrev is_one : Names → List ShownPdo → ℕ → Bool
+is_one names entries id = not (length (claims_with (bus_with (sheet_of names ∷ []) entries) id) == 0)
+
+-- the sheet's PDO, and of another identifier none
+is_of_sheet : is_one (names_with rows_of_pdos) [] 0x186 ≡ true
+unfolding claims_with sheets_claims sheet_claim shown_claim node_with is_of sheet_pdos pdos_in pdo_of mapping_at words_at number_at
+is_of_sheet = refl
+
+is_of_none : is_one (names_with rows_of_pdos) [] 0x205 ≡ false
+unfolding claims_with sheets_claims sheet_claim shown_claim node_with is_of sheet_pdos pdos_in pdo_of mapping_at words_at number_at
+is_of_none = refl
+
+-- a COB-ID that is shown is in force in place of the sheet's: bit 31 is set, or another identifier, or it is unknown
+disabled : is_one (names_with rows_of_tpdo) (shown 0x1800 (Seen 0x80000185) [] false ∷ []) 0x185 ≡ false
+unfolding claims_with sheets_claims sheet_claim shown_claim node_with is_of sheet_pdos pdos_in pdo_of mapping_at words_at number_at
+disabled = refl
+
+moved_away : is_one (names_with rows_of_tpdo) (shown 0x1800 (Seen 0x40000190) [] false ∷ []) 0x185 ≡ false
+unfolding claims_with sheets_claims sheet_claim shown_claim node_with is_of sheet_pdos pdos_in pdo_of mapping_at words_at number_at
+moved_away = refl
+
+moved_here : is_one (names_with rows_of_tpdo) (shown 0x1800 (Seen 0x40000190) [] false ∷ []) 0x190 ≡ true
+unfolding claims_with sheets_claims sheet_claim shown_claim node_with is_of sheet_pdos pdos_in pdo_of mapping_at words_at number_at
+moved_here = refl
+
+came_back_here : is_one (names_with rows_of_tpdo) (shown 0x1800 (Saved 0x190) [] false ∷ []) 0x190 ≡ true
+unfolding claims_with sheets_claims sheet_claim shown_claim node_with is_of sheet_pdos pdos_in pdo_of mapping_at words_at number_at
+came_back_here = refl
+
+unknown_cob_id : is_one (names_with rows_of_tpdo) (shown 0x1800 Unknown [] false ∷ []) 0x185 ≡ false
+unfolding claims_with sheets_claims sheet_claim shown_claim node_with is_of sheet_pdos pdos_in pdo_of mapping_at words_at number_at
+unknown_cob_id = refl
+
+-- that of another node, and of a communication parameter on another bus
+of_another : is_one (names_with rows_of_tpdo) (shown 0x1800 (Seen 0x80000185) [] false ∷ []) 0x186 ≡ true
+unfolding claims_with sheets_claims sheet_claim shown_claim node_with is_of sheet_pdos pdos_in pdo_of mapping_at words_at number_at
+of_another = refl
+
+on_another_bus : is_one (names_with []) (record (shown 0x1800 (Seen 0x190) [] false) { interface = record { items = codes "can1" } } ∷ []) 0x190 ≡ false
+unfolding claims_with sheets_claims sheet_claim shown_claim sheet_pdos pdos_in
+on_another_bus = refl
+
+-- a restricted identifier is none of a PDO
+restricted : is_one (names_with []) (shown 0x1800 (Seen 0x585) [] false ∷ []) 0x585 ≡ false
+unfolding claims_with sheets_claims sheet_claim shown_claim sheet_pdos pdos_in
+restricted = refl
+
+-- ---- a mapping is changed: what the PDO with these data says after each acknowledge
+
+abbrev after_these : List ShownPdo → List ℕ
+after_these pdos = said_with (names_with rows_of_tpdo) pdos 0x185 (0x01 ∷ 0x03 ∷ [])
+
+-- it is enabled, or nothing was shown of its COB-ID
+abbrev enabled : List Value → Bool → List ℕ
+enabled mapping changes = after_these (shown 0x1800 (Seen 0x185) mapping changes ∷ [])
+
+abbrev as_it_was : List Value → List ℕ
+as_it_was mapping = after_these (shown 0x1800 Assumed mapping false ∷ [])
+
+at_first : after_these [] ≡ codes "TPDO1 node 5: B 2002:00 = true; +1 byte"
+unfolding claims_with sheets_claims sheet_claim shown_claim names_for pdos_text more_pdos pdo_text pdo_front data_in_force shown_text raw_text mapping_in_force words_in_force node_with is_of sheet_pdos pdos_in pdo_of mapping_at words_at number_at data_text mapped_text parts_text more_parts part_text part_bytes short_text more_text bytes_words entry_of entry_text value_text number_text digits digits_text is_utf8 chars encode
+at_first = refl
+
+cob_id_alone : enabled (Assumed ∷ Assumed ∷ []) false ≡ codes "TPDO1 node 5: B 2002:00 = true; +1 byte"
+unfolding claims_with sheets_claims sheet_claim shown_claim names_for pdos_text more_pdos pdo_text pdo_front data_in_force shown_text raw_text mapping_in_force words_in_force node_with is_of sheet_pdos pdos_in pdo_of mapping_at words_at number_at data_text mapped_text parts_text more_parts part_text part_bytes short_text more_text bytes_words entry_of entry_text value_text number_text digits digits_text is_utf8 chars encode
+cob_id_alone = refl
+
+no_count : enabled (Seen 0 ∷ Assumed ∷ []) true ≡ codes "TPDO1 node 5: 0103 (mapping is being changed)"
+unfolding claims_with sheets_claims sheet_claim shown_claim names_for pdos_text more_pdos pdo_text pdo_front data_in_force shown_text raw_text node_with is_of sheet_pdos pdos_in pdo_of mapping_at words_at number_at digits digits_text
+no_count = refl
+
+no_count_and_word : enabled (Seen 0 ∷ Seen 0x20010110 ∷ []) true
+    ≡ codes "TPDO1 node 5: 0103 (mapping is being changed)"
+unfolding claims_with sheets_claims sheet_claim shown_claim names_for pdos_text more_pdos pdo_text pdo_front data_in_force shown_text raw_text node_with is_of sheet_pdos pdos_in pdo_of mapping_at words_at number_at digits digits_text
+no_count_and_word = refl
+
+mapped_anew : enabled (Seen 1 ∷ Seen 0x20010110 ∷ Assumed ∷ []) false
+    ≡ codes "TPDO1 node 5 (mapping seen): T 2001:01 = 769"
+unfolding claims_with sheets_claims sheet_claim shown_claim names_for pdos_text more_pdos pdo_text pdo_front data_in_force shown_text raw_text mapping_in_force words_in_force node_with is_of sheet_pdos pdos_in pdo_of mapping_at words_at number_at data_text mapped_text parts_text more_parts part_text part_bytes short_text more_text bytes_words entry_of entry_text value_text number_text digits digits_text is_utf8 chars encode
+mapped_anew = refl
+
+-- a word above the count doesn't matter
+above_count : as_it_was (Seen 1 ∷ Seen 0x20010110 ∷ Unknown ∷ [])
+    ≡ codes "TPDO1 node 5 (mapping seen): T 2001:01 = 769"
+unfolding claims_with sheets_claims sheet_claim shown_claim names_for pdos_text more_pdos pdo_text pdo_front data_in_force shown_text raw_text mapping_in_force words_in_force node_with is_of sheet_pdos pdos_in pdo_of mapping_at words_at number_at data_text mapped_text parts_text more_parts part_text part_bytes short_text more_text bytes_words entry_of entry_text value_text number_text digits digits_text is_utf8 chars encode
+above_count = refl
+
+saved_mapping : as_it_was (Saved 1 ∷ Saved 0x20010110 ∷ [])
+    ≡ codes "TPDO1 node 5 (mapping saved): T 2001:01 = 769"
+unfolding claims_with sheets_claims sheet_claim shown_claim names_for pdos_text more_pdos pdo_text pdo_front data_in_force shown_text raw_text mapping_in_force words_in_force node_with is_of sheet_pdos pdos_in pdo_of mapping_at words_at number_at data_text mapped_text parts_text more_parts part_text part_bytes short_text more_text bytes_words entry_of entry_text value_text number_text digits digits_text is_utf8 chars encode
+saved_mapping = refl
+
+-- the count alone was shown: the word is the sheet's
+count_shown : as_it_was (Seen 1 ∷ Assumed ∷ [])
+    ≡ codes "TPDO1 node 5 (mapping partly seen): B 2002:00 = true; +1 byte"
+unfolding claims_with sheets_claims sheet_claim shown_claim names_for pdos_text more_pdos pdo_text pdo_front data_in_force shown_text raw_text mapping_in_force words_in_force node_with is_of sheet_pdos pdos_in pdo_of mapping_at words_at number_at data_text mapped_text parts_text more_parts part_text part_bytes short_text more_text bytes_words entry_of entry_text value_text number_text digits digits_text is_utf8 chars encode
+count_shown = refl
+
+-- of the second word neither the sheet nor the recording has anything
+word_unknown : as_it_was (Seen 2 ∷ Assumed ∷ Assumed ∷ []) ≡ codes "TPDO1 node 5: 0103 (mapping is unknown)"
+unfolding claims_with sheets_claims sheet_claim shown_claim names_for pdos_text more_pdos pdo_text pdo_front data_in_force shown_text raw_text mapping_in_force words_in_force node_with is_of sheet_pdos pdos_in pdo_of mapping_at words_at number_at digits digits_text
+word_unknown = refl
+
+word_missing : as_it_was (Assumed ∷ Unknown ∷ []) ≡ codes "TPDO1 node 5: 0103 (mapping is unknown)"
+unfolding claims_with sheets_claims sheet_claim shown_claim names_for pdos_text more_pdos pdo_text pdo_front data_in_force shown_text raw_text mapping_in_force words_in_force node_with is_of sheet_pdos pdos_in pdo_of mapping_at words_at number_at digits digits_text
+word_missing = refl
+
+-- a sheet that isn't there, or is for another node: what the recording shows is all that is known
+no_sheet : said_with (record { sheet = None; only = None; originals = λ line. None })
+    (shown 0x1801 (Seen 0x285) (Seen 1 ∷ Seen 0x20010110 ∷ []) false ∷ []) 0x285 (0xE8 ∷ 0x03 ∷ [])
+    ≡ codes "TPDO2 node 5 (mapping seen): 2001:01 (not in sheet)"
+unfolding claims_with sheets_claims sheet_claim shown_claim names_for pdos_text more_pdos pdo_text pdo_front data_in_force shown_text raw_text mapping_in_force words_in_force sheet_pdos data_text mapped_text parts_text more_parts part_text part_bytes short_text more_text bytes_words entry_of entry_text value_text number_text digits digits_text is_utf8 chars encode
+no_sheet = refl
+
+no_data : said_with (record { sheet = None; only = None; originals = λ line. None }) (shown 0x1401 (Seen 0x305) [] false ∷ []) 0x305 []
+    ≡ codes "RPDO2 node 5: (mapping is unknown)"
+unfolding claims_with sheets_claims sheet_claim shown_claim names_for pdos_text more_pdos pdo_text pdo_front data_in_force shown_text raw_text mapping_in_force words_in_force sheet_pdos digits
+no_data = refl
+
+-- the PDO that a node sends, before those that receive it
+sent_first : said_with (record { sheet = None; only = None; originals = λ line. None })
+    (shown 0x1401 (Seen 0x285) [] false ∷ shown 0x1801 (Seen 0x285) [] false ∷ []) 0x285 (1 ∷ [])
+    ≡ codes "TPDO2 node 5: 01 (mapping is unknown) | RPDO2 node 5: 01 (mapping is unknown)"
+unfolding claims_with sheets_claims sheet_claim shown_claim names_for pdos_text more_pdos pdo_text pdo_front data_in_force shown_text raw_text mapping_in_force words_in_force sheet_pdos digits digits_text
+sent_first = refl
+
+-- FEh and FFh map no words
+multiplexed : said_with (record { sheet = None; only = None; originals = λ line. None })
+    (shown 0x1800 (Seen 0x185) (Seen 0xFF ∷ Assumed ∷ []) false ∷ []) 0x185 (0x85 ∷ 0x01 ∷ [])
+    ≡ codes "TPDO1 node 5 (mapping seen): 2 bytes, mapping has 8"
+unfolding claims_with sheets_claims sheet_claim shown_claim names_for pdos_text more_pdos pdo_text pdo_front data_in_force shown_text raw_text mapping_in_force words_in_force sheet_pdos data_text multiplexed_data short_text bytes_words digits
+multiplexed = refl
+
+-- ---- several sheets
+
+abbrev no_rows_for : ℕ → Names
+no_rows_for node = record (names_with []) { only = Some node }
+
+-- of a node's own sheet alone, whatever the sheet for all nodes has
+own_sheet : said_by (sheet_of (no_rows_for 5) ∷ sheet_of (names_with rows_of_tpdo) ∷ []) [] 0x185 (1 ∷ []) ≡ []
+unfolding claims_with sheets_claims sheet_claim shown_claim pdos_text node_with is_of sheet_pdos pdos_in pdo_of mapping_at words_at number_at
+own_sheet = refl
+
+other_node : said_by (sheet_of (no_rows_for 5) ∷ sheet_of (names_with rows_of_tpdo) ∷ []) [] 0x186 (1 ∷ []) ≡ codes "TPDO1 node 6: B 2002:00 = true"
+unfolding claims_with sheets_claims sheet_claim shown_claim names_for pdos_text more_pdos pdo_text pdo_front data_in_force shown_text raw_text mapping_in_force words_in_force node_with is_of sheet_pdos pdos_in pdo_of mapping_at words_at number_at data_text mapped_text parts_text more_parts part_text part_bytes short_text more_text bytes_words entry_of entry_text value_text number_text digits digits_text is_utf8 chars encode
+other_node = refl
+
+-- the PDO that one node sends, and then the node that receives it, each by its own sheet
+abbrev rows_of_rpdo : List Row
+rows_of_rpdo = row 0x1400 1 Unsigned32 (number (pos 0x185)) [] ∷ row 0x1600 0 Unsigned8 (number (pos 0)) [] ∷ []
+
+consumer : said_by (sheet_of (record (names_with rows_of_rpdo) { only = Some 6 }) ∷ sheet_of (record (names_with rows_of_tpdo) { only = Some 5 }) ∷ []) []
+    0x185 (1 ∷ []) ≡ codes "TPDO1 node 5: B 2002:00 = true | RPDO1 node 6"
+unfolding claims_with sheets_claims sheet_claim shown_claim names_for pdos_text more_pdos pdo_text pdo_front data_in_force shown_text raw_text mapping_in_force words_in_force node_with is_of sheet_pdos pdos_in pdo_of mapping_at words_at number_at data_text mapped_text parts_text more_parts part_text part_bytes short_text more_text bytes_words entry_of entry_text value_text number_text digits digits_text is_utf8 chars encode
+consumer = refl
+
+-- a sheet for another interface
+elsewhere : said_by (known_sheet (Some (codes "can1")) (names_with rows_of_tpdo) ∷ []) [] 0x185 (1 ∷ []) ≡ []
+unfolding claims_with sheets_claims sheet_claim shown_claim pdos_text node_with is_of sheet_pdos pdos_in pdo_of mapping_at words_at number_at
+elsewhere = refl

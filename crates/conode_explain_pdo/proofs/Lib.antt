@@ -1,2 +1,4 @@
+pub mod Claims
 pub mod Examples
 pub mod Parts
+pub mod Words

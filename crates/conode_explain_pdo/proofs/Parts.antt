@@ -1,5 +1,5 @@
 -- The first bytes of a number.
-use Rattle.std.proofs.Common.{◌≡◌, ℕ, zero, suc, ◌+◌, ◌*◌, ◌/◌, ◌<◌, ◌≤◌, List, ◌∷◌, length, take, refl, ap, arith}
+use Rattle.std.proofs.Common.{◌≡◌, ℕ, zero, suc, ◌≤◌, List, ◌∷◌, length, take, refl, ap, arith}
 use Rattle.std.specs.Int.{byte_at, bytes_low_first}
 
 pub take_low : (first count more number : ℕ) → count ≤ more → take count (bytes_low_first first more number) ≡ bytes_low_first first count number

@@ -1,7 +1,7 @@
 -- Whose PDO an identifier is, by the COB-IDs of a data sheet (CiA 301, 7.5.2.35 and 7.5.2.37).
-use Rattle.std.specs.Prelude.{ℕ, ◌+◌, ◌-◌, ◌/◌, ◌%◌, ◌^◌, ◌==◌, nat_lt, nat_le, Bool, true, false, not, ◌&&◌, if◌then◌else◌, ℤ, pos, negsuc, Option, Some, None}
+use Rattle.std.specs.Prelude.{ℕ, ◌+◌, ◌-◌, ◌/◌, ◌%◌, ◌^◌, ◌==◌, nat_lt, nat_le, Bool, true, false, not, ◌&&◌, if◌then◌else◌, pos, Option, Some, None}
 use Rattle.co_dict.specs.CobIds.{is_restricted, is_default_sdo}
-use Rattle.co_sheet.specs.Limits.{Default, absent, number, node_id, text, pairs}
+use Rattle.co_sheet.specs.Limits.{Default, number, node_id}
 use Rattle.conode_explain_pdo.specs.declared.cob_id.SheetCobId.{SheetCobId}
 
 -- the word of a PDO's COB-ID, and whether the node-ID is added to it

@@ -1,5 +1,9 @@
+pub mod Buses
+pub mod Claims
 pub mod CobIds
 pub mod Content
+pub mod InForce
+pub mod Known
 pub mod Mappings
 pub mod Pdos
 pub mod Sheets

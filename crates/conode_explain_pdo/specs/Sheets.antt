@@ -1,10 +1,10 @@
 -- The PDOs of a data sheet, as its entries begin (CiA 301, 7.5.2.35 to 7.5.2.38).
-use Rattle.std.specs.Prelude.{ℕ, zero, suc, ◌+◌, ◌%◌, ◌^◌, ◌==◌, nat_lt, Bool, ◌&&◌, if◌then◌else◌, ℤ, pos, negsuc, List, [], ◌∷◌, ◌++◌, filter_map, Option, Some, None, option_map}
+use Rattle.std.specs.Prelude.{ℕ, zero, suc, ◌+◌, ◌%◌, ◌^◌, ◌==◌, nat_lt, Bool, ◌&&◌, if◌then◌else◌, pos, List, [], ◌∷◌, ◌++◌, filter_map, Option, None, option_map}
 use Rattle.std.specs.Option.{option_map_or}
 use Rattle.co_value.specs.declared.key.Key.{Key}
 use Rattle.co_profile.specs.declared.indices.IndexRange.{IndexRange}
 use Rattle.co_profile.specs.Indices.{is_within, rpdo_communication, tpdo_communication}
-use Rattle.co_sheet.specs.Limits.{Default, absent, number, node_id, text, pairs}
+use Rattle.co_sheet.specs.Limits.{Default, number}
 use Rattle.co_sheet.specs.Content.{Row}
 use Rattle.conode_decode.specs.Names.{Names, row_at}
 use Rattle.conode_explain_pdo.specs.declared.sheet.SheetPdo.{SheetPdo}

@@ -51,7 +51,7 @@ pub(crate) fn may_be_pdo(id: u16) -> bool
     !is_restricted(id) && !matches!(id, 0x581..=0x5FF | 0x601..=0x67F)
 }
 
-fn has_identifier(word: u64, id: u16) -> bool
+pub(crate) fn has_identifier(word: u64, id: u16) -> bool
     ensures { result ≡ has_identifier word id }
 {
     (word < 0x8000_0000 && word / 0x2000_0000 % 2 == 0) && word % 0x800 == u64::from(id)

@@ -1,14 +1,23 @@
-//! What the data of a PDO say, by its mapping.
+//! What the data of PDOs say, by their mappings in force.
 #![tactic(auto)]
 
+mod bus;
+mod claim;
 mod cob_id;
+mod in_force;
+mod known;
+mod known_sheet;
 mod mapping;
 mod pdo;
 mod sheet;
 mod value_type;
 
+pub use bus::Bus;
+pub use claim::{Claim, add_claims};
 pub use cob_id::SheetCobId;
+pub use known::names_for;
+pub use known_sheet::KnownSheet;
 pub use mapping::{Mapping, push_data};
-pub use pdo::{is_pdo, push_pdos};
+pub use pdo::push_pdos;
 pub use sheet::{SheetPdo, sheet_pdos};
 pub use value_type::type_in;

@@ -1,12 +1,12 @@
 use Rattle.std.proofs.Common.{take}
 use Rattle.std.specs.List.{flat_map}
-use Rattle.conode_decode.specs.Names.{names_view}
 use Rattle.conode_io.specs.Written.{WritesLines}
 use Rattle.conode_explain.specs.Explained.{unfinished_in}
+use Rattle.conode_explain.specs.Sheets.{sheets_of}
 use Rattle.conode_explain.proofs.writes.write_unfinished.Given as goal
 
 -- the lines of the channels so far are written
 abbrev pub invariant-loop-track : goal.invariant-loop-track
 invariant-loop-track g l =
     WritesLines (g.W.Write.contents l.fn.out) (g.W.Write.contents l.out)
-    (flat_map (unfinished_in l.settings.form (names_view l.settings.names) l.progress.seen) (take l.track-index l.progress.channels))
+    (flat_map (unfinished_in l.settings.form (sheets_of l.settings) l.progress.seen) (take l.track-index l.progress.channels))

@@ -1,4 +1,4 @@
-use Rattle.std.proofs.Common.{ℕ, List, ◌∙◌, ap, take}
+use Rattle.std.proofs.Common.{◌∙◌, ap, take}
 use Rattle.conode_explain_pdo.proofs.Parts.{take_low}
 use Rattle.conode_explain_pdo.proofs.mapping.low_bytes.Goals as goal
 

@@ -1,6 +1,5 @@
 -- One more word.
-use Rattle.std.proofs.Common.{◌≡◌, ◌+◌, ◌++◌, [], ◌∷◌, List, ℕ, length, map, add-one, ap, ap₂, ◌∙◌, arith, length-append}
-use Rattle.co_sheet.specs.SheetViews.{row_view}
+use Rattle.std.proofs.Common.{◌++◌, [], ◌∷◌, List, ℕ, length, add-one, ap, ap₂, ◌∙◌, arith, length-append}
 use Rattle.conode_explain_pdo.specs.Sheets.{words_at}
 use Rattle.conode_explain_pdo.proofs.sheet.words_at.Goals as goal
 

@@ -1,11 +1,11 @@
 -- What is found next, and what is written of it.
-use Rattle.std.proofs.Common.{◌≡◌, ℕ, List, refl, sym, subst}
+use Rattle.std.proofs.Common.{ℕ, List, refl, sym, subst}
 use Rattle.co_bounded_lines.specs.declared.bounded_lines.Found.{Found}
 use Rattle.co_bounded_lines.specs.declared.bounded_lines.Found.TheVariants.{Line, Last}
 use Rattle.co_bounded_lines.specs.Founds.{Finds}
 use Rattle.co_bounded_lines.specs.Held.{to_come}
 use Rattle.co_stream.specs.Readings.{Gave}
-use Rattle.conode_decode.specs.Names.{names_view}
+use Rattle.conode_explain.specs.Sheets.{sheets_of}
 use Rattle.conode_explain.proofs.Explaining.{takes_last, takes_line, takes_long}
 use Rattle.conode_explain.proofs.step.Explaining.take_line.Goals as goal
 
@@ -27,7 +27,7 @@ returns-in-Ok-TooLong-clause-line g c =
     let holds = c.advance.new.self in
     let out = g.W.Write.contents c.args.out.now in
     let found = subst (λ (f : Found). Gave held.ended holds.ended before after (λ had has. Finds (to_come held had) (to_come holds has) holds.line f)) c.in-Ok-TooLong.field-0-is c.in-Ok-TooLong.ensures.found in
-    takes_long c.args.settings.now.form (names_view c.args.settings.now.names) held holds before after c.args.self.now.log c.args.self.now.progress out out holds.line found refl
+    takes_long c.args.settings.now.form (sheets_of c.args.settings.now) held holds before after c.args.self.now.log c.args.self.now.progress out out holds.line found refl
 
 pub returns-in_ok-bad-in-Ok-Line-clause-line : goal.returns-in_ok-bad-in-Ok-Line-clause-line
 returns-in_ok-bad-in-Ok-Line-clause-line g c =
@@ -41,7 +41,7 @@ returns-in_ok-bad-in-Ok-Line-clause-line g c =
     let found = subst (λ (f : Found). Gave held.ended holds.ended before after (λ had has. Finds (to_come held had) (to_come holds has) holds.line f)) c.in-Ok-Line.field-0-is c.in-Ok-Line.ensures.found in
     let here = subst (λ (l : List ℕ). Gave held.ended holds.ended before after (λ had has. Finds (to_come held had) (to_come holds has) l Line)) (sym c.line-line.ensures) found in
     let said = c.in_ok-bad-in-Ok-Line.ensures in
-    takes_line c.args.settings.now.form (names_view c.args.settings.now.names) held holds before after c.args.self.now.log c.args.self.now.progress old new line c.explain_line.new.log c.explain_line.new.progress said.log said.progress said.lines c.in_ok-bad-in-Ok-Line.bad said.bad here
+    takes_line c.args.settings.now.form (sheets_of c.args.settings.now) held holds before after c.args.self.now.log c.args.self.now.progress old new line c.explain_line.new.log c.explain_line.new.progress said.log said.progress said.lines c.in_ok-bad-in-Ok-Line.bad said.bad here
 
 pub returns-in_ok-explain_line-in-Ok-Last-clause-line : goal.returns-in_ok-explain_line-in-Ok-Last-clause-line
 returns-in_ok-explain_line-in-Ok-Last-clause-line g c =
@@ -55,4 +55,4 @@ returns-in_ok-explain_line-in-Ok-Last-clause-line g c =
     let found = subst (λ (f : Found). Gave held.ended holds.ended before after (λ had has. Finds (to_come held had) (to_come holds has) holds.line f)) c.in-Ok-Last.field-0-is c.in-Ok-Last.ensures.found in
     let here = subst (λ (l : List ℕ). Gave held.ended holds.ended before after (λ had has. Finds (to_come held had) (to_come holds has) l Last)) (sym c.line-line-in-Ok-Last.ensures) found in
     let said = c.in_ok-explain_line-in-Ok-Last.ensures in
-    takes_last c.args.settings.now.form (names_view c.args.settings.now.names) held holds before after c.args.self.now.log c.args.self.now.progress old new line c.explain_line-in-Ok-Last.new.log c.explain_line-in-Ok-Last.new.progress said.log said.progress said.lines here
+    takes_last c.args.settings.now.form (sheets_of c.args.settings.now) held holds before after c.args.self.now.log c.args.self.now.progress old new line c.explain_line-in-Ok-Last.new.log c.explain_line-in-Ok-Last.new.progress said.log said.progress said.lines here

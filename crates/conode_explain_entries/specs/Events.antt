@@ -1,0 +1,106 @@
+-- What happens to the entries of a node, by what is told of its frames.
+use Rattle.std.specs.Prelude.{ℕ, ◌-◌, ◌==◌, nat_le, Bool, true, false, ◌&&◌, ◌||◌, if◌then◌else◌, List, take, codes, Option, Some, None, option_map}
+use Rattle.std.specs.Str.{bytes_eq}
+use Rattle.co_profile.specs.Indices.{is_within, pdo_cob_id, restore_parameters, rpdo_communication, rpdo_mapping, store_parameters, tpdo_communication, tpdo_mapping}
+use Rattle.co_value.specs.declared.key.Key.{Key}
+use Rattle.co_value.specs.Numbers.{unsigned_of}
+use Rattle.conode_explain_channels.specs.declared.told.Part.{Part}
+use Rattle.conode_explain_channels.specs.declared.told.Told.{Told}
+use Rattle.conode_explain_transfers.specs.declared.ended.Ended.{Ended}
+use Rattle.conode_explain_transfers.specs.declared.ended.Ending.{Ending}
+use Rattle.conode_explain_transfers.specs.declared.ended.Ending.TheVariants.{Done, Aborted}
+use Rattle.conode_explain_transfers.specs.declared.kinds.Direction.{Direction}
+use Rattle.conode_explain_transfers.specs.declared.kinds.Direction.TheVariants.{Download, Upload}
+use Rattle.conode_explain_transfers.specs.declared.kinds.Side.TheVariants.{Server}
+use Rattle.conode_explain_entries.specs.declared.event.Event.{Event}
+use Rattle.conode_explain_entries.specs.declared.event.Event.TheVariants.{Written, Read, BootedUp, Saved, Restored}
+use Rattle.conode_explain_entries.specs.declared.event.PdoEntry.{PdoEntry}
+use Rattle.conode_explain_entries.specs.declared.event.PdoPart.TheVariants.{CobId, Mapping}
+
+-- ---- the entries that are followed
+
+-- the COB-ID of a PDO (CiA 301, 7.5.2.35 and 7.5.2.37)
+abbrev pub is_cob_id : Key → Bool
+is_cob_id key = (key.sub == pdo_cob_id) && (is_within tpdo_communication key.index || is_within rpdo_communication key.index)
+
+-- the number of a PDO's mapped entries, or one of the words (CiA 301, 7.5.2.36 and 7.5.2.38)
+abbrev pub is_mapping : Key → Bool
+is_mapping key = nat_le key.sub 64 && (is_within tpdo_mapping key.index || is_within rpdo_mapping key.index)
+
+-- the entry of a PDO that a key is; its mapping parameter has an index that is 200h more than that of its communication parameter
+abbrev pub entry_of : Key → Option PdoEntry
+entry_of key =
+    if is_cob_id key then Some (record { index = key.index; part = CobId })
+    else (if is_mapping key then Some (record { index = key.index - 0x200; part = Mapping key.sub }) else None)
+
+-- ---- transfers that ended
+
+-- sub-index 0 is an UNSIGNED8, the others are UNSIGNED32
+abbrev pub number_width : Key → ℕ
+number_width key = if key.sub == 0 then 1 else 4
+
+abbrev pub number_in : Key → List ℕ → ℕ
+number_in key bytes = unsigned_of (take (number_width key) bytes)
+
+-- a signature for all parameters, or for those of communication, 1000h to 1FFFh
+abbrev pub has_signature : Key → ℕ → List ℕ → List ℕ → Bool
+has_signature key index bytes signature = (key.index == index) && (((key.sub == 1) || (key.sub == 2)) && bytes_eq bytes signature)
+
+-- store parameters (CiA 301, 7.5.2.13)
+abbrev pub is_save : Key → List ℕ → Bool
+is_save key bytes = has_signature key store_parameters bytes (codes "save")
+
+-- restore default parameters (CiA 301, 7.5.2.14)
+abbrev pub is_load : Key → List ℕ → Bool
+is_load key bytes = has_signature key restore_parameters bytes (codes "load")
+
+-- a download with these bytes was acknowledged
+abbrev pub written_event : Key → List ℕ → Option Event
+written_event key bytes =
+    if is_save key bytes then Some Saved
+    else (if is_load key bytes then Some Restored
+    else option_map (λ of. Written of (Some (number_in key bytes))) (entry_of key))
+
+-- an upload was answered with these bytes
+abbrev pub read_event : Key → List ℕ → Option Event
+read_event key bytes = option_map (λ of. Read of (number_in key bytes)) (entry_of key)
+
+-- a download may have been acknowledged, and its bytes aren't known
+abbrev pub unclear_event : Key → Option Event
+unclear_event key = option_map (λ of. Written of None) (entry_of key)
+
+-- a download may have been taken, and its bytes or its acknowledge are missing in the recording: all but those that are done and
+-- those that the device refused
+abbrev pub is_unclear : Ending → Bool
+is_unclear (Done crc) = false
+is_unclear (Aborted Server code) = false
+is_unclear _ = true
+
+abbrev pub download_event : Ending → Key → List ℕ → Option Event
+download_event (Done crc) key bytes = written_event key bytes
+download_event ending key bytes = if is_unclear ending then unclear_event key else None
+
+abbrev pub upload_event : Ending → Key → List ℕ → Option Event
+upload_event (Done crc) key bytes = read_event key bytes
+upload_event _ key bytes = None
+
+abbrev pub event_by : Direction → Ending → Key → List ℕ → Option Event
+event_by Download ending key bytes = download_event ending key bytes
+event_by Upload ending key bytes = upload_event ending key bytes
+
+abbrev pub event_after : Ended → Option Event
+event_after ended = event_by ended.direction ended.ending ended.key ended.first.items
+
+-- ---- frames
+
+abbrev pub event_of : Option Ended → Option Event
+event_of None = None
+event_of (Some ended) = event_after ended
+
+abbrev pub event_with : Option Part → Option Ended → Option Event
+event_with None ended = Some BootedUp
+event_with (Some part) ended = event_of ended
+
+-- a frame that is no part of a transfer is the node's boot-up
+abbrev pub event_in : Told → Option Event
+event_in told = event_with told.part told.ended

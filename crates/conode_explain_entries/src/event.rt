@@ -1,0 +1,222 @@
+//! What happens to the entries of a node.
+
+ghost use Rattle.std.specs.Prelude.{◌≡◌, ◌≤◌, length, take};
+ghost use Rattle.conode_explain_entries.specs.Events.{
+  download_event,
+  entry_of,
+  event_after,
+  event_in,
+  has_signature,
+  is_cob_id,
+  is_load,
+  is_mapping,
+  is_save,
+  is_unclear,
+  number_in,
+  number_width,
+  read_event,
+  unclear_event,
+  upload_event,
+  written_event,
+};
+
+use co_profile::{IndexRange, PDO_COB_ID, RESTORE_PARAMETERS, STORE_PARAMETERS};
+use co_value::{Key, unsigned_of};
+use conode_explain_channels::Told;
+use conode_explain_transfers::{Direction, Ended, Ending, Side};
+
+/// Which entry of a PDO.
+#[derive(Clone, Copy, Debug, PartialEq, Eq)]
+pub enum PdoPart {
+    /// Its COB-ID: sub-index 1 of its communication parameter.
+    CobId,
+    /// A sub-index of its mapping parameter, 0 to 64.
+    Mapping { sub: u8 },
+}
+
+/// An entry of a PDO.
+#[derive(Clone, Copy, Debug, PartialEq, Eq)]
+pub struct PdoEntry {
+    /// The index of the PDO's communication parameter.
+    pub index: u16,
+    pub part: PdoPart,
+}
+
+/// What happens to the entries of a node.
+#[derive(Clone, Copy, Debug, PartialEq, Eq)]
+pub enum Event {
+    /// A download of an entry was acknowledged, with this number; `None` where frames of it are missing in the recording,
+    /// or where its acknowledge is, so that the device may have taken it.
+    Written { of: PdoEntry, number: Option<u32> },
+    /// An upload of an entry was answered with this number.
+    Read { of: PdoEntry, number: u32 },
+    /// The node booted up (CiA 301, 7.2.8.3.3).
+    BootedUp,
+    /// The node stored its parameters (CiA 301, 7.5.2.13).
+    Saved,
+    /// The node restores its default parameters with the next reset (CiA 301, 7.5.2.14).
+    Restored,
+}
+
+fn is_cob_id(key: Key) -> bool
+    ensures { result ≡ is_cob_id key }
+{
+    key.sub == PDO_COB_ID
+        && (IndexRange::TPDO_COMMUNICATION.contains(key.index)
+            || IndexRange::RPDO_COMMUNICATION.contains(key.index))
+}
+
+fn is_mapping(key: Key) -> bool
+    ensures { result ≡ is_mapping key }
+{
+    key.sub <= 64
+        && (IndexRange::TPDO_MAPPING.contains(key.index)
+            || IndexRange::RPDO_MAPPING.contains(key.index))
+}
+
+fn entry_of(key: Key) -> Option<PdoEntry>
+    ensures { result ≡ entry_of key }
+{
+    if is_cob_id(key) {
+        return Some(PdoEntry {
+            index: key.index,
+            part: PdoPart::CobId,
+        });
+    }
+    if is_mapping(key) {
+        return Some(PdoEntry {
+            index: key.index.saturating_sub(0x200),
+            part: PdoPart::Mapping { sub: key.sub },
+        });
+    }
+    None
+}
+
+fn number_width(key: Key) -> usize
+    ensures { result ≡ number_width key }
+{
+    if key.sub == 0 { 1 } else { 4 }
+}
+
+// the first bytes, at most four
+fn first_bytes(bytes: &[u8], count: usize) -> &[u8]
+    requires { count ≤ 4 }
+    ensures bytes { result.now ≡ take count bytes.now }
+    ensures few { length result.now ≤ 4 }
+{
+    if count < bytes.len() {
+        &bytes[..count]
+    } else {
+        bytes
+    }
+}
+
+fn number_in(key: Key, bytes: &[u8]) -> u32
+    ensures { result ≡ number_in key bytes.now }
+{
+    unsigned_of(first_bytes(bytes, number_width(key))) as u32
+}
+
+// all parameters, or those of communication
+fn has_signature(key: Key, index: u16, bytes: &[u8], signature: &[u8]) -> bool
+    ensures { result ≡ has_signature key index bytes.now signature.now }
+{
+    key.index == index && ((key.sub == 1 || key.sub == 2) && bytes == signature)
+}
+
+fn is_save(key: Key, bytes: &[u8]) -> bool
+    ensures { result ≡ is_save key bytes.now }
+{
+    has_signature(key, STORE_PARAMETERS, bytes, b"save")
+}
+
+fn is_load(key: Key, bytes: &[u8]) -> bool
+    ensures { result ≡ is_load key bytes.now }
+{
+    has_signature(key, RESTORE_PARAMETERS, bytes, b"load")
+}
+
+fn written_event(key: Key, bytes: &[u8]) -> Option<Event>
+    ensures { result ≡ written_event key bytes.now }
+{
+    if is_save(key, bytes) {
+        return Some(Event::Saved);
+    }
+    if is_load(key, bytes) {
+        return Some(Event::Restored);
+    }
+    let of = entry_of(key)?;
+    let number = Some(number_in(key, bytes));
+    Some(Event::Written { of, number })
+}
+
+fn read_event(key: Key, bytes: &[u8]) -> Option<Event>
+    ensures { result ≡ read_event key bytes.now }
+{
+    let of = entry_of(key)?;
+    let number = number_in(key, bytes);
+    Some(Event::Read { of, number })
+}
+
+fn unclear_event(key: Key) -> Option<Event>
+    ensures { result ≡ unclear_event key }
+{
+    let of = entry_of(key)?;
+    Some(Event::Written { of, number: None })
+}
+
+// whether a download may have been taken, and its bytes or its acknowledge are missing
+fn is_unclear(ending: Ending) -> bool
+    ensures { result ≡ is_unclear ending }
+{
+    match ending {
+        Ending::Done { crc: _ } => false,
+        Ending::Aborted {
+            by: Side::Server,
+            code: _,
+        } => false,
+        _ => true,
+    }
+}
+
+fn download_event(ending: Ending, key: Key, bytes: &[u8]) -> Option<Event>
+    ensures { result ≡ download_event ending key bytes.now }
+{
+    match ending {
+        Ending::Done { crc: _ } => written_event(key, bytes),
+        _ if is_unclear(ending) => unclear_event(key),
+        _ => None,
+    }
+}
+
+fn upload_event(ending: Ending, key: Key, bytes: &[u8]) -> Option<Event>
+    ensures { result ≡ upload_event ending key bytes.now }
+{
+    match ending {
+        Ending::Done { crc: _ } => read_event(key, bytes),
+        _ => None,
+    }
+}
+
+fn event_after(ended: &Ended) -> Option<Event>
+    ensures { result ≡ event_after ended.now }
+{
+    let bytes = ended.first.as_slice();
+    match ended.direction {
+        Direction::Download => download_event(ended.ending, ended.key, bytes),
+        Direction::Upload => upload_event(ended.ending, ended.key, bytes),
+    }
+}
+
+/// What a frame makes happen to the entries of its node, by what is told of it.
+pub fn event_in(told: &Told) -> Option<Event>
+    ensures { result ≡ event_in told.now }
+{
+    if let None = told.part {
+        return Some(Event::BootedUp);
+    }
+    match &told.ended {
+        Some(ended) => event_after(ended),
+        None => None,
+    }
+}

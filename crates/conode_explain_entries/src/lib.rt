@@ -1,0 +1,12 @@
+//! What the entries of nodes have that their PDOs need, as a recording shows it.
+#![tactic(auto)]
+
+mod entries;
+mod event;
+mod laws;
+mod state;
+
+pub use entries::{Entries, ShownPdo};
+pub use event::{Event, PdoEntry, PdoPart, event_in};
+pub use laws::what_is_shown;
+pub use state::{PdoState, PdoValues, Value};

@@ -1,0 +1,206 @@
+//! What the entries of a PDO have, and what an event makes of them.
+
+ghost use Rattle.std.specs.Prelude.{◌≡◌};
+ghost use Rattle.conode_explain_entries.specs.Histories.{
+  assumed_values,
+  changes_read,
+  changes_written,
+  is_count,
+  nothing_shown,
+  shown_value,
+  state_read,
+  state_with,
+  state_written,
+  stored_value,
+  stored_values,
+  values_with,
+};
+
+use crate::event::{Event, PdoPart};
+
+/// What an entry has, and from where that is known.
+#[derive(Clone, Copy, Debug, PartialEq, Eq)]
+pub enum Value {
+    /// Nothing was shown of it: what the data sheet says is assumed.
+    Assumed,
+    /// A transfer showed this number.
+    Seen { number: u32 },
+    /// This number was stored, and came back with a boot-up.
+    Saved { number: u32 },
+    /// It was written, or may have been, and nothing is known of the number.
+    Unknown,
+}
+
+/// How many sub-indices of a mapping parameter are followed: 0 to 64.
+const SUBS: usize = 65;
+
+/// What the entries of a PDO have.
+#[derive(Clone, Copy, Debug, PartialEq, Eq)]
+pub struct PdoValues {
+    /// The COB-ID.
+    pub cob_id: Value,
+    /// The sub-indices 0 to 64 of the mapping parameter.
+    pub mapping: [Value; 65],
+}
+
+/// What a recording shows of the entries of a PDO.
+#[derive(Clone, Copy, Debug, PartialEq, Eq)]
+pub struct PdoState {
+    /// What they have.
+    pub now: PdoValues,
+    /// What comes back with the next boot-up.
+    pub stored: PdoValues,
+    /// Whether the mapping was written, and sub-index 0 wasn't shown with a number other than 0 since.
+    pub is_being_changed: bool,
+}
+
+impl Value {
+    fn shown(number: Option<u32>) -> Value
+        ensures { result ≡ shown_value number }
+    {
+        match number {
+            Some(number) => Value::Seen { number },
+            None => Value::Unknown,
+        }
+    }
+
+    // what comes back of it, where it is stored
+    fn stored(self) -> Value
+        ensures { result ≡ stored_value self }
+    {
+        match self {
+            Value::Seen { number } => Value::Saved { number },
+            _ => self,
+        }
+    }
+}
+
+fn is_count(number: Option<u32>) -> bool
+    ensures { result ≡ is_count number }
+{
+    match number {
+        Some(number) => number != 0,
+        None => false,
+    }
+}
+
+fn changes_written(changes: bool, part: PdoPart, number: Option<u32>) -> bool
+    ensures { result ≡ changes_written changes part number }
+{
+    match part {
+        PdoPart::CobId => changes,
+        PdoPart::Mapping { sub } => sub != 0 || !is_count(number),
+    }
+}
+
+fn changes_read(changes: bool, part: PdoPart, number: u32) -> bool
+    ensures { result ≡ changes_read changes part number }
+{
+    match part {
+        PdoPart::CobId => changes,
+        PdoPart::Mapping { sub } => { if sub == 0 { number == 0 } else { changes } }
+    }
+}
+
+impl PdoValues {
+    // what the data sheet says is assumed
+    #[tactic(auto, unfolding(crate::specs::Histories::assumed_values))]
+    fn assumed() -> PdoValues
+        ensures { result ≡ assumed_values }
+    {
+        PdoValues {
+            cob_id: Value::Assumed,
+            mapping: [Value::Assumed; SUBS],
+        }
+    }
+
+    // with another value of an entry
+    fn with(self, part: PdoPart, value: Value) -> PdoValues
+        ensures { result ≡ values_with self part value }
+    {
+        let mut values = self;
+        match part {
+            PdoPart::CobId => values.cob_id = value,
+            PdoPart::Mapping { sub } => {
+                if usize::from(sub) < SUBS {
+                    values.mapping[usize::from(sub)] = value;
+                }
+            }
+        }
+        values
+    }
+
+    // what comes back of them, where they are stored
+    #[tactic(auto, using(crate::proofs::Changes::done_more, crate::proofs::Changes::all_done))]
+    fn stored(self) -> PdoValues
+        ensures { result ≡ stored_values self }
+    {
+        let mut mapping = self.mapping;
+        for value in mapping.iter_mut() {
+            *value = value.stored();
+        }
+        PdoValues {
+            cob_id: self.cob_id.stored(),
+            mapping,
+        }
+    }
+}
+
+impl PdoState {
+    /// Nothing was shown.
+    pub(crate) fn nothing() -> PdoState
+        ensures { result ≡ nothing_shown }
+    {
+        PdoState {
+            now: PdoValues::assumed(),
+            stored: PdoValues::assumed(),
+            is_being_changed: false,
+        }
+    }
+
+    fn written(self, part: PdoPart, number: Option<u32>) -> PdoState
+        ensures { result ≡ state_written self part number }
+    {
+        PdoState {
+            now: self.now.with(part, Value::shown(number)),
+            stored: self.stored,
+            is_being_changed: changes_written(self.is_being_changed, part, number),
+        }
+    }
+
+    fn read(self, part: PdoPart, number: u32) -> PdoState
+        ensures { result ≡ state_read self part number }
+    {
+        PdoState {
+            now: self.now.with(part, Value::Seen { number }),
+            stored: self.stored,
+            is_being_changed: changes_read(self.is_being_changed, part, number),
+        }
+    }
+
+    /// What the entries of a PDO have after an event of its node.
+    pub(crate) fn with(self, index: u16, event: Event) -> PdoState
+        ensures { result ≡ state_with self index event }
+    {
+        match event {
+            Event::Written { of, number } if of.index == index => self.written(of.part, number),
+            Event::Read { of, number } if of.index == index => self.read(of.part, number),
+            Event::Written { of: _, number: _ } | Event::Read { of: _, number: _ } => self,
+            Event::BootedUp => PdoState {
+                now: self.stored,
+                stored: self.stored,
+                is_being_changed: false,
+            },
+            Event::Saved => PdoState {
+                now: self.now,
+                stored: self.now.stored(),
+                is_being_changed: self.is_being_changed,
+            },
+            Event::Restored => PdoState {
+                now: self.now,
+                stored: PdoValues::assumed(),
+                is_being_changed: self.is_being_changed,
+            },
+        }
+    }
+}

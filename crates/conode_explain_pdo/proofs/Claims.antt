@@ -1,0 +1,48 @@
+-- The PDOs of one sheet after another.
+use Rattle.std.proofs.Common.{◌≡◌, ℕ, ◌+◌, ◌<◌, ◌≤◌, List, [], ◌∷◌, ◌++◌, length, map, take, drop, get_or, refl, sym, ap, ◌∙◌, append_assoc, append-nil}
+use Rattle.std.proofs.lemmas.List.{at_drop_all, at_drop_more, take_more}
+use Rattle.co_profile.specs.declared.indices.IndexRange.{IndexRange}
+use Rattle.conode_explain_pdo.specs.declared.claim.Claim.{Claim}
+use Rattle.conode_explain_pdo.specs.declared.known_sheet.KnownSheet.{KnownSheet as KnownSheetOfCode}
+use Rattle.conode_explain_pdo.specs.Buses.{Bus}
+use Rattle.conode_explain_pdo.specs.Claims.{sheet_claims, sheets_claims}
+use Rattle.conode_explain_pdo.specs.Known.{KnownSheet, known_view}
+
+views_push : (xs : List KnownSheetOfCode) (x : KnownSheetOfCode) → map known_view (xs ++ x ∷ []) ≡ map known_view xs ++ known_view x ∷ []
+views_push [] x = refl
+views_push (y ∷ ys) x = ap (λ (l : List KnownSheet). known_view y ∷ l) (views_push ys x)
+
+one_sheet : (bus : Bus) (range : IndexRange) (id : ℕ) (sheets : List KnownSheetOfCode) (place : ℕ) (d : KnownSheetOfCode) → place < length sheets
+    → sheets_claims bus range id (map known_view (take place sheets)) (map known_view (drop place sheets))
+    ≡ sheet_claims bus (map known_view (take place sheets)) (known_view (get_or sheets place d)) range id
+    ++ sheets_claims bus range id (map known_view (take (place + 1) sheets)) (map known_view (drop (place + 1) sheets))
+unfolding sheets_claims
+one_sheet bus range id sheets place d lt =
+    let earlier = map known_view (take place sheets) in
+    let rest = map known_view (drop (place + 1) sheets) in
+    let one = sheet_claims bus earlier (known_view (get_or sheets place d)) range id in
+    at_drop_more (λ (l : List KnownSheetOfCode). sheets_claims bus range id earlier (map known_view l)) sheets place d lt
+    ∙ ap (λ (es : List KnownSheet). one ++ sheets_claims bus range id es rest)
+    (sym (ap (λ (l : List KnownSheetOfCode). map known_view l) (take_more sheets place d lt) ∙ views_push (take place sheets) (get_or sheets place d)))
+
+-- a list with the claims of one more sheet
+pub one_more : (bus : Bus) (range : IndexRange) (id : ℕ) (sheets : List KnownSheetOfCode) (place : ℕ) (d : KnownSheetOfCode) (old new all : List Claim)
+    → place < length sheets → new ≡ old ++ sheet_claims bus (map known_view (take place sheets)) (known_view (get_or sheets place d)) range id
+    → old ++ sheets_claims bus range id (map known_view (take place sheets)) (map known_view (drop place sheets)) ≡ all
+    → new ++ sheets_claims bus range id (map known_view (take (place + 1) sheets)) (map known_view (drop (place + 1) sheets)) ≡ all
+one_more bus range id sheets place d old new all lt is so_far =
+    let rest = sheets_claims bus range id (map known_view (take (place + 1) sheets)) (map known_view (drop (place + 1) sheets)) in
+    let one = sheet_claims bus (map known_view (take place sheets)) (known_view (get_or sheets place d)) range id in
+    ap (λ (l : List Claim). l ++ rest) is ∙ append_assoc old one rest
+    ∙ ap (λ (l : List Claim). old ++ l) (sym (one_sheet bus range id sheets place d lt)) ∙ so_far
+
+-- all of them are there
+pub all_there : (bus : Bus) (range : IndexRange) (id : ℕ) (sheets : List KnownSheetOfCode) (place : ℕ) (found all : List Claim)
+    → length sheets ≤ place → found ++ sheets_claims bus range id (map known_view (take place sheets)) (map known_view (drop place sheets)) ≡ all → found ≡ all
+unfolding sheets_claims
+all_there bus range id sheets place found all le so_far =
+    let earlier = map known_view (take place sheets) in
+    sym (append-nil found)
+    ∙ ap (λ (l : List Claim). found ++ l)
+    (sym (at_drop_all (λ (l : List KnownSheetOfCode). sheets_claims bus range id earlier (map known_view l)) sheets place le))
+    ∙ so_far

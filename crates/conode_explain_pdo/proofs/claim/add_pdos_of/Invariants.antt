@@ -1,0 +1,13 @@
+use Rattle.std.proofs.Common.{◌≡◌, ◌++◌, drop, map}
+use Rattle.std.specs.List.{filter_map}
+use Rattle.conode_explain_pdo.specs.Buses.{bus_view}
+use Rattle.conode_decode.specs.Names.{names_view}
+use Rattle.conode_explain_pdo.specs.Claims.{sheet_claim}
+use Rattle.conode_explain_pdo.specs.Known.{known_view}
+use Rattle.conode_explain_pdo.proofs.claim.add_pdos_of.Given as goal
+
+-- those so far, and after them those of the rest
+abbrev pub invariant-loop-pdo : goal.invariant-loop-pdo
+invariant-loop-pdo l =
+    l.claims.items ++ filter_map (sheet_claim (bus_view l.bus) (map known_view l.earlier) (names_view l.sheet.names).only l.range l.id) (drop l.pdo-index l.pdos)
+    ≡ l.fn.claims.items ++ filter_map (sheet_claim (bus_view l.bus) (map known_view l.earlier) (names_view l.sheet.names).only l.range l.id) l.pdos

@@ -1,0 +1,74 @@
+-- Whose PDOs have an identifier, by the data sheets and by what the recording shows.
+use Rattle.std.specs.Prelude.{ℕ, Bool, false, not, ◌&&◌, if◌then◌else◌, List, [], ◌∷◌, ◌++◌, filter_map, Option, Some, None, option_and_then, is_none}
+use Rattle.std.specs.Option.{option_map_or}
+use Rattle.std.specs.Str.{bytes_eq}
+use Rattle.co_profile.specs.declared.indices.IndexRange.{IndexRange}
+use Rattle.co_profile.specs.Indices.{is_within, rpdo_communication, tpdo_communication}
+use Rattle.conode_explain_entries.specs.declared.entries.ShownPdo.{ShownPdo}
+use Rattle.conode_explain_entries.specs.declared.state.Value.{Value}
+use Rattle.conode_explain_entries.specs.declared.state.Value.TheVariants.{Seen, Saved}
+use Rattle.conode_explain_pdo.specs.declared.claim.Claim.{Claim}
+use Rattle.conode_explain_pdo.specs.declared.sheet.SheetPdo.{SheetPdo}
+use Rattle.conode_explain_pdo.specs.Buses.{Bus}
+use Rattle.conode_explain_pdo.specs.CobIds.{has_identifier, may_be_pdo, node_with}
+use Rattle.conode_explain_pdo.specs.InForce.{is_assumed, state_at}
+use Rattle.conode_explain_pdo.specs.Known.{KnownSheet, is_on, sheet_for}
+
+-- ---- by the data sheets
+
+-- the recording shows the COB-ID of a node's PDO
+abbrev pub is_cob_id_shown : Bus → ℕ → ℕ → Bool
+is_cob_id_shown bus node index = option_map_or (λ state. not (is_assumed state.now.cob_id)) (state_at bus node index) false
+
+-- the sheet that is for the node says it: no earlier one is for the node, and the recording doesn't show the COB-ID
+abbrev pub is_said : Bus → List KnownSheet → ℕ → ℕ → Bool
+is_said bus earlier node index = is_none (sheet_for earlier bus.interface node) && not (is_cob_id_shown bus node index)
+
+abbrev pub claim_of : Bus → List KnownSheet → ℕ → ℕ → Option Claim
+claim_of bus earlier index node = if is_said bus earlier node index then Some (record { node = node; index = index }) else None
+
+-- a sheet's PDO of a kind as one that has an identifier; the node that the sheet is for, if it is for one
+unfoldable pub sheet_claim : Bus → List KnownSheet → Option ℕ → IndexRange → ℕ → SheetPdo → Option Claim
+sheet_claim bus earlier only range id pdo =
+    if is_within range pdo.index then option_and_then (claim_of bus earlier pdo.index) (node_with only pdo.cob_id id) else None
+
+-- those of a sheet after earlier ones
+abbrev pub sheet_claims : Bus → List KnownSheet → KnownSheet → IndexRange → ℕ → List Claim
+sheet_claims bus earlier sheet range id =
+    if is_on bus.interface sheet then filter_map (sheet_claim bus earlier sheet.names.only range id) sheet.pdos else []
+
+-- those of all sheets after earlier ones
+unfoldable pub sheets_claims : Bus → IndexRange → ℕ → List KnownSheet → List KnownSheet → List Claim
+sheets_claims bus range id earlier [] = []
+sheets_claims bus range id earlier (sheet ∷ sheets) =
+    sheet_claims bus earlier sheet range id ++ sheets_claims bus range id (earlier ++ sheet ∷ []) sheets
+
+-- ---- by what the recording shows
+
+-- a COB-ID that is shown has the identifier
+abbrev pub shows : Value → ℕ → Bool
+shows (Seen word) id = has_identifier word id
+shows (Saved word) id = has_identifier word id
+shows _ id = false
+
+-- a PDO of a kind has it on this bus
+abbrev pub is_shown : Bus → IndexRange → ℕ → ShownPdo → Bool
+is_shown bus range id pdo = is_within range pdo.index && (shows pdo.state.now.cob_id id && bytes_eq pdo.interface.items bus.interface)
+
+unfoldable pub shown_claim : Bus → IndexRange → ℕ → ShownPdo → Option Claim
+shown_claim bus range id pdo =
+    if is_shown bus range id pdo then Some (record { node = pdo.node; index = pdo.index }) else None
+
+-- ---- all
+
+-- the PDOs of a kind that have an identifier
+abbrev pub kind_claims : Bus → IndexRange → ℕ → List Claim
+kind_claims bus range id = sheets_claims bus range id [] bus.sheets ++ filter_map (shown_claim bus range id) bus.entries
+
+-- those that nodes send, and then those that they receive
+abbrev pub both_claims : Bus → ℕ → List Claim
+both_claims bus id = kind_claims bus tpdo_communication id ++ kind_claims bus rpdo_communication id
+
+-- all PDOs that have an identifier, if it is one that a PDO may have
+unfoldable pub claims_with : Bus → ℕ → List Claim
+claims_with bus id = if may_be_pdo id then both_claims bus id else []

@@ -1,0 +1,135 @@
+-- The mapping of a PDO that is in force, by the data sheet and by what the recording shows.
+use Rattle.std.specs.Prelude.{ℕ, zero, suc, ◌+◌, ◌%◌, ◌==◌, nat_le, Bool, true, false, if◌then◌else◌, List, [], ◌∷◌, ◌++◌, slice_index, slice_index_or, take, codes, find, Option, Some, None, option_map, option_and_then}
+use Rattle.std.specs.List.{flat_map, list_all}
+use Rattle.std.specs.Option.{option_map_or}
+use Rattle.co_text.specs.Printed.{byte_text}
+use Rattle.conode_decode.specs.Names.{Names}
+use Rattle.conode_explain_entries.specs.declared.state.PdoState.{PdoState}
+use Rattle.conode_explain_entries.specs.declared.state.Value.{Value}
+use Rattle.conode_explain_entries.specs.declared.state.Value.TheVariants.{Assumed, Seen, Saved, Unknown}
+use Rattle.conode_explain_entries.specs.Tables.{state_in}
+use Rattle.conode_explain_pdo.specs.declared.sheet.SheetPdo.{SheetPdo}
+use Rattle.conode_explain_pdo.specs.Buses.{Bus, names_at}
+use Rattle.conode_explain_pdo.specs.Content.{Mapping}
+use Rattle.conode_explain_pdo.specs.Known.{pdos_for}
+use Rattle.conode_explain_pdo.specs.Mappings.{data_text}
+
+-- what the recording shows of the entries of a node's PDO, if it shows one
+abbrev pub state_at : Bus → ℕ → ℕ → Option PdoState
+state_at bus node index = state_in bus.entries bus.interface node index
+
+-- ---- what an entry has
+
+-- by its origin: what the sheet says where nothing was shown
+abbrev pub number_by : Option ℕ → Value → Option ℕ
+number_by sheet Assumed = sheet
+number_by sheet (Seen number) = Some number
+number_by sheet (Saved number) = Some number
+number_by sheet Unknown = None
+
+abbrev pub is_assumed : Value → Bool
+is_assumed Assumed = true
+is_assumed _ = false
+
+abbrev pub is_seen : Value → Bool
+is_seen (Seen number) = true
+is_seen _ = false
+
+abbrev pub is_saved : Value → Bool
+is_saved (Saved number) = true
+is_saved _ = false
+
+-- ---- the mapping of the sheet
+
+-- that of the PDO with this communication parameter
+abbrev pub mapping_of : List SheetPdo → ℕ → Option Mapping
+mapping_of pdos index = option_map (λ pdo. pdo.mapping) (find (λ pdo. pdo.index == index) pdos)
+
+-- of the sheet that is for a node
+abbrev pub sheet_mapping : Bus → ℕ → ℕ → Option Mapping
+sheet_mapping bus node index = mapping_of (pdos_for bus.sheets bus.interface node) index
+
+-- a word that the sheet has; one that it lacks is 0
+abbrev pub if_there : ℕ → Option ℕ
+if_there word = if word == 0 then None else Some word
+
+abbrev pub sheet_word : Option Mapping → ℕ → Option ℕ
+sheet_word sheet place = option_and_then (λ mapping. if_there (slice_index mapping.words place)) sheet
+
+-- ---- the mapping in force, by what its sub-indices have and by that of the sheet
+
+-- what a sub-index has
+abbrev pub value_at : List Value → ℕ → Value
+value_at values sub = slice_index_or values sub Assumed
+
+-- the number of entries that are mapped
+abbrev pub count_in_force : List Value → Option Mapping → Option ℕ
+count_in_force values sheet =
+    option_map (λ count. count % 256) (number_by (option_map (λ mapping. mapping.count) sheet) (value_at values 0))
+
+-- one of its words, counted from 0
+abbrev pub word_in_force : List Value → Option Mapping → ℕ → Option ℕ
+word_in_force values sheet place = number_by (sheet_word sheet place) (value_at values (place + 1))
+
+-- the first words, if all of them are known
+unfoldable pub words_in_force : List Value → Option Mapping → ℕ → Option (List ℕ)
+words_in_force values sheet zero = Some []
+words_in_force values sheet (suc count) =
+    option_and_then (λ words. option_map (λ word. words ++ word ∷ []) (word_in_force values sheet count)) (words_in_force values sheet count)
+
+-- a count above 64 maps no words: FEh and FFh are multiplexed PDOs
+abbrev pub word_count : ℕ → ℕ
+word_count count = if nat_le count 64 then count else 0
+
+abbrev pub mapping_with : List Value → Option Mapping → ℕ → Option Mapping
+mapping_with values sheet count =
+    option_map (λ words. record { count = count; words = words }) (words_in_force values sheet (word_count count))
+
+-- the mapping, if all of it is known
+unfoldable pub mapping_in_force : List Value → Option Mapping → Option Mapping
+mapping_in_force values sheet = option_and_then (mapping_with values sheet) (count_in_force values sheet)
+
+-- ---- where it is from
+
+-- all of it is from the sheet; the recording shows all of it; all of it came back with a boot-up; else some of it
+abbrev pub origin_words : List Value → List ℕ
+origin_words values =
+    if list_all is_assumed values then []
+    else (if list_all is_seen values then codes " (mapping seen)"
+    else (if list_all is_saved values then codes " (mapping saved)" else codes " (mapping partly seen)"))
+
+-- by the number of mapped entries, and the words of so many
+abbrev pub origin_text : List Value → ℕ → List ℕ
+origin_text values count = origin_words (take (count + 1) values)
+
+-- ---- what data say
+
+-- data of which no more is known, and why
+abbrev pub digits_of : List ℕ → List ℕ
+digits_of [] = []
+digits_of (byte ∷ bytes) = codes " " ++ flat_map byte_text (byte ∷ bytes)
+
+unfoldable pub raw_text : List ℕ → List ℕ → List ℕ
+raw_text bytes why = codes ":" ++ digits_of bytes ++ codes " (" ++ why ++ codes ")"
+
+-- by the mapping in force
+abbrev pub known_text : Names → ℕ → List ℕ → List Value → Mapping → List ℕ
+known_text names node bytes values mapping = origin_text values (word_count mapping.count) ++ data_text names node mapping bytes
+
+-- the recording shows an entry of the PDO
+unfoldable pub shown_text : Names → ℕ → List ℕ → Option Mapping → PdoState → List ℕ
+shown_text names node bytes sheet state =
+    if state.is_being_changed then raw_text bytes (codes "mapping is being changed")
+    else option_map_or (known_text names node bytes state.now.mapping) (mapping_in_force state.now.mapping sheet)
+    (raw_text bytes (codes "mapping is unknown"))
+
+-- it shows none: the mapping is the sheet's
+abbrev pub assumed_text : Names → ℕ → List ℕ → Option Mapping → List ℕ
+assumed_text names node bytes sheet =
+    option_map_or (λ mapping. data_text names node mapping bytes) sheet (raw_text bytes (codes "mapping is unknown"))
+
+-- the data of a node's PDO
+unfoldable pub data_in_force : Bus → ℕ → ℕ → List ℕ → List ℕ
+data_in_force bus node index bytes =
+    option_map_or (shown_text (names_at bus node) node bytes (sheet_mapping bus node index)) (state_at bus node index)
+    (assumed_text (names_at bus node) node bytes (sheet_mapping bus node index))

@@ -1,0 +1,30 @@
+//! What is known of the PDOs of a bus.
+
+ghost use Rattle.std.specs.Prelude.{◌≡◌};
+ghost use Rattle.conode_decode.specs.Names.{names_view};
+ghost use Rattle.conode_explain_pdo.specs.Buses.{bus_view, names_at};
+
+use crate::known::names_for;
+use crate::known_sheet::KnownSheet;
+use conode_decode::Names;
+use conode_explain_entries::Entries;
+
+/// What is known of the PDOs of a bus.
+#[derive(Clone, Copy)]
+pub struct Bus<'k, 'e, 'i, 's, 'a> {
+    /// The data sheets.
+    pub sheets: &'k [KnownSheet<'s, 'a>],
+    /// What the recording shows of entries.
+    pub entries: &'e Entries,
+    /// The name of the bus's interface.
+    pub interface: &'i [u8],
+}
+
+impl<'s, 'a> Bus<'_, '_, '_, 's, 'a> {
+    /// Where the names of a node's entries come from.
+    pub fn names(self, node: u8) -> Names<'s, 'a>
+        ensures { names_view result ≡ names_at (bus_view self.entry) node }
+    {
+        names_for(self.sheets, self.interface, node)
+    }
+}

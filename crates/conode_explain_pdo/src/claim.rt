@@ -1,0 +1,242 @@
+//! Whose PDOs have an identifier, by the data sheets and by what the recording shows.
+
+ghost use Rattle.std.specs.Prelude.{◌≡◌, ◌++◌, [], OnOk, filter_map, map};
+ghost use Rattle.conode_decode.specs.Names.{names_view};
+ghost use Rattle.conode_explain_pdo.specs.Buses.{bus_view};
+ghost use Rattle.conode_explain_pdo.specs.Known.{known_view};
+ghost use Rattle.conode_explain_pdo.specs.Claims.{
+  both_claims,
+  claim_of,
+  claims_with,
+  is_cob_id_shown,
+  is_said,
+  is_shown,
+  kind_claims,
+  sheet_claim,
+  sheet_claims,
+  sheets_claims,
+  shown_claim,
+  shows,
+};
+
+use crate::bus::Bus;
+use crate::cob_id::{has_identifier, may_be_pdo};
+use crate::in_force::is_assumed;
+use crate::known::is_none_for;
+use crate::known_sheet::KnownSheet;
+use crate::sheet::SheetPdo;
+use co_profile::IndexRange;
+use conode_explain_entries::{ShownPdo, Value};
+use std::alloc::AllocError;
+
+/// A PDO of a node that has an identifier.
+#[derive(Clone, Copy, Debug, PartialEq, Eq)]
+pub struct Claim {
+    pub node: u8,
+    /// The index of its communication parameter.
+    pub index: u16,
+}
+
+fn is_cob_id_shown(bus: Bus<'_, '_, '_, '_, '_>, node: u8, index: u16) -> bool
+    ensures { result ≡ is_cob_id_shown (bus_view bus.entry) node index }
+{
+    match bus.state(node, index) {
+        Some(state) => !is_assumed(state.now.cob_id),
+        None => false,
+    }
+}
+
+fn is_said(
+    bus: Bus<'_, '_, '_, '_, '_>,
+    earlier: &[KnownSheet<'_, '_>],
+    node: u8,
+    index: u16,
+) -> bool
+    ensures { result ≡ is_said (bus_view bus.entry) (map known_view earlier.now) node index }
+{
+    is_none_for(earlier, bus.interface, node) && !is_cob_id_shown(bus, node, index)
+}
+
+fn claim_of(
+    bus: Bus<'_, '_, '_, '_, '_>,
+    earlier: &[KnownSheet<'_, '_>],
+    index: u16,
+    node: u8,
+) -> Option<Claim>
+    ensures { result ≡ claim_of (bus_view bus.entry) (map known_view earlier.now) index node }
+{
+    if is_said(bus, earlier, node, index) {
+        Some(Claim { node, index })
+    } else {
+        None
+    }
+}
+
+#[tactic(auto, unfolding(crate::specs::Claims::sheet_claim))]
+fn sheet_claim(
+    bus: Bus<'_, '_, '_, '_, '_>,
+    earlier: &[KnownSheet<'_, '_>],
+    only: Option<u8>,
+    range: IndexRange,
+    id: u16,
+    pdo: &SheetPdo,
+) -> Option<Claim>
+    ensures { result ≡ sheet_claim (bus_view bus.entry) (map known_view earlier.now) only range id pdo.now }
+{
+    if !range.contains(pdo.index) {
+        return None;
+    }
+    claim_of(bus, earlier, pdo.index, pdo.cob_id.node_with(only, id)?)
+}
+
+// adds those of a kind of a sheet's PDOs that have an identifier
+fn add_pdos_of(
+    claims: &mut Vec<Claim>,
+    bus: Bus<'_, '_, '_, '_, '_>,
+    earlier: &[KnownSheet<'_, '_>],
+    sheet: &KnownSheet<'_, '_>,
+    range: IndexRange,
+    id: u16,
+) -> Result<(), AllocError>
+    ensures { OnOk result (claims.new.items ≡ claims.old.items
+        ++ filter_map (sheet_claim (bus_view bus.entry) (map known_view earlier.now) (names_view sheet.now.names).only range id)
+        sheet.now.pdos.items) }
+{
+    let pdos = sheet.pdos.as_slice();
+    for pdo in pdos {
+        if let Some(claim) = sheet_claim(bus, earlier, sheet.names.only, range, id, pdo) {
+            claims.push(claim)?;
+        }
+    }
+    Ok(())
+}
+
+fn add_sheet(
+    claims: &mut Vec<Claim>,
+    bus: Bus<'_, '_, '_, '_, '_>,
+    earlier: &[KnownSheet<'_, '_>],
+    sheet: &KnownSheet<'_, '_>,
+    range: IndexRange,
+    id: u16,
+) -> Result<(), AllocError>
+    ensures { OnOk result (claims.new.items ≡ claims.old.items
+        ++ sheet_claims (bus_view bus.entry) (map known_view earlier.now) (known_view sheet.now) range id) }
+{
+    if sheet.is_on(bus.interface) {
+        return add_pdos_of(claims, bus, earlier, sheet, range, id);
+    }
+    Ok(())
+}
+
+// adds those of a kind that all sheets have
+fn add_sheets(
+    claims: &mut Vec<Claim>,
+    bus: Bus<'_, '_, '_, '_, '_>,
+    range: IndexRange,
+    id: u16,
+) -> Result<(), AllocError>
+    ensures { OnOk result (claims.new.items ≡ claims.old.items
+        ++ sheets_claims (bus_view bus.entry) range id [] (map known_view bus.entry.sheets.now)) }
+{
+    let sheets = bus.sheets;
+    for place in 0..sheets.len() {
+        add_sheet(claims, bus, &sheets[..place], &sheets[place], range, id)?;
+    }
+    Ok(())
+}
+
+fn shows(value: Value, id: u16) -> bool
+    ensures { result ≡ shows value id }
+{
+    match value {
+        Value::Seen { number } => has_identifier(u64::from(number), id),
+        Value::Saved { number } => has_identifier(u64::from(number), id),
+        _ => false,
+    }
+}
+
+fn is_shown(bus: Bus<'_, '_, '_, '_, '_>, range: IndexRange, id: u16, pdo: &ShownPdo) -> bool
+    ensures { result ≡ is_shown (bus_view bus.entry) range id pdo.now }
+{
+    range.contains(pdo.index)
+        && (shows(pdo.state.now.cob_id, id) && pdo.interface.as_slice() == bus.interface)
+}
+
+#[tactic(auto, unfolding(crate::specs::Claims::shown_claim))]
+fn shown_claim(
+    bus: Bus<'_, '_, '_, '_, '_>,
+    range: IndexRange,
+    id: u16,
+    pdo: &ShownPdo,
+) -> Option<Claim>
+    ensures { result ≡ shown_claim (bus_view bus.entry) range id pdo.now }
+{
+    if !is_shown(bus, range, id, pdo) {
+        return None;
+    }
+    Some(Claim {
+        node: pdo.node,
+        index: pdo.index,
+    })
+}
+
+// adds those of a kind whose COB-IDs the recording shows
+fn add_shown(
+    claims: &mut Vec<Claim>,
+    bus: Bus<'_, '_, '_, '_, '_>,
+    range: IndexRange,
+    id: u16,
+) -> Result<(), AllocError>
+    ensures { OnOk result (claims.new.items ≡ claims.old.items
+        ++ filter_map (shown_claim (bus_view bus.entry) range id) bus.entry.entries.now) }
+{
+    let pdos = bus.entries.shown();
+    for pdo in pdos {
+        if let Some(claim) = shown_claim(bus, range, id, pdo) {
+            claims.push(claim)?;
+        }
+    }
+    Ok(())
+}
+
+fn add_kind(
+    claims: &mut Vec<Claim>,
+    bus: Bus<'_, '_, '_, '_, '_>,
+    range: IndexRange,
+    id: u16,
+) -> Result<(), AllocError>
+    ensures { OnOk result (claims.new.items
+        ≡ claims.old.items ++ kind_claims (bus_view bus.entry) range id) }
+{
+    add_sheets(claims, bus, range, id)?;
+    add_shown(claims, bus, range, id)
+}
+
+fn add_both(
+    claims: &mut Vec<Claim>,
+    bus: Bus<'_, '_, '_, '_, '_>,
+    id: u16,
+) -> Result<(), AllocError>
+    ensures { OnOk result (claims.new.items
+        ≡ claims.old.items ++ both_claims (bus_view bus.entry) id) }
+{
+    add_kind(claims, bus, IndexRange::TPDO_COMMUNICATION, id)?;
+    add_kind(claims, bus, IndexRange::RPDO_COMMUNICATION, id)
+}
+
+/// Adds the PDOs that have an identifier, by the data sheets and by the COB-IDs that the recording shows: first those that
+/// nodes send, and then those that they receive. On an `Err` memory ran out.
+#[tactic(auto, unfolding(crate::specs::Claims::claims_with))]
+pub fn add_claims(
+    claims: &mut Vec<Claim>,
+    bus: Bus<'_, '_, '_, '_, '_>,
+    id: u16,
+) -> Result<(), AllocError>
+    ensures { OnOk result (claims.new.items
+        ≡ claims.old.items ++ claims_with (bus_view bus.entry) id) }
+{
+    if may_be_pdo(id) {
+        return add_both(claims, bus, id);
+    }
+    Ok(())
+}

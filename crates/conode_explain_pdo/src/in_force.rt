@@ -1,0 +1,357 @@
+//! The mapping of a PDO that is in force, and what its data say.
+
+ghost use Rattle.std.specs.Prelude.{◌≡◌, ◌+◌, ◌≤◌, ◌++◌, OnOk, length, option_map, slice_index, slice_index_or, string_bytes, take};
+ghost use Rattle.std.specs.List.{list_all};
+ghost use Rattle.std.specs.Option.{option_copied};
+ghost use Rattle.conode_decode.specs.Names.{names_view};
+ghost use Rattle.conode_explain_pdo.specs.Buses.{bus_view};
+ghost use Rattle.conode_explain_pdo.specs.InForce.{
+  assumed_text,
+  count_in_force,
+  data_in_force,
+  digits_of,
+  if_there,
+  is_assumed,
+  is_saved,
+  is_seen,
+  known_text,
+  mapping_in_force,
+  mapping_of,
+  mapping_with,
+  number_by,
+  origin_text,
+  origin_words,
+  raw_text,
+  sheet_mapping,
+  sheet_word,
+  shown_text,
+  state_at,
+  value_at,
+  word_count,
+  word_in_force,
+  words_in_force,
+};
+
+use crate::bus::Bus;
+use crate::known::sheet_for;
+use crate::mapping::{Mapping, push_data};
+use crate::sheet::SheetPdo;
+use arrayvec::ArrayVec;
+use co_text::push_bytes;
+use conode_decode::Names;
+use conode_explain_entries::{PdoState, Value};
+use std::alloc::AllocError;
+
+fn number_by(sheet: Option<u32>, value: Value) -> Option<u32>
+    ensures { result ≡ number_by sheet value }
+{
+    match value {
+        Value::Assumed => sheet,
+        Value::Seen { number } => Some(number),
+        Value::Saved { number } => Some(number),
+        Value::Unknown => None,
+    }
+}
+
+pub(crate) fn is_assumed(value: Value) -> bool
+    ensures { result ≡ is_assumed value }
+{
+    match value {
+        Value::Assumed => true,
+        _ => false,
+    }
+}
+
+fn is_seen(value: Value) -> bool
+    ensures { result ≡ is_seen value }
+{
+    match value {
+        Value::Seen { number: _ } => true,
+        _ => false,
+    }
+}
+
+fn is_saved(value: Value) -> bool
+    ensures { result ≡ is_saved value }
+{
+    match value {
+        Value::Saved { number: _ } => true,
+        _ => false,
+    }
+}
+
+impl<'e> Bus<'_, 'e, '_, '_, '_> {
+    /// What the recording shows of the entries of a node's PDO.
+    pub(crate) fn state(self, node: u8, index: u16) -> Option<&'e PdoState>
+        ensures { option_copied result ≡ state_at (bus_view self.entry) node index }
+    {
+        self.entries.state(self.interface, node, index)
+    }
+}
+
+fn mapping_of(pdos: &[SheetPdo], index: u16) -> Option<&Mapping>
+    ensures { option_copied result ≡ mapping_of pdos.now index }
+{
+    for pdo in pdos {
+        if pdo.index == index {
+            return Some(&pdo.mapping);
+        }
+    }
+    None
+}
+
+// what the sheet says of the mapping of a node's PDO
+fn sheet_mapping<'k>(bus: Bus<'k, '_, '_, '_, '_>, node: u8, index: u16) -> Option<&'k Mapping>
+    ensures { option_copied result ≡ sheet_mapping (bus_view bus.entry) node index }
+{
+    match sheet_for(bus.sheets, bus.interface, node) {
+        Some(sheet) => mapping_of(sheet.pdos.as_slice(), index),
+        None => None,
+    }
+}
+
+// the number at a place, 0 past the last
+fn word_at(words: &[u32], place: usize) -> u32
+    ensures { result ≡ slice_index words.now place }
+{
+    if place < words.len() { words[place] } else { 0 }
+}
+
+fn sheet_count(sheet: Option<&Mapping>) -> Option<u32>
+    ensures { result ≡ option_map (λ mapping. mapping.count) (option_copied sheet.entry) }
+{
+    match sheet {
+        Some(mapping) => Some(u32::from(mapping.count)),
+        None => None,
+    }
+}
+
+fn if_there(word: u32) -> Option<u32>
+    ensures { result ≡ if_there word }
+{
+    if word == 0 { None } else { Some(word) }
+}
+
+fn sheet_word(sheet: Option<&Mapping>, place: u8) -> Option<u32>
+    ensures { result ≡ sheet_word (option_copied sheet.entry) place }
+{
+    match sheet {
+        Some(mapping) => if_there(word_at(mapping.words.as_slice(), usize::from(place))),
+        None => None,
+    }
+}
+
+// the value at a place; past the last nothing was shown
+fn value_at(values: &[Value], place: usize) -> Value
+    ensures { result ≡ value_at values.now place }
+{
+    if place < values.len() {
+        values[place]
+    } else {
+        Value::Assumed
+    }
+}
+
+fn count_in_force(values: &[Value], sheet: Option<&Mapping>) -> Option<u8>
+    ensures { result ≡ count_in_force values.now (option_copied sheet.entry) }
+{
+    let count = number_by(sheet_count(sheet), value_at(values, 0))?;
+    Some((count % 256) as u8)
+}
+
+fn word_in_force(values: &[Value], sheet: Option<&Mapping>, place: u8) -> Option<u32>
+    ensures { result ≡ word_in_force values.now (option_copied sheet.entry) place }
+{
+    number_by(
+        sheet_word(sheet, place),
+        value_at(values, usize::from(place) + 1),
+    )
+}
+
+// the first words, if all of them are known
+#[tactic(auto, unfolding(crate::specs::InForce::words_in_force), using(crate::proofs::Words::none_until))]
+fn words_in_force(values: &[Value], sheet: Option<&Mapping>, count: u8) -> Option<ArrayVec<u32, 64>>
+    requires { count ≤ 64 }
+    ensures { option_map (λ words. words.items) result
+        ≡ words_in_force values.now (option_copied sheet.entry) count }
+{
+    let mut words = ArrayVec::new();
+    for place in 0..count {
+        match word_in_force(values, sheet, place) {
+            Some(word) => words.push(word),
+            None => return None,
+        }
+    }
+    Some(words)
+}
+
+fn word_count(count: u8) -> u8
+    ensures words { result ≡ word_count count }
+    ensures few { result ≤ 64 }
+{
+    if count <= 64 { count } else { 0 }
+}
+
+fn mapping_with(values: &[Value], sheet: Option<&Mapping>, count: u8) -> Option<Mapping>
+    ensures { result ≡ mapping_with values.now (option_copied sheet.entry) count }
+{
+    let words = words_in_force(values, sheet, word_count(count))?;
+    Some(Mapping { count, words })
+}
+
+#[tactic(auto, unfolding(crate::specs::InForce::mapping_in_force))]
+fn mapping_in_force(values: &[Value], sheet: Option<&Mapping>) -> Option<Mapping>
+    ensures { result ≡ mapping_in_force values.now (option_copied sheet.entry) }
+{
+    let count = count_in_force(values, sheet)?;
+    mapping_with(values, sheet, count)
+}
+
+fn all_assumed(values: &[Value]) -> bool
+    ensures { result ≡ list_all is_assumed values.now }
+{
+    values.iter().all(|value| is_assumed(*value))
+}
+
+fn all_seen(values: &[Value]) -> bool
+    ensures { result ≡ list_all is_seen values.now }
+{
+    values.iter().all(|value| is_seen(*value))
+}
+
+fn all_saved(values: &[Value]) -> bool
+    ensures { result ≡ list_all is_saved values.now }
+{
+    values.iter().all(|value| is_saved(*value))
+}
+
+fn origin_words(values: &[Value]) -> &'static str
+    ensures { result.now ≡ origin_words values.now }
+{
+    if all_assumed(values) {
+        return "";
+    }
+    if all_seen(values) {
+        return " (mapping seen)";
+    }
+    if all_saved(values) {
+        return " (mapping saved)";
+    }
+    " (mapping partly seen)"
+}
+
+// the first values, all if there are fewer
+fn first_values(values: &[Value], count: usize) -> &[Value]
+    ensures { result.now ≡ take count values.now }
+{
+    if count < values.len() {
+        &values[..count]
+    } else {
+        values
+    }
+}
+
+fn push_digits(text: &mut String, bytes: &[u8]) -> Result<(), AllocError>
+    ensures { OnOk result (string_bytes text.new ≡ string_bytes text.old ++ digits_of bytes.now) }
+{
+    match bytes {
+        [] => Ok(()),
+        _ => {
+            text.push_str(" ")?;
+            push_bytes(text, bytes)
+        }
+    }
+}
+
+#[tactic(auto, unfolding(crate::specs::InForce::raw_text))]
+fn push_raw(text: &mut String, bytes: &[u8], why: &str) -> Result<(), AllocError>
+    ensures { OnOk result (string_bytes text.new ≡ string_bytes text.old ++ raw_text bytes.now why.now) }
+{
+    text.push_str(":")?;
+    push_digits(text, bytes)?;
+    text.push_str(" (")?;
+    text.push_str(why)?;
+    text.push_str(")")
+}
+
+// by the sheet's mapping: the recording shows nothing of it
+fn push_assumed(
+    text: &mut String,
+    names: Names<'_, '_>,
+    node: u8,
+    sheet: Option<&Mapping>,
+    bytes: &[u8],
+) -> Result<(), AllocError>
+    requires { length bytes.now ≤ 8 }
+    ensures { OnOk result (string_bytes text.new ≡ string_bytes text.old
+        ++ assumed_text (names_view names.entry) node bytes.now (option_copied sheet.entry)) }
+{
+    match sheet {
+        Some(mapping) => push_data(text, names, node, mapping, bytes),
+        None => push_raw(text, bytes, "mapping is unknown"),
+    }
+}
+
+fn push_known(
+    text: &mut String,
+    names: Names<'_, '_>,
+    node: u8,
+    values: &[Value],
+    mapping: &Mapping,
+    bytes: &[u8],
+) -> Result<(), AllocError>
+    requires { length bytes.now ≤ 8 }
+    ensures { OnOk result (string_bytes text.new ≡ string_bytes text.old
+        ++ known_text (names_view names.entry) node bytes.now values.now mapping.now) }
+{
+    let count = usize::from(word_count(mapping.count));
+    text.push_str(origin_words(first_values(values, count + 1)))?;
+    push_data(text, names, node, mapping, bytes)
+}
+
+// by the mapping of which the recording shows something
+#[tactic(auto, unfolding(crate::specs::InForce::shown_text))]
+fn push_shown(
+    text: &mut String,
+    names: Names<'_, '_>,
+    node: u8,
+    sheet: Option<&Mapping>,
+    state: &PdoState,
+    bytes: &[u8],
+) -> Result<(), AllocError>
+    requires { length bytes.now ≤ 8 }
+    ensures { OnOk result (string_bytes text.new ≡ string_bytes text.old
+        ++ shown_text (names_view names.entry) node bytes.now (option_copied sheet.entry) state.entry.now) }
+{
+    if state.is_being_changed {
+        return push_raw(text, bytes, "mapping is being changed");
+    }
+    let values = state.now.mapping.as_slice();
+    match mapping_in_force(values, sheet) {
+        Some(mapping) => push_known(text, names, node, values, &mapping, bytes),
+        None => push_raw(text, bytes, "mapping is unknown"),
+    }
+}
+
+/// Appends what the data of a node's PDO say by its mapping in force: that which the recording shows, else that of the
+/// data sheet; `: E8031027 (mapping is being changed)` from a count of 0, or a word that is written, until a count is
+/// acknowledged. On an `Err` memory ran out, and a part of it may be there.
+#[tactic(auto, unfolding(crate::specs::InForce::data_in_force))]
+pub(crate) fn push_data_in_force(
+    text: &mut String,
+    bus: Bus<'_, '_, '_, '_, '_>,
+    node: u8,
+    index: u16,
+    bytes: &[u8],
+) -> Result<(), AllocError>
+    requires { length bytes.now ≤ 8 }
+    ensures { OnOk result (string_bytes text.new
+        ≡ string_bytes text.old ++ data_in_force (bus_view bus.entry) node index bytes.now) }
+{
+    let names = bus.names(node);
+    let sheet = sheet_mapping(bus, node, index);
+    match bus.state(node, index) {
+        Some(state) => push_shown(text, names, node, sheet, state, bytes),
+        None => push_assumed(text, names, node, sheet, bytes),
+    }
+}
