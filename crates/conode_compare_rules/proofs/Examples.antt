@@ -9,15 +9,18 @@ use Rattle.co_sheet.specs.Limits.{Default, absent, number, node_id}
 use Rattle.co_value.specs.declared.data_type.DataType.{DataType}
 use Rattle.co_value.specs.declared.data_type.DataType.TheVariants.{Unsigned8, Unsigned16, Unsigned32, Unsigned40, VisibleString}
 use Rattle.co_value.specs.declared.key.Key.{Key}
+use Rattle.conode_compare_rules.specs.declared.dialogue.Dialogue.{Dialogue}
 use Rattle.conode_compare_rules.specs.declared.entries.Entries.{Entries}
 use Rattle.conode_compare_rules.specs.declared.finding.Finding.TheVariants.{BootMissing, SecondBootUp, NoState, WrongState, HeartbeatLate, EmergencyStopped, EmergencyRegister, EmergencyInhibit, ValueLength, ValueConst, ReadRefused, Written}
 use Rattle.conode_compare_rules.specs.declared.finding.NmtState.TheVariants.{Unknown, Initialising, PreOperational, Operational, Stopped}
 use Rattle.conode_compare_rules.specs.declared.heartbeats.Heartbeats.{Heartbeats}
 use Rattle.conode_compare_rules.specs.declared.limits.Limits.{Limits}
 use Rattle.conode_compare_rules.specs.declared.nmt.Nmt.{Nmt}
+use Rattle.conode_compare_rules.specs.Dialogues.{is_certain, nothing_asked, owes}
 use Rattle.conode_compare_rules.specs.EmergencyRules.{emergency_finding}
 use Rattle.conode_compare_rules.specs.EntriesInForce.{facts_of, initial_entries, sheet_entries}
-use Rattle.conode_compare_rules.specs.Heartbeats.{late_finding, overdue_by, is_gap}
+use Rattle.conode_compare_rules.specs.Heartbeats.{follows_closely, late_finding, overdue_by, is_gap}
+use Rattle.conode_compare_rules.specs.Progresses.{free_at}
 use Rattle.conode_compare_rules.specs.SheetValues.{refused_finding, upload_finding, written_finding}
 use Rattle.conode_compare_rules.specs.States.{after_boot_up, after_command, after_other, awaits_boot_up, boot_finding, is_settled, second_boot_up, state_finding}
 
@@ -31,29 +34,50 @@ abbrev pulse : Heartbeats
 pulse = record { guarded = false; since = Some 5 }
 
 -- late after 1000 ms, 10 ms and 1 %
-in_time : late_finding limits (Some 1000) pulse 1020005 ≡ None
+in_time : late_finding limits (Some 1000) pulse 1020005 1020005 ≡ None
 unfolding late_finding overdue_by
 in_time = refl
 
-late : late_finding limits (Some 1000) pulse 1020006 ≡ Some (HeartbeatLate 1020001 1000)
+late : late_finding limits (Some 1000) pulse 1020006 1020006 ≡ Some (HeartbeatLate 1020001 1000)
 unfolding late_finding overdue_by
 late = refl
 
+-- by when the bus was free last
+waits_for_bus : late_finding limits (Some 1000) pulse 1020005 1050000 ≡ None
+unfolding late_finding overdue_by
+waits_for_bus = refl
+
+was_late : late_finding limits (Some 1000) pulse 1020006 1050005 ≡ Some (HeartbeatLate 1050000 1000)
+unfolding late_finding overdue_by
+was_late = refl
+
+closely : follows_closely 7 1507 ≡ true
+closely = refl
+
+not_closely : follows_closely 7 1508 ≡ false
+not_closely = refl
+
+bus_kept : free_at (Some 1000) 500 2000 ≡ 500
+bus_kept = refl
+
+bus_free : free_at (Some 1000) 500 3000 ≡ 3000
+bus_free = refl
+
 -- with a period of 0, or an unknown one, none is
-none_sent : late_finding limits (Some 0) pulse 9000000 ≡ None
+none_sent : late_finding limits (Some 0) pulse 9000000 9000000 ≡ None
 unfolding late_finding overdue_by
 none_sent = refl
 
-unknown_period : late_finding limits None pulse 9000000 ≡ None
+unknown_period : late_finding limits None pulse 9000000 9000000 ≡ None
 unfolding late_finding overdue_by
 unknown_period = refl
 
 -- of a device whose node guarding was asked for, and before the first one, none is
-guarded_late : late_finding limits (Some 1000) (record pulse { guarded = true }) 9000000 ≡ None
+guarded_late : late_finding limits (Some 1000) (record pulse { guarded = true }) 9000000 9000000 ≡ None
 unfolding late_finding overdue_by
 guarded_late = refl
 
-not_since : late_finding limits (Some 1000) (record pulse { since = None }) 9000000 ≡ None
+not_since : late_finding limits (Some 1000) (record pulse { since = None }) 9000000 9000000 ≡ None
 unfolding late_finding overdue_by
 not_since = refl
 
@@ -328,3 +352,23 @@ configuration = refl
 constant_sheet : (facts_of (row 0x1017 0 Unsigned16 Constant (number (pos 500)) ∷ []) 5 true).before.period ≡ Some 500
 unfolding facts_of initial_entries sheet_entries
 constant_sheet = refl
+
+-- ---- requests that an answer is owed to
+
+abbrev asked_at : ℕ → ℕ → Dialogue
+asked_at doubted micros = record nothing_asked {
+  asked = Some (record { key = record { index = 0x1000; sub = 0 }; micros = micros; writes = false });
+  doubted = Some doubted;
+}
+
+owed : owes limits 0 (asked_at 2000000 3000001) ≡ true
+unfolding is_certain
+owed = refl
+
+-- it came while another could still be answered
+not_owed : owes limits 0 (asked_at 2000000 3000000) ≡ false
+unfolding is_certain
+not_owed = refl
+
+nothing_owed : owes limits 0 nothing_asked ≡ false
+nothing_owed = refl

@@ -83,10 +83,14 @@ abbrev pub first_of : Option Finding → Option Finding → Option Finding
 first_of (Some finding) other = Some finding
 first_of None other = other
 
+-- an answer that took too long, of a request that is owed one
+abbrev pub overdue_answer : Limits → Exchange → ℕ → Option Finding
+overdue_answer limits exchange micros = if exchange.owed then late_answer limits exchange.asked micros else None
+
 -- the difference of an answer, where no earlier request can be answered
 unfoldable pub answer_finding : Subject → List Row → ℕ → Exchange → FrameContent → Option Finding
 answer_finding subject rows micros exchange frame =
-    if exchange.certain then first_of (late_answer subject.limits exchange.asked micros) (what_finding subject rows exchange frame)
+    if exchange.certain then first_of (overdue_answer subject.limits exchange micros) (what_finding subject rows exchange frame)
     else None
 
 -- ---- no answer at all

@@ -80,6 +80,11 @@ unfoldable pub is_certain : Limits → ℕ → Option ℕ → ℕ → Bool
 is_certain limits started doubted micros =
     is_past started limits.answer micros && option_map_or (λ d. is_past d limits.answer micros) doubted true
 
+-- The request before a frame can be held against the device: none before it could still be answered when it came. A server that
+-- still awaits the segments of a block download takes another request as one of them.
+abbrev pub owes : Limits → ℕ → Dialogue → Bool
+owes limits started dialogue = option_map_or (λ a. is_certain limits started dialogue.doubted a.micros) dialogue.asked false
+
 -- ---- a frame
 
 -- what a frame is, by an end, with these bytes
@@ -87,6 +92,7 @@ unfoldable pub exchange_in : Limits → ℕ → Dialogue → ℕ → Side → Li
 exchange_in limits started dialogue micros side bytes = record {
   heard = (followed dialogue.channel micros side bytes).says;
   asked = dialogue.asked;
+  owed = owes limits started dialogue;
   certain = is_certain limits started dialogue.doubted micros;
 }
 

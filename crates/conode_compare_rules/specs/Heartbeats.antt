@@ -25,22 +25,28 @@ is_gap limits None newest micros = is_past newest limits.answer micros
 is_gap limits (Some period) newest micros =
     if nat_lt 0 period then nat_lt (3 * micros_of period) (micros - newest) else is_past newest limits.answer micros
 
--- how long the next one is awaited, where that is too long, and the period; with a period of 0 none is sent
-abbrev pub overdue_for : Limits → Bool → ℕ → ℕ → Option (ℕ × ℕ)
-overdue_for limits guarded period passed =
-    if guarded || ((period == 0) || nat_le passed (allowance limits period)) then None else Some (passed, period)
+-- A frame that ends within 1.5 ms after another one may have waited for it: at 100 kbit/s one of eight bytes takes 1.35 ms.
+abbrev pub follows_closely : ℕ → ℕ → Bool
+follows_closely newest micros = nat_le (micros - newest) 1500
 
-abbrev pub overdue_since : Limits → Bool → ℕ → Option ℕ → ℕ → Option (ℕ × ℕ)
-overdue_since limits guarded period None micros = None
-overdue_since limits guarded period (Some since) micros = overdue_for limits guarded period (micros - since)
+-- How long the next one is awaited, where that is too long, and the period; with a period of 0 none is sent. Error control has
+-- the lowest priority: it counts when the bus was free last, `free`.
+abbrev pub overdue_for : Limits → Bool → ℕ → ℕ → ℕ → ℕ → Option (ℕ × ℕ)
+overdue_for limits guarded period since free micros =
+    if guarded || ((period == 0) || nat_le (free - since) (allowance limits period)) then None else Some (micros - since, period)
 
-abbrev pub overdue_with : Limits → Option ℕ → Heartbeats → ℕ → Option (ℕ × ℕ)
-overdue_with limits None heartbeats micros = None
-overdue_with limits (Some period) heartbeats micros = overdue_since limits heartbeats.guarded period heartbeats.since micros
+abbrev pub overdue_since : Limits → Bool → ℕ → Option ℕ → ℕ → ℕ → Option (ℕ × ℕ)
+overdue_since limits guarded period None free micros = None
+overdue_since limits guarded period (Some since) free micros = overdue_for limits guarded period since free micros
 
-unfoldable pub overdue_by : Limits → Option ℕ → Heartbeats → ℕ → Option (ℕ × ℕ)
-overdue_by limits period heartbeats micros = overdue_with limits period heartbeats micros
+abbrev pub overdue_with : Limits → Option ℕ → Heartbeats → ℕ → ℕ → Option (ℕ × ℕ)
+overdue_with limits None heartbeats free micros = None
+overdue_with limits (Some period) heartbeats free micros = overdue_since limits heartbeats.guarded period heartbeats.since free micros
+
+unfoldable pub overdue_by : Limits → Option ℕ → Heartbeats → ℕ → ℕ → Option (ℕ × ℕ)
+overdue_by limits period heartbeats free micros = overdue_with limits period heartbeats free micros
 
 -- `heartbeat-late`: the device sends, and its next heartbeat is late
-unfoldable pub late_finding : Limits → Option ℕ → Heartbeats → ℕ → Option Finding
-late_finding limits period heartbeats micros = option_map (λ late. HeartbeatLate late.0 late.1) (overdue_by limits period heartbeats micros)
+unfoldable pub late_finding : Limits → Option ℕ → Heartbeats → ℕ → ℕ → Option Finding
+late_finding limits period heartbeats free micros =
+    option_map (λ late. HeartbeatLate late.0 late.1) (overdue_by limits period heartbeats free micros)

@@ -28,7 +28,7 @@ use Rattle.conode_compare_rules.specs.Answers.{answer_finding, silence_finding}
 use Rattle.conode_compare_rules.specs.Dialogues.{dialogue_heard, given_up, interrupted, nothing_asked, exchange_in}
 use Rattle.conode_compare_rules.specs.EmergencyRules.{emergency_finding, length_finding}
 use Rattle.conode_compare_rules.specs.EntriesInForce.{asked_to_write, ended_entries, shown_period}
-use Rattle.conode_compare_rules.specs.Heartbeats.{after_byte, late_finding, no_heartbeat, is_gap}
+use Rattle.conode_compare_rules.specs.Heartbeats.{after_byte, follows_closely, late_finding, no_heartbeat, is_gap}
 use Rattle.conode_compare_rules.specs.States as states
 use Rattle.conode_compare_rules.specs.States.{boot_finding, control_finding, is_reset, is_settled, nothing_commanded}
 use Rattle.conode_compare_rules.specs.Times.{is_past}
@@ -40,6 +40,7 @@ abbrev pub before_recording : Subject → Progress
 before_recording subject = record {
   newest = None;
   started = 0;
+  free = 0;
   nmt = nothing_commanded;
   heartbeats = no_heartbeat;
   entries = subject.facts.before;
@@ -62,11 +63,20 @@ was_quiet limits progress micros = option_map_or (λ newest. is_past newest limi
 abbrev pub with_quiet : Limits → Progress → ℕ → Dialogue
 with_quiet limits progress micros = if was_quiet limits progress micros then interrupted progress.dialogue micros else progress.dialogue
 
+-- when the bus was free last: before the first of the frames that follow one another closely
+abbrev pub free_at : Option ℕ → ℕ → ℕ → ℕ
+free_at None free micros = micros
+free_at (Some newest) free micros = if follows_closely newest micros then free else micros
+
 -- then nothing is known; where it was quiet, no request is
 unfoldable pub begun : Subject → Progress → ℕ → Progress
 begun subject progress micros =
-    if begins_anew subject.limits progress micros then record (before_recording subject) { newest = Some micros; started = micros }
-    else record progress { newest = Some micros; dialogue = with_quiet subject.limits progress micros }
+    if begins_anew subject.limits progress micros then record (before_recording subject) { newest = Some micros; started = micros; free = micros }
+    else record progress {
+      newest = Some micros;
+      free = free_at progress.newest progress.free micros;
+      dialogue = with_quiet subject.limits progress micros;
+    }
 
 -- what is open isn't known any more: after a reset, a boot-up, and an error frame
 unfoldable pub with_gap : Progress → ℕ → Progress
@@ -118,10 +128,13 @@ unfoldable pub control_judged : Subject → Progress → ℕ → Bool
 control_judged subject progress micros =
     (not progress.heartbeats.guarded && is_known progress.nmt.state) && is_settled subject.limits progress.started progress.nmt.commanded micros
 
+abbrev pub late_at : Subject → Progress → ℕ → Option Finding
+late_at subject progress micros = late_finding subject.limits progress.entries.period progress.heartbeats progress.free micros
+
 unfoldable pub heartbeat_findings : Subject → Progress → Option Finding → ℕ → ℕ → Findings
 heartbeat_findings subject progress answer micros byte =
     found (boot_finding subject.limits progress.nmt micros)
-    (late_finding subject.limits progress.entries.period progress.heartbeats micros)
+    (late_at subject progress micros)
     answer
     (control_finding subject progress.started progress.heartbeats.guarded progress.nmt micros byte)
     (control_judged subject progress micros)
@@ -143,7 +156,7 @@ after_control subject progress micros byte = record progress {
 unfoldable pub odd_control_findings : Subject → Progress → ℕ → ℕ → Findings
 odd_control_findings subject progress micros length =
     found (boot_finding subject.limits progress.nmt micros)
-    (late_finding subject.limits progress.entries.period progress.heartbeats micros)
+    (late_at subject progress micros)
     None
     (Some (HeartbeatLength length))
     true
@@ -209,9 +222,6 @@ late_noted subject progress late micros = record progress {
   nmt = states.after_other subject.limits progress.nmt micros;
   heartbeats = record progress.heartbeats { since = if late then None else progress.heartbeats.since };
 }
-
-abbrev pub late_at : Subject → Progress → ℕ → Option Finding
-late_at subject progress micros = late_finding subject.limits progress.entries.period progress.heartbeats micros
 
 abbrev pub answer_noted : Subject → Progress → ℕ → Progress
 answer_noted subject progress micros = late_noted subject progress (is_some (late_at subject progress micros)) micros

@@ -13,6 +13,7 @@ ghost use Rattle.conode_compare_rules.specs.Answers.{
   is_timed,
   key_finding,
   late_answer,
+  overdue_answer,
   refuses_other,
   silence_finding,
   unasked_finding,
@@ -137,6 +138,17 @@ fn what_finding(
     }
 }
 
+// an answer that took too long, of a request that is owed one
+fn overdue_answer(limits: &Limits, exchange: &Exchange, micros: u64) -> Option<Finding>
+    ensures { result ≡ overdue_answer limits.now exchange.now micros }
+{
+    if exchange.owed {
+        late_answer(limits, exchange.asked, micros)
+    } else {
+        None
+    }
+}
+
 /// The difference of an answer, where no earlier request can be answered.
 #[tactic(auto, unfolding(crate::specs::Answers::answer_finding))]
 pub(crate) fn answer_finding(
@@ -152,7 +164,7 @@ pub(crate) fn answer_finding(
     if !exchange.certain {
         return None;
     }
-    match late_answer(&subject.limits, exchange.asked, micros) {
+    match overdue_answer(&subject.limits, exchange, micros) {
         Some(late) => Some(late),
         None => what_finding(subject, rows, exchange, frame),
     }

@@ -16,6 +16,7 @@ ghost use Rattle.conode_compare_rules.specs.Dialogues.{
   is_certain,
   key_in,
   nothing_asked,
+  owes,
   continues,
   exchange_in,
 };
@@ -50,6 +51,8 @@ pub(crate) struct Exchange {
     pub(crate) heard: Heard,
     /// The initiate request right before it.
     pub(crate) asked: Option<Asked>,
+    /// Whether the request before it can be held against the device.
+    pub(crate) owed: bool,
     /// Whether no earlier request can be answered here.
     pub(crate) certain: bool,
 }
@@ -168,6 +171,17 @@ impl Dialogue {
         }
     }
 
+    /// Whether no request before the one that is asked could still be answered when that came: a server that still awaits the
+    /// segments of a block download takes another request as one of them.
+    fn owes(&self, limits: &Limits, started: u64) -> bool
+        ensures { result ≡ owes limits.now started self.now }
+    {
+        match self.asked {
+            Some(asked) => self.is_certain(limits, started, asked.micros),
+            None => false,
+        }
+    }
+
     /// Takes a frame of the channel by an end.
     #[tactic(auto, unfolding(crate::specs::Dialogues::exchange_in, crate::specs::Dialogues::dialogue_heard))]
     pub(crate) fn hear(
@@ -181,6 +195,7 @@ impl Dialogue {
         ensures exchange { result ≡ exchange_in limits.now started self.old micros side frame.now.bytes }
         ensures next { self.new ≡ dialogue_heard self.old micros side frame.now }
     {
+        let owed = self.owes(limits, started);
         let certain = self.is_certain(limits, started, micros);
         let asked = self.asked;
         let heard = self.channel.take(micros, side, frame);
@@ -191,6 +206,7 @@ impl Dialogue {
         Exchange {
             heard,
             asked,
+            owed,
             certain,
         }
     }

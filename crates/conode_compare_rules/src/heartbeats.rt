@@ -8,6 +8,7 @@ ghost use Rattle.conode_compare_rules.specs.Heartbeats.{
   no_heartbeat,
   overdue_by,
   is_gap,
+  follows_closely,
 };
 
 use crate::entries::Entries;
@@ -44,6 +45,16 @@ pub(crate) fn is_gap(limits: &Limits, period: Option<u16>, newest: u64, micros: 
     }
 }
 
+// how long after another frame one may have waited for it, in microseconds
+const FRAME_TIME: u64 = 1500;
+
+/// Whether a frame may have waited for the one before it.
+pub(crate) fn follows_closely(newest: u64, micros: u64) -> bool
+    ensures { result ≡ follows_closely newest micros }
+{
+    micros.saturating_sub(newest) <= FRAME_TIME
+}
+
 impl Heartbeats {
     /// No heartbeat came.
     pub(crate) fn new() -> Heartbeats
@@ -67,29 +78,36 @@ impl Heartbeats {
 
     // how late the next heartbeat is, where it is, and the period
     #[tactic(auto, unfolding(crate::specs::Heartbeats::overdue_by))]
-    fn overdue_by(&self, limits: &Limits, entries: &Entries, micros: u64) -> Option<(u64, u16)>
-        ensures { result ≡ overdue_by limits.now entries.now.period self.now micros }
+    fn overdue_by(
+        &self,
+        limits: &Limits,
+        entries: &Entries,
+        free: u64,
+        micros: u64,
+    ) -> Option<(u64, u16)>
+        ensures { result ≡ overdue_by limits.now entries.now.period self.now free micros }
     {
         let period = entries.period?;
         let since = self.since?;
-        let passed = micros.saturating_sub(since);
-        if self.guarded || period == 0 || passed <= allowance(limits, period) {
+        let waited = free.saturating_sub(since);
+        if self.guarded || period == 0 || waited <= allowance(limits, period) {
             return None;
         }
-        Some((passed, period))
+        Some((micros.saturating_sub(since), period))
     }
 
-    /// The difference of a frame of the device that is no boot-up, where a heartbeat is late.
+    /// The difference of a frame of the device that is no boot-up, where a heartbeat is late: it was when the bus was free last.
     #[tactic(auto, unfolding(crate::specs::Heartbeats::late_finding))]
     pub(crate) fn late_finding(
         &self,
         limits: &Limits,
         entries: &Entries,
+        free: u64,
         micros: u64,
     ) -> Option<Finding>
-        ensures { result ≡ late_finding limits.now entries.now.period self.now micros }
+        ensures { result ≡ late_finding limits.now entries.now.period self.now free micros }
     {
-        match self.overdue_by(limits, entries, micros) {
+        match self.overdue_by(limits, entries, free, micros) {
             Some((passed, period)) => Some(Finding::HeartbeatLate(passed, period)),
             None => None,
         }

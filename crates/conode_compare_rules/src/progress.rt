@@ -25,6 +25,7 @@ ghost use Rattle.conode_compare_rules.specs.Progresses.{
   entries_heard,
   findings_at,
   findings_in,
+  free_at,
   heartbeat_findings,
   is_judged,
   odd_control_findings,
@@ -42,7 +43,7 @@ use crate::dialogue::{Asked, Dialogue, Exchange};
 use crate::emergencies::{emergency_finding, length_finding};
 use crate::entries::{Entries, shown_period};
 use crate::finding::{Finding, NmtState};
-use crate::heartbeats::{Heartbeats, is_gap};
+use crate::heartbeats::{Heartbeats, follows_closely, is_gap};
 use crate::kind::FrameKind;
 use crate::limits::{Limits, Subject, is_past};
 use crate::nmt::{Nmt, is_reset};
@@ -58,6 +59,8 @@ pub struct Progress {
     pub(crate) newest: Option<u64>,
     /// The stamp of the first frame, or of the first one after a gap.
     pub(crate) started: u64,
+    /// When the bus was free last: the stamp of the first of the frames that follow one another closely.
+    pub(crate) free: u64,
     pub(crate) nmt: Nmt,
     pub(crate) heartbeats: Heartbeats,
     pub(crate) entries: Entries,
@@ -105,6 +108,7 @@ impl Progress {
         Progress {
             newest: None,
             started: 0,
+            free: 0,
             nmt: Nmt::new(),
             heartbeats: Heartbeats::new(),
             entries: subject.facts.before,
@@ -135,6 +139,16 @@ impl Progress {
         }
     }
 
+    // When the bus was free last: frames that follow one another closely may have waited.
+    fn free_at(&self, micros: u64) -> u64
+        ensures { result ≡ free_at self.now.newest self.now.free micros }
+    {
+        match self.newest {
+            Some(newest) if follows_closely(newest, micros) => self.free,
+            _ => micros,
+        }
+    }
+
     // A frame comes. Where the recording begins anew, nothing is known; where it was quiet, no request is.
     #[tactic(auto, unfolding(crate::specs::Progresses::begun))]
     fn begin(&mut self, subject: &Subject, micros: u64)
@@ -146,6 +160,7 @@ impl Progress {
         } else if self.was_quiet(&subject.limits, micros) {
             self.dialogue.interrupt(micros);
         }
+        self.free = self.free_at(micros);
         self.newest = Some(micros);
     }
 
@@ -229,7 +244,8 @@ impl Progress {
             .control_finding(subject, self.started, guarded, micros, byte);
         Findings::of(
             self.nmt.boot_finding(limits, micros),
-            self.heartbeats.late_finding(limits, &self.entries, micros),
+            self.heartbeats
+                .late_finding(limits, &self.entries, self.free, micros),
             answer,
             frame,
             self.control_judged(subject, micros),
@@ -261,7 +277,9 @@ impl Progress {
     {
         let limits = &subject.limits;
         let boot = self.nmt.boot_finding(limits, micros);
-        let heartbeat = self.heartbeats.late_finding(limits, &self.entries, micros);
+        let heartbeat = self
+            .heartbeats
+            .late_finding(limits, &self.entries, self.free, micros);
         self.nmt = self.nmt.after_other(limits, micros);
         self.heartbeats.since = Some(micros);
         let frame = Some(Finding::HeartbeatLength(length));
@@ -357,7 +375,7 @@ impl Progress {
         let boot = self.nmt.boot_finding(&subject.limits, micros);
         let heartbeat = self
             .heartbeats
-            .late_finding(&subject.limits, &self.entries, micros);
+            .late_finding(&subject.limits, &self.entries, self.free, micros);
         self.note_answer(subject, heartbeat.is_some(), micros);
         let exchange = self.hear(subject, micros, Side::Server, frame);
         let difference = answer_finding(subject, rows, micros, &exchange, frame);
