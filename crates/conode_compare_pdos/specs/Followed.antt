@@ -1,5 +1,5 @@
 -- The first four TPDOs of a device, followed through a recording.
-use Rattle.std.specs.Prelude.{ℕ, ◌==◌, Bool, ◌&&◌, if◌then◌else◌, List, Option, Some, None, is_some, option_and_then}
+use Rattle.std.specs.Prelude.{ℕ, Bool, if◌then◌else◌, List, Option, Some, None, is_some, option_and_then}
 use Rattle.co_profile.specs.Keys.{sync_key}
 use Rattle.co_sheet.specs.Content.{Row}
 use Rattle.co_value.specs.declared.key.Key.{Key}
@@ -85,5 +85,5 @@ or_else None other = other
 unfoldable pub sighting : Moment → Pdos → ℕ → ℕ → Option Sighting
 sighting moment pdos id length =
     let has_sync = is_some pdos.sync in
-    or_else (seen moment has_sync 0 pdos.first id length) (or_else (seen moment has_sync 1 pdos.second id length)
-    (or_else (seen moment has_sync 2 pdos.third id length) (seen moment has_sync 3 pdos.fourth id length)))
+    or_else (seen moment has_sync 1 pdos.first id length) (or_else (seen moment has_sync 2 pdos.second id length)
+    (or_else (seen moment has_sync 3 pdos.third id length) (seen moment has_sync 4 pdos.fourth id length)))

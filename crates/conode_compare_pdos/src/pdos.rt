@@ -42,7 +42,7 @@ pub struct Pdos {
 /// What is said of a frame of a TPDO.
 #[derive(Clone, Copy)]
 pub struct Sighting {
-    /// Which one it is, from 0 on.
+    /// Which one it is, from 1 on.
     pub number: u8,
     pub deviation: Option<Deviation>,
     pub judged: bool,
@@ -187,9 +187,9 @@ impl Pdos {
         ensures { result ≡ sighting moment.now self.now id length }
     {
         let has_sync = self.sync.is_some();
-        seen(moment, has_sync, 0, &self.first, id, length)
-            .or(seen(moment, has_sync, 1, &self.second, id, length))
-            .or(seen(moment, has_sync, 2, &self.third, id, length))
-            .or(seen(moment, has_sync, 3, &self.fourth, id, length))
+        seen(moment, has_sync, 1, &self.first, id, length)
+            .or(seen(moment, has_sync, 2, &self.second, id, length))
+            .or(seen(moment, has_sync, 3, &self.third, id, length))
+            .or(seen(moment, has_sync, 4, &self.fourth, id, length))
     }
 }

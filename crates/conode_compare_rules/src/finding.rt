@@ -55,6 +55,6 @@ pub enum Finding {
     ReadRefused(Key, AbortCode),
     /// `access-write`: a download to this entry, which the data sheet has as read only, is acknowledged.
     Written(Key),
-    /// A difference of the TPDO with this number, from 0 on.
+    /// A difference of the TPDO with this number, from 1 on.
     Pdo(u8, Deviation),
 }

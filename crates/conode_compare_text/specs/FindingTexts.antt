@@ -3,8 +3,10 @@ use Rattle.std.specs.Prelude.{ℕ, ◌*◌, ◌/◌, ◌%◌, List, [], ◌∷�
 use Rattle.co_text.specs.Printed.{digits_text}
 use Rattle.co_value.specs.declared.key.Key.{Key}
 use Rattle.co_value.specs.KeyTexts.{key_text}
+use Rattle.conode_compare_pdos.specs.declared.deviation.Deviation.{Deviation}
+use Rattle.conode_compare_pdos.specs.declared.deviation.Deviation.TheVariants.{Length, NotOperational, WithoutSync, Inhibit, Timer}
 use Rattle.conode_compare_rules.specs.declared.finding.Finding.{Finding}
-use Rattle.conode_compare_rules.specs.declared.finding.Finding.TheVariants.{BootMissing, SecondBootUp, HeartbeatLength, NoState, WrongState, HeartbeatLate, EmergencyLength, EmergencyStopped, EmergencyRegister, EmergencyInhibit, NoAnswer, Unasked, AnswerKey, AnswerForm, ValueLength, ValueConst, ReadRefused, Written}
+use Rattle.conode_compare_rules.specs.declared.finding.Finding.TheVariants.{BootMissing, SecondBootUp, HeartbeatLength, NoState, WrongState, HeartbeatLate, EmergencyLength, EmergencyStopped, EmergencyRegister, EmergencyInhibit, NoAnswer, Unasked, AnswerKey, AnswerForm, ValueLength, ValueConst, ReadRefused, Written, Pdo}
 use Rattle.conode_compare_rules.specs.declared.finding.NmtState.{NmtState}
 use Rattle.conode_compare_rules.specs.declared.finding.NmtState.TheVariants.{Unknown, Initialising, PreOperational, Operational, Stopped}
 
@@ -61,6 +63,28 @@ state_name PreOperational = codes "pre-operational"
 state_name Operational = codes "operational"
 state_name Stopped = codes "stopped"
 
+-- of a TPDO by its number
+unfoldable pub pdo_length_text : ℕ → ℕ → ℕ → List ℕ
+pdo_length_text number length mapped =
+    numbered (codes "pdo-length: TPDO") number (codes " has ") ++ numbered (codes "") length (codes " bytes, its mapping ") ++ decimal mapped
+
+unfoldable pub pdo_inhibit_text : ℕ → ℕ → ℕ → List ℕ
+pdo_inhibit_text number passed inhibit =
+    numbered (codes "pdo-inhibit: TPDO") number (codes " ")
+    ++ two_times (codes "") passed (codes " since the last one, its inhibit time is ") (inhibit * 100)
+
+unfoldable pub pdo_late_text : ℕ → ℕ → ℕ → List ℕ
+pdo_late_text number passed timer =
+    numbered (codes "pdo-late: TPDO") number (codes " ")
+    ++ timed_number (codes "") passed (codes " since the last one, its event timer has ") timer (codes " ms")
+
+unfoldable pub pdo_text : ℕ → Deviation → List ℕ
+pdo_text number (Length length mapped) = pdo_length_text number length mapped
+pdo_text number NotOperational = numbered (codes "pdo-state: TPDO") number (codes " while the device isn't operational")
+pdo_text number WithoutSync = numbered (codes "pdo-sync: TPDO") number (codes ", and since its last one no SYNC came")
+pdo_text number (Inhibit passed inhibit) = pdo_inhibit_text number passed inhibit
+pdo_text number (Timer passed timer) = pdo_late_text number passed timer
+
 -- the name of the kind, and what is different
 unfoldable pub finding_text : Finding → List ℕ
 finding_text (BootMissing passed) = timed (codes "boot-missing: no boot-up ") passed (codes " after the reset command")
@@ -87,6 +111,7 @@ finding_text (ValueConst key shown held) = keyed_codes (codes "value-const: ") k
 finding_text (ReadRefused key code) =
     keyed_code (codes "access-read: ") key (codes " refused with ") code.0 (codes ", the sheet has it as readable")
 finding_text (Written key) = keyed (codes "access-write: ") key (codes " was written, the sheet has it as read only")
+finding_text (Pdo number deviation) = pdo_text number deviation
 
 -- `recording.log:123: heartbeat-late: ..`
 unfoldable pub finding_line : List ℕ → ℕ → Finding → List ℕ
