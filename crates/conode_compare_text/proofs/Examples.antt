@@ -6,7 +6,7 @@ use Rattle.co_value.specs.declared.key.Key.{Key}
 use Rattle.conode_compare_pdos.specs.declared.deviation.Deviation.TheVariants.{Length, NotOperational, WithoutSync, Inhibit, Timer}
 use Rattle.conode_compare_rules.specs.declared.finding.Finding.TheVariants.{BootMissing, SecondBootUp, HeartbeatLength, NoState, WrongState, HeartbeatLate, EmergencyLength, EmergencyStopped, EmergencyRegister, EmergencyInhibit, NoAnswer, Unasked, AnswerKey, AnswerForm, ValueLength, ValueConst, ReadRefused, Written, Pdo}
 use Rattle.conode_compare_rules.specs.declared.finding.NmtState.TheVariants.{PreOperational, Operational}
-use Rattle.conode_compare_text.specs.FindingTexts.{coded, finding_line, finding_text, hexadecimal, keyed, keyed_code, keyed_codes, keyed_numbers, keyed_time, millis_text, named, numbered, pdo_inhibit_text, pdo_late_text, pdo_length_text, pdo_text, timed, timed_number, two_codes, two_times}
+use Rattle.conode_compare_text.specs.FindingTexts.{coded, finding_line, finding_text, hexadecimal, keyed, keyed_code, keyed_codes, keyed_numbers, keyed_time, millis_text, named, numbered, numbered_time, numbered_times, pdo_text, three_numbers, timed, timed_number, two_codes, two_times}
 use Rattle.conode_compare_text.specs.Tallies.{summary}
 
 abbrev key : Key
@@ -84,7 +84,7 @@ sums = refl
 -- ---- TPDOs
 
 pdo_length : finding_text (Pdo 1 (Length 3 4)) ≡ codes "pdo-length: TPDO1 has 3 bytes, its mapping 4"
-unfolding finding_text pdo_text pdo_length_text numbered digits
+unfolding finding_text pdo_text three_numbers digits
 pdo_length = refl
 
 pdo_state : finding_text (Pdo 2 NotOperational) ≡ codes "pdo-state: TPDO2 while the device isn't operational"
@@ -96,9 +96,9 @@ unfolding finding_text pdo_text numbered digits
 pdo_sync = refl
 
 pdo_inhibit : finding_text (Pdo 4 (Inhibit 88999 1000)) ≡ codes "pdo-inhibit: TPDO4 88.999 ms since the last one, its inhibit time is 100.000 ms"
-unfolding finding_text pdo_text pdo_inhibit_text numbered two_times millis_text digits_text digits
+unfolding finding_text pdo_text numbered_times millis_text digits_text digits
 pdo_inhibit = refl
 
 pdo_late : finding_text (Pdo 1 (Timer 1020001 1000)) ≡ codes "pdo-late: TPDO1 1020.001 ms since the last one, its event timer has 1000 ms"
-unfolding finding_text pdo_text pdo_late_text numbered timed_number millis_text digits_text digits
+unfolding finding_text pdo_text numbered_time millis_text digits_text digits
 pdo_late = refl

@@ -56,6 +56,16 @@ keyed_codes front key middle number last other = front ++ key_text key ++ middle
 unfoldable pub keyed_code : List ℕ → Key → List ℕ → ℕ → List ℕ → List ℕ
 keyed_code front key middle code end = front ++ key_text key ++ middle ++ digits_text 16 8 code ++ end
 
+unfoldable pub three_numbers : List ℕ → ℕ → List ℕ → ℕ → List ℕ → ℕ → List ℕ
+three_numbers front number middle second last third = front ++ decimal number ++ middle ++ decimal second ++ last ++ decimal third
+
+unfoldable pub numbered_times : List ℕ → ℕ → List ℕ → ℕ → List ℕ → ℕ → List ℕ
+numbered_times front number middle micros last other = front ++ decimal number ++ middle ++ millis_text micros ++ last ++ millis_text other
+
+unfoldable pub numbered_time : List ℕ → ℕ → List ℕ → ℕ → List ℕ → ℕ → List ℕ → List ℕ
+numbered_time front number middle micros last other end =
+    front ++ decimal number ++ middle ++ millis_text micros ++ last ++ decimal other ++ end
+
 abbrev pub state_name : NmtState → List ℕ
 state_name Unknown = codes "unknown"
 state_name Initialising = codes "initialising"
@@ -64,26 +74,15 @@ state_name Operational = codes "operational"
 state_name Stopped = codes "stopped"
 
 -- of a TPDO by its number
-unfoldable pub pdo_length_text : ℕ → ℕ → ℕ → List ℕ
-pdo_length_text number length mapped =
-    numbered (codes "pdo-length: TPDO") number (codes " has ") ++ numbered (codes "") length (codes " bytes, its mapping ") ++ decimal mapped
-
-unfoldable pub pdo_inhibit_text : ℕ → ℕ → ℕ → List ℕ
-pdo_inhibit_text number passed inhibit =
-    numbered (codes "pdo-inhibit: TPDO") number (codes " ")
-    ++ two_times (codes "") passed (codes " since the last one, its inhibit time is ") (inhibit * 100)
-
-unfoldable pub pdo_late_text : ℕ → ℕ → ℕ → List ℕ
-pdo_late_text number passed timer =
-    numbered (codes "pdo-late: TPDO") number (codes " ")
-    ++ timed_number (codes "") passed (codes " since the last one, its event timer has ") timer (codes " ms")
-
 unfoldable pub pdo_text : ℕ → Deviation → List ℕ
-pdo_text number (Length length mapped) = pdo_length_text number length mapped
+pdo_text number (Length length mapped) =
+    three_numbers (codes "pdo-length: TPDO") number (codes " has ") length (codes " bytes, its mapping ") mapped
 pdo_text number NotOperational = numbered (codes "pdo-state: TPDO") number (codes " while the device isn't operational")
 pdo_text number WithoutSync = numbered (codes "pdo-sync: TPDO") number (codes ", and since its last one no SYNC came")
-pdo_text number (Inhibit passed inhibit) = pdo_inhibit_text number passed inhibit
-pdo_text number (Timer passed timer) = pdo_late_text number passed timer
+pdo_text number (Inhibit passed inhibit) =
+    numbered_times (codes "pdo-inhibit: TPDO") number (codes " ") passed (codes " since the last one, its inhibit time is ") (inhibit * 100)
+pdo_text number (Timer passed timer) =
+    numbered_time (codes "pdo-late: TPDO") number (codes " ") passed (codes " since the last one, its event timer has ") timer (codes " ms")
 
 -- the name of the kind, and what is different
 unfoldable pub finding_text : Finding → List ℕ

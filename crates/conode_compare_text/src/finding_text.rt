@@ -4,18 +4,15 @@ ghost use Rattle.std.specs.Prelude.{◌≡◌, ◌++◌, OnOk, string_bytes};
 ghost use Rattle.conode_compare_text.specs.FindingTexts.{
   finding_line,
   finding_text,
-  pdo_inhibit_text,
-  pdo_late_text,
-  pdo_length_text,
   pdo_text,
   state_name,
 };
 
 use crate::parts::{
     push_coded, push_codes, push_key, push_key_code, push_key_codes, push_key_numbers,
-    push_key_time, push_named, push_number, push_time, push_time_number, push_times, push_words,
+    push_key_time, push_named, push_number, push_number_time, push_number_times, push_numbers,
+    push_time, push_time_number, push_times, push_words,
 };
-use co_text::push_decimal;
 use conode_compare_pdos::Deviation;
 use conode_compare_rules::{Finding, NmtState};
 use std::alloc::AllocError;
@@ -32,52 +29,6 @@ fn state_name(state: NmtState) -> &'static str
     }
 }
 
-#[tactic(auto, unfolding(crate::specs::FindingTexts::pdo_length_text))]
-fn push_pdo_length(text: &mut String, number: u8, length: u8, mapped: u8) -> Result<(), AllocError>
-    ensures { OnOk result (string_bytes text.new
-        ≡ string_bytes text.old ++ pdo_length_text number length mapped) }
-{
-    push_number(text, "pdo-length: TPDO", u64::from(number), " has ")?;
-    push_number(text, "", u64::from(length), " bytes, its mapping ")?;
-    push_decimal(text, u64::from(mapped))
-}
-
-#[tactic(auto, unfolding(crate::specs::FindingTexts::pdo_inhibit_text))]
-fn push_pdo_inhibit(
-    text: &mut String,
-    number: u8,
-    passed: u64,
-    inhibit: u16,
-) -> Result<(), AllocError>
-    ensures { OnOk result (string_bytes text.new
-        ≡ string_bytes text.old ++ pdo_inhibit_text number passed inhibit) }
-{
-    push_number(text, "pdo-inhibit: TPDO", u64::from(number), " ")?;
-    push_times(
-        text,
-        "",
-        passed,
-        " since the last one, its inhibit time is ",
-        u64::from(inhibit) * 100,
-    )
-}
-
-#[tactic(auto, unfolding(crate::specs::FindingTexts::pdo_late_text))]
-fn push_pdo_late(text: &mut String, number: u8, passed: u64, timer: u16) -> Result<(), AllocError>
-    ensures { OnOk result (string_bytes text.new
-        ≡ string_bytes text.old ++ pdo_late_text number passed timer) }
-{
-    push_number(text, "pdo-late: TPDO", u64::from(number), " ")?;
-    push_time_number(
-        text,
-        "",
-        passed,
-        " since the last one, its event timer has ",
-        u64::from(timer),
-        " ms",
-    )
-}
-
 // what is different of a TPDO
 #[tactic(auto, unfolding(crate::specs::FindingTexts::pdo_text))]
 fn push_pdo(text: &mut String, number: u8, deviation: Deviation) -> Result<(), AllocError>
@@ -85,7 +36,15 @@ fn push_pdo(text: &mut String, number: u8, deviation: Deviation) -> Result<(), A
         ≡ string_bytes text.old ++ pdo_text number deviation) }
 {
     match deviation {
-        Deviation::Length(length, mapped) => push_pdo_length(text, number, length, mapped),
+        Deviation::Length(length, mapped) => push_numbers(
+            text,
+            "pdo-length: TPDO",
+            u64::from(number),
+            " has ",
+            u64::from(length),
+            " bytes, its mapping ",
+            u64::from(mapped),
+        ),
         Deviation::NotOperational => push_number(
             text,
             "pdo-state: TPDO",
@@ -98,8 +57,25 @@ fn push_pdo(text: &mut String, number: u8, deviation: Deviation) -> Result<(), A
             u64::from(number),
             ", and since its last one no SYNC came",
         ),
-        Deviation::Inhibit(passed, inhibit) => push_pdo_inhibit(text, number, passed, inhibit),
-        Deviation::Timer(passed, timer) => push_pdo_late(text, number, passed, timer),
+        Deviation::Inhibit(passed, inhibit) => push_number_times(
+            text,
+            "pdo-inhibit: TPDO",
+            u64::from(number),
+            " ",
+            passed,
+            " since the last one, its inhibit time is ",
+            u64::from(inhibit) * 100,
+        ),
+        Deviation::Timer(passed, timer) => push_number_time(
+            text,
+            "pdo-late: TPDO",
+            u64::from(number),
+            " ",
+            passed,
+            " since the last one, its event timer has ",
+            u64::from(timer),
+            " ms",
+        ),
     }
 }
 
