@@ -9,6 +9,7 @@ use Rattle.co_sheet.specs.Limits.{Default, absent, number, node_id}
 use Rattle.co_value.specs.declared.data_type.DataType.{DataType}
 use Rattle.co_value.specs.declared.data_type.DataType.TheVariants.{Unsigned8, Unsigned16, Unsigned32, Unsigned40, VisibleString}
 use Rattle.co_value.specs.declared.key.Key.{Key}
+use Rattle.conode_compare_pdos.specs.Followed.{pdos_of}
 use Rattle.conode_compare_rules.specs.declared.dialogue.Dialogue.{Dialogue}
 use Rattle.conode_compare_rules.specs.declared.entries.Entries.{Entries}
 use Rattle.conode_compare_rules.specs.declared.finding.Finding.TheVariants.{BootMissing, SecondBootUp, NoState, WrongState, HeartbeatLate, EmergencyStopped, EmergencyRegister, EmergencyInhibit, ValueLength, ValueConst, ReadRefused, Written}
@@ -353,6 +354,7 @@ rows = row 0x1014 0 Unsigned32 Rw (node_id 0x80) ∷ row 0x1017 0 Unsigned16 Rw 
 plain_sheet : facts_of rows 5 false ≡ record {
   before = record { period = None; emergencies = false; inhibit = Some 0 };
   booted = record { period = Some 500; emergencies = true; inhibit = Some 0 };
+  pdos = pdos_of rows 5;
   starts_itself = false;
   modular = false;
 }

@@ -1,13 +1,12 @@
 -- The entries that say what a device sends by itself: by its data sheet (CiA 301, 7.5.2.17, 7.5.2.18 and 7.5.2.20), and by
 -- what a recording shows.
-use Rattle.std.specs.Prelude.{ℕ, ◌+◌, ◌*◌, ◌^◌, ◌==◌, nat_lt, Bool, true, false, not, ◌&&◌, ◌||◌, if◌then◌else◌, pos, List, [], ◌∷◌, Option, Some, None, is_some, option_and_then}
+use Rattle.std.specs.Prelude.{ℕ, ◌+◌, ◌==◌, Bool, true, false, not, ◌&&◌, ◌||◌, if◌then◌else◌, List, Option, Some, None, is_some}
 use Rattle.std.specs.Option.{option_map_or}
 use Rattle.co_profile.specs.declared.access.Access.{Access}
 use Rattle.co_profile.specs.declared.access.Access.TheVariants.{Constant}
 use Rattle.co_profile.specs.Indices.{store_parameters}
 use Rattle.co_profile.specs.Keys.{producer_key, emergency_key, emergency_inhibit_key}
 use Rattle.co_sheet.specs.Content.{Row}
-use Rattle.co_sheet.specs.Limits.{Default, number, node_id}
 use Rattle.co_value.specs.declared.key.Key.{Key}
 use Rattle.co_value.specs.Keys.{same_key}
 use Rattle.conode_decode.specs.Names.{row_at}
@@ -16,29 +15,16 @@ use Rattle.conode_explain_transfers.specs.declared.ended.Ending.{Ending}
 use Rattle.conode_explain_transfers.specs.declared.ended.Ending.TheVariants.{Done}
 use Rattle.conode_explain_transfers.specs.declared.kinds.Protocol.{Protocol}
 use Rattle.conode_explain_transfers.specs.declared.kinds.Protocol.TheVariants.{Expedited}
+use Rattle.conode_compare_pdos.specs.Followed.{pdos_of, unknown_pdos}
+use Rattle.conode_compare_pdos.specs.SheetNumbers.{first_word, number_of, preset_at, small}
 use Rattle.conode_compare_rules.specs.declared.entries.Entries.{Entries}
 use Rattle.conode_compare_rules.specs.declared.entries.Facts.{Facts}
 
 -- ---- a data sheet
 
--- the number that a value is, for a node
-abbrev pub number_of : ℕ → Default → Option ℕ
-number_of node (number (pos n)) = if nat_lt n (2 ^ 32) then Some n else None
-number_of node (node_id n) = if nat_lt n (2 ^ 32) then Some (n + node) else None
-number_of node other = None
-
--- the number, where it has 16 bits
-abbrev pub small : Option ℕ → Option ℕ
-small (Some n) = if nat_lt n (2 ^ 16) then Some n else None
-small None = None
-
 -- an object that has a sub-index 0
 abbrev pub has_object : List Row → ℕ → Bool
 has_object rows index = is_some (row_at rows (record { index = index; sub = 0 }))
-
--- the number that an entry begins with
-abbrev pub preset_at : List Row → ℕ → Key → Option ℕ
-preset_at rows node key = option_and_then (λ row. number_of node row.default) (row_at rows key)
 
 abbrev pub is_constant_access : Access → Bool
 is_constant_access Constant = true
@@ -88,6 +74,7 @@ facts_of rows node configured =
     record {
       before = initial_entries rows sheet;
       booted = if has_object rows store_parameters || configured then initial_entries rows sheet else sheet;
+      pdos = if has_object rows store_parameters || configured then unknown_pdos else pdos_of rows node;
       starts_itself = has_object rows nmt_startup;
       modular = has_object rows module_list;
     }
@@ -101,12 +88,6 @@ asked_to_write entries key = record {
   emergencies = not (same_key key emergency_key) && entries.emergencies;
   inhibit = if same_key key emergency_inhibit_key then None else entries.inhibit;
 }
-
--- the number of two bytes, or of the first two of four
-abbrev pub first_word : List ℕ → Option ℕ
-first_word (low ∷ high ∷ []) = Some (low + high * 256)
-first_word (low ∷ high ∷ c ∷ d ∷ []) = Some (low + high * 256)
-first_word other = None
 
 -- an expedited transfer of 1017:00 that is done shows what it has
 abbrev pub done_word : Protocol → Ending → List ℕ → Option ℕ

@@ -11,7 +11,7 @@ use Rattle.conode_record.specs.declared.content.Content.TheVariants.{Data, Remot
 use Rattle.conode_record.specs.declared.fields.Identifier.{Identifier}
 use Rattle.conode_record.specs.declared.fields.Identifier.TheVariants.{Base, Extended, Error}
 use Rattle.conode_compare_rules.specs.declared.kind.FrameKind.{FrameKind}
-use Rattle.conode_compare_rules.specs.declared.kind.FrameKind.TheVariants.{Command, Guarding, Control, OddControl, Emergency as Emcy, OddEmergency, Sdo, Fault, Other}
+use Rattle.conode_compare_rules.specs.declared.kind.FrameKind.TheVariants.{Command, Guarding, Control, OddControl, Emergency as Emcy, OddEmergency, Sdo, Process, Polled, Fault, Other}
 
 -- how many bytes a frame has
 abbrev pub length_of : FrameContent → ℕ
@@ -44,12 +44,12 @@ data_kind node frame =
     else (if frame.id == 0x80 + node then emergency_kind frame
     else (if frame.id == 0x580 + node then Sdo Server frame
     else (if frame.id == 0x600 + node then Sdo Client frame
-    else (if frame.id == 0x700 + node then control_kind frame else Other))))
+    else (if frame.id == 0x700 + node then control_kind frame else Process frame.id (length_of frame)))))
 
 -- of every kind of frame
 abbrev pub base_kind : ℕ → ℕ → Content → FrameKind
 base_kind node id (Data bytes) = data_kind node (record { id = id; bytes = bytes })
-base_kind node id (Remote length) = if id == 0x700 + node then Guarding else Other
+base_kind node id (Remote length) = if id == 0x700 + node then Guarding else Polled id
 base_kind node id (Fd flags bytes) = Other
 
 abbrev pub kind_of : ℕ → Identifier → Content → FrameKind

@@ -1,5 +1,5 @@
 -- What a recording shows of a device, frame by frame, and what it does otherwise than CiA 301 prescribes.
-use Rattle.std.specs.Prelude.{ℕ, ◌==◌, nat_lt, Bool, true, false, not, ◌&&◌, ◌||◌, if◌then◌else◌, List, Option, Some, None, is_some}
+use Rattle.std.specs.Prelude.{ℕ, ◌==◌, nat_lt, Bool, true, false, not, ◌&&◌, ◌||◌, if◌then◌else◌, List, Option, Some, None, is_some, option_map}
 use Rattle.std.specs.Option.{option_map_or}
 use Rattle.co_frame.specs.FrameContent.{FrameContent}
 use Rattle.co_frame.specs.declared.nmt.NmtService.{NmtService}
@@ -10,19 +10,23 @@ use Rattle.conode_explain_transfers.specs.declared.kinds.Side.TheVariants.{Clien
 use Rattle.conode_explain_transfers.specs.declared.kinds.What.{What}
 use Rattle.conode_explain_transfers.specs.declared.kinds.What.TheVariants.{Part}
 use Rattle.conode_explain_transfers.specs.Followed.{followed}
+use Rattle.conode_compare_pdos.specs.declared.deviation.Moment.{Moment}
+use Rattle.conode_compare_pdos.specs.declared.pdos.Pdos.{Pdos}
+use Rattle.conode_compare_pdos.specs.declared.pdos.Sighting.{Sighting}
+use Rattle.conode_compare_pdos.specs.Followed as tpdos
 use Rattle.conode_compare_rules.specs.declared.progress.Progress.{Progress}
 use Rattle.conode_compare_rules.specs.declared.dialogue.Asked.{Asked}
 use Rattle.conode_compare_rules.specs.declared.dialogue.Exchange.{Exchange}
 use Rattle.conode_compare_rules.specs.declared.entries.Entries.{Entries}
 use Rattle.conode_compare_rules.specs.declared.finding.Finding.{Finding}
-use Rattle.conode_compare_rules.specs.declared.finding.Finding.TheVariants.{HeartbeatLength}
+use Rattle.conode_compare_rules.specs.declared.finding.Finding.TheVariants.{HeartbeatLength, Pdo as PdoFinding}
 use Rattle.conode_compare_rules.specs.declared.finding.NmtState.{NmtState}
-use Rattle.conode_compare_rules.specs.declared.finding.NmtState.TheVariants.{Unknown, Initialising}
+use Rattle.conode_compare_rules.specs.declared.finding.NmtState.TheVariants.{Unknown, Initialising, PreOperational, Stopped}
 use Rattle.conode_compare_rules.specs.declared.dialogue.Dialogue.{Dialogue}
 use Rattle.conode_compare_rules.specs.declared.limits.Limits.{Limits}
 use Rattle.conode_compare_rules.specs.declared.limits.Subject.{Subject}
 use Rattle.conode_compare_rules.specs.declared.kind.FrameKind.{FrameKind}
-use Rattle.conode_compare_rules.specs.declared.kind.FrameKind.TheVariants.{Command, Guarding, Control, OddControl, Emergency, OddEmergency, Sdo, Fault, Other}
+use Rattle.conode_compare_rules.specs.declared.kind.FrameKind.TheVariants.{Command, Guarding, Control, OddControl, Emergency, OddEmergency, Sdo, Process, Polled, Fault, Other}
 use Rattle.conode_compare_rules.specs.declared.verdict.Findings.{Findings}
 use Rattle.conode_compare_rules.specs.Answers.{answer_finding, silence_finding}
 use Rattle.conode_compare_rules.specs.Dialogues.{dialogue_heard, given_up, interrupted, nothing_asked, exchange_in}
@@ -46,6 +50,7 @@ before_recording subject = record {
   entries = subject.facts.before;
   emergency = None;
   dialogue = nothing_asked;
+  pdos = tpdos.unknown_pdos;
 }
 
 -- a recording begins anew at its first frame, where a stamp steps back, and where the recorder may have rested
@@ -68,6 +73,9 @@ abbrev pub free_at : Option ℕ → ℕ → ℕ → ℕ
 free_at None free micros = micros
 free_at (Some newest) free micros = if follows_closely newest micros then free else micros
 
+abbrev pub pdos_with_quiet : Limits → Progress → ℕ → Pdos
+pdos_with_quiet limits progress micros = if was_quiet limits progress micros then tpdos.interrupted progress.pdos else progress.pdos
+
 -- then nothing is known; where it was quiet, no request is
 unfoldable pub begun : Subject → Progress → ℕ → Progress
 begun subject progress micros =
@@ -76,6 +84,7 @@ begun subject progress micros =
       newest = Some micros;
       free = free_at progress.newest progress.free micros;
       dialogue = with_quiet subject.limits progress micros;
+      pdos = pdos_with_quiet subject.limits progress micros;
     }
 
 -- what is open isn't known any more: after a reset, a boot-up, and an error frame
@@ -84,6 +93,7 @@ with_gap progress micros = record progress {
   heartbeats = record progress.heartbeats { since = None };
   emergency = None;
   dialogue = interrupted progress.dialogue micros;
+  pdos = tpdos.interrupted progress.pdos;
 }
 
 -- an error frame: what came with it may be missing in the recording
@@ -94,7 +104,7 @@ after_fault progress micros = record (with_gap progress micros) { nmt = nothing_
 
 unfoldable pub after_command : Progress → NmtService → ℕ → Progress
 after_command progress service micros =
-    let commanded = record progress { nmt = states.after_command progress.nmt service micros } in
+    let commanded = record progress { nmt = states.after_command progress.nmt service micros; pdos = tpdos.commanded progress.pdos } in
     if is_reset service then with_gap commanded micros else commanded
 
 abbrev pub after_guarding : Progress → Progress
@@ -114,6 +124,7 @@ booted subject progress micros = record progress {
   entries = subject.facts.booted;
   emergency = None;
   dialogue = interrupted progress.dialogue micros;
+  pdos = subject.facts.pdos;
 }
 
 -- ---- heartbeats
@@ -149,6 +160,7 @@ unfoldable pub after_control : Subject → Progress → ℕ → ℕ → Progress
 after_control subject progress micros byte = record progress {
   nmt = states.after_control subject.limits progress.started progress.nmt micros byte;
   heartbeats = after_byte progress.heartbeats micros byte;
+  pdos = if byte == 5 then progress.pdos else tpdos.commanded progress.pdos;
   dialogue = if is_some (silence_at subject progress micros) then given_up progress.dialogue micros else progress.dialogue;
 }
 
@@ -203,6 +215,17 @@ entries_asked entries (Some asked) = if asked.writes then asked_to_write entries
 abbrev pub entries_heard : Entries → Option Ended → Option Asked → Entries
 entries_heard entries ended asked = entries_asked (entries_ended entries ended) asked
 
+abbrev pub pdos_ended : Pdos → Option Ended → ℕ → Pdos
+pdos_ended pdos None micros = pdos
+pdos_ended pdos (Some ended) micros = tpdos.transferred pdos ended micros
+
+abbrev pub pdos_asked : Pdos → Option Asked → ℕ → Pdos
+pdos_asked pdos None micros = pdos
+pdos_asked pdos (Some asked) micros = if asked.writes then tpdos.requested pdos asked.key micros else pdos
+
+abbrev pub pdos_heard : Pdos → Option Ended → Option Asked → ℕ → Pdos
+pdos_heard pdos ended asked micros = pdos_asked (pdos_ended pdos ended micros) asked micros
+
 unfoldable pub exchange_at : Subject → Progress → ℕ → Side → FrameContent → Exchange
 exchange_at subject progress micros side frame = exchange_in subject.limits progress.started progress.dialogue micros side frame.bytes
 
@@ -213,6 +236,7 @@ after_sdo progress micros side frame =
     record progress {
       heartbeats = record progress.heartbeats { since = since_heard progress.heartbeats.since ended micros };
       entries = entries_heard progress.entries ended next.asked;
+      pdos = pdos_heard progress.pdos ended next.asked micros;
       dialogue = next;
     }
 
@@ -243,6 +267,43 @@ answer_findings subject rows progress micros frame =
 unfoldable pub after_answer : Subject → Progress → ℕ → FrameContent → Progress
 after_answer subject progress micros frame = after_sdo (answer_noted subject progress micros) micros Server frame
 
+-- ---- PDOs
+
+-- PDOs are sent while operational alone
+abbrev pub is_idle : Bool → NmtState → Bool
+is_idle starts_itself PreOperational = not starts_itself
+is_idle starts_itself Stopped = true
+is_idle starts_itself state = false
+
+abbrev pub settled_when_free : Subject → Progress → Bool
+settled_when_free subject progress = is_settled subject.limits progress.started progress.nmt.commanded progress.free
+
+unfoldable pub moment_at : Subject → Progress → ℕ → Moment
+moment_at subject progress micros = record {
+  micros = micros;
+  free = progress.free;
+  tolerance = subject.limits.tolerance;
+  drift = subject.limits.drift;
+  idle = settled_when_free subject progress && is_idle subject.facts.starts_itself progress.nmt.state;
+  known = settled_when_free subject progress && is_known progress.nmt.state;
+}
+
+abbrev pub sighting_findings : Option Sighting → Findings
+sighting_findings None = nothing_found
+sighting_findings (Some sighting) =
+    found None None None (option_map (λ deviation. PdoFinding sighting.number deviation) sighting.deviation) sighting.judged
+
+-- of a data frame with this identifier and so many bytes
+unfoldable pub process_findings : Subject → Progress → ℕ → ℕ → ℕ → Findings
+process_findings subject progress micros id length =
+    sighting_findings (tpdos.sighting (moment_at subject progress micros) progress.pdos id length)
+
+unfoldable pub after_process : Subject → Progress → ℕ → ℕ → Progress
+after_process subject progress micros id = record progress { pdos = tpdos.framed progress.pdos (moment_at subject progress micros) id }
+
+abbrev pub after_poll : Progress → ℕ → Progress
+after_poll progress id = record progress { pdos = tpdos.polled progress.pdos id }
+
 -- ---- every frame
 
 -- what is found at a frame, by what it is to the device, once the recording is begun
@@ -253,6 +314,7 @@ findings_in subject rows progress micros (OddControl length) = odd_control_findi
 findings_in subject rows progress micros (Emergency code register) = emergency_findings subject progress micros code register
 findings_in subject rows progress micros (OddEmergency length) = odd_emergency_findings progress length
 findings_in subject rows progress micros (Sdo Server frame) = answer_findings subject rows progress micros frame
+findings_in subject rows progress micros (Process id length) = process_findings subject progress micros id length
 findings_in subject rows progress micros _ = nothing_found
 
 -- what the recording shows of the device then
@@ -265,6 +327,8 @@ after_frame subject progress micros (OddEmergency length) = after_emergency prog
 after_frame subject progress micros (Sdo Server frame) = after_answer subject progress micros frame
 after_frame subject progress micros (Sdo Client frame) = after_sdo progress micros Client frame
 after_frame subject progress micros (Command service) = after_command progress service micros
+after_frame subject progress micros (Process id length) = after_process subject progress micros id
+after_frame subject progress micros (Polled id) = after_poll progress id
 after_frame subject progress micros Guarding = after_guarding progress
 after_frame subject progress micros Fault = after_fault progress micros
 after_frame subject progress micros Other = progress

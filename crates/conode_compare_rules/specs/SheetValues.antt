@@ -18,10 +18,11 @@ use Rattle.conode_explain_transfers.specs.declared.kinds.Direction.TheVariants.{
 use Rattle.conode_explain_transfers.specs.declared.kinds.Protocol.{Protocol}
 use Rattle.conode_explain_transfers.specs.declared.kinds.Protocol.TheVariants.{Expedited}
 use Rattle.conode_explain_transfers.specs.declared.kinds.Side.TheVariants.{Server}
+use Rattle.conode_compare_pdos.specs.SheetNumbers.{number_of}
 use Rattle.conode_compare_rules.specs.declared.finding.Finding.{Finding}
 use Rattle.conode_compare_rules.specs.declared.finding.Finding.TheVariants.{ValueLength, ValueConst, ReadRefused, Written}
 use Rattle.conode_compare_rules.specs.declared.limits.Subject.{Subject}
-use Rattle.conode_compare_rules.specs.EntriesInForce.{is_constant_access, number_of}
+use Rattle.conode_compare_rules.specs.EntriesInForce.{is_constant_access}
 
 -- ---- values
 

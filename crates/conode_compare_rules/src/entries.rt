@@ -3,28 +3,24 @@
 ghost use Rattle.std.specs.Prelude.{◌≡◌, ◌<◌, ◌≤◌, ◌^◌, true, map, IfSome};
 ghost use Rattle.std.specs.List.{AllPairs};
 ghost use Rattle.co_sheet.specs.SheetViews.{row_view};
-ghost use Rattle.co_sheet.specs.Views.{default_view};
 ghost use Rattle.co_value.specs.Keys.{is_key_before};
 ghost use Rattle.conode_compare_rules.specs.EntriesInForce.{
   asked_to_write,
   ended_entries,
   facts_of,
-  first_word,
   has_object,
   initial_entries,
   inhibit_of,
   is_constant,
-  number_of,
-  preset_at,
   sheet_entries,
   shown_period,
-  small,
 };
 
 use co_profile::keys::{EMERGENCY_COB_ID, EMERGENCY_INHIBIT_TIME, PRODUCER_HEARTBEAT};
 use co_profile::{Access, STORE_PARAMETERS};
-use co_sheet::{EntryRow, Preset};
+use co_sheet::EntryRow;
 use co_value::Key;
+use conode_compare_pdos::{Pdos, first_word, number_of, pdos_of, preset_at, small};
 use conode_decode::row_at;
 use conode_explain_transfers::{Ended, Ending, Protocol};
 
@@ -47,14 +43,13 @@ pub struct Facts {
     /// What is known after each boot-up; nothing more where it can store parameters (1010h), and of a configuration (DCF), which a
     /// master may have written or not.
     pub booted: Entries,
+    /// What is known of its TPDOs after each boot-up; nothing where it can store parameters, and of a configuration.
+    pub pdos: Pdos,
     /// Whether it may enter operational by itself: it has the entry NMT startup, 1F80h (CiA 302-2).
     pub starts_itself: bool,
     /// Whether modules decide which entries it has: it has the module list, 1027h.
     pub modular: bool,
 }
-
-// one more than the greatest number of 32 bits
-const BOUND: u64 = 0x1_0000_0000;
 
 // NMT startup (CiA 302-2)
 const NMT_STARTUP: u16 = 0x1F80;
@@ -62,43 +57,11 @@ const NMT_STARTUP: u16 = 0x1F80;
 // the module list (CiA 301, 7.5.2.30)
 const MODULES: u16 = 0x1027;
 
-// the number that a value is, for a node
-pub(crate) fn number_of(node: u8, default: Preset<'_>) -> Option<u64>
-    ensures { result ≡ number_of node (default_view default.entry) }
-{
-    match default {
-        Preset::Number(number) if 0 <= number && number < i128::from(BOUND) => Some(number as u64),
-        Preset::NodeId(number) if number < BOUND => Some(number + u64::from(node)),
-        _ => None,
-    }
-}
-
-// the number, where it has 16 bits
-fn small(number: Option<u64>) -> Option<u16>
-    ensures { result ≡ small number }
-{
-    match number {
-        Some(number) if number < 0x1_0000 => Some(number as u16),
-        _ => None,
-    }
-}
-
 fn has_object(rows: &[EntryRow<'_>], index: u16) -> bool
     requires { AllPairs (λ e f. is_key_before e.key f.key ≡ true) rows.now }
     ensures { result ≡ has_object (map row_view rows.now) index }
 {
     row_at(rows, Key { index, sub: 0 }).is_some()
-}
-
-// the number that an entry begins with
-fn preset_at(rows: &[EntryRow<'_>], node: u8, key: Key) -> Option<u64>
-    requires { AllPairs (λ e f. is_key_before e.key f.key ≡ true) rows.now }
-    ensures { result ≡ preset_at (map row_view rows.now) node key }
-{
-    match row_at(rows, key) {
-        Some(row) => number_of(node, row.default),
-        None => None,
-    }
 }
 
 fn is_constant(rows: &[EntryRow<'_>], key: Key) -> bool
@@ -163,6 +126,11 @@ pub fn facts_of(rows: &[EntryRow<'_>], node: u8, configured: bool) -> Facts
     Facts {
         before,
         booted: if stores || configured { before } else { sheet },
+        pdos: if stores || configured {
+            Pdos::unknown()
+        } else {
+            pdos_of(rows, node)
+        },
         modular: has_object(rows, MODULES),
         starts_itself: has_object(rows, NMT_STARTUP),
     }
@@ -201,16 +169,6 @@ impl Entries {
             },
             None => self,
         }
-    }
-}
-
-// the number of 16 bits that two bytes are, or the first two of four
-fn first_word(bytes: &[u8]) -> Option<u16>
-    ensures { result ≡ first_word bytes.now }
-{
-    match bytes {
-        [low, high] | [low, high, _, _] => Some(u16::from(*low) + u16::from(*high) * 256),
-        _ => None,
     }
 }
 

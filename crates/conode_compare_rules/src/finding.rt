@@ -2,6 +2,7 @@
 
 use co_frame::AbortCode;
 use co_value::Key;
+use conode_compare_pdos::Deviation;
 
 /// The NMT state that a device is in, as commands and its own frames have it (CiA 301, 7.3.2.2).
 #[derive(Clone, Copy)]
@@ -54,4 +55,6 @@ pub enum Finding {
     ReadRefused(Key, AbortCode),
     /// `access-write`: a download to this entry, which the data sheet has as read only, is acknowledged.
     Written(Key),
+    /// A difference of the TPDO with this number, from 1 on.
+    Pdo(u8, Deviation),
 }

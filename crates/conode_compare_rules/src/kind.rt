@@ -32,6 +32,10 @@ pub enum FrameKind {
     OddEmergency(u8),
     /// A frame of its default SDO channel, by an end.
     Sdo(Side, Frame),
+    /// Another data frame, by its identifier and the number of its bytes: a SYNC, a PDO, or one of another node.
+    Process(u16, u8),
+    /// Another remote frame, by its identifier.
+    Polled(u16),
     /// An error frame.
     Fault,
     /// Nothing of these.
@@ -95,7 +99,7 @@ fn data_kind(node: u8, frame: Frame) -> FrameKind
     if id == 0x700 + node_id {
         return control_kind(&frame);
     }
-    FrameKind::Other
+    FrameKind::Process(id, length_of(&frame))
 }
 
 /// What a frame is to the device with a node-ID.
@@ -109,6 +113,7 @@ pub fn kind_of(node: u8, id: Identifier, content: &Content) -> FrameKind
         Identifier::Base(id) => match content {
             Content::Data(bytes) => data_kind(node, Frame::packed(id, bytes)),
             Content::Remote(_) if id == 0x700 + u16::from(node) => FrameKind::Guarding,
+            Content::Remote(_) => FrameKind::Polled(id),
             _ => FrameKind::Other,
         },
     }

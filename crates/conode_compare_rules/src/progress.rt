@@ -33,6 +33,13 @@ ghost use Rattle.conode_compare_rules.specs.Progresses.{
   with_gap,
   since_heard,
   after_frame,
+  after_process,
+  is_idle,
+  moment_at,
+  pdos_heard,
+  process_findings,
+  settled_when_free,
+  sighting_findings,
   exchange_at,
   late_noted,
   was_quiet,
@@ -50,6 +57,7 @@ use crate::nmt::{Nmt, is_reset};
 use crate::verdict::Findings;
 use co_frame::{Frame, NmtService};
 use co_sheet::EntryRow;
+use conode_compare_pdos::{Moment, Pdos, Sighting};
 use conode_explain_transfers::{Ended, Side, What};
 
 /// What a recording shows of a device.
@@ -67,6 +75,7 @@ pub struct Progress {
     /// The stamp of its newest EMCY.
     pub(crate) emergency: Option<u64>,
     pub(crate) dialogue: Dialogue,
+    pub(crate) pdos: Pdos,
 }
 
 // Since when the next heartbeat is awaited after a transfer ended: one of 1017:00 starts the wait anew.
@@ -93,6 +102,45 @@ fn entries_heard(entries: Entries, ended: &Option<Ended>, asked: Option<Asked>) 
     }
 }
 
+// the TPDOs after a frame of the SDO channel
+fn hear_pdos(pdos: &mut Pdos, ended: &Option<Ended>, asked: Option<Asked>, micros: u64)
+    ensures { pdos.new ≡ pdos_heard pdos.old ended.now asked micros }
+{
+    if let Some(ended) = ended {
+        pdos.transfer(ended, micros);
+    }
+    match asked {
+        Some(asked) if asked.writes => pdos.request(asked.key, micros),
+        _ => {}
+    }
+}
+
+// a state in which no PDO is sent
+fn is_idle(starts_itself: bool, state: NmtState) -> bool
+    ensures { result ≡ is_idle starts_itself state }
+{
+    match state {
+        NmtState::PreOperational => !starts_itself,
+        NmtState::Stopped => true,
+        _ => false,
+    }
+}
+
+fn sighting_findings(sighting: Option<Sighting>) -> Findings
+    ensures { result ≡ sighting_findings sighting }
+{
+    match sighting {
+        Some(sighting) => {
+            let frame = match sighting.deviation {
+                Some(deviation) => Some(Finding::Pdo(sighting.number, deviation)),
+                None => None,
+            };
+            Findings::of(None, None, None, frame, sighting.judged)
+        }
+        None => Findings::none(),
+    }
+}
+
 // whether an answer is judged: it follows its initiate request, and answers that
 fn is_judged(exchange: &Exchange) -> bool
     ensures { result ≡ is_judged exchange.now }
@@ -114,6 +162,7 @@ impl Progress {
             entries: subject.facts.before,
             emergency: None,
             dialogue: Dialogue::new(),
+            pdos: Pdos::unknown(),
         }
     }
 
@@ -159,6 +208,7 @@ impl Progress {
             self.started = micros;
         } else if self.was_quiet(&subject.limits, micros) {
             self.dialogue.interrupt(micros);
+            self.pdos.interrupt();
         }
         self.free = self.free_at(micros);
         self.newest = Some(micros);
@@ -172,6 +222,7 @@ impl Progress {
         self.heartbeats.since = None;
         self.emergency = None;
         self.dialogue.interrupt(micros);
+        self.pdos.interrupt();
     }
 
     #[tactic(auto, unfolding(crate::specs::Progresses::after_command))]
@@ -179,6 +230,7 @@ impl Progress {
         ensures { self.new ≡ after_command self.old service micros }
     {
         self.nmt = self.nmt.after_command(service, micros);
+        self.pdos.command();
         if is_reset(service) {
             self.break_off(micros);
         }
@@ -209,6 +261,7 @@ impl Progress {
             .after_control(&subject.limits, self.started, micros, 0);
         self.break_off(micros);
         self.entries = subject.facts.booted;
+        self.pdos = subject.facts.pdos;
         self.heartbeats.since = Some(micros);
         Findings::of(None, None, None, frame, true)
     }
@@ -263,6 +316,9 @@ impl Progress {
         let findings = self.heartbeat_findings(subject, answer, micros, byte);
         self.nmt = self.nmt.after_control(limits, self.started, micros, byte);
         self.heartbeats = self.heartbeats.after_control(micros, byte);
+        if byte != 5 {
+            self.pdos.command();
+        }
         if answer.is_some() {
             self.dialogue.give_up(micros);
         }
@@ -344,6 +400,12 @@ impl Progress {
             .hear(&subject.limits, self.started, micros, side, frame);
         self.entries = entries_heard(self.entries, &exchange.heard.ended, self.dialogue.asked);
         self.heartbeats.since = since_heard(self.heartbeats.since, &exchange.heard.ended, micros);
+        hear_pdos(
+            &mut self.pdos,
+            &exchange.heard.ended,
+            self.dialogue.asked,
+            micros,
+        );
         exchange
     }
 
@@ -382,6 +444,43 @@ impl Progress {
         Findings::of(boot, heartbeat, None, difference, is_judged(&exchange))
     }
 
+    // whether the tolerance was over when the bus was free last
+    fn settled_when_free(&self, subject: &Subject) -> bool
+        ensures { result ≡ settled_when_free subject.now self.now }
+    {
+        self.nmt
+            .is_settled(&subject.limits, self.started, self.free)
+    }
+
+    // how a PDO is judged that comes now
+    #[tactic(auto, unfolding(crate::specs::Progresses::moment_at))]
+    fn moment_at(&self, subject: &Subject, micros: u64) -> Moment
+        ensures { result ≡ moment_at subject.now self.now micros }
+    {
+        let settled = self.settled_when_free(subject);
+        let is_known = !matches!(self.nmt.state, NmtState::Unknown | NmtState::Initialising);
+        Moment {
+            micros,
+            free: self.free,
+            tolerance: subject.limits.tolerance,
+            drift: subject.limits.drift,
+            idle: settled && is_idle(subject.facts.starts_itself, self.nmt.state),
+            known: settled && is_known,
+        }
+    }
+
+    // a data frame that is none of the others: a SYNC, or a PDO
+    #[tactic(auto, unfolding(crate::specs::Progresses::process_findings, crate::specs::Progresses::after_process))]
+    fn take_process(&mut self, subject: &Subject, micros: u64, id: u16, length: u8) -> Findings
+        ensures findings { result ≡ process_findings subject.now self.old micros id length }
+        ensures progress { self.new ≡ after_process subject.now self.old micros id }
+    {
+        let moment = self.moment_at(subject, micros);
+        let sighting = self.pdos.sighting(&moment, id, length);
+        self.pdos.frame(&moment, id);
+        sighting_findings(sighting)
+    }
+
     // a frame, once the recording is begun
     fn take_kind(
         &mut self,
@@ -409,6 +508,10 @@ impl Progress {
             FrameKind::Sdo(Side::Client, frame) => {
                 let _ = self.hear(subject, micros, Side::Client, frame);
             }
+            FrameKind::Process(id, length) => {
+                return self.take_process(subject, micros, *id, *length);
+            }
+            FrameKind::Polled(id) => self.pdos.poll(*id),
             FrameKind::Command(service) => self.take_command(*service, micros),
             FrameKind::Guarding => self.heartbeats.guarded = true,
             FrameKind::Fault => self.take_fault(micros),

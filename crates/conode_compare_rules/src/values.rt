@@ -20,13 +20,13 @@ ghost use Rattle.conode_compare_rules.specs.SheetValues.{
   written_finding,
 };
 
-use crate::entries::number_of;
 use crate::finding::Finding;
 use crate::limits::Subject;
 use co_frame::AbortCode;
 use co_profile::{Access, DEVICE_TYPE};
 use co_sheet::EntryRow;
 use co_value::{Key, unsigned_of};
+use conode_compare_pdos::number_of;
 use conode_decode::row_at;
 use conode_explain_transfers::{Direction, Ended, Ending, Protocol, Side};
 

@@ -3,9 +3,10 @@ use Rattle.std.proofs.Common.{◌≡◌, ℕ, [], ◌∷◌, ◌++◌, refl, cod
 use Rattle.std.specs.Fmt.{digits}
 use Rattle.co_text.specs.Printed.{digits_text}
 use Rattle.co_value.specs.declared.key.Key.{Key}
-use Rattle.conode_compare_rules.specs.declared.finding.Finding.TheVariants.{BootMissing, SecondBootUp, HeartbeatLength, NoState, WrongState, HeartbeatLate, EmergencyLength, EmergencyStopped, EmergencyRegister, EmergencyInhibit, NoAnswer, Unasked, AnswerKey, AnswerForm, ValueLength, ValueConst, ReadRefused, Written}
+use Rattle.conode_compare_pdos.specs.declared.deviation.Deviation.TheVariants.{Length, NotOperational, WithoutSync, Inhibit, Timer}
+use Rattle.conode_compare_rules.specs.declared.finding.Finding.TheVariants.{BootMissing, SecondBootUp, HeartbeatLength, NoState, WrongState, HeartbeatLate, EmergencyLength, EmergencyStopped, EmergencyRegister, EmergencyInhibit, NoAnswer, Unasked, AnswerKey, AnswerForm, ValueLength, ValueConst, ReadRefused, Written, Pdo}
 use Rattle.conode_compare_rules.specs.declared.finding.NmtState.TheVariants.{PreOperational, Operational}
-use Rattle.conode_compare_text.specs.FindingTexts.{coded, finding_line, finding_text, hexadecimal, keyed, keyed_code, keyed_codes, keyed_numbers, keyed_time, millis_text, named, numbered, timed, timed_number, two_codes, two_times}
+use Rattle.conode_compare_text.specs.FindingTexts.{coded, finding_line, finding_text, hexadecimal, keyed, keyed_code, keyed_codes, keyed_numbers, keyed_time, millis_text, named, numbered, numbered_time, numbered_times, pdo_text, three_numbers, timed, timed_number, two_codes, two_times}
 use Rattle.conode_compare_text.specs.Tallies.{summary}
 
 abbrev key : Key
@@ -79,3 +80,25 @@ sums : summary 5 (record { prescribed = 118; different = 2; unjudged = 14 })
     ≡ codes "node 5: 118 frames as prescribed, 2 with a difference, 14 unjudged" ++ 10 ∷ []
 unfolding summary numbered digits
 sums = refl
+
+-- ---- TPDOs
+
+pdo_length : finding_text (Pdo 1 (Length 3 4)) ≡ codes "pdo-length: TPDO1 has 3 bytes, its mapping 4"
+unfolding finding_text pdo_text three_numbers digits
+pdo_length = refl
+
+pdo_state : finding_text (Pdo 2 NotOperational) ≡ codes "pdo-state: TPDO2 while the device isn't operational"
+unfolding finding_text pdo_text numbered digits
+pdo_state = refl
+
+pdo_sync : finding_text (Pdo 3 WithoutSync) ≡ codes "pdo-sync: TPDO3, and since its last one no SYNC came"
+unfolding finding_text pdo_text numbered digits
+pdo_sync = refl
+
+pdo_inhibit : finding_text (Pdo 4 (Inhibit 88999 1000)) ≡ codes "pdo-inhibit: TPDO4 88.999 ms since the last one, its inhibit time is 100.000 ms"
+unfolding finding_text pdo_text numbered_times millis_text digits_text digits
+pdo_inhibit = refl
+
+pdo_late : finding_text (Pdo 1 (Timer 1020001 1000)) ≡ codes "pdo-late: TPDO1 1020.001 ms since the last one, its event timer has 1000 ms"
+unfolding finding_text pdo_text numbered_time millis_text digits_text digits
+pdo_late = refl

@@ -3,8 +3,10 @@ use Rattle.std.specs.Prelude.{ℕ, ◌*◌, ◌/◌, ◌%◌, List, [], ◌∷�
 use Rattle.co_text.specs.Printed.{digits_text}
 use Rattle.co_value.specs.declared.key.Key.{Key}
 use Rattle.co_value.specs.KeyTexts.{key_text}
+use Rattle.conode_compare_pdos.specs.declared.deviation.Deviation.{Deviation}
+use Rattle.conode_compare_pdos.specs.declared.deviation.Deviation.TheVariants.{Length, NotOperational, WithoutSync, Inhibit, Timer}
 use Rattle.conode_compare_rules.specs.declared.finding.Finding.{Finding}
-use Rattle.conode_compare_rules.specs.declared.finding.Finding.TheVariants.{BootMissing, SecondBootUp, HeartbeatLength, NoState, WrongState, HeartbeatLate, EmergencyLength, EmergencyStopped, EmergencyRegister, EmergencyInhibit, NoAnswer, Unasked, AnswerKey, AnswerForm, ValueLength, ValueConst, ReadRefused, Written}
+use Rattle.conode_compare_rules.specs.declared.finding.Finding.TheVariants.{BootMissing, SecondBootUp, HeartbeatLength, NoState, WrongState, HeartbeatLate, EmergencyLength, EmergencyStopped, EmergencyRegister, EmergencyInhibit, NoAnswer, Unasked, AnswerKey, AnswerForm, ValueLength, ValueConst, ReadRefused, Written, Pdo}
 use Rattle.conode_compare_rules.specs.declared.finding.NmtState.{NmtState}
 use Rattle.conode_compare_rules.specs.declared.finding.NmtState.TheVariants.{Unknown, Initialising, PreOperational, Operational, Stopped}
 
@@ -54,12 +56,33 @@ keyed_codes front key middle number last other = front ++ key_text key ++ middle
 unfoldable pub keyed_code : List ℕ → Key → List ℕ → ℕ → List ℕ → List ℕ
 keyed_code front key middle code end = front ++ key_text key ++ middle ++ digits_text 16 8 code ++ end
 
+unfoldable pub three_numbers : List ℕ → ℕ → List ℕ → ℕ → List ℕ → ℕ → List ℕ
+three_numbers front number middle second last third = front ++ decimal number ++ middle ++ decimal second ++ last ++ decimal third
+
+unfoldable pub numbered_times : List ℕ → ℕ → List ℕ → ℕ → List ℕ → ℕ → List ℕ
+numbered_times front number middle micros last other = front ++ decimal number ++ middle ++ millis_text micros ++ last ++ millis_text other
+
+unfoldable pub numbered_time : List ℕ → ℕ → List ℕ → ℕ → List ℕ → ℕ → List ℕ → List ℕ
+numbered_time front number middle micros last other end =
+    front ++ decimal number ++ middle ++ millis_text micros ++ last ++ decimal other ++ end
+
 abbrev pub state_name : NmtState → List ℕ
 state_name Unknown = codes "unknown"
 state_name Initialising = codes "initialising"
 state_name PreOperational = codes "pre-operational"
 state_name Operational = codes "operational"
 state_name Stopped = codes "stopped"
+
+-- of a TPDO by its number
+unfoldable pub pdo_text : ℕ → Deviation → List ℕ
+pdo_text number (Length length mapped) =
+    three_numbers (codes "pdo-length: TPDO") number (codes " has ") length (codes " bytes, its mapping ") mapped
+pdo_text number NotOperational = numbered (codes "pdo-state: TPDO") number (codes " while the device isn't operational")
+pdo_text number WithoutSync = numbered (codes "pdo-sync: TPDO") number (codes ", and since its last one no SYNC came")
+pdo_text number (Inhibit passed inhibit) =
+    numbered_times (codes "pdo-inhibit: TPDO") number (codes " ") passed (codes " since the last one, its inhibit time is ") (inhibit * 100)
+pdo_text number (Timer passed timer) =
+    numbered_time (codes "pdo-late: TPDO") number (codes " ") passed (codes " since the last one, its event timer has ") timer (codes " ms")
 
 -- the name of the kind, and what is different
 unfoldable pub finding_text : Finding → List ℕ
@@ -87,6 +110,7 @@ finding_text (ValueConst key shown held) = keyed_codes (codes "value-const: ") k
 finding_text (ReadRefused key code) =
     keyed_code (codes "access-read: ") key (codes " refused with ") code.0 (codes ", the sheet has it as readable")
 finding_text (Written key) = keyed (codes "access-write: ") key (codes " was written, the sheet has it as read only")
+finding_text (Pdo number deviation) = pdo_text number deviation
 
 -- `recording.log:123: heartbeat-late: ..`
 unfoldable pub finding_line : List ℕ → ℕ → Finding → List ℕ

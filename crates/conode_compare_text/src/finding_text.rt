@@ -1,12 +1,19 @@
 //! The line of a difference.
 
 ghost use Rattle.std.specs.Prelude.{◌≡◌, ◌++◌, OnOk, string_bytes};
-ghost use Rattle.conode_compare_text.specs.FindingTexts.{finding_line, finding_text, state_name};
+ghost use Rattle.conode_compare_text.specs.FindingTexts.{
+  finding_line,
+  finding_text,
+  pdo_text,
+  state_name,
+};
 
 use crate::parts::{
     push_coded, push_codes, push_key, push_key_code, push_key_codes, push_key_numbers,
-    push_key_time, push_named, push_number, push_time, push_time_number, push_times, push_words,
+    push_key_time, push_named, push_number, push_number_time, push_number_times, push_numbers,
+    push_time, push_time_number, push_times, push_words,
 };
+use conode_compare_pdos::Deviation;
 use conode_compare_rules::{Finding, NmtState};
 use std::alloc::AllocError;
 
@@ -19,6 +26,56 @@ fn state_name(state: NmtState) -> &'static str
         NmtState::PreOperational => "pre-operational",
         NmtState::Operational => "operational",
         NmtState::Stopped => "stopped",
+    }
+}
+
+// what is different of a TPDO
+#[tactic(auto, unfolding(crate::specs::FindingTexts::pdo_text))]
+fn push_pdo(text: &mut String, number: u8, deviation: Deviation) -> Result<(), AllocError>
+    ensures { OnOk result (string_bytes text.new
+        ≡ string_bytes text.old ++ pdo_text number deviation) }
+{
+    match deviation {
+        Deviation::Length(length, mapped) => push_numbers(
+            text,
+            "pdo-length: TPDO",
+            u64::from(number),
+            " has ",
+            u64::from(length),
+            " bytes, its mapping ",
+            u64::from(mapped),
+        ),
+        Deviation::NotOperational => push_number(
+            text,
+            "pdo-state: TPDO",
+            u64::from(number),
+            " while the device isn't operational",
+        ),
+        Deviation::WithoutSync => push_number(
+            text,
+            "pdo-sync: TPDO",
+            u64::from(number),
+            ", and since its last one no SYNC came",
+        ),
+        Deviation::Inhibit(passed, inhibit) => push_number_times(
+            text,
+            "pdo-inhibit: TPDO",
+            u64::from(number),
+            " ",
+            passed,
+            " since the last one, its inhibit time is ",
+            u64::from(inhibit) * 100,
+        ),
+        Deviation::Timer(passed, timer) => push_number_time(
+            text,
+            "pdo-late: TPDO",
+            u64::from(number),
+            " ",
+            passed,
+            " since the last one, its event timer has ",
+            u64::from(timer),
+            " ms",
+        ),
     }
 }
 
@@ -135,6 +192,7 @@ fn push_finding(text: &mut String, finding: Finding) -> Result<(), AllocError>
             key,
             " was written, the sheet has it as read only",
         ),
+        Finding::Pdo(number, deviation) => push_pdo(text, number, deviation),
     }
 }
 

@@ -13,6 +13,9 @@ ghost use Rattle.conode_compare_text.specs.FindingTexts.{
   millis_text,
   named,
   numbered,
+  numbered_time,
+  numbered_times,
+  three_numbers,
   timed,
   timed_number,
   two_codes,
@@ -282,5 +285,74 @@ pub(crate) fn push_key_code(
     push_words(text, key.text().as_str())?;
     push_words(text, middle)?;
     push_u32(text, code)?;
+    push_words(text, end)
+}
+
+/// Three numbers, each with words before it.
+#[tactic(auto, unfolding(crate::specs::FindingTexts::three_numbers))]
+pub(crate) fn push_numbers(
+    text: &mut String,
+    front: &str,
+    number: u64,
+    middle: &str,
+    second: u64,
+    last: &str,
+    third: u64,
+) -> Result<(), AllocError>
+    ensures { OnOk result (string_bytes text.new
+        ≡ string_bytes text.old ++ three_numbers front.now number middle.now second last.now third) }
+{
+    push_words(text, front)?;
+    push_decimal(text, number)?;
+    push_words(text, middle)?;
+    push_decimal(text, second)?;
+    push_words(text, last)?;
+    push_decimal(text, third)
+}
+
+/// A number and two times in microseconds, each with words before it.
+#[tactic(auto, unfolding(crate::specs::FindingTexts::numbered_times))]
+pub(crate) fn push_number_times(
+    text: &mut String,
+    front: &str,
+    number: u64,
+    middle: &str,
+    micros: u64,
+    last: &str,
+    other: u64,
+) -> Result<(), AllocError>
+    ensures { OnOk result (string_bytes text.new
+        ≡ string_bytes text.old ++ numbered_times front.now number middle.now micros last.now other) }
+{
+    push_words(text, front)?;
+    push_decimal(text, number)?;
+    push_words(text, middle)?;
+    push_millis(text, micros)?;
+    push_words(text, last)?;
+    push_millis(text, other)
+}
+
+/// A number, a time in microseconds and a number between words.
+#[tactic(auto, unfolding(crate::specs::FindingTexts::numbered_time))]
+pub(crate) fn push_number_time(
+    text: &mut String,
+    front: &str,
+    number: u64,
+    middle: &str,
+    micros: u64,
+    last: &str,
+    other: u64,
+    end: &str,
+) -> Result<(), AllocError>
+    ensures { OnOk result (string_bytes text.new
+        ≡ string_bytes text.old
+        ++ numbered_time front.now number middle.now micros last.now other end.now) }
+{
+    push_words(text, front)?;
+    push_decimal(text, number)?;
+    push_words(text, middle)?;
+    push_millis(text, micros)?;
+    push_words(text, last)?;
+    push_decimal(text, other)?;
     push_words(text, end)
 }

@@ -1,0 +1,265 @@
+-- What a TPDO is otherwise than prescribed and what it isn't, on both sides of each edge, computed from the definitions.
+use Rattle.std.proofs.Common.{◌≡◌, ℕ, true, false, List, [], ◌∷◌, Some, None, refl}
+use Rattle.std.specs.Prelude.{pos}
+use Rattle.co_profile.specs.declared.access.Access.TheVariants.{Rw}
+use Rattle.co_sheet.specs.Content.{Row}
+use Rattle.co_sheet.specs.Limits.{Default, number, node_id}
+use Rattle.co_value.specs.declared.data_type.DataType.TheVariants.{Unsigned32}
+use Rattle.conode_compare_pdos.specs.declared.deviation.Deviation.TheVariants.{Length, NotOperational, WithoutSync, Inhibit, Timer}
+use Rattle.conode_compare_pdos.specs.declared.deviation.Moment.{Moment}
+use Rattle.conode_compare_pdos.specs.declared.parameters.Parameters.{Parameters}
+use Rattle.conode_compare_pdos.specs.declared.tpdo.Tpdo.{Tpdo}
+use Rattle.conode_compare_pdos.specs.Deviations.{deviation_at, is_judged, time_deviation}
+use Rattle.conode_compare_pdos.specs.Followed.{sighting, unknown_pdos}
+use Rattle.conode_compare_pdos.specs.PdoParameters.{asked_to_write, counted_bytes, identifier_of, length_of, mapped_bytes, parameters_of, shown}
+use Rattle.conode_compare_pdos.specs.Tpdos.{after_frame, after_gap, after_poll, after_request, after_sync, booted_tpdo}
+
+-- 10 ms and 1 %, operational; the bus was free 1 ms before the frame
+abbrev at : ℕ → Moment
+at micros = record { micros = micros; free = micros; tolerance = 10; drift = 1; idle = false; known = true }
+
+-- on 188h, of type 255, with 100 ms of inhibit time, 1 s of event timer and four bytes
+abbrev event_driven : Parameters
+event_driven = record { id = Some 0x188; kind = Some 255; inhibit = Some 1000; timer = Some 1000; length = Some 4 }
+
+abbrev tpdo : Tpdo
+tpdo = booted_tpdo event_driven
+
+abbrev sent : Tpdo
+sent = after_frame (at 5) 0x188 tpdo
+
+abbrev synchronous : Tpdo
+synchronous = booted_tpdo (record event_driven { kind = Some 240 })
+
+-- ---- the number of bytes, and the state
+
+right_length : deviation_at (at 5) true tpdo 4 ≡ None
+unfolding deviation_at time_deviation
+right_length = refl
+
+short : deviation_at (at 5) true tpdo 3 ≡ Some (Length 3 4)
+unfolding deviation_at time_deviation
+short = refl
+
+long : deviation_at (at 5) true tpdo 5 ≡ Some (Length 5 4)
+unfolding deviation_at time_deviation
+long = refl
+
+unknown_length : deviation_at (at 5) true (booted_tpdo (record event_driven { length = None })) 3 ≡ None
+unfolding deviation_at time_deviation
+unknown_length = refl
+
+idle : deviation_at (record (at 5) { idle = true }) true tpdo 4 ≡ Some NotOperational
+unfolding deviation_at time_deviation
+idle = refl
+
+-- for the tolerance after a parameter was written nothing is said
+just_written : deviation_at (at 10005) true (record tpdo { changed = Some 5 }) 3 ≡ None
+unfolding deviation_at time_deviation
+just_written = refl
+
+written_before : deviation_at (at 10006) true (record tpdo { changed = Some 5 }) 3 ≡ Some (Length 3 4)
+unfolding deviation_at time_deviation
+written_before = refl
+
+judged : is_judged (at 5) tpdo ≡ true
+judged = refl
+
+not_judged : is_judged (record (at 5) { known = false }) tpdo ≡ false
+not_judged = refl
+
+length_not_judged : is_judged (at 5) (booted_tpdo (record event_driven { length = None })) ≡ false
+length_not_judged = refl
+
+-- ---- SYNC
+
+-- types 0 to 240 need one
+without_sync : deviation_at (at 5) true synchronous 4 ≡ Some WithoutSync
+unfolding deviation_at time_deviation
+without_sync = refl
+
+with_sync : deviation_at (at 5) true (after_sync synchronous) 4 ≡ None
+unfolding deviation_at time_deviation
+with_sync = refl
+
+again : deviation_at (at 5) true (after_frame (at 5) 0x188 (after_sync synchronous)) 4 ≡ Some WithoutSync
+unfolding deviation_at time_deviation
+again = refl
+
+-- a slow device may answer two of them in turn, not three
+slow : deviation_at (at 5) true (after_frame (at 5) 0x188 (after_sync (after_sync (after_sync synchronous)))) 4 ≡ None
+unfolding deviation_at time_deviation
+slow = refl
+
+too_many : deviation_at (at 5) true (after_frame (at 5) 0x188 (after_frame (at 5) 0x188 (after_sync (after_sync (after_sync synchronous))))) 4 ≡ Some WithoutSync
+unfolding deviation_at time_deviation
+too_many = refl
+
+-- types 241 to 253 are reserved, or asked for by remote frames
+reserved : deviation_at (at 5) true (booted_tpdo (record event_driven { kind = Some 241 })) 4 ≡ None
+unfolding deviation_at time_deviation
+reserved = refl
+
+unknown_type : deviation_at (at 5) true (booted_tpdo (record event_driven { kind = None })) 4 ≡ None
+unfolding deviation_at time_deviation
+unknown_type = refl
+
+unknown_sync : deviation_at (at 5) false synchronous 4 ≡ None
+unfolding deviation_at time_deviation
+unknown_sync = refl
+
+missed : deviation_at (at 5) true (after_gap synchronous) 4 ≡ None
+unfolding deviation_at time_deviation
+missed = refl
+
+polled : deviation_at (at 5) true (after_poll 0x188 synchronous) 4 ≡ None
+unfolding deviation_at time_deviation
+polled = refl
+
+other_polled : deviation_at (at 5) true (after_poll 0x189 synchronous) 4 ≡ Some WithoutSync
+unfolding deviation_at time_deviation
+other_polled = refl
+
+-- ---- the inhibit time: 100 ms, less 10 ms and 1 %
+
+within : deviation_at (at 89004) true sent 4 ≡ Some (Inhibit 88999 1000)
+unfolding deviation_at time_deviation
+within = refl
+
+after : deviation_at (at 89005) true sent 4 ≡ None
+unfolding deviation_at time_deviation
+after = refl
+
+-- the one before may have waited for the bus
+waited : deviation_at (at 89004) true (after_frame (record (at 5) { free = 4 }) 0x188 tpdo) 4 ≡ None
+unfolding deviation_at time_deviation
+waited = refl
+
+-- of types 254 and 255 alone
+type_254 : deviation_at (at 89004) true (record sent { parameters = record event_driven { kind = Some 254 } }) 4 ≡ Some (Inhibit 88999 1000)
+unfolding deviation_at time_deviation
+type_254 = refl
+
+type_253 : deviation_at (at 89004) true (record sent { parameters = record event_driven { kind = Some 253 } }) 4 ≡ None
+unfolding deviation_at time_deviation
+type_253 = refl
+
+unknown_inhibit : deviation_at (at 6) true (record sent { parameters = record event_driven { inhibit = None } }) 4 ≡ None
+unfolding deviation_at time_deviation
+unknown_inhibit = refl
+
+-- ---- the event timer: 1000 ms, and 100 ms of inhibit time, 10 ms, and 1 % of both
+
+in_time : deviation_at (at 1121005) true sent 4 ≡ None
+unfolding deviation_at time_deviation
+in_time = refl
+
+late : deviation_at (at 1121006) true sent 4 ≡ Some (Timer 1121001 1000)
+unfolding deviation_at time_deviation
+late = refl
+
+-- it may have waited for the bus
+late_bus : deviation_at (record (at 1121006) { free = 1121005 }) true sent 4 ≡ None
+unfolding deviation_at time_deviation
+late_bus = refl
+
+no_timer : deviation_at (at 9121006) true (record sent { parameters = record event_driven { timer = Some 0 } }) 4 ≡ None
+unfolding deviation_at time_deviation
+no_timer = refl
+
+unknown_timer : deviation_at (at 9121006) true (record sent { parameters = record event_driven { timer = None } }) 4 ≡ None
+unfolding deviation_at time_deviation
+unknown_timer = refl
+
+-- ---- parameters
+
+valid : identifier_of 0x40000188 ≡ Some 0x188
+valid = refl
+
+invalid : identifier_of 0x80000188 ≡ None
+invalid = refl
+
+extended : identifier_of 0x20000188 ≡ None
+extended = refl
+
+whole_bytes : mapped_bytes 0x64010110 ≡ Some 2
+whole_bytes = refl
+
+bits : mapped_bytes 0x64010101 ≡ None
+bits = refl
+
+abbrev row : ℕ → ℕ → Default → Row
+row index sub default = record {
+  key = record { index = index; sub = sub };
+  data_type = Unsigned32;
+  access = Rw;
+  low = None;
+  high = None;
+  default = default;
+  mappable = false;
+  name = None;
+  line = 1;
+}
+
+abbrev rows : List Row
+rows = row 0x1800 1 (node_id 0x180) ∷ row 0x1800 2 (number (pos 254)) ∷ row 0x1A00 0 (number (pos 2)) ∷ row 0x1A00 1 (number (pos 0x60000108))
+    ∷ row 0x1A00 2 (number (pos 0x64010110)) ∷ row 0x1A00 3 (number (pos 0x64010210)) ∷ []
+
+sheet : parameters_of rows 8 0 ≡ record { id = Some 0x188; kind = Some 254; inhibit = Some 0; timer = Some 0; length = Some 3 }
+unfolding parameters_of length_of counted_bytes
+sheet = refl
+
+no_second : parameters_of rows 8 1 ≡ record { id = None; kind = None; inhibit = Some 0; timer = Some 0; length = None }
+unfolding parameters_of length_of counted_bytes
+no_second = refl
+
+-- nothing is mapped, more than eight bytes, and PDOs that are multiplexed
+nothing_mapped : length_of (row 0x1A00 0 (number (pos 0)) ∷ []) 8 0x1A00 ≡ None
+unfolding length_of counted_bytes
+nothing_mapped = refl
+
+too_long : length_of (row 0x1A00 0 (number (pos 2)) ∷ row 0x1A00 1 (number (pos 0x60000120)) ∷ row 0x1A00 2 (number (pos 0x60000128)) ∷ []) 8 0x1A00 ≡ None
+unfolding length_of counted_bytes
+too_long = refl
+
+multiplexed : length_of (row 0x1A00 0 (number (pos 254)) ∷ []) 8 0x1A00 ≡ None
+unfolding length_of counted_bytes
+multiplexed = refl
+
+-- between a request to write and its answer a value isn't known
+asked_type : asked_to_write event_driven 2 ≡ record event_driven { kind = None }
+asked_type = refl
+
+asked_other : asked_to_write event_driven 6 ≡ event_driven
+asked_other = refl
+
+shown_id : (shown event_driven 1 (0x99 ∷ 1 ∷ 0 ∷ 0x40 ∷ [])).id ≡ Some 0x199
+shown_id = refl
+
+shown_invalid : (shown event_driven 1 (0x99 ∷ 1 ∷ 0 ∷ 0xC0 ∷ [])).id ≡ None
+shown_invalid = refl
+
+shown_type : (shown event_driven 2 (1 ∷ [])).kind ≡ Some 1
+shown_type = refl
+
+shown_inhibit : (shown event_driven 3 (1 ∷ 2 ∷ [])).inhibit ≡ Some 0x201
+shown_inhibit = refl
+
+shown_timer : (shown event_driven 5 (1 ∷ 2 ∷ 0 ∷ 0 ∷ [])).timer ≡ Some 0x201
+shown_timer = refl
+
+mapping_written : (after_request (record { index = 0x1A00; sub = 1 }) 7 0 tpdo).parameters ≡ record event_driven { length = None }
+mapping_written = refl
+
+other_mapping : after_request (record { index = 0x1A01; sub = 1 }) 7 0 tpdo ≡ tpdo
+other_mapping = refl
+
+-- ---- frames of others
+
+not_its : sighting (at 5) (record unknown_pdos { first = tpdo }) 0x189 4 ≡ None
+unfolding sighting
+not_its = refl
+
+third : sighting (at 5) (record unknown_pdos { third = tpdo }) 0x188 4 ≡ Some (record { number = 3; deviation = None; judged = true })
+unfolding sighting deviation_at time_deviation
+third = refl

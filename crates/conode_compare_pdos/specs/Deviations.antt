@@ -1,0 +1,94 @@
+-- What a TPDO is otherwise than CiA 301 prescribes (7.2.2, 7.3.2.2 and 7.5.2.37).
+use Rattle.std.specs.Prelude.{ℕ, ◌+◌, ◌-◌, ◌*◌, ◌/◌, ◌==◌, nat_lt, nat_le, Bool, true, false, ◌&&◌, ◌||◌, if◌then◌else◌, Option, Some, None, is_some}
+use Rattle.conode_compare_pdos.specs.declared.deviation.Deviation.{Deviation}
+use Rattle.conode_compare_pdos.specs.declared.deviation.Deviation.TheVariants.{Length, NotOperational, WithoutSync, Inhibit, Timer}
+use Rattle.conode_compare_pdos.specs.declared.deviation.Moment.{Moment}
+use Rattle.conode_compare_pdos.specs.declared.parameters.Parameters.{Parameters}
+use Rattle.conode_compare_pdos.specs.declared.tpdo.Sent.{Sent}
+use Rattle.conode_compare_pdos.specs.declared.tpdo.Tpdo.{Tpdo}
+
+-- milliseconds in microseconds
+abbrev pub micros_of : ℕ → ℕ
+micros_of millis = millis * 1000
+
+-- so many percent of so many ms, in microseconds
+abbrev pub drift_of : Moment → ℕ → ℕ
+drift_of moment millis = (millis * moment.drift) * 10
+
+-- the tolerance is over since one of its parameters was written or read
+abbrev pub is_settled : Moment → Option ℕ → Bool
+is_settled moment None = true
+is_settled moment (Some changed) = nat_lt (micros_of moment.tolerance) (moment.free - changed)
+
+-- the transmission types: 0 to 240 with SYNC, 254 and 255 at events
+abbrev pub is_synchronous : Option ℕ → Bool
+is_synchronous None = false
+is_synchronous (Some kind) = nat_le kind 240
+
+abbrev pub is_event_driven : Option ℕ → Bool
+is_event_driven None = false
+is_event_driven (Some kind) = nat_le 254 kind
+
+-- `pdo-length`: another number of bytes than is mapped
+abbrev pub length_deviation : Option ℕ → ℕ → Option Deviation
+length_deviation None length = None
+length_deviation (Some mapped) length = if length == mapped then None else Some (Length length mapped)
+
+-- `pdo-sync`: a synchronous TPDO, and since its last one no SYNC came
+abbrev pub sync_deviation : Bool → Tpdo → Option Deviation
+sync_deviation has_sync pdo =
+    if has_sync && (is_synchronous pdo.parameters.kind && (pdo.syncs == 0)) then Some WithoutSync else None
+
+-- how many microseconds two frames are apart at least, with an inhibit time in 100 µs
+abbrev pub least_gap : Moment → ℕ → ℕ
+least_gap moment inhibit = (inhibit * 100 - micros_of moment.tolerance) - drift_of moment (inhibit / 10)
+
+-- how many microseconds two frames are apart at most: an event that falls within the inhibit time is sent after it
+abbrev pub greatest_gap : Moment → ℕ → ℕ → ℕ
+greatest_gap moment inhibit timer = micros_of timer + inhibit * 100 + micros_of moment.tolerance + drift_of moment timer + drift_of moment (inhibit / 10)
+
+-- `pdo-inhibit`: a frame within the inhibit time of the one before, which may have waited for a free bus
+abbrev pub inhibit_deviation : Moment → ℕ → Sent → Option Deviation
+inhibit_deviation moment inhibit sent =
+    if nat_lt (moment.micros - sent.free) (least_gap moment inhibit) then Some (Inhibit (moment.micros - sent.micros) inhibit) else None
+
+-- `pdo-late`: a frame later than the event timer after the one before, when the bus was free last
+abbrev pub timer_deviation : Moment → ℕ → ℕ → Sent → Option Deviation
+timer_deviation moment inhibit timer sent =
+    if (timer == 0) || nat_le (moment.free - sent.micros) (greatest_gap moment inhibit timer) then None
+    else Some (Timer (moment.micros - sent.micros) timer)
+
+abbrev pub first_of : Option Deviation → Option Deviation → Option Deviation
+first_of (Some deviation) other = Some deviation
+first_of None other = other
+
+abbrev pub timed : Moment → Option ℕ → ℕ → Sent → Option Deviation
+timed moment None inhibit sent = inhibit_deviation moment inhibit sent
+timed moment (Some timer) inhibit sent = first_of (inhibit_deviation moment inhibit sent) (timer_deviation moment inhibit timer sent)
+
+abbrev pub timed_since : Moment → Parameters → Option ℕ → Option Sent → Option Deviation
+timed_since moment parameters None sent = None
+timed_since moment parameters (Some inhibit) None = None
+timed_since moment parameters (Some inhibit) (Some sent) = timed moment parameters.timer inhibit sent
+
+-- of an event-driven TPDO
+unfoldable pub time_deviation : Moment → Tpdo → Option Deviation
+time_deviation moment pdo =
+    if is_event_driven pdo.parameters.kind then timed_since moment pdo.parameters pdo.parameters.inhibit pdo.sent else None
+
+-- `pdo-state`: the device isn't operational
+abbrev pub state_deviation : Moment → Option Deviation
+state_deviation moment = if moment.idle then Some NotOperational else None
+
+-- the first of them
+unfoldable pub deviation_at : Moment → Bool → Tpdo → ℕ → Option Deviation
+deviation_at moment has_sync pdo length =
+    if is_settled moment pdo.changed then
+    first_of (state_deviation moment)
+    (first_of (length_deviation pdo.parameters.length length)
+    (first_of (sync_deviation has_sync pdo) (time_deviation moment pdo)))
+    else None
+
+-- a frame is judged where its length and the state of the device are known
+abbrev pub is_judged : Moment → Tpdo → Bool
+is_judged moment pdo = moment.known && (is_settled moment pdo.changed && is_some pdo.parameters.length)

@@ -1,0 +1,89 @@
+-- The first four TPDOs of a device, followed through a recording.
+use Rattle.std.specs.Prelude.{ℕ, Bool, if◌then◌else◌, List, Option, Some, None, is_some, option_and_then}
+use Rattle.co_profile.specs.Keys.{sync_key}
+use Rattle.co_sheet.specs.Content.{Row}
+use Rattle.co_value.specs.declared.key.Key.{Key}
+use Rattle.co_value.specs.Keys.{same_key}
+use Rattle.conode_explain_transfers.specs.declared.ended.Ended.{Ended}
+use Rattle.conode_compare_pdos.specs.declared.deviation.Moment.{Moment}
+use Rattle.conode_compare_pdos.specs.declared.pdos.Pdos.{Pdos}
+use Rattle.conode_compare_pdos.specs.declared.pdos.Sighting.{Sighting}
+use Rattle.conode_compare_pdos.specs.declared.tpdo.Tpdo.{Tpdo}
+use Rattle.conode_compare_pdos.specs.Deviations.{deviation_at, is_judged}
+use Rattle.conode_compare_pdos.specs.PdoParameters.{identifier_of, parameters_of}
+use Rattle.conode_compare_pdos.specs.SheetNumbers.{preset_at}
+use Rattle.conode_compare_pdos.specs.Tpdos.{after_command, after_frame, after_gap, after_poll, after_request, after_sync, after_transfer, booted_tpdo, is_id, unknown_tpdo}
+
+abbrev pub four : Option ℕ → Tpdo → Pdos
+four sync pdo = record { sync = sync; first = pdo; second = pdo; third = pdo; fourth = pdo }
+
+abbrev pub unknown_pdos : Pdos
+unknown_pdos = four None unknown_tpdo
+
+abbrev pub each : (ℕ → Tpdo → Tpdo) → Pdos → Pdos
+each change pdos = record {
+  sync = pdos.sync;
+  first = change 0 pdos.first;
+  second = change 1 pdos.second;
+  third = change 2 pdos.third;
+  fourth = change 3 pdos.fourth;
+}
+
+-- after a boot-up: what the data sheet has
+unfoldable pub pdos_of : List Row → ℕ → Pdos
+pdos_of rows node = record {
+  sync = option_and_then identifier_of (preset_at rows node sync_key);
+  first = booted_tpdo (parameters_of rows node 0);
+  second = booted_tpdo (parameters_of rows node 1);
+  third = booted_tpdo (parameters_of rows node 2);
+  fourth = booted_tpdo (parameters_of rows node 3);
+}
+
+-- an NMT command came, or a heartbeat shows another state than operational
+abbrev pub commanded : Pdos → Pdos
+commanded pdos = each (λ number. after_command) pdos
+
+abbrev pub interrupted : Pdos → Pdos
+interrupted pdos = each (λ number. after_gap) pdos
+
+abbrev pub synced : Pdos → Pdos
+synced pdos = each (λ number. after_sync) pdos
+
+abbrev pub polled : Pdos → ℕ → Pdos
+polled pdos id = each (λ number. after_poll id) pdos
+
+-- a download is requested
+unfoldable pub requested : Pdos → Key → ℕ → Pdos
+requested pdos key micros =
+    let pdos = each (after_request key micros) pdos in
+    if same_key key sync_key then record pdos { sync = None } else pdos
+
+-- a transfer ended
+unfoldable pub transferred : Pdos → Ended → ℕ → Pdos
+transferred pdos ended micros = each (after_transfer ended micros) pdos
+
+-- a data frame with this identifier: a SYNC, or a TPDO
+unfoldable pub framed : Pdos → Moment → ℕ → Pdos
+framed pdos moment id =
+    if is_id pdos.sync id then synced pdos else each (λ number. after_frame moment id) pdos
+
+-- ---- what is said of a frame
+
+abbrev pub seen : Moment → Bool → ℕ → Tpdo → ℕ → ℕ → Option Sighting
+seen moment has_sync number pdo id length =
+    if is_id pdo.parameters.id id then Some (record {
+      number = number;
+      deviation = deviation_at moment has_sync pdo length;
+      judged = is_judged moment pdo;
+    }) else None
+
+abbrev pub or_else : Option Sighting → Option Sighting → Option Sighting
+or_else (Some sighting) other = Some sighting
+or_else None other = other
+
+-- a data frame with this identifier and so many bytes, where it is one of the TPDOs
+unfoldable pub sighting : Moment → Pdos → ℕ → ℕ → Option Sighting
+sighting moment pdos id length =
+    let has_sync = is_some pdos.sync in
+    or_else (seen moment has_sync 1 pdos.first id length) (or_else (seen moment has_sync 2 pdos.second id length)
+    (or_else (seen moment has_sync 3 pdos.third id length) (seen moment has_sync 4 pdos.fourth id length)))

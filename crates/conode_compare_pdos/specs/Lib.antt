@@ -1,0 +1,5 @@
+pub mod SheetNumbers
+pub mod PdoParameters
+pub mod Tpdos
+pub mod Deviations
+pub mod Followed

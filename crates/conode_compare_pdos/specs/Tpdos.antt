@@ -1,0 +1,74 @@
+-- A TPDO in a recording: its parameters, its newest frame, and the SYNCs that it may answer (CiA 301, 7.2.2).
+use Rattle.std.specs.Prelude.{ℕ, ◌+◌, ◌-◌, ◌==◌, nat_le, Bool, true, false, if◌then◌else◌, Option, Some, None}
+use Rattle.co_value.specs.declared.key.Key.{Key}
+use Rattle.conode_explain_transfers.specs.declared.ended.Ended.{Ended}
+use Rattle.conode_explain_transfers.specs.declared.ended.Ending.{Ending}
+use Rattle.conode_explain_transfers.specs.declared.ended.Ending.TheVariants.{Done}
+use Rattle.conode_explain_transfers.specs.declared.kinds.Protocol.{Protocol}
+use Rattle.conode_explain_transfers.specs.declared.kinds.Protocol.TheVariants.{Expedited}
+use Rattle.conode_compare_pdos.specs.declared.deviation.Moment.{Moment}
+use Rattle.conode_compare_pdos.specs.declared.parameters.Parameters.{Parameters}
+use Rattle.conode_compare_pdos.specs.declared.tpdo.Tpdo.{Tpdo}
+use Rattle.conode_compare_pdos.specs.PdoParameters.{asked_to_write, communication, mapping, nothing_known, shown}
+
+-- After a boot-up each SYNC is recorded; where one may be missing, one or two may stand out: a slow device may answer a SYNC
+-- after the next one came.
+abbrev pub most_syncs : ℕ
+most_syncs = 2
+
+abbrev pub unknown_tpdo : Tpdo
+unknown_tpdo = record { parameters = nothing_known; sent = None; syncs = most_syncs; changed = None }
+
+abbrev pub booted_tpdo : Parameters → Tpdo
+booted_tpdo parameters = record { parameters = parameters; sent = None; syncs = 0; changed = None }
+
+-- times count anew after an NMT command
+abbrev pub after_command : Tpdo → Tpdo
+after_command pdo = record pdo { sent = None }
+
+-- frames may be missing
+abbrev pub after_gap : Tpdo → Tpdo
+after_gap pdo = record pdo { sent = None; syncs = most_syncs }
+
+abbrev pub after_sync : Tpdo → Tpdo
+after_sync pdo = record pdo { syncs = if nat_le most_syncs pdo.syncs then most_syncs else pdo.syncs + 1 }
+
+-- the identifier is this one
+abbrev pub is_id : Option ℕ → ℕ → Bool
+is_id (Some own) id = own == id
+is_id None id = false
+
+-- a remote frame asks for it
+abbrev pub after_poll : ℕ → Tpdo → Tpdo
+after_poll id pdo = if is_id pdo.parameters.id id then after_gap pdo else pdo
+
+-- it was sent
+abbrev pub after_frame : Moment → ℕ → Tpdo → Tpdo
+after_frame moment id pdo =
+    if is_id pdo.parameters.id id then record pdo {
+      sent = Some (record { free = moment.free; micros = moment.micros });
+      syncs = pdo.syncs - 1;
+    } else pdo
+
+-- ---- its parameters are written and read
+
+abbrev pub with_parameters : ℕ → Parameters → Tpdo
+with_parameters micros parameters = record { parameters = parameters; sent = None; syncs = most_syncs; changed = Some micros }
+
+-- a download is requested: a mapping that is written isn't known any more
+abbrev pub after_request : Key → ℕ → ℕ → Tpdo → Tpdo
+after_request key micros number pdo =
+    if key.index == communication number then with_parameters micros (asked_to_write pdo.parameters key.sub)
+    else (if key.index == mapping number then with_parameters micros (record pdo.parameters { length = None }) else pdo)
+
+abbrev pub shows_bytes : Protocol → Ending → Bool
+shows_bytes Expedited (Done crc) = true
+shows_bytes protocol ending = false
+
+-- a transfer ended
+abbrev pub after_transfer : Ended → ℕ → ℕ → Tpdo → Tpdo
+after_transfer ended micros number pdo =
+    if ended.key.index == communication number then
+    (if shows_bytes ended.protocol ended.ending then with_parameters micros (shown pdo.parameters ended.key.sub ended.first.items)
+    else pdo)
+    else pdo

@@ -1,0 +1,217 @@
+//! What a TPDO is otherwise than CiA 301 prescribes (7.2.2, 7.3.2.2 and 7.5.2.37).
+
+ghost use Rattle.std.specs.Prelude.{◌≡◌, ◌<◌, ◌^◌};
+ghost use Rattle.conode_compare_pdos.specs.Deviations.{
+  deviation_at,
+  drift_of,
+  greatest_gap,
+  inhibit_deviation,
+  is_event_driven,
+  is_judged,
+  is_settled,
+  is_synchronous,
+  least_gap,
+  length_deviation,
+  micros_of,
+  state_deviation,
+  sync_deviation,
+  time_deviation,
+  timed,
+  timer_deviation,
+};
+
+use crate::tpdo::{Sent, Tpdo};
+
+/// A difference of a TPDO.
+#[derive(Clone, Copy)]
+pub enum Deviation {
+    /// `pdo-length`: it has so many bytes, and so many are mapped.
+    Length(u8, u8),
+    /// `pdo-state`: the device isn't operational.
+    NotOperational,
+    /// `pdo-sync`: it is synchronous, and since its last one no SYNC came.
+    WithoutSync,
+    /// `pdo-inhibit`: so many microseconds since the last one, and the inhibit time has so many 100 µs.
+    Inhibit(u64, u16),
+    /// `pdo-late`: so many microseconds since the last one, and the event timer has so many ms.
+    Timer(u64, u16),
+}
+
+/// When a frame comes, how exactly it is judged, and what is known of the device's state then.
+#[derive(Clone, Copy)]
+pub struct Moment {
+    /// The stamp, in microseconds.
+    pub micros: u64,
+    /// When the bus was free last, before the frame.
+    pub free: u64,
+    /// How much later than prescribed a frame may be in the recording, in ms.
+    pub tolerance: u32,
+    /// How much the device's clock may differ from that of the recorder, in percent.
+    pub drift: u8,
+    /// Whether the device is known not to be operational.
+    pub idle: bool,
+    /// Whether its state is known.
+    pub known: bool,
+}
+
+// milliseconds in microseconds
+fn micros_of(millis: u32) -> u64
+    ensures value { result ≡ micros_of millis }
+    ensures small { result < 2 ^ 42 }
+{
+    u64::from(millis) * 1000
+}
+
+// by how many microseconds the clocks may differ after so many ms
+fn drift_of(moment: &Moment, millis: u16) -> u64
+    ensures value { result ≡ drift_of moment.now millis }
+    ensures small { result < 2 ^ 32 }
+{
+    u64::from(u32::from(millis) * u32::from(moment.drift)) * 10
+}
+
+// whether the tolerance is over since a parameter was written or read
+fn is_settled(moment: &Moment, changed: Option<u64>) -> bool
+    ensures { result ≡ is_settled moment.now changed }
+{
+    match changed {
+        Some(changed) => moment.free.saturating_sub(changed) > micros_of(moment.tolerance),
+        None => true,
+    }
+}
+
+fn is_synchronous(kind: Option<u8>) -> bool
+    ensures { result ≡ is_synchronous kind }
+{
+    match kind {
+        Some(kind) => kind <= 240,
+        None => false,
+    }
+}
+
+fn is_event_driven(kind: Option<u8>) -> bool
+    ensures { result ≡ is_event_driven kind }
+{
+    match kind {
+        Some(kind) => kind >= 254,
+        None => false,
+    }
+}
+
+fn length_deviation(mapped: Option<u8>, length: u8) -> Option<Deviation>
+    ensures { result ≡ length_deviation mapped length }
+{
+    match mapped {
+        Some(mapped) if length != mapped => Some(Deviation::Length(length, mapped)),
+        _ => None,
+    }
+}
+
+fn sync_deviation(has_sync: bool, pdo: &Tpdo) -> Option<Deviation>
+    ensures { result ≡ sync_deviation has_sync pdo.now }
+{
+    if has_sync && is_synchronous(pdo.parameters.kind) && pdo.syncs == 0 {
+        Some(Deviation::WithoutSync)
+    } else {
+        None
+    }
+}
+
+fn state_deviation(moment: &Moment) -> Option<Deviation>
+    ensures { result ≡ state_deviation moment.now }
+{
+    if moment.idle {
+        Some(Deviation::NotOperational)
+    } else {
+        None
+    }
+}
+
+// how many microseconds two frames are apart at least, with an inhibit time in 100 µs
+fn least_gap(moment: &Moment, inhibit: u16) -> u64
+    ensures { result ≡ least_gap moment.now inhibit }
+{
+    (u64::from(inhibit) * 100)
+        .saturating_sub(micros_of(moment.tolerance))
+        .saturating_sub(drift_of(moment, inhibit / 10))
+}
+
+// how many microseconds two frames are apart at most
+fn greatest_gap(moment: &Moment, inhibit: u16, timer: u16) -> u64
+    ensures { result ≡ greatest_gap moment.now inhibit timer }
+{
+    micros_of(u32::from(timer))
+        + u64::from(inhibit) * 100
+        + micros_of(moment.tolerance)
+        + drift_of(moment, timer)
+        + drift_of(moment, inhibit / 10)
+}
+
+fn inhibit_deviation(moment: &Moment, inhibit: u16, sent: Sent) -> Option<Deviation>
+    ensures { result ≡ inhibit_deviation moment.now inhibit sent }
+{
+    if moment.micros.saturating_sub(sent.free) < least_gap(moment, inhibit) {
+        Some(Deviation::Inhibit(moment.micros.saturating_sub(sent.micros), inhibit))
+    } else {
+        None
+    }
+}
+
+fn timer_deviation(moment: &Moment, inhibit: u16, timer: u16, sent: Sent) -> Option<Deviation>
+    ensures { result ≡ timer_deviation moment.now inhibit timer sent }
+{
+    let waited = moment.free.saturating_sub(sent.micros);
+    if timer == 0 || waited <= greatest_gap(moment, inhibit, timer) {
+        None
+    } else {
+        Some(Deviation::Timer(moment.micros.saturating_sub(sent.micros), timer))
+    }
+}
+
+fn timed(moment: &Moment, timer: Option<u16>, inhibit: u16, sent: Sent) -> Option<Deviation>
+    ensures { result ≡ timed moment.now timer inhibit sent }
+{
+    match inhibit_deviation(moment, inhibit, sent) {
+        Some(deviation) => Some(deviation),
+        None => timer_deviation(moment, inhibit, timer?, sent),
+    }
+}
+
+// of an event-driven TPDO
+#[tactic(auto, unfolding(crate::specs::Deviations::time_deviation))]
+fn time_deviation(moment: &Moment, pdo: &Tpdo) -> Option<Deviation>
+    ensures { result ≡ time_deviation moment.now pdo.now }
+{
+    if !is_event_driven(pdo.parameters.kind) {
+        return None;
+    }
+    let inhibit = pdo.parameters.inhibit?;
+    let sent = pdo.sent?;
+    timed(moment, pdo.parameters.timer, inhibit, sent)
+}
+
+/// The difference of a frame of a TPDO with so many bytes, where its parameters are settled; whether SYNC is known.
+#[tactic(auto, unfolding(crate::specs::Deviations::deviation_at))]
+pub(crate) fn deviation_at(
+    moment: &Moment,
+    has_sync: bool,
+    pdo: &Tpdo,
+    length: u8,
+) -> Option<Deviation>
+    ensures { result ≡ deviation_at moment.now has_sync pdo.now length }
+{
+    if !is_settled(moment, pdo.changed) {
+        return None;
+    }
+    state_deviation(moment)
+        .or(length_deviation(pdo.parameters.length, length))
+        .or(sync_deviation(has_sync, pdo))
+        .or(time_deviation(moment, pdo))
+}
+
+/// Whether a frame of it is judged: the number of its bytes is known, and the state of the device.
+pub(crate) fn is_judged(moment: &Moment, pdo: &Tpdo) -> bool
+    ensures { result ≡ is_judged moment.now pdo.now }
+{
+    moment.known && is_settled(moment, pdo.changed) && pdo.parameters.length.is_some()
+}

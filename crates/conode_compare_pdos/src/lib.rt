@@ -1,0 +1,15 @@
+//! The TPDOs of a device in a recording, and what they are otherwise than CiA 301 prescribes for its data sheet: the number of
+//! their bytes, the state of the device, SYNC, the inhibit time and the event timer.
+#![tactic(auto)]
+
+mod deviation;
+mod numbers;
+mod parameters;
+mod pdos;
+mod tpdo;
+
+pub use deviation::{Deviation, Moment};
+pub use numbers::{first_word, number_of, preset_at, small};
+pub use parameters::Parameters;
+pub use pdos::{Pdos, Sighting, pdos_of};
+pub use tpdo::{Sent, Tpdo};

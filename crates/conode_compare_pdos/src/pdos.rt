@@ -1,0 +1,195 @@
+//! The first four TPDOs of a device, followed through a recording.
+
+ghost use Rattle.std.specs.Prelude.{◌≡◌, true, map};
+ghost use Rattle.std.specs.List.{AllPairs};
+ghost use Rattle.co_sheet.specs.SheetViews.{row_view};
+ghost use Rattle.co_value.specs.Keys.{is_key_before};
+ghost use Rattle.conode_compare_pdos.specs.Followed.{
+  commanded,
+  framed,
+  interrupted,
+  pdos_of,
+  polled,
+  requested,
+  seen,
+  sighting,
+  synced,
+  transferred,
+  unknown_pdos,
+};
+
+use crate::deviation::{Deviation, Moment, deviation_at, is_judged};
+use crate::numbers::preset_at;
+use crate::parameters::{Parameters, identifier_of};
+use crate::tpdo::{Tpdo, is_id};
+use co_profile::keys::SYNC_COB_ID;
+use co_sheet::EntryRow;
+use co_value::Key;
+use conode_explain_transfers::Ended;
+
+/// What a recording shows of the first four TPDOs of a device.
+#[derive(Clone, Copy)]
+pub struct Pdos {
+    /// The identifier of SYNC (1005:00), where it is known.
+    pub sync: Option<u16>,
+    /// By 1800h and 1A00h.
+    pub first: Tpdo,
+    pub second: Tpdo,
+    pub third: Tpdo,
+    pub fourth: Tpdo,
+}
+
+/// What is said of a frame of a TPDO.
+#[derive(Clone, Copy)]
+pub struct Sighting {
+    /// Which one it is, from 1 on.
+    pub number: u8,
+    pub deviation: Option<Deviation>,
+    pub judged: bool,
+}
+
+/// What a data sheet, whose entries are in increasing key, has of the TPDOs of the device with a node-ID.
+#[tactic(auto, unfolding(crate::specs::Followed::pdos_of))]
+pub fn pdos_of(rows: &[EntryRow<'_>], node: u8) -> Pdos
+    requires { AllPairs (λ e f. is_key_before e.key f.key ≡ true) rows.now }
+    ensures { result ≡ pdos_of (map row_view rows.now) node }
+{
+    Pdos {
+        sync: match preset_at(rows, node, SYNC_COB_ID) {
+            Some(number) => identifier_of(number),
+            None => None,
+        },
+        first: Tpdo::booted(Parameters::of(rows, node, 0)),
+        second: Tpdo::booted(Parameters::of(rows, node, 1)),
+        third: Tpdo::booted(Parameters::of(rows, node, 2)),
+        fourth: Tpdo::booted(Parameters::of(rows, node, 3)),
+    }
+}
+
+// what is said of a frame with this identifier and so many bytes, where it is of this TPDO
+fn seen(
+    moment: &Moment,
+    has_sync: bool,
+    number: u8,
+    pdo: &Tpdo,
+    id: u16,
+    length: u8,
+) -> Option<Sighting>
+    ensures { result ≡ seen moment.now has_sync number pdo.now id length }
+{
+    if !is_id(pdo.parameters.id, id) {
+        return None;
+    }
+    Some(Sighting {
+        number,
+        deviation: deviation_at(moment, has_sync, pdo, length),
+        judged: is_judged(moment, pdo),
+    })
+}
+
+impl Pdos {
+    /// Nothing is known.
+    pub fn unknown() -> Pdos
+        ensures { result ≡ unknown_pdos }
+    {
+        Pdos {
+            sync: None,
+            first: Tpdo::unknown(),
+            second: Tpdo::unknown(),
+            third: Tpdo::unknown(),
+            fourth: Tpdo::unknown(),
+        }
+    }
+
+    /// An NMT command came, or a heartbeat shows another state than operational.
+    pub fn command(&mut self)
+        ensures { self.new ≡ commanded self.old }
+    {
+        self.first = self.first.after_command();
+        self.second = self.second.after_command();
+        self.third = self.third.after_command();
+        self.fourth = self.fourth.after_command();
+    }
+
+    /// Frames may be missing in the recording.
+    pub fn interrupt(&mut self)
+        ensures { self.new ≡ interrupted self.old }
+    {
+        self.first = self.first.after_gap();
+        self.second = self.second.after_gap();
+        self.third = self.third.after_gap();
+        self.fourth = self.fourth.after_gap();
+    }
+
+    /// A remote frame with this identifier came.
+    pub fn poll(&mut self, id: u16)
+        ensures { self.new ≡ polled self.old id }
+    {
+        self.first = self.first.after_poll(id);
+        self.second = self.second.after_poll(id);
+        self.third = self.third.after_poll(id);
+        self.fourth = self.fourth.after_poll(id);
+    }
+
+    /// A download to an entry is requested.
+    #[tactic(auto, unfolding(crate::specs::Followed::requested))]
+    pub fn request(&mut self, key: Key, micros: u64)
+        ensures { self.new ≡ requested self.old key micros }
+    {
+        self.first = self.first.after_request(0, key, micros);
+        self.second = self.second.after_request(1, key, micros);
+        self.third = self.third.after_request(2, key, micros);
+        self.fourth = self.fourth.after_request(3, key, micros);
+        if key == SYNC_COB_ID {
+            self.sync = None;
+        }
+    }
+
+    /// A transfer ended.
+    #[tactic(auto, unfolding(crate::specs::Followed::transferred))]
+    pub fn transfer(&mut self, ended: &Ended, micros: u64)
+        ensures { self.new ≡ transferred self.old ended.now micros }
+    {
+        self.first = self.first.after_transfer(0, ended, micros);
+        self.second = self.second.after_transfer(1, ended, micros);
+        self.third = self.third.after_transfer(2, ended, micros);
+        self.fourth = self.fourth.after_transfer(3, ended, micros);
+    }
+
+    // A SYNC came.
+    fn take_sync(&mut self)
+        ensures { self.new ≡ synced self.old }
+    {
+        self.first = self.first.after_sync();
+        self.second = self.second.after_sync();
+        self.third = self.third.after_sync();
+        self.fourth = self.fourth.after_sync();
+    }
+
+    /// A data frame with this identifier came: a SYNC, or one that may be of a TPDO.
+    #[tactic(auto, unfolding(crate::specs::Followed::framed))]
+    pub fn frame(&mut self, moment: &Moment, id: u16)
+        ensures { self.new ≡ framed self.old moment.now id }
+    {
+        if is_id(self.sync, id) {
+            self.take_sync();
+            return;
+        }
+        self.first = self.first.after_frame(moment, id);
+        self.second = self.second.after_frame(moment, id);
+        self.third = self.third.after_frame(moment, id);
+        self.fourth = self.fourth.after_frame(moment, id);
+    }
+
+    /// What is said of a data frame with this identifier and so many bytes, where it is of one of the TPDOs.
+    #[tactic(auto, unfolding(crate::specs::Followed::sighting))]
+    pub fn sighting(&self, moment: &Moment, id: u16, length: u8) -> Option<Sighting>
+        ensures { result ≡ sighting moment.now self.now id length }
+    {
+        let has_sync = self.sync.is_some();
+        seen(moment, has_sync, 1, &self.first, id, length)
+            .or(seen(moment, has_sync, 2, &self.second, id, length))
+            .or(seen(moment, has_sync, 3, &self.third, id, length))
+            .or(seen(moment, has_sync, 4, &self.fourth, id, length))
+    }
+}

@@ -1,0 +1,199 @@
+//! A TPDO in a recording: its parameters, its newest frame, and the SYNCs that it may answer (CiA 301, 7.2.2).
+
+ghost use Rattle.std.specs.Prelude.{◌≡◌};
+ghost use Rattle.conode_compare_pdos.specs.Tpdos.{
+  after_command,
+  after_frame,
+  after_gap,
+  after_poll,
+  after_request,
+  after_sync,
+  after_transfer,
+  booted_tpdo,
+  is_id,
+  shows_bytes,
+  unknown_tpdo,
+  with_parameters,
+};
+
+use crate::deviation::Moment;
+use crate::parameters::{Parameters, communication, mapping};
+use co_value::Key;
+use conode_explain_transfers::{Ended, Ending, Protocol};
+
+/// When a frame of it came.
+#[derive(Clone, Copy)]
+pub struct Sent {
+    /// When the bus was free last, before the frame.
+    pub free: u64,
+    /// Its stamp.
+    pub micros: u64,
+}
+
+/// What a recording shows of a TPDO.
+#[derive(Clone, Copy)]
+pub struct Tpdo {
+    pub parameters: Parameters,
+    /// Its newest frame, where its times count from that.
+    pub sent: Option<Sent>,
+    /// How many SYNCs it may answer, at most two.
+    pub syncs: u8,
+    /// When one of its parameters was written or read last.
+    pub changed: Option<u64>,
+}
+
+// how many SYNCs may stand out at most
+const MOST_SYNCS: u8 = 2;
+
+/// Whether an identifier is known to be this one.
+pub(crate) fn is_id(own: Option<u16>, id: u16) -> bool
+    ensures { result ≡ is_id own id }
+{
+    match own {
+        Some(own) => own == id,
+        None => false,
+    }
+}
+
+// whether a transfer that ended shows the bytes of its entry
+fn shows_bytes(ended: &Ended) -> bool
+    ensures { result ≡ shows_bytes ended.now.protocol ended.now.ending }
+{
+    matches!(
+        (ended.protocol, ended.ending),
+        (Protocol::Expedited, Ending::Done { crc: _ })
+    )
+}
+
+impl Tpdo {
+    /// Nothing is known of it.
+    pub(crate) fn unknown() -> Tpdo
+        ensures { result ≡ unknown_tpdo }
+    {
+        Tpdo {
+            parameters: Parameters::unknown(),
+            sent: None,
+            syncs: MOST_SYNCS,
+            changed: None,
+        }
+    }
+
+    /// The device booted up.
+    pub(crate) fn booted(parameters: Parameters) -> Tpdo
+        ensures { result ≡ booted_tpdo parameters }
+    {
+        Tpdo {
+            parameters,
+            sent: None,
+            syncs: 0,
+            changed: None,
+        }
+    }
+
+    /// An NMT command came: times count anew.
+    pub(crate) fn after_command(self) -> Tpdo
+        ensures { result ≡ after_command self }
+    {
+        Tpdo {
+            parameters: self.parameters,
+            sent: None,
+            syncs: self.syncs,
+            changed: self.changed,
+        }
+    }
+
+    /// Frames may be missing in the recording.
+    pub(crate) fn after_gap(self) -> Tpdo
+        ensures { result ≡ after_gap self }
+    {
+        Tpdo {
+            parameters: self.parameters,
+            sent: None,
+            syncs: MOST_SYNCS,
+            changed: self.changed,
+        }
+    }
+
+    /// A SYNC came.
+    pub(crate) fn after_sync(self) -> Tpdo
+        ensures { result ≡ after_sync self }
+    {
+        Tpdo {
+            parameters: self.parameters,
+            sent: self.sent,
+            syncs: if self.syncs >= MOST_SYNCS {
+                MOST_SYNCS
+            } else {
+                self.syncs + 1
+            },
+            changed: self.changed,
+        }
+    }
+
+    /// A remote frame with this identifier came: where it asks for the TPDO, that is sent without an event.
+    pub(crate) fn after_poll(self, id: u16) -> Tpdo
+        ensures { result ≡ after_poll id self }
+    {
+        if is_id(self.parameters.id, id) {
+            self.after_gap()
+        } else {
+            self
+        }
+    }
+
+    /// A data frame with this identifier came.
+    pub(crate) fn after_frame(self, moment: &Moment, id: u16) -> Tpdo
+        ensures { result ≡ after_frame moment.now id self }
+    {
+        if !is_id(self.parameters.id, id) {
+            return self;
+        }
+        Tpdo {
+            parameters: self.parameters,
+            sent: Some(Sent {
+                free: moment.free,
+                micros: moment.micros,
+            }),
+            syncs: self.syncs.saturating_sub(1),
+            changed: self.changed,
+        }
+    }
+
+    // A parameter was written or read.
+    fn with_parameters(micros: u64, parameters: Parameters) -> Tpdo
+        ensures { result ≡ with_parameters micros parameters }
+    {
+        Tpdo {
+            parameters,
+            sent: None,
+            syncs: MOST_SYNCS,
+            changed: Some(micros),
+        }
+    }
+
+    /// A download to an entry is requested; a mapping that is written isn't known any more.
+    pub(crate) fn after_request(self, number: u8, key: Key, micros: u64) -> Tpdo
+        ensures { result ≡ after_request key micros number self }
+    {
+        let mut parameters = self.parameters;
+        if key.index == communication(number) {
+            return Tpdo::with_parameters(micros, parameters.asked_to_write(key.sub));
+        }
+        if key.index == mapping(number) {
+            parameters.length = None;
+            return Tpdo::with_parameters(micros, parameters);
+        }
+        self
+    }
+
+    /// A transfer ended.
+    pub(crate) fn after_transfer(self, number: u8, ended: &Ended, micros: u64) -> Tpdo
+        ensures { result ≡ after_transfer ended.now micros number self }
+    {
+        if ended.key.index != communication(number) || !shows_bytes(ended) {
+            return self;
+        }
+        let parameters = self.parameters.shown(ended.key.sub, ended.first.as_slice());
+        Tpdo::with_parameters(micros, parameters)
+    }
+}
