@@ -37,9 +37,9 @@
 extern "C" {
 #endif
 
-#define BAFOKUN_VERSION "0.8.0"
+#define BAFOKUN_VERSION "0.9.0"
 #define BAFOKUN_VERSION_MAJOR 0
-#define BAFOKUN_VERSION_MINOR 8
+#define BAFOKUN_VERSION_MINOR 9
 #define BAFOKUN_VERSION_PATCH 0
 
 /* No input gives more frames: an array of so many has room for all. */
@@ -220,6 +220,20 @@ size_t bafokun_entry_name(bafokun_node *node, size_t number, char *text, size_t 
 
 /* Whether there is an entry of this index and sub-index. If so its number is put into number. If not, nothing is written. */
 bool bafokun_find(bafokun_node *node, uint16_t index, uint8_t sub_index, size_t *number);
+
+/*
+ * Whether an entry, by its number from one on, has other bytes than those that the program knows: those that its last bafokun_write
+ * set, or those that the entry had when this call last gave it; after the build it knows none. If so the number of the first such entry
+ * is put into number, and the program knows its bytes. If not, nothing is written, and nothing else is changed either way.
+ *
+ *     for (number = 0; bafokun_next_changed(&node, number, &number); number++)
+ *         ...
+ *
+ * So this loop comes first to each entry that has bytes, and later, once, to each entry that SDO clients, RPDOs, a reset or an error
+ * gave other bytes since it last came to it, whatever was set in between. An entry that was set to the bytes that it had isn't among
+ * them: a program that takes an entry for a command sets it back, by bafokun_write, when the command is done.
+ */
+bool bafokun_next_changed(bafokun_node *node, size_t from, size_t *number);
 
 /* The node-ID, 1 to 127. */
 uint8_t bafokun_node_id(bafokun_node *node);
