@@ -17,7 +17,7 @@ static struct stat bound; /* what was made at the path of the socket */
 /* Writes what can be written without a wait, or all of a trace, unless a signal ends the run and nobody reads. */
 static void flush(struct client *client)
 {
-    int fd = client == &standard ? 1 : client->source.fd;
+    int fd = client == &standard ? STDOUT_FILENO : client->source.fd;
     bool is_trace = client == &standard && in_stdio;
     size_t done = 0;
     while (done < client->unread && !client->is_broken && has_room(fd, is_trace)) {
@@ -56,10 +56,12 @@ static void take_line(struct client *client, char *line, size_t length)
     client->number++;
     if (length > 0 && line[length - 1] == '\r') length--;
     line[length] = 0;
-    bool is_long = client->is_long || length > MOST_LINE, has_zero = strlen(line) != length;
-    if (is_long) say(client, TROUBLE, "error: the line has more than %d bytes", MOST_LINE);
-    else if (has_zero) say(client, TROUBLE, "error: the line has a byte 0");
-    else client->take(client, line);
+    if (client->is_long || length > MOST_LINE)
+        say(client, TROUBLE, "error: the line has more than %d bytes", MOST_LINE);
+    else if (strlen(line) != length)
+        say(client, TROUBLE, "error: the line has a byte 0");
+    else
+        client->take(client, line);
     client->is_long = false;
 }
 
@@ -89,9 +91,9 @@ static void take_text(struct source *source)
     client->used = 0;
 }
 
-struct client standard = { .source = { 0, take_text, 0 } };
+struct client standard = { .source = { STDIN_FILENO, take_text, 0 } };
 struct client player = { .source = { -1, take_text, 0 }, .take = take_stamped, .has_ended = true, .numbered = "play" };
-static struct client *clients = &standard;
+static struct client *clients; /* connections */
 
 /* Does the lines of --play that are due. */
 void play_due(void)
@@ -154,32 +156,38 @@ void open_clients(const char *play, const char *socket)
     if (socket) open_socket(socket);
 }
 
+/* Says what changed, and writes answers. False: nobody reads them, which was said. */
+static bool tell(struct client *client, const char *name)
+{
+    say_changes(client);
+    flush(client);
+    bool is_full = client->unread > MOST_UNREAD;
+    if (is_full) fprintf(stderr, "%s isn't read, and is dropped\n", name);
+    return !is_full && !client->is_broken;
+}
+
 /* At each turn of the loop: what changed is said, answers are written. In --stdio the run ends with its lines. */
 void tend_clients(void)
 {
     say_changes(&player);
-    for (struct client **at = &clients, *client; (client = *at); ) {
-        bool is_standard = client == &standard;
-        say_changes(client);
-        flush(client);
-        bool is_full = client->unread > MOST_UNREAD, is_lost = is_full || client->is_broken;
-        if (is_full) fprintf(stderr, "%s isn't read, and is dropped\n", is_standard ? "standard output" : "a client");
-        if (is_standard && is_lost) {
-            client->unread = 0;
-            if (in_stdio) end_loop(false);
-        }
-        if (!is_standard && (is_lost || (client->has_ended && client->unread == 0))) {
-            *at = client->next;
-            while (client->watch_count > 0) free(client->watches[--client->watch_count].bytes);
-            close(client->source.fd);
-            free(client);
-        } else {
-            uint32_t to_write = client->unread > 0 && !is_standard ? EPOLLOUT : 0;
-            want(&client->source, client->has_ended ? to_write : EPOLLIN | to_write);
-            at = &client->next;
-        }
+    if (!tell(&standard, "standard output")) {
+        standard.unread = 0;
+        if (in_stdio) end_loop(false);
     }
-    if (in_stdio && standard.has_ended && (by_stamps || !is_playing())) end_loop(true);
+    want(&standard.source, standard.has_ended ? 0 : EPOLLIN);
+    if (in_stdio && standard.has_ended && (by_stamps || play_quiet_ms() > DAY_MS)) end_loop(true);
+    for (struct client **at = &clients, *client; (client = *at); ) {
+        bool is_heard = tell(client, "a client");
+        if (is_heard && (!client->has_ended || client->unread > 0)) {
+            want(&client->source, (client->has_ended ? 0 : EPOLLIN) | (client->unread > 0 ? EPOLLOUT : 0));
+            at = &client->next;
+            continue;
+        }
+        *at = client->next;
+        while (client->watch_count > 0) free(client->watches[--client->watch_count].bytes);
+        close(client->source.fd);
+        free(client);
+    }
     if (socket_path) let_in(&listener);
 }
 
