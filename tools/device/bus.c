@@ -18,8 +18,8 @@
 const char *const health_names[] = { "error active", "error passive", "bus-off", "down" };
 
 /*
- * The bus is now like this to a device; the first device of an interface says it. An interface that was down has recovered, as from
- * bus-off.
+ * The bus is now like this to a device; the first device of an interface says it. An interface that was down has
+ * recovered, as from bus-off.
  */
 static void become(struct device *device, enum health health)
 {
@@ -70,8 +70,8 @@ static bool is_tpdo(struct device *device, const bafokun_frame *frame)
 static bool is_boot_up(const bafokun_frame *frame) { return frame->id > 0x700 && frame->bytes[0] == 0; }
 
 /*
- * Sends a frame, or lets it wait. A TPDO or heartbeat that waits is replaced by its newer one; where no room is left the oldest
- * TPDO is thrown away, or the frame itself, where no TPDO waits.
+ * Sends a frame, or lets it wait. A TPDO or heartbeat that waits is replaced by its newer one; where no room is left
+ * the oldest TPDO is thrown away, or the frame itself, where no TPDO waits.
  */
 void put_on_bus(struct device *device, const bafokun_frame *frame)
 {
@@ -100,12 +100,13 @@ bool is_crowded(const struct device *device) { return device->waiting > CROWD; }
 static void take_frame(struct device *device, const struct can_frame *in)
 {
     bafokun_frame frame = { (uint16_t)in->can_id, in->can_dlc, { 0 } };
-    bool is_error = in->can_id & CAN_ERR_FLAG, is_of_controller = is_error && in->can_id & CAN_ERR_CRTL;
-    if (is_error && in->can_id & CAN_ERR_BUSOFF) become(device, BUS_OFF);
-    if (is_error && in->can_id & CAN_ERR_RESTARTED) become(device, ACTIVE);
-    if (is_of_controller && device->health != BUS_OFF && in->data[1] & (PASSIVE_BITS | BETTER_BITS))
-        become(device, in->data[1] & PASSIVE_BITS ? PASSIVE : ACTIVE);
-    if (in->can_id & (CAN_EFF_FLAG | CAN_RTR_FLAG | CAN_ERR_FLAG) || in->can_dlc > 8) return;
+    canid_t error = in->can_id & CAN_ERR_FLAG ? in->can_id : 0;
+    uint8_t controller = error & CAN_ERR_CRTL ? in->data[1] : 0;
+    if (error & CAN_ERR_BUSOFF) become(device, BUS_OFF);
+    if (error & CAN_ERR_RESTARTED) become(device, ACTIVE);
+    if (device->health != BUS_OFF && controller & PASSIVE_BITS) become(device, PASSIVE);
+    else if (device->health != BUS_OFF && controller & BETTER_BITS) become(device, ACTIVE);
+    if (error || in->can_id & (CAN_EFF_FLAG | CAN_RTR_FLAG) || in->can_dlc > 8) return;
     memcpy(frame.bytes, in->data, in->can_dlc);
     send_frames(device, bafokun_take(&device->node, &frame, FRAMES));
 }
@@ -124,8 +125,8 @@ static void take_frames(struct source *source)
 
 /* ---- the interface */
 
-/* Opens the socket of a device; false, with errno, where there is no such interface, or it is down. */
-static bool connect_bus(struct device *device)
+/* Opens the socket of a device. False, with errno: there is no such interface, or it is down, and is waited for. */
+bool open_bus(struct device *device)
 {
     static const can_err_mask_t errors = CAN_ERR_BUSOFF | CAN_ERR_CRTL | CAN_ERR_RESTARTED;
     struct sockaddr_can at = { .can_family = AF_CAN, .can_ifindex = (int)if_nametoindex(device->interface) };
@@ -139,18 +140,9 @@ static bool connect_bus(struct device *device)
         && getsockopt(fd, SOL_SOCKET, SO_ERROR, &reason, &size) == 0 && reason == 0
         && want(&device->bus, EPOLLIN)) return true;
     if (reason == 0) reason = errno;
-    close(fd);
-    device->bus.fd = -1;
+    go_down(device);
     errno = reason;
     return false;
-}
-
-/* An interface that is down is waited for. */
-void open_bus(struct device *device)
-{
-    if (connect_bus(device)) return;
-    if (errno != ENETDOWN) err(1, "%s", device->interface);
-    become(device, DOWN);
 }
 
 /* For how many ms at least nothing is tried again: a frame that waits is each ms. */
@@ -167,7 +159,7 @@ void tend_bus(struct device *device)
     if (in_stdio) return;
     if (device->health == DOWN && elapsed >= device->retry) {
         device->retry = elapsed + RETRY_MS;
-        if (connect_bus(device)) become(device, ACTIVE);
+        if (open_bus(device)) become(device, ACTIVE);
     }
     while (sent < device->waiting && send_now(device, &device->queue[sent])) sent++;
     memmove(device->queue, device->queue + sent, (device->waiting - sent) * sizeof *device->queue);

@@ -51,20 +51,6 @@ bool say(struct client *client, enum kind kind, const char *format, ...)
 
 /* ---- what they give */
 
-static void take_line(struct client *client, char *line, size_t length)
-{
-    client->number++;
-    if (length > 0 && line[length - 1] == '\r') length--;
-    line[length] = 0;
-    if (client->is_long || length > MOST_LINE)
-        say(client, TROUBLE, "error: the line has more than %d bytes", MOST_LINE);
-    else if (strlen(line) != length)
-        say(client, TROUBLE, "error: the line has a byte 0");
-    else
-        client->take(client, line);
-    client->is_long = false;
-}
-
 /* Reads what there is, and does the lines in it that are due. Of a line that is too long nothing is kept. */
 static void take_text(struct source *source)
 {
@@ -82,8 +68,18 @@ static void take_text(struct source *source)
         else if (client->used > 0 || client->is_long) *end++ = '\n'; /* a last line needs no end */
     }
     *end = 0;
-    for (; (next = memchr(line, '\n', (size_t)(end - line))) && is_due(client, line); line = next + 1)
-        take_line(client, line, (size_t)(next - line));
+    for (; (next = memchr(line, '\n', (size_t)(end - line))) && is_due(client, line); line = next + 1) {
+        char *last = next > line && next[-1] == '\r' ? next - 1 : next;
+        *last = 0;
+        client->number++;
+        if (client->is_long || last > line + MOST_LINE)
+            say(client, TROUBLE, "error: the line has more than %d bytes", MOST_LINE);
+        else if (line + strlen(line) != last)
+            say(client, TROUBLE, "error: the line has a byte 0");
+        else
+            client->take(client, line);
+        client->is_long = false;
+    }
     client->used = (size_t)(end - line);
     memmove(client->text, line, client->used);
     if (next || client->used <= MOST_LINE + 1) return; /* with a CR that isn't counted */
@@ -184,7 +180,7 @@ void tend_clients(void)
             continue;
         }
         *at = client->next;
-        while (client->watch_count > 0) free(client->watches[--client->watch_count].bytes);
+        while (client->watch_count > 0) free(client->watches[--client->watch_count].said);
         close(client->source.fd);
         free(client);
     }

@@ -62,43 +62,39 @@ static bool answer(const struct request *at, size_t count)
     return is_done;
 }
 
-static bool read_value(struct device *device, const bafokun_entry_info *entry)
-{
-    return bafokun_value(&device->node, entry->index, entry->sub_index, bytes, sizeof bytes, &length);
-}
-
-static bool say_value(struct client *client, const bafokun_entry_info *entry)
+/* Says the value of an entry, unless it is the one that was said last. False: there is no such entry. */
+static bool say_value(struct client *client, struct watch *at)
 {
     static char text[MOST_TEXT];
+    bafokun_entry_info *entry = &at->entry;
+    if (!bafokun_value(&at->device->node, entry->index, entry->sub_index, bytes, sizeof bytes, &length)) return false;
+    if (at->said && length == entry->length && memcmp(bytes, at->said, length) == 0) return true;
     write_value(entry->type, bytes, length, text);
-    return say(client, ANSWER, "%04X:%02X %s", entry->index, entry->sub_index, text);
+    say(client, ANSWER, "%04X:%02X %s", entry->index, entry->sub_index, text);
+    free(at->said);
+    at->said = malloc(length + 1);
+    if (at->said) memcpy(at->said, bytes, length);
+    entry->length = length;
+    return true;
 }
 
 /* Says the watched entries that have changed. */
 void say_changes(struct client *client)
 {
-    for (struct watch *at = client->watches; at < client->watches + client->watch_count; at++) {
-        read_value(at->device, &at->entry);
-        if (at->bytes && length == at->entry.length && memcmp(bytes, at->bytes, length) == 0) continue;
-        uint8_t *copy = realloc(at->bytes, length + 1);
-        if (!copy) continue;
-        at->bytes = memcpy(copy, bytes, length);
-        at->entry.length = length;
-        say_value(client, &at->entry);
-    }
+    for (size_t i = 0; i < client->watch_count; i++) say_value(client, &client->watches[i]);
 }
 
 /* The value of an entry at once, and, where it is watched, at each change. */
 static bool get(const struct request *at, bool is_watched)
 {
     struct client *client = at->client;
+    struct watch value = { at->device, at->entry, NULL };
     if (is_watched && client->watch_count == MOST_WATCHES)
         return say(client, TROUBLE, "error: %d entries are watched already", MOST_WATCHES);
-    if (!read_value(at->device, &at->entry))
+    if (!say_value(client, &value))
         return say(client, TROUBLE, "error: there is no entry %04X:%02X", at->entry.index, at->entry.sub_index);
-    if (!is_watched) return say_value(client, &at->entry);
-    client->watches[client->watch_count++] = (struct watch){ at->device, at->entry, NULL };
-    say_changes(client);
+    if (is_watched) client->watches[client->watch_count++] = value;
+    else free(value.said);
     return false;
 }
 
@@ -151,45 +147,38 @@ static char *next_word(char **rest)
     return word;
 }
 
-static bool read_word(struct request *at, char kind, const char *word)
-{
-    /* what an error sets if nothing is said: current, voltage, temperature, communication, the manufacturer's */
-    static const uint8_t bits[16] = { [2] = 0x02, [3] = 0x04, [4] = 0x08, [8] = 0x10, [15] = 0x80 };
-    bool is_right;
-    switch (kind) {
-    case 'c':
-        is_right = strlen(word) == 4 && read_number(word, 16, 0, 0xFFFF, &at->code);
-        at->bits = bits[at->code >> 12 & 15];
-        return is_right;
-    case 'b': return strlen(word) == 2 && read_number(word, 16, 0, 0xFF, &at->bits);
-    case 'n': return read_number(word, 10, 1, DAY_MS, &at->number);
-    case 't': return read_number(word, 10, 0, 65535, &at->number);
-    case 'p': return read_number(word, 10, 1, 65536, &at->number) && at->number-- > 0;
-    case 'x': return bytes_of(DOMAIN_TYPE, word, bytes, &length) && length == 5;
-    default: return bytes_of(DOMAIN_TYPE, word, bytes, &length);
-    }
-}
-
 /* Reads the words after a command. */
 static bool read_words(struct request *at, const struct command *command, char *rest)
 {
-    int count = 0;
+    /* what an error sets if nothing is said: current, voltage, temperature, communication, the manufacturer's */
+    static const uint8_t bits[16] = { [2] = 0x02, [3] = 0x04, [4] = 0x08, [8] = 0x10, [15] = 0x80 };
+    const char *kind = command->kinds;
     bool is_right = true;
     memset(bytes, 0, 5);
-    for (char kind; is_right && (kind = command->kinds[count]) && *rest; count++) {
-        if (kind == 'k') {
-            size_t used = find_entry(at->client, at->device, rest, &at->entry);
-            if (used == 0) return false;
-            rest += used + strspn(rest + used, " \t");
-        } else if (kind == 'v') {
-            if (!bytes_of(at->entry.type, rest, bytes, &length))
-                return say(at->client, TROUBLE, "error: this is no value of data type %02Xh", at->entry.type);
-            rest += strlen(rest);
-        } else {
-            is_right = read_word(at, kind, next_word(&rest));
+    for (; is_right && *kind && *rest; kind++) {
+        bool has_blanks = *kind == 'k' || *kind == 'v';
+        const char *word = has_blanks ? rest : next_word(&rest);
+        size_t size = strlen(word);
+        switch (*kind) {
+        case 'k':
+            if ((size = find_entry(at->client, at->device, word, &at->entry)) == 0) return false;
+            break;
+        case 'v':
+            if (bytes_of(at->entry.type, word, bytes, &length)) break;
+            return say(at->client, TROUBLE, "error: this is no value of data type %02Xh", at->entry.type);
+        case 'c':
+            is_right = size == 4 && read_number(word, 16, 0, 0xFFFF, &at->code);
+            at->bits = bits[at->code >> 12 & 0xF];
+            break;
+        case 'b': is_right = size == 2 && read_number(word, 16, 0, 0xFF, &at->bits); break;
+        case 'n': is_right = read_number(word, 10, 1, DAY_MS, &at->number); break;
+        case 't': is_right = read_number(word, 10, 0, 65535, &at->number); break;
+        case 'p': is_right = read_number(word, 10, 1, 65536, &at->number) && at->number-- > 0; break;
+        default: is_right = bytes_of(DOMAIN_TYPE, word, bytes, &length) && (*kind == 'h' || length == 5);
         }
+        if (has_blanks) rest += size + strspn(rest + size, " \t");
     }
-    if (is_right && count >= command->least && !*rest) return true;
+    if (is_right && !*rest && kind - command->kinds >= command->least) return true;
     return say(at->client, TROUBLE, "error: %s", command->form);
 }
 
@@ -197,16 +186,13 @@ static bool read_words(struct request *at, const struct command *command, char *
 static struct device *read_device(struct client *client, char **line)
 {
     struct device *device = NULL;
-    char word[24] = "";
-    int found = 0;
-    sscanf(*line, "%23s", word);
-    bool is_named = *word && *word != '!' && isdigit((unsigned char)word[strlen(word) - 1]);
+    size_t size = strcspn(*line, " \t"), found = 0;
+    const char *name = **line != '!' && size > 0 && isdigit((unsigned char)(*line)[size - 1]) ? next_word(line) : NULL;
     for (struct device *at = devices; at < devices_end; at++) {
-        if (is_named && strcmp(word, at->name) != 0 && strcmp(word, strchr(at->name, ':') + 1) != 0) continue;
+        if (name && strcmp(name, at->name) != 0 && strcmp(name, strchr(at->name, ':') + 1) != 0) continue;
         device = at;
         found++;
     }
-    if (is_named) next_word(line);
     if (found == 1 || (found > 1 && (strncmp(*line, "!tick ", 6) == 0 || strcmp(*line, "help") == 0))) return device;
     say(client, TROUBLE, found ? "error: the node comes first, as %s" : "error: there is no such node, as %s is one",
         devices_end[-1].name);

@@ -56,10 +56,10 @@ struct client {
     const char *numbered;               /* "line": where errors have the number of the line, else NULL */
     unsigned long number;
     size_t used, unread, watch_count;
-    struct watch { /* an entry whose changes it is told; its bytes when it was told last */
+    struct watch { /* an entry whose changes it is told; the bytes that were said last, as many as the entry had */
         struct device *device;
         bafokun_entry_info entry;
-        uint8_t *bytes;
+        uint8_t *said;
     } watches[MOST_WATCHES];
     struct client *next;
     char text[MOST_LINE + 4], answers[MOST_UNREAD + MOST_TEXT + 100]; /* so many bytes of both are used and unread */
@@ -81,7 +81,7 @@ bool has_room(int fd, bool waits);
 
 /* bus.c: SocketCAN */
 extern const char *const health_names[];
-void open_bus(struct device *device);
+bool open_bus(struct device *device);
 void tend_bus(struct device *device);
 uint64_t bus_quiet_ms(const struct device *device);
 void put_on_bus(struct device *device, const bafokun_frame *frame);

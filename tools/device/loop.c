@@ -1,6 +1,6 @@
 /*
- * What happens, and when: one epoll loop. Its clock is a timerfd, set to when a device is due, so that devices that wait take no
- * processor. SIGTERM, SIGINT and SIGHUP end it; they come only while it waits.
+ * What happens, and when: one epoll loop. Its clock is a timerfd, set to when a device is due, so that devices that
+ * wait take no processor. SIGTERM, SIGINT and SIGHUP end it; they come only while it waits.
  */
 #include "device.h"
 
@@ -34,7 +34,7 @@ bool want(struct source *source, uint32_t events)
     return errno == EPERM;
 }
 
-/* For so many ms nothing happens but what comes from outside: none is a tick at which a device is due, or a line of --play. */
+/* For so many ms nothing happens but what comes from outside: no device is due, and no line of --play. */
 static uint64_t quiet_ms(void)
 {
     uint64_t least = play_quiet_ms();
@@ -100,7 +100,8 @@ void start_loop(void)
     signal(SIGTTIN, SIG_IGN); /* in the background a terminal isn't read */
     epoll = epoll_create1(EPOLL_CLOEXEC);
     timer = timerfd_create(CLOCK_MONOTONIC, TFD_NONBLOCK | TFD_CLOEXEC);
-    if (epoll_ctl(epoll, EPOLL_CTL_ADD, timer, &(struct epoll_event){ .events = EPOLLIN }) != 0) err(1, "canopen-device");
+    struct epoll_event rings = { .events = EPOLLIN };
+    if (epoll_ctl(epoll, EPOLL_CTL_ADD, timer, &rings) != 0) err(1, "canopen-device");
     begin = now();
 }
 
@@ -108,7 +109,12 @@ void start_loop(void)
 bool run_loop(void)
 {
     struct epoll_event events[MOST_EVENTS];
-    while (!is_over && !has_signal) {
+    for (;;) {
+        deliver();
+        play_due();
+        for (struct device *at = devices; at < devices_end; at++) tend_bus(at);
+        tend_clients();
+        if (is_over || has_signal) return !is_bad;
         uint64_t next = begin + elapsed + quiet_ms() + 1;
         struct itimerspec once = { { 0, 0 }, { (time_t)(next / MS_PER_S), (long)(next % MS_PER_S * NS_PER_MS) } };
         if (!by_stamps && timerfd_settime(timer, TFD_TIMER_ABSTIME, &once, NULL) != 0) err(1, "canopen-device");
@@ -119,9 +125,5 @@ bool run_loop(void)
             if (source) source->ready(source);
         }
         if (file) file->ready(file);
-        deliver();
-        for (struct device *at = devices; at < devices_end; at++) tend_bus(at);
-        tend_clients();
     }
-    return !is_bad;
 }

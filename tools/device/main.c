@@ -64,12 +64,14 @@ static void build(struct device *device, const char *word, const bafokun_config 
     size_t length = text && file ? fread(text, 1, MOST_SHEET, file) : 0;
     if (!text || !file || ferror(file)) err(1, "%s", sheet);
     fclose(file);
-    if (bafokun_build(&device->node, text, length, (uint8_t)node_id, config, &fault)) return name_objects(device, text);
-    bafokun_fault_text(&fault, what, sizeof what);
-    if (fault.stage == BAFOKUN_FAULT_DEVICE)
-        errx(1, "%s: build fault %u %04X:%02X: %s", word, fault.number, fault.index, fault.sub_index, what);
-    errx(1, "%s: fault %u line %llu: %s; `conode adapt %s` may mend it", word, fault.number,
-         (unsigned long long)fault.line, what, sheet);
+    if (!bafokun_build(&device->node, text, length, (uint8_t)node_id, config, &fault)) {
+        bafokun_fault_text(&fault, what, sizeof what);
+        if (fault.stage == BAFOKUN_FAULT_DEVICE)
+            errx(1, "%s: build fault %u %04X:%02X: %s", word, fault.number, fault.index, fault.sub_index, what);
+        errx(1, "%s: fault %u line %llu: %s; `conode adapt %s` may mend it", word, fault.number,
+             (unsigned long long)fault.line, what, sheet);
+    }
+    name_objects(device, text);
 }
 
 /* Whether the words are right. */
@@ -100,11 +102,10 @@ int main(int count, char **words)
     if (!devices) err(1, "canopen-device");
     for (int i = optind; i < count; i++) build(devices_end++, words[i], &config);
     start_loop();
-    for (struct device *at = devices; !in_stdio && at < devices_end; at++) open_bus(at);
+    for (struct device *at = devices; !in_stdio && at < devices_end; at++)
+        if (!open_bus(at) && errno != ENETDOWN) err(1, "%s", at->interface);
     open_clients(given[PLAY], given[SOCKET]);
     for (struct device *at = devices; at < devices_end; at++) send_frames(at, bafokun_boot(&at->node, FRAMES));
-    deliver();
-    play_due();
     bool is_well = run_loop();
     if (in_stdio) end_trace();
     return close_clients() && is_well ? 0 : 1;

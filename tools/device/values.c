@@ -1,4 +1,4 @@
-/* Names and values of entries, as people write them: the library gives numbers and bytes. docs/SHEETS.md says what a sheet is. */
+/* Names and values of entries, as people write them: the library gives numbers and bytes. */
 #include "device.h"
 
 #include <endian.h>
@@ -14,7 +14,7 @@ char *trimmed(char *text)
     return text;
 }
 
-/* Keeps the names of a sheet's objects, which aren't entries' names. The sheet was accepted; its text is cut into names. */
+/* Keeps the names of a sheet's objects, since the library has those of entries alone. The text is cut into names. */
 void name_objects(struct device *device, char *text)
 {
     char **name = NULL, index[5], last;
@@ -48,7 +48,7 @@ static size_t match_entry(struct device *device, const char *text, size_t number
     return length > 0 ? front + 1 + length : 0;
 }
 
-/* The entry that a text begins with, by its key or its longest name: how many bytes that has. 0: there is none, which was said. */
+/* The entry that a text begins with, by its key or its longest name: how many bytes that has. 0: none, as was said. */
 size_t find_entry(struct client *client, struct device *device, const char *text, bafokun_entry_info *found)
 {
     char index[5] = "", sub_index[3] = "";
@@ -59,7 +59,8 @@ size_t find_entry(struct client *client, struct device *device, const char *text
     *found = (bafokun_entry_info){ .index = (uint16_t)strtoul(index, NULL, 16), .type = DOMAIN_TYPE };
     found->sub_index = (uint8_t)strtoul(sub_index, NULL, 16);
     if (end == 7 && strchr(" \t", text[end])) {
-        if (bafokun_find(&device->node, found->index, found->sub_index, &number)) bafokun_entry(&device->node, number, found);
+        if (bafokun_find(&device->node, found->index, found->sub_index, &number))
+            bafokun_entry(&device->node, number, found);
         return 7;
     }
     for (number = 0; bafokun_entry(&device->node, number, &entry); number++) {
