@@ -89,7 +89,7 @@ static void take_text(struct source *source)
 
 struct client standard = { .source = { STDIN_FILENO, take_text, 0 } };
 struct client player = { .source = { -1, take_text, 0 }, .take = take_stamped, .has_ended = true, .numbered = "play" };
-static struct client *clients; /* connections */
+static struct client *clients = &standard; /* the last of them, after connections */
 
 /* Does the lines of --play that are due. */
 void play_due(void)
@@ -152,38 +152,32 @@ void open_clients(const char *play, const char *socket)
     if (socket) open_socket(socket);
 }
 
-/* Says what changed, and writes answers. False: nobody reads them, which was said. */
-static bool tell(struct client *client, const char *name)
-{
-    say_changes(client);
-    flush(client);
-    bool is_full = client->unread > MOST_UNREAD;
-    if (is_full) fprintf(stderr, "%s isn't read, and is dropped\n", name);
-    return !is_full && !client->is_broken;
-}
-
 /* At each turn of the loop: what changed is said, answers are written. In --stdio the run ends with its lines. */
 void tend_clients(void)
 {
     say_changes(&player);
-    if (!tell(&standard, "standard output")) {
-        standard.unread = 0;
-        if (in_stdio) end_loop(false);
-    }
-    want(&standard.source, standard.has_ended ? 0 : EPOLLIN);
-    if (in_stdio && standard.has_ended && (by_stamps || play_quiet_ms() > DAY_MS)) end_loop(true);
     for (struct client **at = &clients, *client; (client = *at); ) {
-        bool is_heard = tell(client, "a client");
-        if (is_heard && (!client->has_ended || client->unread > 0)) {
-            want(&client->source, (client->has_ended ? 0 : EPOLLIN) | (client->unread > 0 ? EPOLLOUT : 0));
-            at = &client->next;
-            continue;
+        bool is_standard = client == &standard;
+        say_changes(client);
+        flush(client);
+        bool is_full = client->unread > MOST_UNREAD, is_lost = is_full || client->is_broken;
+        if (is_full) fprintf(stderr, "%s isn't read, and is dropped\n", is_standard ? "standard output" : "a client");
+        if (is_standard && is_lost) {
+            client->unread = 0;
+            if (in_stdio) end_loop(false);
         }
-        *at = client->next;
-        while (client->watch_count > 0) free(client->watches[--client->watch_count].said);
-        close(client->source.fd);
-        free(client);
+        if (!is_standard && (is_lost || (client->has_ended && client->unread == 0))) {
+            *at = client->next;
+            while (client->watch_count > 0) free(client->watches[--client->watch_count].said);
+            close(client->source.fd);
+            free(client);
+        } else {
+            uint32_t to_write = client->unread > 0 && !is_standard ? EPOLLOUT : 0;
+            want(&client->source, client->has_ended ? to_write : EPOLLIN | to_write);
+            at = &client->next;
+        }
     }
+    if (in_stdio && standard.has_ended && (by_stamps || play_quiet_ms() > DAY_MS)) end_loop(true);
     if (socket_path) let_in(&listener);
 }
 

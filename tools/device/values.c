@@ -31,21 +31,21 @@ void name_objects(struct device *device, char *text)
 }
 
 /* How many bytes of a text are this name; 0: it begins otherwise. */
-static size_t match(const char *text, const char *name, const char *ends)
+static size_t match(const char *text, const char *name)
 {
-    size_t length = name ? strlen(name) : 0;
-    return length > 0 && strncasecmp(text, name, length) == 0 && strchr(ends, text[length]) ? length : 0;
+    size_t length = strlen(name);
+    return length > 0 && strncasecmp(text, name, length) == 0 && strchr(" \t", text[length]) ? length : 0;
 }
 
-/* How many bytes of a text are the name of an entry, perhaps as OBJECT.NAME. */
+/* How many bytes of a text are the name of an entry, or OBJECT.NAME. */
 static size_t match_entry(struct device *device, const char *text, size_t number, const char *object)
 {
     static char name[MOST_LINE + 1];
-    bafokun_entry_name(&device->node, number, name, sizeof name);
-    size_t length = match(text, name, " \t"), front = match(text, object, ".");
-    if (length > 0 || front == 0 || text[front] == 0) return length;
-    length = match(text + front + 1, name, " \t");
-    return length > 0 ? front + 1 + length : 0;
+    size_t front = object ? (size_t)snprintf(name, sizeof name, "%s.", object) : 0;
+    if (front >= sizeof name) front = 0;
+    bafokun_entry_name(&device->node, number, name + front, sizeof name - front);
+    size_t length = match(text, name + front);
+    return length > 0 ? length : match(text, name);
 }
 
 /* The entry that a text begins with, by its key or its longest name: how many bytes that has. 0: none, as was said. */
