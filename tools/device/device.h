@@ -23,7 +23,8 @@
 #define MOST_WAITING 1024              /* frames of a device that wait for the bus */
 #define DAY_MS 86400000                /* most ms of a !tick */
 #define DOMAIN_TYPE 0x0F               /* the data type of bytes as they are */
-#define HEX "[0-9A-Fa-f]"
+#define DIGITS "0123456789ABCDEFabcdef"
+#define HEX "[" DIGITS "]"
 #define FRAMES frames, BAFOKUN_MOST_FRAMES
 
 /* What epoll watches, for these of its events. */

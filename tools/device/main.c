@@ -34,7 +34,7 @@ static const struct option options[] = {
 /* A number of digits alone. */
 bool read_number(const char *word, int base, unsigned long least, unsigned long most, unsigned long *number)
 {
-    const char *digits = base == 16 ? "0123456789ABCDEFabcdef" : "0123456789";
+    const char *digits = base == 16 ? DIGITS : "0123456789";
     *number = strtoul(word, NULL, base);
     return *word && word[strspn(word, digits)] == 0 && *number >= least && *number <= most;
 }

@@ -77,7 +77,7 @@ static enum text read_frame(const char *text, char interface[16], bafokun_frame 
 {
     char token[MOST_LINE + 1], mark[3] = "R", more;
     int fields = sscanf(text, "%15[^ \t]%*[ \t]%8191s %2s %c", interface, token, mark, &more);
-    size_t digits = fields < 2 ? 0 : strspn(token, "0123456789ABCDEFabcdef"), size;
+    size_t digits = fields < 2 ? 0 : strspn(token, DIGITS), size;
     unsigned long id = strtoul(token, NULL, 16);
     if ((digits != 3 && digits != 8) || token[digits] != '#' || (digits == 3 && id > 0x7FF)) return NO_FRAME;
     if (fields == 4 || (strcmp(mark, "R") != 0 && strcmp(mark, "T") != 0)) return NO_FRAME;
