@@ -62,7 +62,7 @@ static void build(struct device *device, const char *word, const bafokun_config 
     char *text = calloc(1, MOST_SHEET + 1); /* names stay in it */
     FILE *file = fopen(sheet, "re");
     size_t length = text && file ? fread(text, 1, MOST_SHEET, file) : 0;
-    if (!text || !file || ferror(file)) err(1, "%s", sheet);
+    if (!text || !file || ferror(file) || !(text = realloc(text, length + 1))) err(1, "%s", sheet);
     fclose(file);
     if (!bafokun_build(&device->node, text, length, (uint8_t)node_id, config, &fault)) {
         bafokun_fault_text(&fault, what, sizeof what);
