@@ -95,19 +95,24 @@ is() {
     if [ "$2" = "$3" ]; then echo "ok: $1"; else failed=$((failed + 1)); echo "FAILED: $1: $2, not $3"; fi
 }
 
+# until a text is in a file, at most half a minute, since the machine may be slow: await TEXT FILE
+await() { for _ in $(seq 60); do grep -q "$1" "$2" && break || sleep 0.5; done; }
+
+# records the frames with an identifier from now on, until the listener is killed, also while the bus is down: listen ID FILE
+listen() {
+    candump -r 10000000 -D -L "vcan0,$1:7FF" > "$2" 2> /dev/null &
+    listener=$!
+    await "vcan0 *$1 " /proc/net/can/rcvlist_fil
+}
+
 # the first frame with an identifier, and with these bytes if they are given, after a frame is sent: answer FRAME ID [BYTES]
 answer() {
-    candump -L "vcan0,$2:7FF" > answer &
-    listener=$!
-    sleep 1
+    listen "$2" answer
     cansend vcan0 "$1"
-    sleep 1
+    await " $2#${3:-}" answer
     kill $listener
     sed -n "s/.* \($2#${3:-.*}\)$/\1/p" answer | head -n 1
 }
-
-# until a frame is recorded, at most half a minute: await FRAME FILE
-await() { for _ in $(seq 60); do grep -q "$1" "$2" && break || sleep 0.5; done; }
 
 # what a process took so far, in ticks of the processor, and its memory in kB
 spent() { awk '{ print $14 + $15 }' "/proc/$device/stat"; }
@@ -118,12 +123,12 @@ ip link add dev vcan0 type vcan
 ip link set vcan0 up
 candump -L vcan0 > boot &
 listener=$!
-sleep 1
+await 'vcan0 *000 ' /proc/net/can/rcvlist_all
 mkfifo lines
 ./canopen-device 5=temperature-sensor.eds 8=io-module.eds --can vcan0 < lines > out 2> err &
 device=$!
 exec 3> lines
-sleep 2
+await '708#00' boot
 kill $listener
 is 'boot-up' "$(head -n 2 boot | cut -d ' ' -f 3 | tr '\n' ' ')" '705#00 708#00 '
 is 'SDO of node 5' "$(answer 605#4000100000000000 585)" '585#4300100094010200'
@@ -143,7 +148,7 @@ tr -d '()' < beats | awk '
 cansend vcan0 000#0108
 echo '8 set Read input 8-bit.Inputs 1 to 8 5' >&3
 echo '8 get 6000:01' >&3
-sleep 0.5
+await '6000:01' out
 is 'lines of the application' "$(tr '\n' ' ' < out)" 'ok ok 6000:01 5 '
 
 cansend vcan0 20000004#0010000000000000
@@ -152,10 +157,10 @@ cansend vcan0 20000004#0040000000000000
 sleep 0.5
 cansend vcan0 20000040#0000000000000000
 sleep 0.5
-candump -L -n 2 -T 5000 vcan0,088:7FF > emergency &
-sleep 0.5
+listen 088 emergency
 cansend vcan0 20000100#0000000000000000
-wait $!
+await '088#0000' emergency
+kill $listener
 is 'recovered from bus-off' "$(cut -d ' ' -f 3 emergency | tr '\n' ' ')" '088#4081110000000000 088#0000000000000000 '
 # bus-off has made it pre-operational (1029:01)
 cansend vcan0 000#0108
@@ -165,8 +170,7 @@ sleep 1
 for value in 1 2 3; do echo "8 set 6000:01 $value" >&3; done
 sleep 1
 is 'what waits' "$(echo '8 state' >&3; sleep 0.5; tail -n 1 out | cut -d , -f 2-4)" ' vcan0 down, 1 frames wait, 0 thrown away'
-candump -r 10000000 -D -L vcan0,088:7FF > waited 2> /dev/null &
-listener=$!
+listen 088 waited
 for _ in $(seq 600); do echo '8 raise 3120' >&3; done
 sleep 2
 is 'no more than 501 wait' "$(tail -n 1 out)" 'error: 501 frames wait for vcan0'
@@ -220,7 +224,7 @@ echo "$failed failed"
 MACHINE
 
 (cd "$folder/disk" && find . | cpio -o -H newc 2> /dev/null | gzip) > "$folder/image"
-timeout $((seconds + 600)) qemu-system-x86_64 -accel "${ACCELERATOR:-tcg}" -m 1024 -smp 2 -cpu max -nographic -no-reboot \
+timeout $((seconds + 1800)) qemu-system-x86_64 -accel "${ACCELERATOR:-tcg}" -m 1024 -smp 2 -cpu max -nographic -no-reboot \
     -kernel "/boot/vmlinuz-$release" -initrd "$folder/image" -append 'console=ttyS0 quiet panic=1' \
     -virtfs local,path=/,mount_tag=host,security_model=none,readonly=on,multidevs=remap 2>&1 | sed -u -n '1,/begins/d; s/\r$//p' | tee "$folder/said"
 grep -qx '0 failed' "$folder/said"

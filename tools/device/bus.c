@@ -8,7 +8,6 @@
 #include <linux/can/error.h>
 #include <linux/can/raw.h>
 #include <net/if.h>
-#include <sys/ioctl.h>
 
 #define CROWD 500     /* as many frames wait at most before nothing more is read from the bus */
 #define MOST_TAKEN 64 /* frames that are read in one turn of the loop */
@@ -16,39 +15,35 @@
 #define PASSIVE_BITS (CAN_ERR_CRTL_RX_PASSIVE | CAN_ERR_CRTL_TX_PASSIVE)
 #define BETTER_BITS (CAN_ERR_CRTL_RX_WARNING | CAN_ERR_CRTL_TX_WARNING | CAN_ERR_CRTL_ACTIVE)
 
-static void change_bus(struct device *device, uint8_t change)
-{
-    send_frames(device, bafokun_bus(&device->node, change, FRAMES));
-}
-
 const char *const health_names[] = { "error active", "error passive", "bus-off", "down" };
 
 /*
- * The bus is now like this to a device; the first device of an interface says it. An interface that was down has recovered, as from
- * bus-off.
+ * The bus is now like this to a device; the first device of an interface says it. An interface that was down has
+ * recovered, as from bus-off.
  */
 static void become(struct device *device, enum health health)
 {
+    bafokun_node *node = &device->node;
     bool was_passive = device->health == PASSIVE;
     struct device *first = devices;
     if (health == device->health) return;
     device->health = health;
     while (strcmp(first->interface, device->interface) != 0) first++;
     if (first == device) fprintf(stderr, "%s: %s\n", device->interface, health_names[health]);
-    if (health == PASSIVE) change_bus(device, BAFOKUN_BUS_PASSIVE);
-    if (health == BUS_OFF) change_bus(device, BAFOKUN_BUS_OFF);
-    if (health == ACTIVE && !was_passive) change_bus(device, BAFOKUN_BUS_RECOVERED);
-    if (health == ACTIVE) change_bus(device, BAFOKUN_BUS_ACTIVE);
+    if (health == PASSIVE) send_frames(device, bafokun_bus(node, BAFOKUN_BUS_PASSIVE, FRAMES));
+    if (health == BUS_OFF) send_frames(device, bafokun_bus(node, BAFOKUN_BUS_OFF, FRAMES));
+    if (health == ACTIVE && !was_passive) send_frames(device, bafokun_bus(node, BAFOKUN_BUS_RECOVERED, FRAMES));
+    if (health == ACTIVE) send_frames(device, bafokun_bus(node, BAFOKUN_BUS_ACTIVE, FRAMES));
 }
-
-/* ---- frames that are sent */
 
 static void go_down(struct device *device)
 {
     close(device->bus.fd);
-    device->bus = (struct source){ .fd = -1 };
+    device->bus.fd = -1;
     become(device, DOWN);
 }
+
+/* ---- frames that are sent */
 
 /* Whether the frame was sent; else it has to wait. */
 static bool send_now(struct device *device, const bafokun_frame *frame)
@@ -75,11 +70,12 @@ static bool is_tpdo(struct device *device, const bafokun_frame *frame)
 static bool is_boot_up(const bafokun_frame *frame) { return frame->id > 0x700 && frame->bytes[0] == 0; }
 
 /*
- * A TPDO or heartbeat that waits is replaced by its newer one; where no room is left the oldest TPDO is thrown away, or
- * the frame itself, where no TPDO waits.
+ * Sends a frame, or lets it wait. A TPDO or heartbeat that waits is replaced by its newer one; where no room is left
+ * the oldest TPDO is thrown away, or the frame itself, where no TPDO waits.
  */
-static void let_wait(struct device *device, const bafokun_frame *frame)
+void put_on_bus(struct device *device, const bafokun_frame *frame)
 {
+    if (device->waiting == 0 && send_now(device, frame)) return;
     bafokun_frame *at = device->queue, *end = at + device->waiting;
     if (!is_boot_up(frame) && (frame->id > 0x700 || is_tpdo(device, frame))) {
         while (at < end && (at->id != frame->id || is_boot_up(at))) at++;
@@ -96,24 +92,23 @@ static void let_wait(struct device *device, const bafokun_frame *frame)
     device->queue[device->waiting++] = *frame;
 }
 
-void put_on_bus(struct device *device, const bafokun_frame *frame)
-{
-    if (device->waiting > 0 || !send_now(device, frame)) let_wait(device, frame);
-}
-
 /* Whether so much waits that the application gives nothing more that is sent, and nothing is read from the bus. */
 bool is_crowded(const struct device *device) { return device->waiting > CROWD; }
 
 /* ---- frames that come */
 
-/* An error frame. */
-static void take_error(struct device *device, const struct can_frame *error)
+static void take_frame(struct device *device, const struct can_frame *in)
 {
-    if (error->can_id & CAN_ERR_BUSOFF) become(device, BUS_OFF);
-    if (error->can_id & CAN_ERR_RESTARTED) become(device, ACTIVE);
-    if (!(error->can_id & CAN_ERR_CRTL) || device->health == BUS_OFF) return;
-    if (error->data[1] & PASSIVE_BITS) become(device, PASSIVE);
-    else if (error->data[1] & BETTER_BITS) become(device, ACTIVE);
+    bafokun_frame frame = { (uint16_t)in->can_id, in->can_dlc, { 0 } };
+    canid_t error = in->can_id & CAN_ERR_FLAG ? in->can_id : 0;
+    uint8_t controller = error & CAN_ERR_CRTL ? in->data[1] : 0;
+    if (error & CAN_ERR_BUSOFF) become(device, BUS_OFF);
+    if (error & CAN_ERR_RESTARTED) become(device, ACTIVE);
+    if (device->health != BUS_OFF && controller & PASSIVE_BITS) become(device, PASSIVE);
+    else if (device->health != BUS_OFF && controller & BETTER_BITS) become(device, ACTIVE);
+    if (error || in->can_id & (CAN_EFF_FLAG | CAN_RTR_FLAG) || in->can_dlc > 8) return;
+    memcpy(frame.bytes, in->data, in->can_dlc);
+    send_frames(device, bafokun_take(&device->node, &frame, FRAMES));
 }
 
 static void take_frames(struct source *source)
@@ -124,44 +119,30 @@ static void take_frames(struct source *source)
         ssize_t size = read(device->bus.fd, &in, sizeof in);
         if (size < 0 && errno != EAGAIN && errno != EINTR) go_down(device);
         if (size != (ssize_t)sizeof in) return;
-        if (in.can_id & CAN_ERR_FLAG) take_error(device, &in);
-        if (in.can_id & (CAN_EFF_FLAG | CAN_RTR_FLAG | CAN_ERR_FLAG) || in.can_dlc > 8) continue;
-        bafokun_frame frame = { (uint16_t)in.can_id, in.can_dlc, { 0 } };
-        memcpy(frame.bytes, in.data, in.can_dlc);
-        send_frames(device, bafokun_take(&device->node, &frame, FRAMES));
+        take_frame(device, &in);
     }
 }
 
 /* ---- the interface */
 
-/* Opens the socket of a device; false, with errno, where there is no such interface, or it is down. */
-static bool connect_bus(struct device *device)
+/* Opens the socket of a device. False, with errno: there is no such interface, or it is down, and is waited for. */
+bool open_bus(struct device *device)
 {
-    can_err_mask_t errors = CAN_ERR_BUSOFF | CAN_ERR_CRTL | CAN_ERR_RESTARTED;
+    static const can_err_mask_t errors = CAN_ERR_BUSOFF | CAN_ERR_CRTL | CAN_ERR_RESTARTED;
     struct sockaddr_can at = { .can_family = AF_CAN, .can_ifindex = (int)if_nametoindex(device->interface) };
-    device->bus = (struct source){ .fd = -1 };
     if (at.can_ifindex == 0) return false; /* as the index to bind to that would be every interface */
-    int fd = socket(PF_CAN, SOCK_RAW | SOCK_NONBLOCK | SOCK_CLOEXEC, CAN_RAW), reason;
-    if (fd < 0) return false;
+    int fd = socket(PF_CAN, SOCK_RAW | SOCK_NONBLOCK | SOCK_CLOEXEC, CAN_RAW), reason = 0;
     socklen_t size = sizeof reason;
     device->bus = (struct source){ fd, take_frames, 0 };
-    bool is_bound = setsockopt(fd, SOL_CAN_RAW, CAN_RAW_ERR_FILTER, &errors, sizeof errors) == 0
-        && bind(fd, (struct sockaddr *)&at, sizeof at) == 0 && want(&device->bus, EPOLLIN);
     /* that the interface is down waits at the socket */
-    if (is_bound && getsockopt(fd, SOL_SOCKET, SO_ERROR, &reason, &size) == 0 && reason == 0) return true;
-    if (!is_bound) reason = errno;
-    close(fd);
-    device->bus.fd = -1;
+    if (fd >= 0 && setsockopt(fd, SOL_CAN_RAW, CAN_RAW_ERR_FILTER, &errors, sizeof errors) == 0
+        && bind(fd, (struct sockaddr *)&at, sizeof at) == 0
+        && getsockopt(fd, SOL_SOCKET, SO_ERROR, &reason, &size) == 0 && reason == 0
+        && want(&device->bus, EPOLLIN)) return true;
+    if (reason == 0) reason = errno;
+    go_down(device);
     errno = reason;
     return false;
-}
-
-/* An interface that is down is waited for. */
-void open_bus(struct device *device)
-{
-    if (connect_bus(device)) return;
-    if (errno != ENETDOWN) err(1, "%s", device->interface);
-    become(device, DOWN);
 }
 
 /* For how many ms at least nothing is tried again: a frame that waits is each ms. */
@@ -178,7 +159,7 @@ void tend_bus(struct device *device)
     if (in_stdio) return;
     if (device->health == DOWN && elapsed >= device->retry) {
         device->retry = elapsed + RETRY_MS;
-        if (connect_bus(device)) become(device, ACTIVE);
+        if (open_bus(device)) become(device, ACTIVE);
     }
     while (sent < device->waiting && send_now(device, &device->queue[sent])) sent++;
     memmove(device->queue, device->queue + sent, (device->waiting - sent) * sizeof *device->queue);

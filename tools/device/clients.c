@@ -17,7 +17,7 @@ static struct stat bound; /* what was made at the path of the socket */
 /* Writes what can be written without a wait, or all of a trace, unless a signal ends the run and nobody reads. */
 static void flush(struct client *client)
 {
-    int fd = client == &standard ? 1 : client->source.fd;
+    int fd = client == &standard ? STDOUT_FILENO : client->source.fd;
     bool is_trace = client == &standard && in_stdio;
     size_t done = 0;
     while (done < client->unread && !client->is_broken && has_room(fd, is_trace)) {
@@ -51,18 +51,6 @@ bool say(struct client *client, enum kind kind, const char *format, ...)
 
 /* ---- what they give */
 
-static void take_line(struct client *client, char *line, size_t length)
-{
-    client->number++;
-    if (length > 0 && line[length - 1] == '\r') length--;
-    line[length] = 0;
-    bool is_long = client->is_long || length > MOST_LINE, has_zero = strlen(line) != length;
-    if (is_long) say(client, TROUBLE, "error: the line has more than %d bytes", MOST_LINE);
-    else if (has_zero) say(client, TROUBLE, "error: the line has a byte 0");
-    else client->take(client, line);
-    client->is_long = false;
-}
-
 /* Reads what there is, and does the lines in it that are due. Of a line that is too long nothing is kept. */
 static void take_text(struct source *source)
 {
@@ -80,8 +68,18 @@ static void take_text(struct source *source)
         else if (client->used > 0 || client->is_long) *end++ = '\n'; /* a last line needs no end */
     }
     *end = 0;
-    for (; (next = memchr(line, '\n', (size_t)(end - line))) && is_due(client, line); line = next + 1)
-        take_line(client, line, (size_t)(next - line));
+    for (; (next = memchr(line, '\n', (size_t)(end - line))) && is_due(client, line); line = next + 1) {
+        char *last = next > line && next[-1] == '\r' ? next - 1 : next;
+        *last = 0;
+        client->number++;
+        if (client->is_long || last > line + MOST_LINE)
+            say(client, TROUBLE, "error: the line has more than %d bytes", MOST_LINE);
+        else if (line + strlen(line) != last)
+            say(client, TROUBLE, "error: the line has a byte 0");
+        else
+            client->take(client, line);
+        client->is_long = false;
+    }
     client->used = (size_t)(end - line);
     memmove(client->text, line, client->used);
     if (next || client->used <= MOST_LINE + 1) return; /* with a CR that isn't counted */
@@ -89,9 +87,9 @@ static void take_text(struct source *source)
     client->used = 0;
 }
 
-struct client standard = { .source = { 0, take_text, 0 } };
+struct client standard = { .source = { STDIN_FILENO, take_text, 0 } };
 struct client player = { .source = { -1, take_text, 0 }, .take = take_stamped, .has_ended = true, .numbered = "play" };
-static struct client *clients = &standard;
+static struct client *clients = &standard; /* the last of them, after connections */
 
 /* Does the lines of --play that are due. */
 void play_due(void)
@@ -170,7 +168,7 @@ void tend_clients(void)
         }
         if (!is_standard && (is_lost || (client->has_ended && client->unread == 0))) {
             *at = client->next;
-            while (client->watch_count > 0) free(client->watches[--client->watch_count].bytes);
+            while (client->watch_count > 0) free(client->watches[--client->watch_count].said);
             close(client->source.fd);
             free(client);
         } else {
@@ -179,7 +177,7 @@ void tend_clients(void)
             at = &client->next;
         }
     }
-    if (in_stdio && standard.has_ended && (by_stamps || !is_playing())) end_loop(true);
+    if (in_stdio && standard.has_ended && (by_stamps || play_quiet_ms() > DAY_MS)) end_loop(true);
     if (socket_path) let_in(&listener);
 }
 

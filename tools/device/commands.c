@@ -6,7 +6,7 @@ static uint8_t bytes[MOST_BYTES + 1];
 static size_t length; /* of these */
 
 /* What a line does: events, whose frames are sent, and the others. */
-enum action { NOTHING, WRITE, CHANGED, EVENT, RAISE, CLEAR, GET, WATCH, STATE, TICK, HELP };
+enum action { SET, WRITE, CHANGED, EVENT, RAISE, CLEAR, GET, WATCH, STATE, TICK, HELP };
 
 /*
  * A command: how it is written, the kinds of its words, how many of them it needs, and what it does. A word is the key
@@ -16,36 +16,33 @@ enum action { NOTHING, WRITE, CHANGED, EVENT, RAISE, CLEAR, GET, WATCH, STATE, T
 static const struct command {
     const char *form, *kinds;
     int least;
-    enum action actions[3];
+    enum action action;
 } commands[] = {
-    { "set KEY VALUE", "kv", 2, { WRITE, CHANGED } },
-    { "get KEY", "k", 1, { GET } },
-    { "watch KEY", "k", 1, { WATCH } },
-    { "event TPDO", "p", 1, { EVENT } },
-    { "raise CODE [BITS [EXTRA]]", "cbx", 1, { RAISE } },
-    { "clear [BITS]", "b", 0, { CLEAR } },
-    { "state", "", 0, { STATE } },
-    { "!write KEY HEX", "kh", 2, { WRITE } },
-    { "!changed KEY", "k", 1, { CHANGED } },
-    { "!event K", "t", 1, { EVENT } },
-    { "!raise CODE BITS EXTRA", "cbx", 3, { RAISE } },
-    { "!clear BITS", "b", 1, { CLEAR } },
-    { "!tick N", "n", 1, { TICK } },
-    { "help", "", 0, { HELP } },
+    { "set KEY VALUE", "kv", 2, SET },
+    { "get KEY", "k", 1, GET },
+    { "watch KEY", "k", 1, WATCH },
+    { "event TPDO", "p", 1, EVENT },
+    { "raise CODE [BITS [EXTRA]]", "cbx", 1, RAISE },
+    { "clear [BITS]", "b", 0, CLEAR },
+    { "state", "", 0, STATE },
+    { "!write KEY HEX", "kh", 2, WRITE },
+    { "!changed KEY", "k", 1, CHANGED },
+    { "!event K", "t", 1, EVENT },
+    { "!raise CODE BITS EXTRA", "cbx", 3, RAISE },
+    { "!clear BITS", "b", 1, CLEAR },
+    { "!tick N", "n", 1, TICK },
+    { "help", "", 0, HELP },
 }, *const commands_end = commands + sizeof commands / sizeof *commands;
 
 /* A line that is done: what its words say, besides the bytes. */
 struct request {
     struct client *client;
     struct device *device;
-    struct entry entry;
+    bafokun_entry_info entry;
     unsigned long number, code, bits;
 };
 
-/* It was done; or it wasn't, and that was said, or a value was; or its words are wrong. */
-enum outcome { SAID, DONE, WRONG };
-
-/* ---- what it does */
+/* ---- what it does: true where it was done, false where it wasn't, and that was said, or something else was */
 
 /* Sends the frames that the last call gave. */
 void send_frames(struct device *device, size_t count)
@@ -54,7 +51,7 @@ void send_frames(struct device *device, size_t count)
 }
 
 /* The answer to an event that gave so many frames. */
-static enum outcome answer(const struct request *at, size_t count)
+static bool answer(const struct request *at, size_t count)
 {
     char text[128] = " ";
     uint32_t code;
@@ -62,54 +59,46 @@ static enum outcome answer(const struct request *at, size_t count)
     if (!in_stdio || !at->client->numbered) bafokun_abort_text(code, text + 1, sizeof text - 1);
     if (!is_done) say(at->client, TROUBLE, "refused %08lX%s", (unsigned long)code, text[1] ? text : "");
     send_frames(at->device, count);
-    return is_done ? DONE : SAID;
+    return is_done;
 }
 
-static bool read_value(struct device *device, const struct entry *entry)
-{
-    return bafokun_value(&device->node, entry->index, entry->sub_index, bytes, sizeof bytes, &length);
-}
-
-static bool say_value(struct client *client, const struct entry *entry)
+/* Says the value of an entry, unless it is the one that was said last. False: there is no such entry. */
+static bool say_value(struct client *client, struct watch *at)
 {
     static char text[MOST_TEXT];
+    bafokun_entry_info *entry = &at->entry;
+    if (!bafokun_value(&at->device->node, entry->index, entry->sub_index, bytes, sizeof bytes, &length)) return false;
+    if (at->said && length == entry->length && memcmp(bytes, at->said, length) == 0) return true;
     write_value(entry->type, bytes, length, text);
-    return say(client, ANSWER, "%04X:%02X %s", entry->index, entry->sub_index, text);
-}
-
-static enum outcome get(const struct request *at)
-{
-    if (read_value(at->device, &at->entry)) return say_value(at->client, &at->entry);
-    return say(at->client, TROUBLE, "error: there is no entry %04X:%02X", at->entry.index, at->entry.sub_index);
+    say(client, ANSWER, "%04X:%02X %s", entry->index, entry->sub_index, text);
+    free(at->said);
+    at->said = malloc(length + 1);
+    if (at->said) memcpy(at->said, bytes, length);
+    entry->length = length;
+    return true;
 }
 
 /* Says the watched entries that have changed. */
 void say_changes(struct client *client)
 {
-    for (struct watch *at = client->watches; at < client->watches + client->watch_count; at++) {
-        if (!read_value(at->device, &at->entry)) continue;
-        if (at->bytes && length == at->length && memcmp(bytes, at->bytes, length) == 0) continue;
-        uint8_t *copy = realloc(at->bytes, length + 1);
-        if (!copy) continue;
-        at->bytes = memcpy(copy, bytes, length);
-        at->length = length;
-        say_value(client, &at->entry);
-    }
+    for (size_t i = 0; i < client->watch_count; i++) say_value(client, &client->watches[i]);
 }
 
-/* The value at once, and then at each change. */
-static enum outcome watch(const struct request *at)
+/* The value of an entry at once, and, where it is watched, at each change. */
+static bool get(const struct request *at, bool is_watched)
 {
     struct client *client = at->client;
-    if (client->watch_count == MOST_WATCHES)
+    struct watch value = { at->device, at->entry, NULL };
+    if (is_watched && client->watch_count == MOST_WATCHES)
         return say(client, TROUBLE, "error: %d entries are watched already", MOST_WATCHES);
-    if (!read_value(at->device, &at->entry)) return get(at);
-    client->watches[client->watch_count++] = (struct watch){ at->device, at->entry, NULL, 0 };
-    say_changes(client);
-    return SAID;
+    if (!say_value(client, &value))
+        return say(client, TROUBLE, "error: there is no entry %04X:%02X", at->entry.index, at->entry.sub_index);
+    if (is_watched) client->watches[client->watch_count++] = value;
+    else free(value.said);
+    return false;
 }
 
-static enum outcome state(const struct request *at)
+static bool state(const struct request *at)
 {
     static const char *const names[] = { [BAFOKUN_STOPPED] = "stopped", [BAFOKUN_OPERATIONAL] = "operational",
                                          [BAFOKUN_PRE_OPERATIONAL] = "pre-operational" };
@@ -119,7 +108,7 @@ static enum outcome state(const struct request *at)
                health_names[device->health], device->waiting, device->thrown);
 }
 
-static enum outcome help(struct client *client)
+static bool help(struct client *client)
 {
     char text[512] = "";
     for (const struct command *at = commands; at < commands_end; at++)
@@ -127,22 +116,22 @@ static enum outcome help(struct client *client)
     return say(client, ANSWER, "[NODE] and: %s; KEY is 2001:01, a name, or OBJECT.NAME", text);
 }
 
-static enum outcome act(const struct request *at, enum action action)
+static bool act(const struct request *at, enum action action)
 {
     bafokun_node *node = &at->device->node;
-    const struct entry *entry = &at->entry;
-    struct client *client = at->client;
+    uint16_t index = at->entry.index;
+    uint8_t sub_index = at->entry.sub_index;
     switch (action) {
-    case WRITE: return answer(at, bafokun_write(node, entry->index, entry->sub_index, bytes, length, FRAMES));
-    case CHANGED: return answer(at, bafokun_changed(node, entry->index, entry->sub_index, FRAMES));
+    case SET: return act(at, WRITE) && act(at, CHANGED);
+    case WRITE: return answer(at, bafokun_write(node, index, sub_index, bytes, length, FRAMES));
+    case CHANGED: return answer(at, bafokun_changed(node, index, sub_index, FRAMES));
     case EVENT: return answer(at, bafokun_event(node, (uint16_t)at->number, FRAMES));
     case RAISE: return answer(at, bafokun_raise(node, (uint16_t)at->code, (uint8_t)at->bits, bytes, FRAMES));
     case CLEAR: return answer(at, bafokun_clear(node, (uint8_t)at->bits, FRAMES));
-    case GET: return get(at);
-    case WATCH: return watch(at);
+    case TICK: return let_pass(at->client, at->number) || say(at->client, TROUBLE, "error: here time passes by itself");
     case STATE: return state(at);
-    case HELP: return help(client);
-    default: return let_pass(client, at->number) ? DONE : say(client, TROUBLE, "error: here time passes by itself");
+    case HELP: return help(at->client);
+    default: return get(at, action == WATCH);
     }
 }
 
@@ -158,96 +147,74 @@ static char *next_word(char **rest)
     return word;
 }
 
-/* A number of exactly so many digits in hexadecimal. */
-static bool read_hex(const char *word, size_t digits, unsigned long *number)
-{
-    *number = strtoul(word, NULL, 16);
-    return strspn(word, "0123456789abcdefABCDEF") == digits && word[digits] == 0;
-}
-
-static bool read_word(struct request *at, char kind, const char *word)
+/* Reads the words after a command. */
+static bool read_words(struct request *at, const struct command *command, char *rest)
 {
     /* what an error sets if nothing is said: current, voltage, temperature, communication, the manufacturer's */
     static const uint8_t bits[16] = { [2] = 0x02, [3] = 0x04, [4] = 0x08, [8] = 0x10, [15] = 0x80 };
-    switch (kind) {
-    case 'c':
-        if (!read_hex(word, 4, &at->code)) return false;
-        at->bits = bits[at->code >> 12];
-        return true;
-    case 'b': return read_hex(word, 2, &at->bits);
-    case 'n': return read_number(word, 1, DAY_MS, &at->number);
-    case 't': return read_number(word, 0, 65535, &at->number);
-    case 'p': return read_number(word, 1, 65536, &at->number) && at->number-- > 0;
-    case 'x': return bytes_of(DOMAIN_TYPE, word, bytes, &length) && length == 5;
-    default: return bytes_of(kind == 'v' ? at->entry.type : DOMAIN_TYPE, word, bytes, &length);
-    }
-}
-
-/* Reads the words after a command. */
-static enum outcome read_words(struct request *at, const struct command *command, char *rest)
-{
-    int count = 0;
+    const char *kind = command->kinds;
+    bool is_right = true;
     memset(bytes, 0, 5);
-    for (char kind; (kind = command->kinds[count]) && *rest; count++) {
-        size_t used = kind == 'k' ? find_entry(at->device, rest, &at->entry) : kind == 'v' ? strlen(rest) : 0;
-        if (kind == 'k' && used == 0) return say(at->client, TROUBLE, "error: no entry has this name");
-        if (kind == 'k' && !at->entry.name)
-            return say(at->client, TROUBLE, "error: several entries have this name, first %04X:%02X: "
-                       "write OBJECT.NAME, or the key", at->entry.index, at->entry.sub_index);
-        if (kind == 'v' && !read_word(at, kind, rest))
+    for (; is_right && *kind && *rest; kind++) {
+        bool has_blanks = *kind == 'k' || *kind == 'v';
+        const char *word = has_blanks ? rest : next_word(&rest);
+        size_t size = strlen(word);
+        switch (*kind) {
+        case 'k':
+            if ((size = find_entry(at->client, at->device, word, &at->entry)) == 0) return false;
+            break;
+        case 'v':
+            if (bytes_of(at->entry.type, word, bytes, &length)) break;
             return say(at->client, TROUBLE, "error: this is no value of data type %02Xh", at->entry.type);
-        if (used == 0 && !read_word(at, kind, next_word(&rest))) return WRONG;
-        rest += used;
-        rest += strspn(rest, " \t");
+        case 'c':
+            is_right = size == 4 && read_number(word, 16, 0, 0xFFFF, &at->code);
+            at->bits = bits[at->code >> 12 & 0xF];
+            break;
+        case 'b': is_right = size == 2 && read_number(word, 16, 0, 0xFF, &at->bits); break;
+        case 'n': is_right = read_number(word, 10, 1, DAY_MS, &at->number); break;
+        case 't': is_right = read_number(word, 10, 0, 65535, &at->number); break;
+        case 'p': is_right = read_number(word, 10, 1, 65536, &at->number) && at->number-- > 0; break;
+        default: is_right = bytes_of(DOMAIN_TYPE, word, bytes, &length) && (*kind == 'h' || length == 5);
+        }
+        if (has_blanks) rest += size + strspn(rest + size, " \t");
     }
-    return count < command->least || *rest ? WRONG : DONE;
+    if (is_right && !*rest && kind - command->kinds >= command->least) return true;
+    return say(at->client, TROUBLE, "error: %s", command->form);
 }
 
 /* The device that a line begins with, as 5 or can0:5, which is cut off, or else the only one. NULL: that was said. */
 static struct device *read_device(struct client *client, char **line)
 {
     struct device *device = NULL;
-    char word[24] = "";
-    int found = 0;
-    sscanf(*line, "%23s", word);
-    bool is_named = *word && *word != '!' && isdigit((unsigned char)word[strlen(word) - 1]);
-    for (struct device *at = devices; at < devices + device_count; at++) {
-        if (is_named && strcmp(word, at->name) != 0 && strcmp(word, strchr(at->name, ':') + 1) != 0) continue;
+    size_t size = strcspn(*line, " \t"), found = 0;
+    const char *name = **line != '!' && size > 0 && isdigit((unsigned char)(*line)[size - 1]) ? next_word(line) : NULL;
+    for (struct device *at = devices; at < devices_end; at++) {
+        if (name && strcmp(name, at->name) != 0 && strcmp(name, strchr(at->name, ':') + 1) != 0) continue;
         device = at;
         found++;
     }
-    if (is_named) next_word(line);
     if (found == 1 || (found > 1 && (strncmp(*line, "!tick ", 6) == 0 || strcmp(*line, "help") == 0))) return device;
-    const char *last = devices[device_count - 1].name;
-    if (found == 0) say(client, TROUBLE, "error: there is no such node, as %s is one", last);
-    else say(client, TROUBLE, "error: the node comes first, as %s", last);
-    return NULL;
-}
-
-static const struct command *find_command(const char *name)
-{
-    size_t size = strlen(name);
-    for (const struct command *at = commands; at < commands_end; at++)
-        if (strcspn(at->form, " ") == size && memcmp(at->form, name, size) == 0) return at;
+    say(client, TROUBLE, found ? "error: the node comes first, as %s" : "error: there is no such node, as %s is one",
+        devices_end[-1].name);
     return NULL;
 }
 
 void do_line(struct client *client, char *line)
 {
     struct request at = { .client = client, .bits = 0xFF };
+    const struct command *command = commands;
     if (*line == 0 || *line == ';' || !(at.device = read_device(client, &line))) return;
     bool is_loose = strstr(line, "  ") || strchr(line, '\t') || line[strlen(line) - (*line != 0)] == ' ';
-    line = trimmed(line);
-    const char *name = next_word(&line);
-    const struct command *command = find_command(name);
-    if (!command || (*name == '!' && is_loose)) {
+    char *rest = trimmed(line);
+    const char *name = next_word(&rest);
+    for (size_t size = strlen(name); command < commands_end; command++)
+        if (strcspn(command->form, " ") == size && strncmp(command->form, name, size) == 0) break;
+    if (command == commands_end || (*name == '!' && is_loose))
         say(client, TROUBLE, "error: this is no command; help has them");
+    else if (!read_words(&at, command, rest))
         return;
-    }
-    enum outcome outcome = read_words(&at, command, line);
-    if (outcome == DONE && command->actions[0] < GET && is_crowded(at.device))
-        outcome = say(client, TROUBLE, "error: %zu frames wait for %s", at.device->waiting, at.device->interface);
-    for (int i = 0; outcome == DONE && command->actions[i] != NOTHING; i++) outcome = act(&at, command->actions[i]);
-    if (outcome == WRONG) say(client, TROUBLE, "error: %s", command->form);
-    if (outcome == DONE && !client->numbered) say(client, ANSWER, "ok");
+    else if (command->action <= CLEAR && is_crowded(at.device))
+        say(client, TROUBLE, "error: %zu frames wait for %s", at.device->waiting, at.device->interface);
+    else if (act(&at, command->action) && !client->numbered)
+        say(client, ANSWER, "ok");
 }

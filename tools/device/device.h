@@ -23,6 +23,8 @@
 #define MOST_WAITING 1024              /* frames of a device that wait for the bus */
 #define DAY_MS 86400000                /* most ms of a !tick */
 #define DOMAIN_TYPE 0x0F               /* the data type of bytes as they are */
+#define DIGITS "0123456789ABCDEFabcdef"
+#define HEX "[" DIGITS "]"
 #define FRAMES frames, BAFOKUN_MOST_FRAMES
 
 /* What epoll watches, for these of its events. */
@@ -32,29 +34,19 @@ struct source {
     uint32_t wanted;
 };
 
-/* An entry of a data sheet. full is OBJECT.NAME, NULL where the entry is the whole of its object. */
-struct entry {
-    uint16_t index;
-    uint8_t sub_index, type, object_type;
-    bool is_part;
-    const char *name;
-    char *full;
-};
-
 /* What the bus is like to a device. */
 enum health { ACTIVE, PASSIVE, BUS_OFF, DOWN };
 
 struct device {
     struct source bus; /* first: the source of a socket is its device */
     bafokun_node node;
-    char interface[16], name[48], *text; /* the name is can0:5; the text is that of its sheet, cut into names */
-    bool hears_all;                      /* frames of each interface in --stdio */
-    struct entry *entries;
-    size_t entry_count, waiting;
+    char interface[16], name[48], **objects; /* the name is can0:5; those of objects are by their index, or NULL */
+    bool hears_all;                          /* frames of each interface in --stdio */
     enum health health;
-    bafokun_frame queue[MOST_WAITING];
-    unsigned long thrown;
     uint64_t retry; /* when an interface that is down is looked at again */
+    size_t waiting;
+    unsigned long thrown;
+    bafokun_frame queue[MOST_WAITING];
 };
 
 /* Who gives lines, and is answered: standard input and output, the file of --play, a connection of the socket. */
@@ -65,21 +57,19 @@ struct client {
     const char *numbered;               /* "line": where errors have the number of the line, else NULL */
     unsigned long number;
     size_t used, unread, watch_count;
-    struct watch { /* an entry whose changes it is told; its bytes when it was told last */
+    struct watch { /* an entry whose changes it is told; the bytes that were said last, as many as the entry had */
         struct device *device;
-        struct entry entry;
-        uint8_t *bytes;
-        size_t length;
+        bafokun_entry_info entry;
+        uint8_t *said;
     } watches[MOST_WATCHES];
     struct client *next;
     char text[MOST_LINE + 4], answers[MOST_UNREAD + MOST_TEXT + 100]; /* so many bytes of both are used and unread */
 };
 
 /* main.c: the words, and the devices that they name */
-extern struct device *devices;
-extern size_t device_count;
+extern struct device *devices, *devices_end;
 extern int in_stdio, by_stamps;
-bool read_number(const char *word, unsigned long least, unsigned long most, unsigned long *number);
+bool read_number(const char *word, int base, unsigned long least, unsigned long most, unsigned long *number);
 
 /* loop.c: what happens, and when. elapsed: ms since the start, each of which was a tick of the devices */
 extern uint64_t elapsed;
@@ -92,7 +82,7 @@ bool has_room(int fd, bool waits);
 
 /* bus.c: SocketCAN */
 extern const char *const health_names[];
-void open_bus(struct device *device);
+bool open_bus(struct device *device);
 void tend_bus(struct device *device);
 uint64_t bus_quiet_ms(const struct device *device);
 void put_on_bus(struct device *device, const bafokun_frame *frame);
@@ -101,7 +91,6 @@ bool is_crowded(const struct device *device);
 /* trace.c: lines with stamps, of --stdio and --play */
 void take_stamped(struct client *client, char *line);
 bool is_due(const struct client *client, const char *line);
-bool is_playing(void);
 uint64_t play_quiet_ms(void);
 bool let_pass(const struct client *client, uint64_t ms);
 void print_frame(struct device *device, const bafokun_frame *frame);
@@ -123,11 +112,11 @@ void send_frames(struct device *device, size_t count);
 void do_line(struct client *client, char *line);
 void say_changes(struct client *client);
 
-/* entries.c: names, types and values of entries */
+/* values.c: names and values of entries */
 char *trimmed(char *text);
-void name_entries(struct device *device, char *text);
-size_t find_entry(const struct device *device, const char *text, struct entry *found);
-bool bytes_of(uint8_t type, const char *text, uint8_t *bytes, size_t *length);
-void write_value(uint8_t type, const uint8_t *bytes, size_t length, char *text);
+void name_objects(struct device *device, char *text);
+size_t find_entry(struct client *client, struct device *device, const char *text, bafokun_entry_info *found);
+bool bytes_of(unsigned type, const char *text, uint8_t *bytes, size_t *length);
+void write_value(unsigned type, const uint8_t *bytes, size_t length, char *text);
 
 #endif

@@ -6,10 +6,9 @@
 
 #define MOST_SHEET 1048577 /* a byte more than a sheet may have */
 
-struct device *devices;
-size_t device_count;
+struct device *devices, *devices_end;
 int in_stdio, by_stamps;
-static bafokun_config config;
+static int wants_help;
 
 static const char usage[] =
     "canopen-device [INTERFACE:]N=SHEET.. --can INTERFACE | --stdio [--stamps]\n"
@@ -25,18 +24,25 @@ static const char usage[] =
 /* The options that take a word. */
 enum { CAN = 1, SOCKET, PLAY, STRINGS, DOMAINS, TIME, OPTIONS };
 static const char *given[OPTIONS] = { [CAN] = "", [STRINGS] = "16", [DOMAINS] = "889", [TIME] = "1000" };
+static const struct option options[] = {
+    { "can", 1, NULL, CAN },         { "stdio", 0, &in_stdio, 1 },    { "stamps", 0, &by_stamps, 1 },
+    { "socket", 1, NULL, SOCKET },   { "play", 1, NULL, PLAY },       { "strings", 1, NULL, STRINGS },
+    { "domains", 1, NULL, DOMAINS }, { "time", 1, NULL, TIME },       { "help", 0, &wants_help, 1 },
+    { NULL, 0, NULL, 0 },
+};
 
-bool read_number(const char *word, unsigned long least, unsigned long most, unsigned long *number)
+/* A number of digits alone. */
+bool read_number(const char *word, int base, unsigned long least, unsigned long most, unsigned long *number)
 {
-    *number = strtoul(word, NULL, 10);
-    return *word && word[strspn(word, "0123456789")] == 0 && *number >= least && *number <= most;
+    const char *digits = base == 16 ? DIGITS : "0123456789";
+    *number = strtoul(word, NULL, base);
+    return *word && word[strspn(word, digits)] == 0 && *number >= least && *number <= most;
 }
 
 /* Builds the device of a word [INTERFACE:]N=SHEET. */
-static void build(const char *word)
+static void build(struct device *device, const char *word, const bafokun_config *config)
 {
-    struct device *device = &devices[device_count];
-    char number[4] = "";
+    char number[4] = "", what[128];
     int end = 0;
     unsigned long node_id;
     bafokun_fault fault;
@@ -46,41 +52,31 @@ static void build(const char *word)
         strcpy(device->interface, in_stdio ? "can0" : given[CAN]);
         sscanf(word, "%3[0-9]=%n", number, &end);
     }
-    if (end == 0 || !read_number(number, 1, 127, &node_id) || !*device->interface)
+    if (end == 0 || !read_number(number, 10, 1, 127, &node_id) || !*device->interface)
         errx(1, "%s: [INTERFACE:]N=SHEET, with N from 1 to 127, and --can without INTERFACE", word);
     snprintf(device->name, sizeof device->name, "%s:%lu", device->interface, node_id);
     for (struct device *at = devices; at < device; at++)
         if (strcmp(at->name, device->name) == 0)
             errx(1, "%s: there is a node %lu on %s already", word, node_id, device->interface);
     const char *sheet = word + end;
-    char *text = device->text = malloc(MOST_SHEET + 1);
+    char *text = calloc(1, MOST_SHEET + 1); /* names stay in it */
     FILE *file = fopen(sheet, "re");
     size_t length = text && file ? fread(text, 1, MOST_SHEET, file) : 0;
-    if (!text || !file || ferror(file)) err(1, "%s", sheet);
+    if (!text || !file || ferror(file) || !(text = realloc(text, length + 1))) err(1, "%s", sheet);
     fclose(file);
-    text[length] = 0;
-    if (!bafokun_build(&device->node, text, length, (uint8_t)node_id, &config, &fault)) {
-        char what[128];
+    if (!bafokun_build(&device->node, text, length, (uint8_t)node_id, config, &fault)) {
         bafokun_fault_text(&fault, what, sizeof what);
         if (fault.stage == BAFOKUN_FAULT_DEVICE)
             errx(1, "%s: build fault %u %04X:%02X: %s", word, fault.number, fault.index, fault.sub_index, what);
         errx(1, "%s: fault %u line %llu: %s; `conode adapt %s` may mend it", word, fault.number,
              (unsigned long long)fault.line, what, sheet);
     }
-    name_entries(device, text);
-    device_count++;
+    name_objects(device, text);
 }
 
 /* Whether the words are right. */
-static bool read_words(int count, char **words)
+static bool read_words(int count, char **words, bafokun_config *config)
 {
-    static int wants_help;
-    static const struct option options[] = {
-        { "can", 1, NULL, CAN },         { "stdio", 0, &in_stdio, 1 },    { "stamps", 0, &by_stamps, 1 },
-        { "socket", 1, NULL, SOCKET },   { "play", 1, NULL, PLAY },       { "strings", 1, NULL, STRINGS },
-        { "domains", 1, NULL, DOMAINS }, { "time", 1, NULL, TIME },       { "help", 0, &wants_help, 1 },
-        { NULL, 0, NULL, 0 },
-    };
     unsigned long numbers[OPTIONS];
     bool is_right = true;
     for (int option; (option = getopt_long(count, words, "", options, NULL)) != -1; ) {
@@ -88,28 +84,28 @@ static bool read_words(int count, char **words)
         else given[option] = optarg; /* those that take no word come here as 0 */
     }
     if (wants_help) exit(fputs(usage, stdout) < 0 || fflush(stdout) != 0);
-    for (int i = STRINGS; i <= TIME; i++) is_right &= read_number(given[i], 0, 65535, &numbers[i]);
-    config = (bafokun_config){ (uint16_t)numbers[STRINGS], (uint16_t)numbers[DOMAINS], (uint16_t)numbers[TIME] };
+    for (int i = STRINGS; i <= TIME; i++) is_right &= read_number(given[i], 10, 0, 65535, &numbers[i]);
+    *config = (bafokun_config){ (uint16_t)numbers[STRINGS], (uint16_t)numbers[DOMAINS], (uint16_t)numbers[TIME] };
     return is_right && optind < count && strlen(given[CAN]) < sizeof devices->interface
         && (in_stdio ? !*given[CAN] : !by_stamps);
 }
 
 int main(int count, char **words)
 {
+    bafokun_config config;
     int fd;
     /* where a standard stream is closed, no file of ours is taken for it: reads find the end, writes fail */
     while ((fd = open("/dev/null", O_RDONLY)) >= 0 && fd <= 2) { }
     close(fd);
-    if (!read_words(count, words)) return fputs(usage, stderr), 2;
-    devices = calloc((size_t)(count - optind), sizeof *devices);
+    if (!read_words(count, words, &config)) return fputs(usage, stderr), 2;
+    devices_end = devices = calloc((size_t)(count - optind), sizeof *devices);
     if (!devices) err(1, "canopen-device");
-    for (int i = optind; i < count; i++) build(words[i]);
+    for (int i = optind; i < count; i++) build(devices_end++, words[i], &config);
     start_loop();
-    for (struct device *at = devices; !in_stdio && at < devices + device_count; at++) open_bus(at);
+    for (struct device *at = devices; !in_stdio && at < devices_end; at++)
+        if (!open_bus(at) && errno != ENETDOWN) err(1, "%s", at->interface);
     open_clients(given[PLAY], given[SOCKET]);
-    for (struct device *at = devices; at < devices + device_count; at++) send_frames(at, bafokun_boot(&at->node, FRAMES));
-    deliver();
-    play_due();
+    for (struct device *at = devices; at < devices_end; at++) send_frames(at, bafokun_boot(&at->node, FRAMES));
     bool is_well = run_loop();
     if (in_stdio) end_trace();
     return close_clients() && is_well ? 0 : 1;

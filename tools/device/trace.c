@@ -26,17 +26,17 @@ void print_frame(struct device *device, const bafokun_frame *frame)
     struct timespec now = { (time_t)(ms / 1000), (long)(ms % 1000) * 1000000 };
     char data[17] = "";
     if (!by_stamps) clock_gettime(CLOCK_REALTIME, &now);
-    for (unsigned i = 0; i < frame->length; i++) sprintf(data + 2 * i, "%02X", frame->bytes[i]);
+    if (frame->length > 0) write_value(DOMAIN_TYPE, frame->bytes, frame->length, data);
     say(&standard, FRAME, "(%010lld.%06ld) %s %03X#%s", (long long)now.tv_sec, now.tv_nsec / 1000, device->interface,
         frame->id, data);
     frames_out++;
-    if (device_count > 1 && heard_count < MOST_HEARD) heard[heard_count++] = (struct heard){ device, *frame };
+    if (heard_count < MOST_HEARD) heard[heard_count++] = (struct heard){ device, *frame };
 }
 
 /* A frame on an interface is heard by its devices; from outside by all, where they have no interface of their own. */
 static void give_frame(struct device *from, const char *interface, const bafokun_frame *frame)
 {
-    for (struct device *at = devices; at < devices + device_count; at++)
+    for (struct device *at = devices; at < devices_end; at++)
         if (at != from && ((!from && at->hears_all) || strcmp(at->interface, interface) == 0))
             send_frames(at, bafokun_take(&at->node, frame, FRAMES));
 }
@@ -77,7 +77,7 @@ static enum text read_frame(const char *text, char interface[16], bafokun_frame 
 {
     char token[MOST_LINE + 1], mark[3] = "R", more;
     int fields = sscanf(text, "%15[^ \t]%*[ \t]%8191s %2s %c", interface, token, mark, &more);
-    size_t digits = fields < 2 ? 0 : strspn(token, "0123456789ABCDEFabcdef"), size;
+    size_t digits = fields < 2 ? 0 : strspn(token, DIGITS), size;
     unsigned long id = strtoul(token, NULL, 16);
     if ((digits != 3 && digits != 8) || token[digits] != '#' || (digits == 3 && id > 0x7FF)) return NO_FRAME;
     if (fields == 4 || (strcmp(mark, "R") != 0 && strcmp(mark, "T") != 0)) return NO_FRAME;
@@ -107,14 +107,11 @@ bool is_due(const struct client *client, const char *line)
     return due <= elapsed;
 }
 
-/* Whether lines of --play wait, or more of them than have been read. */
-bool is_playing(void) { return !player.has_ended || player.used > 0 || due > elapsed; }
-
-/* For how many ms at least no line of --play is due. */
+/* For how many ms at least no line of --play is due; more than a day where none comes any more. */
 uint64_t play_quiet_ms(void)
 {
-    uint64_t left = due > elapsed ? due - elapsed - 1 : 0;
-    return !is_playing() || left > DAY_MS ? DAY_MS : left;
+    if (due > elapsed) return due - elapsed <= DAY_MS ? due - elapsed - 1 : DAY_MS;
+    return player.has_ended && player.used == 0 ? DAY_MS + 1 : 0;
 }
 
 /* So many ms pass by lines: those of --play wait, or time goes by stamps. False: it doesn't, or not so far. */
@@ -126,31 +123,27 @@ bool let_pass(const struct client *client, uint64_t ms)
     return true;
 }
 
-/* A frame from outside, at a time. */
-static void take_frame(struct client *client, uint64_t ms, const char *interface, const bafokun_frame *frame)
+/* A line of the application, or a frame. --play passes over frames, so a session of `conode replay` can be played. */
+void take_stamped(struct client *client, char *line)
 {
     static bool has_stamp;
+    char interface[16];
+    bafokun_frame frame;
+    uint64_t ms;
+    bool is_played = client == &player;
+    const char *text = *line == '(' ? read_stamp(line, &ms) : line;
+    enum text kind = text && text != line ? read_frame(text, interface, &frame) : NO_FRAME;
+    if (text == line || (is_played && text && kind == NO_FRAME)) do_line(client, line + (text - line));
+    else if (is_played && !text) say(client, TROUBLE, "error: this is no stamp, as (0.250000)");
+    else if (kind == NO_FRAME) say(client, TROUBLE, "error: this is no frame of a trace");
+    if (is_played || kind == NO_FRAME) return;
     if (!has_stamp) start = ms - elapsed;
     has_stamp = true;
     if (by_stamps && ms > start + elapsed && !let_pass(client, ms - start - elapsed)) {
         say(client, TROUBLE, "error: this is more than a day past the line before");
-    } else if (frame) {
+    } else if (kind == DATA_FRAME) {
         frames_in++;
-        give_frame(NULL, interface, frame);
+        give_frame(NULL, interface, &frame);
         deliver();
     }
-}
-
-/* A line of the application, or a frame. --play passes over frames, so a session of `conode replay` can be played. */
-void take_stamped(struct client *client, char *line)
-{
-    char interface[16];
-    bafokun_frame frame;
-    uint64_t ms;
-    const char *text = *line == '(' ? read_stamp(line, &ms) : line;
-    enum text kind = text && text != line ? read_frame(text, interface, &frame) : NO_FRAME;
-    if (text == line || (client == &player && text && kind == NO_FRAME)) do_line(client, line + (text - line));
-    else if (client == &player && !text) say(client, TROUBLE, "error: this is no stamp, as (0.250000)");
-    else if (kind == NO_FRAME) say(client, TROUBLE, "error: this is no frame of a trace");
-    else if (client != &player) take_frame(client, ms, interface, kind == DATA_FRAME ? &frame : NULL);
 }
