@@ -1,5 +1,5 @@
 -- The words that name data sheets: `[INTERFACE:][NODE=]FILE`.
-use Rattle.std.specs.Prelude.{ℕ, ◌==◌, nat_le, Bool, ◌&&◌, ◌||◌, if◌then◌else◌, List, length, Option, Some, None, option_and_then, Result, Ok, Err}
+use Rattle.std.specs.Prelude.{ℕ, ◌==◌, nat_le, Bool, ◌&&◌, ◌||◌, if◌then◌else◌, List, length, Option, Some, None, option_and_then, Result, Ok, Err, ⊤, ◌≡◌}
 use Rattle.std.specs.List.{after_first, before_first, list_all, list_any}
 use Rattle.std.specs.Option.{option_copied, option_map_or}
 use Rattle.co_text.specs.Texts.{decimal_in}
@@ -7,6 +7,8 @@ use Rattle.conode_trace.specs.FrameLines.{is_name_byte}
 use Rattle.conode_explain.specs.declared.sheet_word.SheetPart.{SheetPart}
 use Rattle.conode_explain.specs.declared.sheet_word.SheetPart.TheVariants.{Interface, Node, Path}
 use Rattle.conode_explain.specs.declared.sheet_word.SheetWord.{SheetWord}
+use Rattle.conode_explain.specs.declared.sheet_word.SheetWordFault.{SheetWordFault}
+use Rattle.conode_explain.specs.declared.sheet_word.SheetWordFault.TheVariants.{Word, Memory}
 
 -- the interface and the node that a sheet is for, each if the word has one, and the sheet's path
 pub record Named : Type 0 where
@@ -14,8 +16,8 @@ pub record Named : Type 0 where
   pub node : Option ℕ
   pub path : List ℕ
 
-abbrev pub named : SheetWord → Named
-named word = record { interface = option_copied word.interface; node = word.node; path = word.path.now }
+abbrev pub word_view : SheetWord → Named
+word_view word = record { interface = option_copied word.interface; node = word.node; path = word.path.now }
 
 -- a word cut at the first of a mark
 abbrev pub first_cut : ℕ → List ℕ → Option (List ℕ × List ℕ)
@@ -59,3 +61,8 @@ with_interface cut = if is_interface cut.0 then node_and_path (Some cut.0) cut.1
 -- what a word names, or which part of it is wrong
 unfoldable pub sheet_word : List ℕ → Result Named SheetPart
 sheet_word word = option_map_or with_interface (cut_at 58 word) (node_and_path None word)
+
+-- what is wrong with words: memory ran out, or a part of one that names no sheet
+abbrev pub IsWrong : SheetWordFault → Type 0
+IsWrong Memory = ⊤
+IsWrong (Word part word) = sheet_word word.now ≡ Err part

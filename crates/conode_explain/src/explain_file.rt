@@ -1,12 +1,11 @@
 //! The file of a recording, explained.
 
-ghost use Rattle.std.specs.Prelude.{◌≡◌, ◌⊎◌, IfErr, IfOk, Ok, map};
+ghost use Rattle.std.specs.Prelude.{◌≡◌, ◌⊎◌, IfErr};
 ghost use Rattle.std.specs.Process.{exit_status};
-ghost use Rattle.conode_explain.specs.SheetWords.{named, sheet_word};
 
 use crate::explained::explain;
 use crate::progress::{Layout, LineFormat};
-use crate::sheet_word::{SheetPart, SheetWord};
+use crate::sheet_word::{SheetWord, SheetWordFault, sheet_words};
 use crate::sheets::{ReadSheet, known_sheets};
 use crate::writes::Settings;
 use co_sheet::{FaultKind, GREATEST_SIZE, SheetFault, read};
@@ -203,36 +202,6 @@ fn explain_named<R: Files + AllocGlobal + Input, O: Write, E: Write>(
         Ok(sheets) => explain_by(rt, path, sheets.as_slice(), form, out, err),
         Err(status) => status,
     }
-}
-
-// What is wrong with the words that name data sheets.
-enum SheetWordFault<'a> {
-    // A part of a word.
-    Word(SheetPart, &'a str),
-    // Memory ran out.
-    Memory,
-}
-
-// what words name
-fn sheet_words<'a>(
-    alloc: Global,
-    words: &[&'a str],
-) -> Result<Vec<SheetWord<'a>>, SheetWordFault<'a>>
-    ensures ok { IfOk result (λ found. map (λ word. sheet_word word.now) words.now
-        ≡ map (λ word. Ok (named word)) found.items) }
-{
-    let mut found = Vec::new(alloc);
-    for word in words {
-        match SheetWord::read(word) {
-            Ok(sheet) => {
-                if found.push(sheet).is_err() {
-                    return Err(SheetWordFault::Memory);
-                }
-            }
-            Err(part) => return Err(SheetWordFault::Word(part, word)),
-        }
-    }
-    Ok(found)
 }
 
 // says which word names no data sheet, and what it has not

@@ -3,12 +3,13 @@
 ghost use Rattle.std.specs.Prelude.{◌≡◌, IfOk, IfErr, Ok, Err, map};
 ghost use Rattle.std.specs.Option.{option_copied, option_map};
 ghost use Rattle.conode_explain.specs.SheetWords.{
+  IsWrong,
   cut_at,
   first_cut,
   if_own,
   is_in_path,
   is_interface,
-  named,
+  word_view,
   node_and_path,
   sheet_word,
   with_interface,
@@ -17,6 +18,7 @@ ghost use Rattle.conode_explain.specs.SheetWords.{
 };
 
 use co_text::{decimal_in, is_blank};
+use std::alloc::{AllocError, Global};
 
 /// The part of a word that is wrong.
 #[derive(Clone, Copy, Debug, PartialEq, Eq)]
@@ -34,6 +36,26 @@ impl SheetPart {
             SheetPart::Node => "node-ID from 1 to 127 before the equals sign",
             SheetPart::Path => "path of a data sheet",
         }
+    }
+}
+
+/// What is wrong with the words that name data sheets.
+#[derive(Clone, Copy, Debug)]
+pub(crate) enum SheetWordFault<'a> {
+    /// A part of a word.
+    Word(SheetPart, &'a str),
+    /// Memory ran out.
+    Memory,
+}
+
+impl<'a> From<AllocError> for SheetWordFault<'a> {
+    ghost use Rattle.std.specs.Prelude.{◌≡◌};
+    ghost use Rattle.conode_explain.specs.declared.sheet_word.SheetWordFault.TheVariants.{Memory};
+
+    ghost from_gives = { λ _ fault. fault ≡ Memory };
+
+    fn from(_: AllocError) -> SheetWordFault<'a> {
+        SheetWordFault::Memory
     }
 }
 
@@ -108,7 +130,7 @@ fn with_path<'a>(
     path: &'a str,
 ) -> Result<SheetWord<'a>, SheetPart>
     ensures ok { IfOk result (λ word.
-        with_path (option_copied interface.entry) node path.entry.now ≡ Ok (named word)) }
+        with_path (option_copied interface.entry) node path.entry.now ≡ Ok (word_view word)) }
     ensures err { IfErr result (λ part.
         with_path (option_copied interface.entry) node path.entry.now ≡ Err part) }
 {
@@ -128,7 +150,7 @@ fn with_node<'a>(
     path: &'a str,
 ) -> Result<SheetWord<'a>, SheetPart>
     ensures ok { IfOk result (λ word.
-        with_node (option_copied interface.entry) (front.now, path.entry.now) ≡ Ok (named word)) }
+        with_node (option_copied interface.entry) (front.now, path.entry.now) ≡ Ok (word_view word)) }
     ensures err { IfErr result (λ part.
         with_node (option_copied interface.entry) (front.now, path.entry.now) ≡ Err part) }
 {
@@ -141,7 +163,7 @@ fn with_node<'a>(
 #[tactic(auto, unfolding(crate::specs::SheetWords::node_and_path))]
 fn node_and_path<'a>(interface: Option<&'a [u8]>, word: &'a str) -> Result<SheetWord<'a>, SheetPart>
     ensures ok { IfOk result (λ found.
-        node_and_path (option_copied interface.entry) word.entry.now ≡ Ok (named found)) }
+        node_and_path (option_copied interface.entry) word.entry.now ≡ Ok (word_view found)) }
     ensures err { IfErr result (λ part.
         node_and_path (option_copied interface.entry) word.entry.now ≡ Err part) }
 {
@@ -153,7 +175,7 @@ fn node_and_path<'a>(interface: Option<&'a [u8]>, word: &'a str) -> Result<Sheet
 
 fn with_interface<'a>(front: &'a str, rest: &'a str) -> Result<SheetWord<'a>, SheetPart>
     ensures ok { IfOk result (λ found.
-        with_interface (front.entry.now, rest.entry.now) ≡ Ok (named found)) }
+        with_interface (front.entry.now, rest.entry.now) ≡ Ok (word_view found)) }
     ensures err { IfErr result (λ part.
         with_interface (front.entry.now, rest.entry.now) ≡ Err part) }
 {
@@ -170,7 +192,7 @@ impl<'a> SheetWord<'a> {
     /// after it a node-ID, unless it has a slash or an equals sign and so is part of a path.
     #[tactic(auto, unfolding(crate::specs::SheetWords::sheet_word))]
     pub(crate) fn read(word: &'a str) -> Result<SheetWord<'a>, SheetPart>
-        ensures ok { IfOk result (λ found. sheet_word word.entry.now ≡ Ok (named found)) }
+        ensures ok { IfOk result (λ found. sheet_word word.entry.now ≡ Ok (word_view found)) }
         ensures err { IfErr result (λ part. sheet_word word.entry.now ≡ Err part) }
     {
         match cut_at_colon(word) {
@@ -178,4 +200,23 @@ impl<'a> SheetWord<'a> {
             None => node_and_path(None, word),
         }
     }
+}
+
+/// What words name; on an `Err` a word that names no data sheet, or memory ran out.
+pub(crate) fn sheet_words<'a>(
+    alloc: Global,
+    words: &[&'a str],
+) -> Result<Vec<SheetWord<'a>>, SheetWordFault<'a>>
+    ensures ok { IfOk result (λ found. map (λ word. sheet_word word.now) words.now
+        ≡ map (λ word. Ok (word_view word)) found.items) }
+    ensures err { IfErr result IsWrong }
+{
+    let mut found = Vec::new(alloc);
+    for word in words {
+        match SheetWord::read(*word) {
+            Ok(sheet) => found.push(sheet)?,
+            Err(part) => return Err(SheetWordFault::Word(part, *word)),
+        }
+    }
+    Ok(found)
 }
