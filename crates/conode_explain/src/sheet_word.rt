@@ -1,6 +1,6 @@
 //! The words that name data sheets.
 
-ghost use Rattle.std.specs.Prelude.{◌≡◌, IfOk, IfErr, Ok, Err, map};
+ghost use Rattle.std.specs.Prelude.{◌≡◌, ◌++◌, ◌∷◌, [], IfOk, IfErr, OnOk, Ok, Err, map};
 ghost use Rattle.std.specs.Option.{option_copied, option_map};
 ghost use Rattle.conode_explain.specs.SheetWords.{
   IsWrong,
@@ -202,6 +202,13 @@ impl<'a> SheetWord<'a> {
     }
 }
 
+fn add<'a>(found: &mut Vec<SheetWord<'a>>, word: SheetWord<'a>) -> Result<(), AllocError>
+    ensures { OnOk result (found.new.items ≡ found.old.items ++ word.entry ∷ []) }
+{
+    found.push(word)?;
+    Ok(())
+}
+
 /// What words name; on an `Err` a word that names no data sheet, or memory ran out.
 pub(crate) fn sheet_words<'a>(
     alloc: Global,
@@ -214,7 +221,7 @@ pub(crate) fn sheet_words<'a>(
     let mut found = Vec::new(alloc);
     for word in words {
         match SheetWord::read(*word) {
-            Ok(sheet) => found.push(sheet)?,
+            Ok(sheet) => add(&mut found, sheet)?,
             Err(part) => return Err(SheetWordFault::Word(part, *word)),
         }
     }

@@ -1,6 +1,6 @@
 //! The data sheets by which a recording is explained.
 
-ghost use Rattle.std.specs.Prelude.{◌≡◌, ◌++◌, IfOk, OnOk, map};
+ghost use Rattle.std.specs.Prelude.{◌≡◌, ◌++◌, IfOk, map};
 ghost use Rattle.conode_decode.specs.Names.{names_view};
 ghost use Rattle.conode_explain_pdo.specs.Known.{known_view};
 ghost use Rattle.conode_explain.specs.Sheets.{in_order, is_kind, node_for, of_kind, read_view};
@@ -57,23 +57,24 @@ impl<'t> ReadSheet<'t> {
     }
 }
 
-// adds those that are for one node, or for all, and for one interface, or for each
-fn add_kind<'s, 't>(
+// with those that are for one node, or for all, and for one interface, or for each
+fn with_kind<'s, 't>(
     alloc: Global,
-    known: &mut Vec<KnownSheet<'s, 't>>,
+    known: Vec<KnownSheet<'s, 't>>,
     sheets: &'s [ReadSheet<'t>],
     node: bool,
     interface: bool,
-) -> Result<(), AllocError>
-    ensures { OnOk result (map known_view known.new.items
-        ≡ map known_view known.old.items ++ of_kind node interface (map read_view sheets.now)) }
+) -> Result<Vec<KnownSheet<'s, 't>>, AllocError>
+    ensures { IfOk result (λ all. map known_view all.items
+        ≡ map known_view known.entry.items ++ of_kind node interface (map read_view sheets.now)) }
 {
+    let mut all = known;
     for sheet in sheets {
         if sheet.is_kind(node, interface) {
-            known.push(sheet.known(alloc)?)?;
+            all.push(sheet.known(alloc)?)?;
         }
     }
-    Ok(())
+    Ok(all)
 }
 
 /// These data sheets with their PDOs, in the order in which they count: a node's own before one for all nodes, and of
@@ -86,10 +87,8 @@ pub(crate) fn known_sheets<'s, 't>(
     ensures { IfOk result (λ known.
         map known_view known.items ≡ in_order (map read_view sheets.now)) }
 {
-    let mut known = Vec::new(alloc);
-    add_kind(alloc, &mut known, sheets, true, true)?;
-    add_kind(alloc, &mut known, sheets, true, false)?;
-    add_kind(alloc, &mut known, sheets, false, true)?;
-    add_kind(alloc, &mut known, sheets, false, false)?;
-    Ok(known)
+    let known = with_kind(alloc, Vec::new(alloc), sheets, true, true)?;
+    let known = with_kind(alloc, known, sheets, true, false)?;
+    let known = with_kind(alloc, known, sheets, false, true)?;
+    with_kind(alloc, known, sheets, false, false)
 }
