@@ -1,7 +1,6 @@
 -- Which data sheets words name, and which sheet counts, evaluated on both sides of each edge.
-use Rattle.std.proofs.Common.{◌≡◌, ℕ, Bool, true, false, [], ◌∷◌, List, Some, None, Option, Ok, Err, map, refl}
-use Rattle.std.specs.Prelude.{codes, length, option_map, Result}
-use Rattle.conode_decode.specs.Names.{Names}
+use Rattle.std.proofs.Common.{◌≡◌, ℕ, [], ◌∷◌, List, Some, None, Option, Ok, Err, map, refl}
+use Rattle.std.specs.Prelude.{codes, option_map, Result}
 use Rattle.conode_explain_pdo.specs.Known.{KnownSheet, sheet_for}
 use Rattle.conode_explain.specs.declared.sheet_word.SheetPart.{SheetPart}
 use Rattle.conode_explain.specs.declared.sheet_word.SheetPart.TheVariants.{Interface, Node, Path}

@@ -1,9 +1,8 @@
 -- The words that name data sheets: `[INTERFACE:][NODE=]FILE`.
-use Rattle.std.specs.Prelude.{ℕ, ◌==◌, nat_le, Bool, ◌&&◌, ◌||◌, if◌then◌else◌, List, length, Option, Some, None, option_and_then, Result, Ok, Err, ⊤, ◌≡◌}
+use Rattle.std.specs.Prelude.{ℕ, ◌==◌, nat_le, Bool, not, ◌&&◌, ◌||◌, if◌then◌else◌, List, length, Option, Some, None, option_and_then, Result, Ok, Err, ⊤, ◌≡◌}
 use Rattle.std.specs.List.{after_first, before_first, list_all, list_any}
 use Rattle.std.specs.Option.{option_copied, option_map_or}
-use Rattle.co_text.specs.Texts.{decimal_in}
-use Rattle.conode_trace.specs.FrameLines.{is_name_byte}
+use Rattle.co_text.specs.Texts.{decimal_in, is_blank}
 use Rattle.conode_explain.specs.declared.sheet_word.SheetPart.{SheetPart}
 use Rattle.conode_explain.specs.declared.sheet_word.SheetPart.TheVariants.{Interface, Node, Path}
 use Rattle.conode_explain.specs.declared.sheet_word.SheetWord.{SheetWord}
@@ -37,8 +36,11 @@ abbrev pub cut_at : ℕ → List ℕ → Option (List ℕ × List ℕ)
 cut_at mark word = option_and_then if_own (first_cut mark word)
 
 -- a name that an interface may have
+abbrev pub has_no_blank : List ℕ → Bool
+has_no_blank name = list_all (λ byte. not (is_blank byte)) name
+
 abbrev pub is_interface : List ℕ → Bool
-is_interface name = nat_le 1 (length name) && nat_le (length name) 15 && list_all is_name_byte name
+is_interface name = (nat_le 1 (length name) && nat_le (length name) 15) && has_no_blank name
 
 -- a path that isn't empty
 abbrev pub with_path : Option (List ℕ) → Option ℕ → List ℕ → Result Named SheetPart

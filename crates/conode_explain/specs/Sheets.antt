@@ -1,5 +1,5 @@
 -- The data sheets by which a recording is explained.
-use Rattle.std.specs.Prelude.{ℕ, Bool, true, false, ◌&&◌, if◌then◌else◌, List, ◌++◌, filter, map, not, Option, Some, None, is_some}
+use Rattle.std.specs.Prelude.{ℕ, Bool, true, false, ◌&&◌, List, ◌++◌, filter, map, Option, Some, None, is_some}
 use Rattle.std.specs.Option.{option_copied}
 use Rattle.co_frame.specs.Segments.{same_bool}
 use Rattle.conode_decode.specs.Names.{originals_in}

@@ -6,6 +6,7 @@ ghost use Rattle.conode_explain.specs.SheetWords.{
   IsWrong,
   cut_at,
   first_cut,
+  has_no_blank,
   if_own,
   is_in_path,
   is_interface,
@@ -118,10 +119,16 @@ fn cut_at_equals(word: &str) -> Option<(&str, &str)>
     }
 }
 
+fn has_no_blank(name: &[u8]) -> bool
+    ensures { result ≡ has_no_blank name.now }
+{
+    name.iter().all(|byte| !is_blank(*byte))
+}
+
 fn is_interface(name: &[u8]) -> bool
     ensures { result ≡ is_interface name.now }
 {
-    1 <= name.len() && name.len() <= 15 && name.iter().all(|byte| !is_blank(*byte))
+    (1 <= name.len() && name.len() <= 15) && has_no_blank(name)
 }
 
 fn with_path<'a>(

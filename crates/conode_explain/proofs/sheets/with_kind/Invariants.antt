@@ -7,4 +7,4 @@ use Rattle.conode_explain.proofs.sheets.with_kind.Given as goal
 abbrev pub invariant-loop-sheet : goal.invariant-loop-sheet
 invariant-loop-sheet l =
     map known_view l.all.items ++ of_kind l.node l.interface (map read_view (drop l.sheet-index l.sheets))
-    ≡ map known_view l.known.items ++ of_kind l.node l.interface (map read_view l.sheets)
+    ≡ map known_view l.fn.known.items ++ of_kind l.node l.interface (map read_view l.sheets)
