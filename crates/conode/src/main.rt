@@ -210,7 +210,7 @@ fn carry_out_task<O: Write, E: Write>(
         }
         Task::Explain {
             trace,
-            sheet,
+            sheets,
             stamps,
             transfers,
             changes,
@@ -226,7 +226,7 @@ fn carry_out_task<O: Write, E: Write>(
                 log: recorded_form(form),
                 filter: filter_words(only),
             };
-            explain_files(rt, trace, sheet, &options, out, err)
+            explain_files(rt, trace, sheets.as_slice(), &options, out, err)
         }
         Task::Stats {
             trace,

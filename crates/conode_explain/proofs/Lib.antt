@@ -2,4 +2,6 @@ pub mod AbortLemmas
 pub mod Explaining
 pub mod LogLemmas
 pub mod ServiceLemmas
+pub mod SheetExamples
+pub mod SheetWordLemmas
 pub mod WriteLemmas

@@ -1,17 +1,16 @@
 //! The file of a recording, explained.
 
-ghost use Rattle.std.specs.Prelude.{◌≡◌, ◌⊎◌};
+ghost use Rattle.std.specs.Prelude.{◌≡◌, ◌⊎◌, IfErr};
 ghost use Rattle.std.specs.Process.{exit_status};
 
 use crate::explained::explain;
 use crate::progress::{Layout, LineFormat};
+use crate::sheet_word::{SheetWord, SheetWordFault, sheet_words};
+use crate::sheets::{ReadSheet, known_sheets};
 use crate::writes::Settings;
-use co_sheet::{FaultKind, GREATEST_SIZE, Sheet, SheetFault, read};
+use co_sheet::{FaultKind, GREATEST_SIZE, SheetFault, read};
 use co_sheet_originals::Originals;
-use co_text::decimal_in;
-use conode_decode::Names;
 use conode_explain_filter::{Filter, FilterFault, FilterWords};
-use conode_explain_pdo::KnownSheet;
 use conode_explain_text::StampForm;
 use conode_io::{CmdFault, cannot_read, faulty_sheet, file_text, flushed, no_text, stopped};
 use conode_logs::Form;
@@ -81,101 +80,162 @@ fn originals_in(alloc: Global, text: &[u8]) -> Result<Originals, SheetFault> {
     }
 }
 
-// explains the recording of a path by these data sheets
+// explains the recording of a path by data sheets
 fn explain_by<R: Files + AllocGlobal + Input, O: Write, E: Write>(
     rt: &R,
     path: &str,
-    form: Layout<'_>,
-    sheets: &[KnownSheet<'_, '_>],
-    out: &mut O,
-    err: &mut E,
-) -> ExitCode
-    ensures { (exit_status result ≡ 0) ⊎ (exit_status result ≡ 1) }
-{
-    let settings = Settings { form, sheets };
-    explain_path(rt, path, &settings, out, err)
-}
-
-// explains the recording of a path by a sheet and its original data types
-fn explain_sheet<'s, R: Files + AllocGlobal + Input, O: Write, E: Write>(
-    rt: &R,
-    path: &str,
-    sheet: &'s Sheet<'_>,
-    originals: &'s Originals,
-    node: Option<u8>,
+    sheets: &[ReadSheet<'_>],
     form: Layout<'_>,
     out: &mut O,
     err: &mut E,
 ) -> ExitCode
     ensures { (exit_status result ≡ 0) ⊎ (exit_status result ≡ 1) }
 {
-    let names = Names {
-        sheet: Some(sheet),
-        only: node,
-        originals: Some(originals),
-    };
-    match KnownSheet::new(rt.alloc(), None, names) {
+    match known_sheets(rt.alloc(), sheets) {
         Ok(known) => {
-            let sheets = [known];
-            explain_by(rt, path, form, &sheets, out, err)
+            let sheets = known.as_slice();
+            let settings = Settings { form, sheets };
+            explain_path(rt, path, &settings, out, err)
         }
         Err(_) => stopped(CmdFault::Memory, out, err).status(),
     }
 }
 
-// explains the recording of a path with the names of a sheet, if the text is one
+// The text of a data sheet, and what its word names.
+#[derive(Drop)]
+struct SheetText<'a> {
+    word: SheetWord<'a>,
+    text: Vec<u8>,
+}
+
+// a data sheet, and its original data types
+fn sheet_in<'t>(alloc: Global, of: &'t SheetText<'_>) -> Result<ReadSheet<'t>, SheetFault> {
+    let sheet = read(alloc, of.text.as_slice())?;
+    let originals = originals_in(alloc, of.text.as_slice())?;
+    Ok(ReadSheet {
+        word: of.word,
+        sheet,
+        originals,
+    })
+}
+
+// Says why a text is no data sheet, and of which file, where there are several. The status is 1.
+fn bad_sheet<O: Write, E: Write>(
+    fault: SheetFault,
+    path: &str,
+    several: bool,
+    out: &mut O,
+    err: &mut E,
+) -> ExitCode
+    ensures { exit_status result ≡ 1 }
+{
+    if several && fault.kind != FaultKind::Memory {
+        let _ = writeln!(err, "{path} has a fault");
+    }
+    faulty_sheet(fault, out)
+}
+
+// The data sheets of these texts. On an `Err` one is at fault, or memory ran out, and it is said.
+fn sheets_in<'t, O: Write, E: Write>(
+    alloc: Global,
+    texts: &'t [SheetText<'_>],
+    out: &mut O,
+    err: &mut E,
+) -> Result<Vec<ReadSheet<'t>>, ExitCode>
+    ensures { IfErr result (λ status. exit_status status ≡ 1) }
+{
+    let mut sheets = Vec::new(alloc);
+    for text in texts {
+        match sheet_in(alloc, text) {
+            Ok(sheet) => {
+                if sheets.push(sheet).is_err() {
+                    return Err(stopped(CmdFault::Memory, out, err).status());
+                }
+            }
+            Err(fault) => {
+                return Err(bad_sheet(fault, text.word.path, texts.len() > 1, out, err));
+            }
+        }
+    }
+    Ok(sheets)
+}
+
+// The texts of the data sheets that words name. On an `Err` a file can't be read, or memory ran out, and it is said.
+fn texts_of<'a, R: Files + AllocGlobal, O: Write, E: Write>(
+    rt: &R,
+    words: &[SheetWord<'a>],
+    out: &mut O,
+    err: &mut E,
+) -> Result<Vec<SheetText<'a>>, ExitCode>
+    ensures { IfErr result (λ status. exit_status status ≡ 1) }
+{
+    let mut texts = Vec::new(rt.alloc());
+    for word in words {
+        match file_text(rt, word.path) {
+            Ok(text) => {
+                if texts.push(SheetText { word: *word, text }).is_err() {
+                    return Err(stopped(CmdFault::Memory, out, err).status());
+                }
+            }
+            Err(fault) => return Err(no_text(fault, word.path, out, err)),
+        }
+    }
+    Ok(texts)
+}
+
+// explains the recording of a path by the data sheets that words name
 fn explain_named<R: Files + AllocGlobal + Input, O: Write, E: Write>(
     rt: &R,
     path: &str,
-    text: &[u8],
-    node: Option<u8>,
+    words: &[SheetWord<'_>],
     form: Layout<'_>,
     out: &mut O,
     err: &mut E,
 ) -> ExitCode
     ensures { (exit_status result ≡ 0) ⊎ (exit_status result ≡ 1) }
 {
-    let sheet = match read(rt.alloc(), text) {
-        Ok(sheet) => sheet,
-        Err(fault) => return faulty_sheet(fault, out),
+    let texts = match texts_of(rt, words, out, err) {
+        Ok(texts) => texts,
+        Err(status) => return status,
     };
-    match originals_in(rt.alloc(), text) {
-        Ok(originals) => explain_sheet(rt, path, &sheet, &originals, node, form, out, err),
-        Err(fault) => faulty_sheet(fault, out),
+    match sheets_in(rt.alloc(), texts.as_slice(), out, err) {
+        Ok(sheets) => explain_by(rt, path, sheets.as_slice(), form, out, err),
+        Err(status) => status,
     }
 }
 
-// The node-ID that a sheet is for, and its path: `5=sensor.eds` is for node 5, and a word that doesn't begin with a
-// node-ID, 1 to 127, and `=` is a path as it is.
-fn node_and_path(word: &str) -> (Option<u8>, &str) {
-    match word.split_once('=') {
-        Some((front, path)) => match decimal_in(front.as_bytes(), 1, 127) {
-            Some(node) => (Some(node as u8), path),
-            None => (None, word),
-        },
-        None => (None, word),
+// says which word names no data sheet, and what it has not
+fn bad_sheet_word<O: Write, E: Write>(
+    fault: SheetWordFault<'_>,
+    out: &mut O,
+    err: &mut E,
+) -> ExitCode
+    ensures { (exit_status result ≡ 1) ⊎ (exit_status result ≡ 2) }
+{
+    match fault {
+        SheetWordFault::Word(part, word) => {
+            let _ = writeln!(err, "--sheet: {word} has no {}", part.wanted());
+            ExitCode::from(2)
+        }
+        SheetWordFault::Memory => stopped(CmdFault::Memory, out, err).status(),
     }
 }
 
-// explains the recording of a path with the names of a data sheet, where a word names one
+// explains the recording of a path by the data sheets that the words of the command line name
+#[tactic(auto, using(crate::proofs::WriteLemmas::or_two, crate::proofs::WriteLemmas::one_or_two))]
 fn explain_in<R: Files + AllocGlobal + Input, O: Write, E: Write>(
     rt: &R,
     recording: &str,
-    sheet: Option<&str>,
+    words: &[&str],
     form: Layout<'_>,
     out: &mut O,
     err: &mut E,
 ) -> ExitCode
-    ensures { (exit_status result ≡ 0) ⊎ (exit_status result ≡ 1) }
+    ensures { (exit_status result ≡ 0) ⊎ ((exit_status result ≡ 1) ⊎ (exit_status result ≡ 2)) }
 {
-    let Some(word) = sheet else {
-        let settings = Settings { form, sheets: &[] };
-        return explain_path(rt, recording, &settings, out, err);
-    };
-    let (node, path) = node_and_path(word);
-    match file_text(rt, path) {
-        Ok(text) => explain_named(rt, recording, text.as_slice(), node, form, out, err),
-        Err(fault) => no_text(fault, path, out, err),
+    match sheet_words(rt.alloc(), words) {
+        Ok(named) => explain_named(rt, recording, named.as_slice(), form, out, err),
+        Err(fault) => bad_sheet_word(fault, out, err),
     }
 }
 
@@ -209,16 +269,16 @@ fn bad_filter<O: Write, E: Write>(fault: FilterFault<'_>, out: &mut O, err: &mut
     }
 }
 
-/// Explains the recording of a path, or of standard input where that is `-`, with the names of a data sheet, where a
-/// word names one: a path, perhaps with the node-ID that the sheet is for before it, as `5=sensor.eds`. The words of the
-/// filter are read first: the first that its option doesn't have is named on `err`, and the status is 2. Then the sheet is
-/// read: its fault goes to `out`. Bad lines, and a file that can't be read, are named on `err`. The status is 0 where all
-/// lines are good, else 1.
+/// Explains the recording of a path, or of standard input where that is `-`, by the data sheets that words name, each
+/// `[INTERFACE:][NODE=]FILE`. The words of the filter are read first, and then those of the sheets: the first that its
+/// option doesn't have is named on `err`, and the status is 2. Then the sheets are read: a fault of one goes to `out`, and
+/// where there are several, its path to `err`. Bad lines, and a file that can't be read, are named on `err`. The status is
+/// 0 where all lines are good, else 1.
 #[tactic(auto, using(crate::proofs::WriteLemmas::or_two, crate::proofs::WriteLemmas::one_or_two))]
 pub fn explain_files<R: Files + AllocGlobal + Input, O: Write, E: Write>(
     rt: &R,
     recording: &str,
-    sheet: Option<&str>,
+    sheets: &[&str],
     options: &ExplainOptions<'_>,
     out: &mut O,
     err: &mut E,
@@ -235,7 +295,7 @@ pub fn explain_files<R: Files + AllocGlobal + Input, O: Write, E: Write>(
                 log: options.log,
                 filter: &filter,
             };
-            explain_in(rt, recording, sheet, form, out, err)
+            explain_in(rt, recording, sheets, form, out, err)
         }
         Err(fault) => bad_filter(fault, out, err),
     }

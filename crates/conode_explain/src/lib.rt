@@ -9,6 +9,8 @@ mod explained;
 mod filtered;
 mod frame_words;
 mod progress;
+mod sheet_word;
+mod sheets;
 mod step;
 mod told_words;
 mod transfer;

@@ -1,6 +1,6 @@
 -- Dates, stamps, columns and lines, evaluated on both sides of each edge.
 use Rattle.std.proofs.Common.{◌≡◌, ℕ, true, false, List, [], ◌∷◌, refl}
-use Rattle.std.specs.Prelude.{Option, None, codes, replicate}
+use Rattle.std.specs.Prelude.{None, codes}
 use Rattle.std.specs.Fmt.{digits}
 use Rattle.co_text.specs.Printed.{digits_text}
 use Rattle.conode_record.specs.declared.content.Content.TheVariants.{Data, Remote, Fd}

@@ -25,10 +25,13 @@ id_text (Error class) = digits_text 16 8 (class + 0x20000000)
 abbrev pub blank_byte : ℕ → List ℕ
 blank_byte byte = codes " " ++ byte_text byte
 
--- the length in brackets, each byte, and blanks up to where eight bytes end
+-- a length in brackets
+abbrev pub length_text : ℕ → List ℕ
+length_text count = codes "[" ++ decimal count ++ codes "]"
+
+-- the length, each byte, and blanks up to where eight bytes end
 unfoldable pub bytes_text : ℕ → List ℕ → List ℕ
-bytes_text count bytes =
-    codes "[" ++ decimal count ++ codes "]" ++ flat_map blank_byte bytes ++ replicate (24 - 3 * length bytes) 32
+bytes_text count bytes = length_text count ++ flat_map blank_byte bytes ++ replicate (24 - 3 * length bytes) 32
 
 -- a frame's length and data; a remote frame has a length alone
 abbrev pub content_text : Content → List ℕ

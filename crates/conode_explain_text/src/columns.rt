@@ -12,10 +12,12 @@ ghost use Rattle.conode_explain_text.specs.Columns.{
   blank_byte,
   bytes_text,
   content_text,
+  length_text,
 };
 
 use crate::stamps::push_blanks;
-use co_text::{push_byte, push_decimal, push_digit, push_u32};
+use arrayvec::ArrayString;
+use co_text::{byte_digits, push_byte, push_decimal, push_digit, push_u32};
 use conode_record::{Content, Identifier};
 use std::alloc::AllocError;
 
@@ -55,15 +57,49 @@ pub(crate) fn push_id(text: &mut String, id: Identifier) -> Result<(), AllocErro
     }
 }
 
+// a blank and a byte
+fn blank_byte(byte: u8) -> ArrayString<3>
+    ensures { result.bytes ≡ blank_byte byte }
+{
+    let mut text = ArrayString::new();
+    text.push(' ');
+    text.push_str(byte_digits(byte).as_str());
+    text
+}
+
 fn push_bytes(text: &mut String, bytes: &[u8]) -> Result<(), AllocError>
     ensures { OnOk result
         (string_bytes text.new ≡ string_bytes text.old ++ flat_map blank_byte bytes.now) }
 {
     for byte in bytes {
-        text.push_str(" ")?;
-        push_byte(text, *byte)?;
+        text.push_str(blank_byte(*byte).as_str())?;
     }
     Ok(())
+}
+
+// a length of one digit, in brackets
+#[tactic(auto, using(std::proofs::lemmas::Fmt::decimal_digit))]
+fn short_length(count: u8) -> ArrayString<3>
+    requires { count < 10 }
+    ensures { result.bytes ≡ length_text count }
+{
+    let mut text = ArrayString::new();
+    text.push('[');
+    text.push((b'0' + count) as char);
+    text.push(']');
+    text
+}
+
+fn push_length(text: &mut String, count: usize) -> Result<(), AllocError>
+    ensures { OnOk result
+        (string_bytes text.new ≡ string_bytes text.old ++ length_text count) }
+{
+    if count < 10 {
+        return text.push_str(short_length(count as u8).as_str());
+    }
+    text.push_str("[")?;
+    push_decimal(text, count as u64)?;
+    text.push_str("]")
 }
 
 #[tactic(auto, unfolding(crate::specs::Columns::bytes_text))]
@@ -72,9 +108,7 @@ fn push_counted(text: &mut String, count: usize, bytes: &[u8]) -> Result<(), All
     ensures { OnOk result
         (string_bytes text.new ≡ string_bytes text.old ++ bytes_text count bytes.now) }
 {
-    text.push_str("[")?;
-    push_decimal(text, count as u64)?;
-    text.push_str("]")?;
+    push_length(text, count)?;
     push_bytes(text, bytes)?;
     push_blanks(text, 24usize.saturating_sub(3 * bytes.len()))
 }

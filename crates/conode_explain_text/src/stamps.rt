@@ -1,7 +1,7 @@
 //! Stamps and times. Each function appends a text; on an `Err` memory ran out, and a part of it may be there.
 
 ghost use Rattle.std.specs.Prelude.{◌≡◌, ◌++◌, ◌<◌, ◌^◌, OnOk, string_bytes, replicate};
-ghost use Rattle.co_text.specs.Printed.{digits_text};
+ghost use Rattle.co_text.specs.Printed.{digits_text, printed_digit};
 ghost use Rattle.conode_explain_text.specs.Dates.{date_of};
 ghost use Rattle.conode_explain_text.specs.Stamps.{
   padded,
@@ -18,7 +18,9 @@ ghost use Rattle.conode_explain_text.specs.Stamps.{
 
 use crate::dates::{Date, date_of};
 use crate::so_far::Times;
-use co_text::{decimal_digits, push_decimal, push_digit};
+use arrayvec::ArrayString;
+use co_text::{push_decimal, push_digit};
+use itoa::Buffer;
 use std::alloc::AllocError;
 
 /// In which form stamps are written.
@@ -46,23 +48,41 @@ pub(crate) fn push_blanks(text: &mut String, count: usize) -> Result<(), AllocEr
 fn push_padded(text: &mut String, number: u64, width: usize) -> Result<(), AllocError>
     ensures { OnOk result (string_bytes text.new ≡ string_bytes text.old ++ padded width number) }
 {
-    let digits = decimal_digits(number);
+    let mut buffer = Buffer::new();
+    let digits = buffer.format(number);
     push_blanks(text, width.saturating_sub(digits.len()))?;
-    text.push_str(digits.as_str())
+    text.push_str(digits)
+}
+
+fn decimal_char(digit: u32) -> char
+    requires { digit < 10 }
+    ensures value { result ≡ printed_digit digit }
+    ensures ascii { result < 128 }
+{
+    (b'0' + digit as u8) as char
 }
 
 #[tactic(auto, unfolding(co_text::specs::Printed::digits_text))]
+fn micros_digits(micros: u32) -> ArrayString<6>
+    requires { micros < 10 ^ 6 }
+    ensures { result.bytes ≡ micros_text micros }
+{
+    let mut digits = ArrayString::new();
+    digits.push(decimal_char(micros / 10 / 10 / 10 / 10 / 10 % 10));
+    digits.push(decimal_char(micros / 10 / 10 / 10 / 10 % 10));
+    digits.push(decimal_char(micros / 10 / 10 / 10 % 10));
+    digits.push(decimal_char(micros / 10 / 10 % 10));
+    digits.push(decimal_char(micros / 10 % 10));
+    digits.push(decimal_char(micros % 10));
+    digits
+}
+
 fn push_micros(text: &mut String, micros: u32) -> Result<(), AllocError>
     requires { micros < 10 ^ 6 }
     ensures { OnOk result
         (string_bytes text.new ≡ string_bytes text.old ++ micros_text micros) }
 {
-    push_digit(text, (micros / 10 / 10 / 10 / 10 / 10 % 10) as u8)?;
-    push_digit(text, (micros / 10 / 10 / 10 / 10 % 10) as u8)?;
-    push_digit(text, (micros / 10 / 10 / 10 % 10) as u8)?;
-    push_digit(text, (micros / 10 / 10 % 10) as u8)?;
-    push_digit(text, (micros / 10 % 10) as u8)?;
-    push_digit(text, (micros % 10) as u8)
+    text.push_str(micros_digits(micros).as_str())
 }
 
 // seconds, blanks before them up to this width, and six digits of microseconds

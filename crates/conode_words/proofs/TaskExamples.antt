@@ -217,20 +217,20 @@ adapt_without_sheet = refl
 abbrev all_lines : AskedLines
 all_lines = record { of = None; id = None; kind = None; from = None; to = None }
 
-explain_of_a_trace : asked_after explain_command (codes "explain") (codes "t" ∷ []) ≡ Some (explain (record { trace = codes "t"; sheet = None; stamps = Relative; transfers = false; changes = false; lines_as = lines.Text; form = log_form.Auto; only = all_lines }))
+explain_of_a_trace : asked_after explain_command (codes "explain") (codes "t" ∷ []) ≡ Some (explain (record { trace = codes "t"; sheets = []; stamps = Relative; transfers = false; changes = false; lines_as = lines.Text; form = log_form.Auto; only = all_lines }))
 unfolding words_on_literals
 explain_of_a_trace = refl
 
 explain_with_options : asked_after explain_command (codes "explain")
-    (codes "-t" ∷ codes "A" ∷ codes "-" ∷ codes "--transfers" ∷ codes "--changes" ∷ codes "--format=json" ∷ codes "--log" ∷ codes "trc" ∷ codes "--sheet" ∷ codes "5=s" ∷ [])
-    ≡ Some (explain (record { trace = codes "-"; sheet = Some (codes "5=s"); stamps = Date; transfers = true; changes = true; lines_as = lines.Json; form = log_form.Trc; only = all_lines }))
+    (codes "-t" ∷ codes "A" ∷ codes "-" ∷ codes "--transfers" ∷ codes "--changes" ∷ codes "--format=json" ∷ codes "--log" ∷ codes "trc" ∷ codes "--sheet" ∷ codes "5=s" ∷ codes "--sheet=can1:d" ∷ [])
+    ≡ Some (explain (record { trace = codes "-"; sheets = codes "5=s" ∷ codes "can1:d" ∷ []; stamps = Date; transfers = true; changes = true; lines_as = lines.Json; form = log_form.Trc; only = all_lines }))
 unfolding words_on_literals
 explain_with_options = refl
 
 explain_some_lines : asked_after explain_command (codes "explain") (codes "t" ∷ codes "--of=5" ∷ codes "--id" ∷ codes "185" ∷ codes "--kind" ∷ codes "pdo" ∷ codes "--from" ∷ codes "1" ∷ codes "--to" ∷ codes "2" ∷ [])
     ≡ Some (explain (record {
       trace = codes "t";
-      sheet = None;
+      sheets = [];
       stamps = Relative;
       transfers = false;
       changes = false;

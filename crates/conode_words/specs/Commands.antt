@@ -126,7 +126,7 @@ adapt_command =
 abbrev pub log_option : Rule
 log_option = worded (codes "log") (codes "auto")
 
--- `explain TRACE [--sheet SHEET] [--stamps FORM|-t FORM] [--transfers] [--changes] [--format FORMAT] [--log FORM]
+-- `explain TRACE [--sheet SHEET].. [--stamps FORM|-t FORM] [--transfers] [--changes] [--format FORMAT] [--log FORM]
 -- [--of NODES] [--id IDS] [--kind KINDS] [--from TIME] [--to TIME]`
 abbrev pub stamps_option : Rule
 stamps_option = lettered (codes "stamps") 116 (codes "relative")
@@ -134,7 +134,7 @@ stamps_option = lettered (codes "stamps") 116 (codes "relative")
 unfoldable pub explain_command : App
 explain_command =
     with_filters (with_rule (with_rule (with_rule (with_rule (with_rule (with_rule (with_rule (new_app (codes "explain"))
-    (wanted (codes "TRACE"))) (valued (codes "sheet"))) stamps_option) (flag (codes "transfers"))) (flag (codes "changes")))
+    (wanted (codes "TRACE"))) (repeated (codes "sheet"))) stamps_option) (flag (codes "transfers"))) (flag (codes "changes")))
     (worded (codes "format") (codes "text"))) log_option)
 
 -- `convert LOG [--log FORM]`

@@ -78,7 +78,7 @@ AsksFor name rows (adapt a) =
     × (a.force ≡ is_used (codes "force") rows)
 AsksFor name rows (explain a) =
     (name ≡ codes "explain") × IsWord (codes "TRACE") rows a.trace
-    × (a.sheet ≡ first_of (codes "sheet") rows) × IsChoice stamps_of (codes "stamps") rows a.stamps
+    × (a.sheets ≡ words_for (codes "sheet") rows) × IsChoice stamps_of (codes "stamps") rows a.stamps
     × (a.transfers ≡ is_used (codes "transfers") rows) × (a.changes ≡ is_used (codes "changes") rows)
     × IsChoice lines_as_of (codes "format") rows a.lines_as × IsChoice log_form_of (codes "log") rows a.form
     × (a.only ≡ asked_lines rows)

@@ -82,7 +82,7 @@ pub record AskedLines : Type 0 where
 -- what the words after `explain` ask for
 pub record AskedExplain : Type 0 where
   pub trace : Text
-  pub sheet : Option Text
+  pub sheets : List Text
   pub stamps : Stamps
   pub transfers : Bool
   pub changes : Bool
@@ -158,10 +158,10 @@ asked_by (LoopBack sheet key bytes mode device) =
 asked_by (Show sheet node form) = show (record { sheet = sheet.now; node = node; shown_as = form })
 asked_by (Adapt sheet zeros force) =
     adapt (record { sheet = sheet.now; leading_zeros = zeros; force = force })
-asked_by (Explain trace sheet stamps transfers changes lines_as form only) =
+asked_by (Explain trace sheets stamps transfers changes lines_as form only) =
     explain (record {
       trace = trace.now;
-      sheet = option_copied sheet;
+      sheets = map (λ word. word.now) sheets.items;
       stamps = stamps;
       transfers = transfers;
       changes = changes;
@@ -292,13 +292,13 @@ asked_lines rows = record {
   to = first_of (codes "to") rows;
 }
 
--- what the matches of `explain` ask for
-unfoldable pub asked_explain : List Row → Option Asked
-asked_explain rows =
+-- what the matches of `explain` ask for, with its sheets
+unfoldable pub asked_explain_of : List Text → List Row → Option Asked
+asked_explain_of sheets rows =
     option_and_then (λ trace. option_and_then (λ stamps. option_and_then (λ lines_as. option_map (λ form.
     explain (record {
       trace = trace;
-      sheet = first_of (codes "sheet") rows;
+      sheets = sheets;
       stamps = stamps;
       transfers = is_used (codes "transfers") rows;
       changes = is_used (codes "changes") rows;
@@ -307,6 +307,9 @@ asked_explain rows =
       only = asked_lines rows;
     }))
     (log_form_for rows)) (lines_as_for rows)) (stamps_for rows)) (first_of (codes "TRACE") rows)
+
+unfoldable pub asked_explain : List Row → Option Asked
+asked_explain rows = asked_explain_of (words_for (codes "sheet") rows) rows
 
 -- what the matches of `convert` ask for
 unfoldable pub asked_convert : List Row → Option Asked
@@ -349,7 +352,7 @@ asked_compare rows =
     }))
     (asked_timing rows)) (log_form_for rows)) (first_of (codes "TRACE") rows)) (first_of (codes "SHEET") rows)
 
--- what the matches of a subcommand other than `lint` ask for
+-- what the matches of a subcommand other than `lint` and `explain` ask for
 unfoldable pub asked_other : Text → List Row → Option Asked
 asked_other name rows =
     if bytes_eq name (codes "check") then asked_check rows
@@ -358,14 +361,15 @@ asked_other name rows =
     else (if bytes_eq name (codes "loop") then asked_loop rows
     else (if bytes_eq name (codes "show") then asked_show rows
     else (if bytes_eq name (codes "adapt") then asked_adapt rows
-    else (if bytes_eq name (codes "explain") then asked_explain rows
     else (if bytes_eq name (codes "convert") then asked_convert rows
     else (if bytes_eq name (codes "stats") then asked_stats rows
-    else (if bytes_eq name (codes "compare") then asked_compare rows else None)))))))))
+    else (if bytes_eq name (codes "compare") then asked_compare rows else None))))))))
 
 -- what the matches of a subcommand ask for
 unfoldable pub asked_in : Text → List Row → Option Asked
-asked_in name rows = if bytes_eq name (codes "lint") then asked_lint rows else asked_other name rows
+asked_in name rows =
+    if bytes_eq name (codes "lint") then asked_lint rows
+    else (if bytes_eq name (codes "explain") then asked_explain rows else asked_other name rows)
 
 -- what the matches of the program's command ask for; nothing without a subcommand
 unfoldable pub asked_of : Option (Text × List Row) → Option Asked

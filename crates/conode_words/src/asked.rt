@@ -12,6 +12,7 @@ ghost use Rattle.conode_words.specs.Tasks.{
   asked_device,
   asked_dictionary,
   asked_explain,
+  asked_explain_of,
   asked_in,
   asked_lines,
   asked_lint,
@@ -192,10 +193,12 @@ fn only_words<'a>(found: &ArgMatches<'a>) -> OnlyWords<'a>
     }
 }
 
-// what the words after `explain` ask for
-#[tactic(auto, unfolding(crate::specs::Tasks::asked_explain))]
-fn asked_explain<'a>(found: &ArgMatches<'a>) -> Option<Task<'a>>
-    ensures { option_map asked_by result ≡ asked_explain (rows_of (found_of found.now)) }
+// what the words after `explain` ask for, with its sheets
+#[tactic(auto, unfolding(crate::specs::Tasks::asked_explain_of))]
+fn explain_of<'a>(found: &ArgMatches<'a>, sheets: Vec<&'a str>) -> Option<Task<'a>>
+    ensures { option_map asked_by result
+        ≡ asked_explain_of (map (λ word. word.now) sheets.entry.items)
+        (rows_of (found_of found.now)) }
 {
     let trace = word_for(found, "TRACE")?;
     let stamps = stamps_for(found)?;
@@ -203,7 +206,7 @@ fn asked_explain<'a>(found: &ArgMatches<'a>) -> Option<Task<'a>>
     let form = log_form_for(found)?;
     Some(Task::Explain {
         trace,
-        sheet: word_for(found, "sheet"),
+        sheets,
         stamps,
         transfers: is_used(found, "transfers"),
         changes: is_used(found, "changes"),
@@ -211,6 +214,16 @@ fn asked_explain<'a>(found: &ArgMatches<'a>) -> Option<Task<'a>>
         form,
         only: only_words(found),
     })
+}
+
+// what the words after `explain` ask for
+#[tactic(auto, unfolding(crate::specs::Tasks::asked_explain))]
+fn asked_explain<'a>(alloc: Global, found: &ArgMatches<'a>) -> Result<Option<Task<'a>>, AllocError>
+    ensures { IfOk result (λ task.
+        option_map asked_by task ≡ asked_explain (rows_of (found_of found.now))) }
+{
+    let sheets = words_for(alloc, found, "sheet")?;
+    Ok(explain_of(found, sheets))
 }
 
 // what the words after `convert` ask for
@@ -276,7 +289,7 @@ fn asked_compare<'a>(found: &ArgMatches<'a>) -> Option<Task<'a>>
     })
 }
 
-// what the words after the name of a subcommand other than `lint` ask for
+// what the words after the name of a subcommand other than `lint` and `explain` ask for
 #[tactic(auto, unfolding(crate::specs::Tasks::asked_other))]
 fn asked_other<'a>(name: &str, found: &ArgMatches<'a>) -> Option<Task<'a>>
     ensures { option_map asked_by result ≡ asked_other name.now (rows_of (found_of found.now)) }
@@ -293,8 +306,6 @@ fn asked_other<'a>(name: &str, found: &ArgMatches<'a>) -> Option<Task<'a>>
         asked_show(found)
     } else if is(name, "adapt") {
         asked_adapt(found)
-    } else if is(name, "explain") {
-        asked_explain(found)
     } else if is(name, "convert") {
         asked_convert(found)
     } else if is(name, "stats") {
@@ -318,6 +329,8 @@ pub(crate) fn asked_in<'a>(
 {
     if is(name, "lint") {
         asked_lint(alloc, found)
+    } else if is(name, "explain") {
+        asked_explain(alloc, found)
     } else {
         Ok(asked_other(name, found))
     }

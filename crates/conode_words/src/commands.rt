@@ -187,8 +187,8 @@ const EXPLAIN: [Word; 12] = [
     RECORDING,
     Word(
         "sheet",
-        Valued("SHEET"),
-        "A data sheet with names of entries; 5=SHEET: of node 5",
+        Repeated("SHEET"),
+        "A data sheet; 5=SHEET: of node 5; may be given again",
     ),
     Word(
         "stamps",

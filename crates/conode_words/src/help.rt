@@ -246,15 +246,21 @@ says aren't those of the last one on its identifier and interface. --format json
 writes each line as an object of JSON.
 
 With --sheet entries have their names, and their values in expedited SDO
-transfers and in PDOs, which are taken apart by the sheet's mapping.
-`--sheet 5=sensor.eds` is for node-ID 5 alone. Empty lines, comments (`;`) and
-event lines (`!`) print nothing. A bad line is named on standard error, with its
-number and what is wrong, and the rest goes on. `-` as TRACE is standard input;
-each line is out before the next read that could wait. The stamps' forms have
-the letters z, a, d and A too, those of candump. Logs of other recorders are
-read as `convert` reads them: see `conode convert --help` for --log.
+transfers and in PDOs, which are taken apart by the sheet's mapping. The option
+may be given again: `--sheet 5=sensor.eds` is for node-ID 5, and `--sheet
+can1:5=other.eds` for node-ID 5 on can1. Without a node-ID a device
+configuration file (DCF) is for its own, and any other sheet for every node. A
+node's own sheet counts before one for every node, of those the one for the
+interface, and then the first.
 
-  candump -L can0 | conode explain - --sheet 5=sensor.eds
+Empty lines, comments (`;`) and event lines (`!`) print nothing. A bad line is
+named on standard error, with its number and what is wrong, and the rest goes
+on. `-` as TRACE is standard input; each line is out before the next read that
+could wait. The stamps' forms have the letters z, a, d and A too, those of
+candump. Logs of other recorders are read as `convert` reads them: see `conode
+convert --help` for --log.
+
+  candump -L can0 | conode explain - --sheet 5=sensor.eds --sheet drive.dcf
 
 Status: 0 if all lines are good, or only the last is bad and no line feed ends
 it; 1 if a line is bad or the recording can't be read; 2 if the words are wrong.";

@@ -209,9 +209,9 @@ pub enum Task<'a> {
     Explain {
         /// The recording's path, `-` for standard input.
         trace: &'a str,
-        /// The path of the data sheet that has the names of entries, perhaps with the node-ID that it is for, as
-        /// `5=sensor.eds`; `None`: they aren't named.
-        sheet: Option<&'a str>,
+        /// The words that name data sheets, each with its path, and perhaps the interface and the node-ID that it is
+        /// for, as `can1:5=sensor.eds`.
+        sheets: Vec<&'a str>,
         /// In which form stamps are written.
         stamps: Stamps,
         /// Whether only the SDO transfers that ended have lines.

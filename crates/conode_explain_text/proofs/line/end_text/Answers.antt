@@ -1,4 +1,4 @@
-use Rattle.std.proofs.Common.{◌≡◌, ◌<◌, true, false, ltb, refl, arith}
+use Rattle.std.proofs.Common.{◌≡◌, ◌<◌, true, ltb, refl, arith}
 use Rattle.std.proofs.lemmas.Bool.Decides.{nat_tests}
 use Rattle.conode_explain_text.proofs.line.end_text.Goals as goal
 
