@@ -102,10 +102,11 @@ after_fault progress micros = record (with_gap progress micros) { nmt = nothing_
 
 -- ---- commands and node guarding
 
+-- after a reset nothing is known of its PDOs until the boot-up
 unfoldable pub after_command : Progress → NmtService → ℕ → Progress
 after_command progress service micros =
     let commanded = record progress { nmt = states.after_command progress.nmt service micros; pdos = tpdos.commanded progress.pdos } in
-    if is_reset service then with_gap commanded micros else commanded
+    if is_reset service then record (with_gap commanded micros) { pdos = tpdos.unknown_pdos } else commanded
 
 abbrev pub after_guarding : Progress → Progress
 after_guarding progress = record progress { heartbeats = record progress.heartbeats { guarded = true } }

@@ -225,7 +225,8 @@ impl Progress {
         self.pdos.interrupt();
     }
 
-    #[tactic(auto, unfolding(crate::specs::Progresses::after_command))]
+    // a command; after a reset nothing is known of its PDOs until the boot-up
+    #[tactic(auto, unfolding(crate::specs::Progresses::after_command, crate::specs::Progresses::with_gap))]
     fn take_command(&mut self, service: NmtService, micros: u64)
         ensures { self.new ≡ after_command self.old service micros }
     {
@@ -233,6 +234,7 @@ impl Progress {
         self.pdos.command();
         if is_reset(service) {
             self.break_off(micros);
+            self.pdos = Pdos::unknown();
         }
     }
 
