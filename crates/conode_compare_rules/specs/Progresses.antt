@@ -31,7 +31,7 @@ use Rattle.conode_compare_rules.specs.declared.verdict.Findings.{Findings}
 use Rattle.conode_compare_rules.specs.Answers.{answer_finding, silence_finding}
 use Rattle.conode_compare_rules.specs.Dialogues.{dialogue_heard, given_up, interrupted, nothing_asked, exchange_in}
 use Rattle.conode_compare_rules.specs.EmergencyRules.{emergency_finding, length_finding}
-use Rattle.conode_compare_rules.specs.EntriesInForce.{asked_to_write, ended_entries, shown_period}
+use Rattle.conode_compare_rules.specs.EntriesInForce.{asked_to_write, ended_entries, reset_entries, shown_period}
 use Rattle.conode_compare_rules.specs.Heartbeats.{after_byte, follows_closely, late_finding, no_heartbeat, is_gap}
 use Rattle.conode_compare_rules.specs.States as states
 use Rattle.conode_compare_rules.specs.States.{boot_finding, control_finding, is_reset, is_settled, nothing_commanded}
@@ -102,11 +102,12 @@ after_fault progress micros = record (with_gap progress micros) { nmt = nothing_
 
 -- ---- commands and node guarding
 
--- after a reset nothing is known of its PDOs until the boot-up
+-- after a reset nothing is known of its PDOs until the boot-up, nor of the inhibit time of its EMCY
 unfoldable pub after_command : Progress → NmtService → ℕ → Progress
 after_command progress service micros =
     let commanded = record progress { nmt = states.after_command progress.nmt service micros; pdos = tpdos.commanded progress.pdos } in
-    if is_reset service then record (with_gap commanded micros) { pdos = tpdos.unknown_pdos } else commanded
+    if is_reset service then record (with_gap commanded micros) { entries = reset_entries progress.entries; pdos = tpdos.unknown_pdos }
+    else commanded
 
 abbrev pub after_guarding : Progress → Progress
 after_guarding progress = record progress { heartbeats = record progress.heartbeats { guarded = true } }

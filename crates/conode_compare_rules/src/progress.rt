@@ -225,7 +225,7 @@ impl Progress {
         self.pdos.interrupt();
     }
 
-    // a command; after a reset nothing is known of its PDOs until the boot-up
+    // a command; after a reset nothing is known of its PDOs until the boot-up, nor of the inhibit time of its EMCY
     #[tactic(auto, unfolding(crate::specs::Progresses::after_command, crate::specs::Progresses::with_gap))]
     fn take_command(&mut self, service: NmtService, micros: u64)
         ensures { self.new ≡ after_command self.old service micros }
@@ -234,6 +234,7 @@ impl Progress {
         self.pdos.command();
         if is_reset(service) {
             self.break_off(micros);
+            self.entries = self.entries.after_reset();
             self.pdos = Pdos::unknown();
         }
     }
