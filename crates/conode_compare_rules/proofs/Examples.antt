@@ -1,7 +1,7 @@
 -- What is a difference and what isn't, on both sides of each edge, computed from the definitions.
-use Rattle.std.proofs.Common.{◌≡◌, ℕ, true, false, List, [], ◌∷◌, Some, None, refl}
+use Rattle.std.proofs.Common.{◌≡◌, ℕ, Bool, true, false, List, [], ◌∷◌, Some, None, refl}
 use Rattle.std.specs.Prelude.{pos}
-use Rattle.co_frame.specs.declared.nmt.NmtService.TheVariants.{Start, ResetNode}
+use Rattle.co_frame.specs.declared.nmt.NmtService.TheVariants.{Start, Stop, ResetNode}
 use Rattle.co_profile.specs.declared.access.Access.{Access}
 use Rattle.co_profile.specs.declared.access.Access.TheVariants.{Ro, Wo, Rw, Constant}
 use Rattle.co_sheet.specs.Content.{Row}
@@ -10,16 +10,25 @@ use Rattle.co_value.specs.declared.data_type.DataType.{DataType}
 use Rattle.co_value.specs.declared.data_type.DataType.TheVariants.{Unsigned8, Unsigned16, Unsigned32, Unsigned40, VisibleString}
 use Rattle.co_value.specs.declared.key.Key.{Key}
 use Rattle.conode_compare_pdos.specs.Followed.{pdos_of}
+use Rattle.conode_explain_transfers.specs.declared.ended.Ended.{Ended}
+use Rattle.conode_explain_transfers.specs.declared.ended.Ending.TheVariants.{Done}
+use Rattle.conode_explain_transfers.specs.declared.kinds.Direction.TheVariants.{Download}
+use Rattle.conode_explain_transfers.specs.declared.kinds.Protocol.{Protocol}
+use Rattle.conode_explain_transfers.specs.declared.kinds.Protocol.TheVariants.{Expedited, Segmented}
+use Rattle.conode_explain_transfers.specs.declared.kinds.What.TheVariants.{Part}
+use Rattle.conode_compare_transfers.specs.declared.breach.Breach.TheVariants.{Toggle}
 use Rattle.conode_compare_rules.specs.declared.dialogue.Dialogue.{Dialogue}
+use Rattle.conode_compare_rules.specs.declared.dialogue.Exchange.{Exchange}
 use Rattle.conode_compare_rules.specs.declared.entries.Entries.{Entries}
-use Rattle.conode_compare_rules.specs.declared.finding.Finding.TheVariants.{BootMissing, SecondBootUp, NoState, WrongState, HeartbeatLate, EmergencyStopped, EmergencyRegister, EmergencyInhibit, ValueLength, ValueConst, ReadRefused, Written}
+use Rattle.conode_compare_rules.specs.declared.finding.Finding.TheVariants.{BootMissing, SecondBootUp, NoState, WrongState, HeartbeatLate, EmergencyStopped, EmergencyRegister, EmergencyInhibit, ValueLength, ValueConst, ReadRefused, Written, AnswerStopped, Transfer}
 use Rattle.conode_compare_rules.specs.declared.finding.NmtState.TheVariants.{Unknown, Initialising, PreOperational, Operational, Stopped}
 use Rattle.conode_compare_rules.specs.declared.heartbeats.Heartbeats.{Heartbeats}
 use Rattle.conode_compare_rules.specs.declared.limits.Limits.{Limits}
 use Rattle.conode_compare_rules.specs.declared.nmt.Nmt.{Nmt}
+use Rattle.conode_compare_rules.specs.Answers.{confirmed_finding, stopped_finding}
 use Rattle.conode_compare_rules.specs.Dialogues.{is_certain, nothing_asked, owes}
-use Rattle.conode_compare_rules.specs.EmergencyRules.{emergency_finding}
-use Rattle.conode_compare_rules.specs.EntriesInForce.{facts_of, initial_entries, sheet_entries}
+use Rattle.conode_compare_rules.specs.EmergencyRules.{emergency_finding, inhibit_finding}
+use Rattle.conode_compare_rules.specs.EntriesInForce.{ended_entries, facts_of, initial_entries, sheet_entries, shown_inhibit, shown_period}
 use Rattle.conode_compare_rules.specs.Heartbeats.{follows_closely, late_finding, overdue_by, is_gap}
 use Rattle.conode_compare_rules.specs.Progresses.{free_at}
 use Rattle.conode_compare_rules.specs.SheetValues.{refused_finding, upload_finding, written_finding}
@@ -147,7 +156,13 @@ unsettled_begin = refl
 -- ---- boot-ups
 
 abbrev reset_at : ℕ → Nmt
-reset_at micros = record { state = Initialising; commanded = Some (record { service = ResetNode; micros = micros }); several = false; booted = None }
+reset_at micros = record {
+  state = Initialising;
+  commanded = Some (record { service = ResetNode; micros = micros });
+  reset = Some micros;
+  several = false;
+  booted = None;
+}
 
 awaited : boot_finding limits (reset_at 1) 10000001 ≡ None
 unfolding boot_finding awaits_boot_up
@@ -156,6 +171,16 @@ awaited = refl
 missing : boot_finding limits (reset_at 1) 10000002 ≡ Some (BootMissing 10000001)
 unfolding boot_finding awaits_boot_up
 missing = refl
+
+-- a Start that comes meanwhile changes nothing of it
+missing_after_start : boot_finding limits (after_command (reset_at 1) Start 9000000) 10000002 ≡ Some (BootMissing 10000001)
+unfolding boot_finding awaits_boot_up after_command
+missing_after_start = refl
+
+-- another reset does
+awaited_again : boot_finding limits (after_command (reset_at 1) ResetNode 2) 10000002 ≡ None
+unfolding boot_finding awaits_boot_up after_command
+awaited_again = refl
 
 -- said once
 said_once : boot_finding limits (after_other limits (reset_at 1) 10000002) 20000000 ≡ None
@@ -171,7 +196,7 @@ unfolding second_boot_up
 again = refl
 
 -- a device that is up answers a reset by one boot-up
-one_due : (after_boot_up limits (after_command (record { state = Stopped; commanded = None; several = false; booted = None }) ResetNode 0) 5).booted ≡ Some 5
+one_due : (after_boot_up limits (after_command (record { state = Stopped; commanded = None; reset = None; several = false; booted = None }) ResetNode 0) 5).booted ≡ Some 5
 unfolding after_command after_boot_up
 one_due = refl
 
@@ -189,12 +214,21 @@ none_due : (after_other limits (after_command (reset_at 0) ResetNode 1) 5).sever
 unfolding after_command after_other awaits_boot_up
 none_due = refl
 
+abbrev started_at : ℕ → Nmt
+started_at micros = record {
+  state = Unknown;
+  commanded = Some (record { service = Start; micros = micros });
+  reset = None;
+  several = false;
+  booted = None;
+}
+
 -- a Start shortly before a boot-up may have been taken
-boots_unknown : (after_boot_up limits (record { state = Unknown; commanded = Some (record { service = Start; micros = 0 }); several = false; booted = None }) 10000000).state ≡ Unknown
+boots_unknown : (after_boot_up limits (started_at 0) 10000000).state ≡ Unknown
 unfolding after_boot_up
 boots_unknown = refl
 
-boots_known_after : (after_boot_up limits (record { state = Unknown; commanded = Some (record { service = Start; micros = 0 }); several = false; booted = None }) 10000001).state ≡ PreOperational
+boots_known_after : (after_boot_up limits (started_at 0) 10000001).state ≡ PreOperational
 unfolding after_boot_up
 boots_known_after = refl
 
@@ -207,17 +241,20 @@ start_initialising : (after_command (reset_at 0) Start 5).state ≡ Initialising
 unfolding after_command
 start_initialising = refl
 
-start : (after_command (record { state = PreOperational; commanded = None; several = false; booted = Some 0 }) Start 5).state ≡ Operational
+start : (after_command (record { state = PreOperational; commanded = None; reset = None; several = false; booted = Some 0 }) Start 5).state ≡ Operational
 unfolding after_command
 start = refl
+
+abbrev key : ℕ → ℕ → Key
+key index sub = record { index = index; sub = sub }
 
 -- ---- EMCY
 
 abbrev entries : Entries
-entries = record { period = None; emergencies = true; inhibit = Some 1000 }
+entries = record { period = None; emergencies = true; inhibit = Some 1000; inhibit_shown = None }
 
 emergency : emergency_finding limits entries PreOperational true None 0 0x8130 0x11 ≡ None
-unfolding emergency_finding
+unfolding emergency_finding inhibit_finding
 emergency = refl
 
 no_bit_0 : emergency_finding limits entries PreOperational true None 0 0x8130 0x10 ≡ Some (EmergencyRegister 0x8130 0x10)
@@ -225,7 +262,7 @@ unfolding emergency_finding
 no_bit_0 = refl
 
 reset_error : emergency_finding limits entries PreOperational true None 0 0xFF 0 ≡ None
-unfolding emergency_finding
+unfolding emergency_finding inhibit_finding
 reset_error = refl
 
 code_alone : emergency_finding limits entries PreOperational true None 0 0x100 0 ≡ Some (EmergencyRegister 0x100 0)
@@ -237,7 +274,7 @@ unfolding emergency_finding
 while_stopped = refl
 
 stopped_just_now : emergency_finding limits entries Stopped false None 0 0 0 ≡ None
-unfolding emergency_finding
+unfolding emergency_finding inhibit_finding
 stopped_just_now = refl
 
 while_initialising : emergency_finding limits entries Initialising true None 0 0x8130 0 ≡ None
@@ -250,12 +287,57 @@ other_identifier = refl
 
 -- 100 ms less 10 ms and 1 %
 inhibited : emergency_finding limits entries PreOperational true (Some 1) 89000 0 0 ≡ Some (EmergencyInhibit 88999 1000)
-unfolding emergency_finding
+unfolding emergency_finding inhibit_finding
 inhibited = refl
 
 not_inhibited : emergency_finding limits entries PreOperational true (Some 1) 89001 0 0 ≡ None
-unfolding emergency_finding
+unfolding emergency_finding inhibit_finding
 not_inhibited = refl
+
+-- an inhibit time that was written counts from the first EMCY that comes 10 ms after that
+not_in_force : emergency_finding limits (record entries { inhibit_shown = Some 5 }) PreOperational true (Some 10005) 20000 0 0 ≡ None
+unfolding emergency_finding inhibit_finding
+not_in_force = refl
+
+in_force : emergency_finding limits (record entries { inhibit_shown = Some 5 }) PreOperational true (Some 10006) 20006 0 0
+    ≡ Some (EmergencyInhibit 10000 1000)
+unfolding emergency_finding inhibit_finding
+in_force = refl
+
+before_shown : emergency_finding limits (record entries { inhibit_shown = Some 5 }) PreOperational true (Some 4) 20000 0 0 ≡ None
+unfolding emergency_finding inhibit_finding
+before_shown = refl
+
+abbrev transferred : Key → Protocol → Ended
+transferred key protocol = record {
+  key = key;
+  direction = Download;
+  protocol = protocol;
+  bytes = 2;
+  first = record { items = 0x2C ∷ 1 ∷ [] };
+  frames = 2;
+  begun = 1;
+  newest = 1;
+  end = 7;
+  ending = Done false;
+}
+
+-- an expedited transfer of 1015:00 shows it
+inhibit_written : ended_entries entries (transferred (key 0x1015 0) Expedited) ≡ record entries { inhibit = Some 300; inhibit_shown = Some 7 }
+unfolding shown_period shown_inhibit
+inhibit_written = refl
+
+inhibit_in_segments : ended_entries entries (transferred (key 0x1015 0) Segmented) ≡ entries
+unfolding shown_period shown_inhibit
+inhibit_in_segments = refl
+
+period_written : ended_entries entries (transferred (key 0x1017 0) Expedited) ≡ record entries { period = Some 300 }
+unfolding shown_period shown_inhibit
+period_written = refl
+
+other_written : ended_entries entries (transferred (key 0x1017 1) Expedited) ≡ entries
+unfolding shown_period shown_inhibit
+other_written = refl
 
 -- ---- values
 
@@ -271,9 +353,6 @@ row index sub data_type access default = record {
   name = None;
   line = 1;
 }
-
-abbrev key : ℕ → ℕ → Key
-key index sub = record { index = index; sub = sub }
 
 same_const : upload_finding 5 (row 0x2000 0 Unsigned16 Constant (number (pos 258))) true (2 ∷ 1 ∷ []) ≡ None
 unfolding upload_finding
@@ -352,8 +431,8 @@ abbrev rows : List Row
 rows = row 0x1014 0 Unsigned32 Rw (node_id 0x80) ∷ row 0x1017 0 Unsigned16 Rw (number (pos 500)) ∷ []
 
 plain_sheet : facts_of rows 5 false ≡ record {
-  before = record { period = None; emergencies = false; inhibit = Some 0 };
-  booted = record { period = Some 500; emergencies = true; inhibit = Some 0 };
+  before = record { period = None; emergencies = false; inhibit = Some 0; inhibit_shown = None };
+  booted = record { period = Some 500; emergencies = true; inhibit = Some 0; inhibit_shown = None };
   pdos = pdos_of rows 5;
   starts_itself = false;
   modular = false;
@@ -362,11 +441,11 @@ unfolding facts_of initial_entries sheet_entries
 plain_sheet = refl
 
 -- where parameters are stored, and of a configuration, a boot-up shows no more
-storing_sheet : (facts_of (row 0x1010 0 Unsigned8 Constant absent ∷ rows) 5 false).booted ≡ record { period = None; emergencies = false; inhibit = Some 0 }
+storing_sheet : (facts_of (row 0x1010 0 Unsigned8 Constant absent ∷ rows) 5 false).booted ≡ record { period = None; emergencies = false; inhibit = Some 0; inhibit_shown = None }
 unfolding facts_of initial_entries sheet_entries
 storing_sheet = refl
 
-configuration : (facts_of rows 5 true).booted ≡ record { period = None; emergencies = false; inhibit = Some 0 }
+configuration : (facts_of rows 5 true).booted ≡ record { period = None; emergencies = false; inhibit = Some 0; inhibit_shown = None }
 unfolding facts_of initial_entries sheet_entries
 configuration = refl
 
@@ -393,3 +472,51 @@ not_owed = refl
 
 nothing_owed : owes limits 0 nothing_asked ≡ false
 nothing_owed = refl
+
+-- ---- answers while stopped
+
+abbrev stopped_at : ℕ → Nmt
+stopped_at micros = record {
+  state = Stopped;
+  commanded = Some (record { service = Stop; micros = micros });
+  reset = None;
+  several = false;
+  booted = None;
+}
+
+abbrev answered_in : Bool → Exchange
+answered_in certain = record {
+  heard = record { what = Part; of = None; ended = None };
+  asked = Some (record { key = key 0x1000 0; micros = 110001; writes = false });
+  owed = true;
+  certain = certain;
+  breach = Some (Toggle (key 0x1000 0));
+}
+
+answered_stopped : stopped_finding limits 0 (stopped_at 100000) (answered_in true) ≡ Some (AnswerStopped (key 0x1000 0))
+unfolding stopped_finding is_settled
+answered_stopped = refl
+
+-- requested within the tolerance after the command
+requested_just_now : stopped_finding limits 0 (stopped_at 100001) (answered_in true) ≡ None
+unfolding stopped_finding is_settled
+requested_just_now = refl
+
+-- a request that came before may be answered
+perhaps_earlier : stopped_finding limits 0 (stopped_at 100000) (answered_in false) ≡ None
+unfolding stopped_finding is_settled
+perhaps_earlier = refl
+
+answered_operational : stopped_finding limits 0 (record (stopped_at 100000) { state = Operational }) (answered_in true) ≡ None
+unfolding stopped_finding is_settled
+answered_operational = refl
+
+-- ---- by the client's confirmation
+
+confirmed : confirmed_finding (answered_in true) ≡ Some (Transfer (Toggle (key 0x1000 0)))
+unfolding confirmed_finding
+confirmed = refl
+
+confirmed_in_doubt : confirmed_finding (answered_in false) ≡ None
+unfolding confirmed_finding
+confirmed_in_doubt = refl

@@ -1,5 +1,6 @@
 -- EMCY messages (CiA 301, 7.2.7, 7.5.2.2 and 7.5.2.18).
 use Rattle.std.specs.Prelude.{ℕ, ◌-◌, ◌*◌, ◌/◌, ◌%◌, ◌==◌, nat_lt, Bool, true, false, not, ◌&&◌, ◌||◌, if◌then◌else◌, Option, Some, None}
+use Rattle.std.specs.Option.{option_map_or}
 use Rattle.conode_compare_rules.specs.declared.entries.Entries.{Entries}
 use Rattle.conode_compare_rules.specs.declared.finding.Finding.{Finding}
 use Rattle.conode_compare_rules.specs.declared.finding.Finding.TheVariants.{EmergencyLength, EmergencyStopped, EmergencyRegister, EmergencyInhibit}
@@ -7,7 +8,7 @@ use Rattle.conode_compare_rules.specs.declared.finding.NmtState.{NmtState}
 use Rattle.conode_compare_rules.specs.declared.finding.NmtState.TheVariants.{Stopped}
 use Rattle.conode_compare_rules.specs.declared.limits.Limits.{Limits}
 use Rattle.conode_compare_rules.specs.States.{is_initialising}
-use Rattle.conode_compare_rules.specs.Times.{micros_of, drift_of}
+use Rattle.conode_compare_rules.specs.Times.{micros_of, drift_of, is_past}
 
 -- bit 0 of the error register is set; or no bit is, and the code is one of "error reset or no error", 00xxh
 abbrev pub has_register : ℕ → ℕ → Bool
@@ -20,11 +21,19 @@ least_gap limits inhibit = (inhibit * 100 - micros_of limits.tolerance) - drift_
 abbrev pub gap_finding : Limits → ℕ → ℕ → Option Finding
 gap_finding limits inhibit passed = if nat_lt passed (least_gap limits inhibit) then Some (EmergencyInhibit passed inhibit) else None
 
+-- an EMCY came when the inhibit time was in force: the tolerance after a transfer showed it was over
+abbrev pub is_in_force : Limits → Option ℕ → ℕ → Bool
+is_in_force limits shown last = option_map_or (λ s. is_past s limits.tolerance last) shown true
+
 -- `emcy-inhibit`: a second EMCY within the inhibit time
-abbrev pub inhibit_finding : Limits → Option ℕ → Option ℕ → ℕ → Option Finding
-inhibit_finding limits None last micros = None
-inhibit_finding limits (Some inhibit) None micros = None
-inhibit_finding limits (Some inhibit) (Some last) micros = gap_finding limits inhibit (micros - last)
+abbrev pub inhibit_with : Limits → Option ℕ → Option ℕ → ℕ → ℕ → Option Finding
+inhibit_with limits None shown last micros = None
+inhibit_with limits (Some inhibit) shown last micros =
+    if is_in_force limits shown last then gap_finding limits inhibit (micros - last) else None
+
+unfoldable pub inhibit_finding : Limits → Entries → Option ℕ → ℕ → Option Finding
+inhibit_finding limits entries None micros = None
+inhibit_finding limits entries (Some last) micros = inhibit_with limits entries.inhibit entries.inhibit_shown last micros
 
 abbrev pub is_stopped : NmtState → Bool
 is_stopped Stopped = true
@@ -37,7 +46,7 @@ emergency_finding limits entries state settled last micros code register =
     if not entries.emergencies || is_initialising state then None
     else (if settled && is_stopped state then Some EmergencyStopped
     else (if not (has_register code register) then Some (EmergencyRegister code register)
-    else inhibit_finding limits entries.inhibit last micros))
+    else inhibit_finding limits entries last micros))
 
 -- `emcy-length`
 abbrev pub length_finding : Entries → ℕ → Option Finding

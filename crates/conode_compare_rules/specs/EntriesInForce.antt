@@ -48,6 +48,7 @@ sheet_entries rows node = record {
   period = small (preset_at rows node producer_key);
   emergencies = is_number (preset_at rows node emergency_key) (0x80 + node);
   inhibit = inhibit_of rows node;
+  inhibit_shown = None;
 }
 
 -- what of it never changes
@@ -56,6 +57,7 @@ initial_entries rows sheet = record {
   period = if is_constant rows producer_key then sheet.period else None;
   emergencies = is_constant rows emergency_key && sheet.emergencies;
   inhibit = if is_constant rows emergency_inhibit_key then sheet.inhibit else None;
+  inhibit_shown = None;
 }
 
 -- NMT startup (CiA 302-2)
@@ -87,9 +89,14 @@ asked_to_write entries key = record {
   period = if same_key key producer_key then None else entries.period;
   emergencies = not (same_key key emergency_key) && entries.emergencies;
   inhibit = if same_key key emergency_inhibit_key then None else entries.inhibit;
+  inhibit_shown = entries.inhibit_shown;
 }
 
--- an expedited transfer of 1017:00 that is done shows what it has
+-- after a reset command the inhibit time isn't known until the boot-up
+abbrev pub reset_entries : Entries → Entries
+reset_entries entries = record entries { inhibit = None }
+
+-- an expedited transfer of 1017:00 or 1015:00 that is done shows what it has
 abbrev pub done_word : Protocol → Ending → List ℕ → Option ℕ
 done_word Expedited (Done crc) bytes = first_word bytes
 done_word protocol ending bytes = None
@@ -97,9 +104,17 @@ done_word protocol ending bytes = None
 unfoldable pub shown_period : Ended → Option ℕ
 shown_period ended = if same_key ended.key producer_key then done_word ended.protocol ended.ending ended.first.items else None
 
+unfoldable pub shown_inhibit : Ended → Option ℕ
+shown_inhibit ended =
+    if same_key ended.key emergency_inhibit_key then done_word ended.protocol ended.ending ended.first.items else None
+
 abbrev pub with_period : Entries → Option ℕ → Entries
 with_period entries (Some period) = record entries { period = Some period }
 with_period entries None = entries
 
+abbrev pub with_inhibit : Entries → Option ℕ → ℕ → Entries
+with_inhibit entries (Some inhibit) end = record entries { inhibit = Some inhibit; inhibit_shown = Some end }
+with_inhibit entries None end = entries
+
 abbrev pub ended_entries : Entries → Ended → Entries
-ended_entries entries ended = with_period entries (shown_period ended)
+ended_entries entries ended = with_inhibit (with_period entries (shown_period ended)) (shown_inhibit ended) ended.end

@@ -1,5 +1,5 @@
 -- The NMT state of a device, as commands and its own frames have it (CiA 301, 7.3.2.2), and what it does otherwise.
-use Rattle.std.specs.Prelude.{ℕ, ◌-◌, ◌==◌, Bool, true, false, not, ◌&&◌, ◌||◌, if◌then◌else◌, Option, Some, None, is_some, option_map}
+use Rattle.std.specs.Prelude.{ℕ, ◌-◌, ◌==◌, Bool, true, false, not, ◌&&◌, ◌||◌, if◌then◌else◌, Option, Some, None, is_some, option_map, option_and_then}
 use Rattle.std.specs.Option.{option_map_or}
 use Rattle.co_frame.specs.declared.nmt.NmtService.{NmtService}
 use Rattle.co_frame.specs.declared.nmt.NmtService.TheVariants.{Start, Stop, EnterPreOperational, ResetNode, ResetCommunication}
@@ -14,7 +14,7 @@ use Rattle.conode_compare_rules.specs.declared.nmt.Nmt.{Nmt}
 use Rattle.conode_compare_rules.specs.Times.{is_past}
 
 abbrev pub nothing_commanded : Nmt
-nothing_commanded = record { state = Unknown; commanded = None; several = false; booted = None }
+nothing_commanded = record { state = Unknown; commanded = None; reset = None; several = false; booted = None }
 
 -- ---- commands
 
@@ -51,27 +51,23 @@ unfoldable pub after_command : Nmt → NmtService → ℕ → Nmt
 after_command nmt service micros = record {
   state = state_commanded service nmt.state;
   commanded = Some (record { service = service; micros = micros });
+  reset = if is_reset service then Some micros else nmt.reset;
   several = several_after service nmt;
   booted = if is_reset service then None else nmt.booted;
 }
 
 -- ---- boot-ups
 
--- A boot-up is overdue after a reset command: since then so much time has passed.
-abbrev pub overdue_since : Limits → Commanded → ℕ → Option ℕ
-overdue_since limits command micros =
-    if is_reset command.service && is_past command.micros limits.boot micros then Some (micros - command.micros) else None
+-- A boot-up is overdue after a reset command, whichever other commands follow: since then so much time has passed.
+abbrev pub overdue_since : Limits → ℕ → ℕ → Option ℕ
+overdue_since limits reset micros = if is_past reset limits.boot micros then Some (micros - reset) else None
 
-abbrev pub overdue_with : Limits → Option Commanded → ℕ → Option ℕ
-overdue_with limits None micros = None
-overdue_with limits (Some command) micros = overdue_since limits command micros
-
-abbrev pub overdue_in : Limits → NmtState → Option Commanded → ℕ → Option ℕ
-overdue_in limits Initialising command micros = overdue_with limits command micros
-overdue_in limits state command micros = None
+abbrev pub overdue_in : Limits → NmtState → Option ℕ → ℕ → Option ℕ
+overdue_in limits Initialising reset micros = option_and_then (λ r. overdue_since limits r micros) reset
+overdue_in limits state reset micros = None
 
 unfoldable pub awaits_boot_up : Limits → Nmt → ℕ → Option ℕ
-awaits_boot_up limits nmt micros = overdue_in limits nmt.state nmt.commanded micros
+awaits_boot_up limits nmt micros = overdue_in limits nmt.state nmt.reset micros
 
 -- `boot-missing`: a frame of the device that is no boot-up, where one is overdue
 unfoldable pub boot_finding : Limits → Nmt → ℕ → Option Finding
@@ -91,6 +87,7 @@ unfoldable pub after_boot_up : Limits → Nmt → ℕ → Nmt
 after_boot_up limits nmt micros = record {
   state = if boots_known limits nmt.commanded micros then PreOperational else Unknown;
   commanded = nmt.commanded;
+  reset = nmt.reset;
   several = nmt.several;
   booted = if nmt.several then None else Some micros;
 }
@@ -100,6 +97,7 @@ unfoldable pub after_other : Limits → Nmt → ℕ → Nmt
 after_other limits nmt micros = record {
   state = if is_some (awaits_boot_up limits nmt micros) then Unknown else nmt.state;
   commanded = nmt.commanded;
+  reset = nmt.reset;
   several = false;
   booted = None;
 }

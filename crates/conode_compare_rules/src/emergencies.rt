@@ -3,15 +3,17 @@
 ghost use Rattle.std.specs.Prelude.{◌≡◌};
 ghost use Rattle.conode_compare_rules.specs.EmergencyRules.{
   emergency_finding,
+  gap_finding,
   has_register,
   inhibit_finding,
+  is_in_force,
   length_finding,
   least_gap,
 };
 
 use crate::entries::Entries;
 use crate::finding::{Finding, NmtState};
-use crate::limits::{Limits, drift_of, micros_of};
+use crate::limits::{Limits, drift_of, is_past, micros_of};
 
 // The error register has bit 0 wherever another bit is set, and while the code isn't one of "error reset or no error".
 fn has_register(code: u16, register: u8) -> bool
@@ -29,22 +31,42 @@ fn least_gap(limits: &Limits, inhibit: u16) -> u64
         .saturating_sub(drift_of(limits, inhibit / 10))
 }
 
-// the time since the last one, where that is within the inhibit time
-fn inhibit_finding(
-    limits: &Limits,
-    inhibit: Option<u16>,
-    last: Option<u64>,
-    micros: u64,
-) -> Option<Finding>
-    ensures { result ≡ inhibit_finding limits.now inhibit last micros }
+fn gap_finding(limits: &Limits, inhibit: u16, passed: u64) -> Option<Finding>
+    ensures { result ≡ gap_finding limits.now inhibit passed }
 {
-    let inhibit = inhibit?;
-    let last = last?;
-    let passed = micros.saturating_sub(last);
     if passed < least_gap(limits, inhibit) {
         Some(Finding::EmergencyInhibit(passed, inhibit))
     } else {
         None
+    }
+}
+
+// whether the inhibit time was in force when an EMCY came
+fn is_in_force(limits: &Limits, shown: Option<u64>, last: u64) -> bool
+    ensures { result ≡ is_in_force limits.now shown last }
+{
+    match shown {
+        Some(shown) => is_past(shown, limits.tolerance, last),
+        None => true,
+    }
+}
+
+// the time since the last one, where that is within the inhibit time
+#[tactic(auto, unfolding(crate::specs::EmergencyRules::inhibit_finding))]
+fn inhibit_finding(
+    limits: &Limits,
+    entries: &Entries,
+    last: Option<u64>,
+    micros: u64,
+) -> Option<Finding>
+    ensures { result ≡ inhibit_finding limits.now entries.now last micros }
+{
+    let last = last?;
+    match entries.inhibit {
+        Some(inhibit) if is_in_force(limits, entries.inhibit_shown, last) => {
+            gap_finding(limits, inhibit, micros.saturating_sub(last))
+        }
+        _ => None,
     }
 }
 
@@ -73,7 +95,7 @@ pub(crate) fn emergency_finding(
     if !has_register(code, register) {
         return Some(Finding::EmergencyRegister(code, register));
     }
-    inhibit_finding(limits, entries.inhibit, last, micros)
+    inhibit_finding(limits, entries, last, micros)
 }
 
 /// The difference of an EMCY of another number of bytes.

@@ -6,13 +6,16 @@ ghost use Rattle.co_sheet.specs.SheetViews.{row_view};
 ghost use Rattle.co_value.specs.Keys.{is_key_before};
 ghost use Rattle.conode_compare_rules.specs.EntriesInForce.{
   asked_to_write,
+  done_word,
   ended_entries,
   facts_of,
   has_object,
   initial_entries,
   inhibit_of,
   is_constant,
+  reset_entries,
   sheet_entries,
+  shown_inhibit,
   shown_period,
 };
 
@@ -33,6 +36,8 @@ pub struct Entries {
     pub emergencies: bool,
     /// 1015:00, the inhibit time of EMCY in 100 µs.
     pub inhibit: Option<u16>,
+    /// When a transfer showed that last.
+    pub inhibit_shown: Option<u64>,
 }
 
 /// What a data sheet says of what a device sends by itself.
@@ -95,6 +100,7 @@ fn sheet_entries(rows: &[EntryRow<'_>], node: u8) -> Entries
         period: small(preset_at(rows, node, PRODUCER_HEARTBEAT)),
         emergencies: preset_at(rows, node, EMERGENCY_COB_ID) == Some(0x80 + u64::from(node)),
         inhibit: inhibit_of(rows, node),
+        inhibit_shown: None,
     }
 }
 
@@ -110,6 +116,7 @@ fn initial_entries(rows: &[EntryRow<'_>], sheet: Entries) -> Entries
         period: if period { sheet.period } else { None },
         emergencies: is_constant(rows, EMERGENCY_COB_ID) && sheet.emergencies,
         inhibit: if inhibit { sheet.inhibit } else { None },
+        inhibit_shown: None,
     }
 }
 
@@ -154,21 +161,57 @@ impl Entries {
             } else {
                 self.inhibit
             },
+            inhibit_shown: self.inhibit_shown,
         }
     }
 
-    /// A transfer ended: one of 1017:00 shows what it has, if it was expedited and is done.
+    /// A reset is commanded: the inhibit time isn't known until the boot-up.
+    pub(crate) fn after_reset(self) -> Entries
+        ensures { result ≡ reset_entries self }
+    {
+        Entries {
+            period: self.period,
+            emergencies: self.emergencies,
+            inhibit: None,
+            inhibit_shown: self.inhibit_shown,
+        }
+    }
+
+    /// A transfer ended: one of 1017:00 or 1015:00 shows what it has, if it was expedited and is done.
     pub(crate) fn ended(self, ended: &Ended) -> Entries
         ensures { result ≡ ended_entries self ended.now }
     {
-        match shown_period(ended) {
-            Some(period) => Entries {
-                period: Some(period),
-                emergencies: self.emergencies,
-                inhibit: self.inhibit,
-            },
-            None => self,
+        let mut entries = self;
+        if let Some(period) = shown_period(ended) {
+            entries.period = Some(period);
         }
+        if let Some(inhibit) = shown_inhibit(ended) {
+            entries.inhibit = Some(inhibit);
+            entries.inhibit_shown = Some(ended.end);
+        }
+        entries
+    }
+}
+
+// the word that an expedited transfer shows which is done
+fn done_word(ended: &Ended) -> Option<u16>
+    ensures { result ≡ done_word ended.now.protocol ended.now.ending ended.now.first.items }
+{
+    match (ended.protocol, ended.ending) {
+        (Protocol::Expedited, Ending::Done { crc: _ }) => first_word(ended.first.as_slice()),
+        _ => None,
+    }
+}
+
+// what a transfer that ended shows of 1015:00
+#[tactic(auto, unfolding(crate::specs::EntriesInForce::shown_inhibit))]
+fn shown_inhibit(ended: &Ended) -> Option<u16>
+    ensures { result ≡ shown_inhibit ended.now }
+{
+    if ended.key == EMERGENCY_INHIBIT_TIME {
+        done_word(ended)
+    } else {
+        None
     }
 }
 
@@ -177,11 +220,9 @@ impl Entries {
 pub(crate) fn shown_period(ended: &Ended) -> Option<u16>
     ensures { result ≡ shown_period ended.now }
 {
-    if ended.key != PRODUCER_HEARTBEAT {
-        return None;
-    }
-    match (ended.protocol, ended.ending) {
-        (Protocol::Expedited, Ending::Done { crc: _ }) => first_word(ended.first.as_slice()),
-        _ => None,
+    if ended.key == PRODUCER_HEARTBEAT {
+        done_word(ended)
+    } else {
+        None
     }
 }

@@ -43,6 +43,8 @@ pub(crate) struct Nmt {
     pub(crate) state: NmtState,
     /// The newest command.
     pub(crate) commanded: Option<Commanded>,
+    /// The stamp of the newest reset command.
+    pub(crate) reset: Option<u64>,
     /// Whether more than one boot-up may come, since a reset was commanded before the boot-up of another one.
     pub(crate) several: bool,
     /// The stamp of its newest boot-up, where it sent nothing since, no reset was commanded, and no other boot-up may come.
@@ -127,6 +129,7 @@ impl Nmt {
         Nmt {
             state: NmtState::Unknown,
             commanded: None,
+            reset: None,
             several: false,
             booted: None,
         }
@@ -154,11 +157,10 @@ impl Nmt {
         let NmtState::Initialising = self.state else {
             return None;
         };
-        match self.commanded {
-            Some(command)
-                if is_reset(command.service) && is_past(command.micros, limits.boot, micros) => {
-                Some(micros.saturating_sub(command.micros))
-            }
+        match self.reset {
+            Some(reset) if is_past(reset, limits.boot, micros) => Some(micros.saturating_sub(
+                reset,
+            )),
             _ => None,
         }
     }
@@ -248,6 +250,11 @@ impl Nmt {
         Nmt {
             state: state_commanded(service, self.state),
             commanded: Some(Commanded { service, micros }),
+            reset: if is_reset(service) {
+                Some(micros)
+            } else {
+                self.reset
+            },
             several: self.several || is_reset(service) && !is_up(self.state),
             booted: if is_reset(service) { None } else { self.booted },
         }
@@ -266,6 +273,7 @@ impl Nmt {
                 NmtState::Unknown
             },
             commanded: self.commanded,
+            reset: self.reset,
             several: self.several,
             booted: if self.several { None } else { Some(micros) },
         }
@@ -284,6 +292,7 @@ impl Nmt {
                 self.state
             },
             commanded: self.commanded,
+            reset: self.reset,
             several: false,
             booted: None,
         }
@@ -305,6 +314,7 @@ impl Nmt {
         Nmt {
             state: state_of(byte),
             commanded: next.commanded,
+            reset: next.reset,
             several: next.several,
             booted: next.booted,
         }
