@@ -68,9 +68,16 @@ use co_value::Key;
 use std::alloc::Global;
 
 /// A CANopen device made from a data sheet. It asks for no memory after `build`.
-#[derive(Drop)]
 pub struct Node {
     device: Device<ImageStore>,
+}
+
+// Not derived: a device has many parts, and each function that lets one go would have the drop of every part.
+impl Drop for Node {
+    fn drop(self) {
+        let Node { device } = self;
+        drop(device);
+    }
 }
 
 impl Node {

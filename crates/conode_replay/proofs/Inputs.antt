@@ -1,6 +1,6 @@
 -- Inputs in parts: what a device takes, and the lines of it.
-use Rattle.std.proofs.Common.{◌≡◌, ℕ, zero, suc, ◌+◌, ◌-◌, ◌<◌, List, [], ◌∷◌, ◌++◌, length, map, take, Option, Some, Result, Ok, Err, refl, ap, sym, subst, ◌∙◌, arith, append_assoc, append-nil, length-append}
-use Rattle.std.specs.Prelude.{sum_by, OnOk}
+use Rattle.std.proofs.Common.{◌≡◌, ℕ, zero, suc, ◌+◌, ◌-◌, ◌<◌, List, [], ◌∷◌, ◌++◌, length, map, take, Option, Some, None, Result, Ok, Err, refl, ap, sym, subst, ◌∙◌, arith, append_assoc, append-nil, length-append}
+use Rattle.std.specs.Prelude.{sum_by, IfErr, OnOk}
 use Rattle.std.specs.List.{flat_map}
 use Rattle.std.specs.Io.KnownBytes.{Appends}
 use Rattle.std.proofs.KnownBytes.{Appends-trans, Appends-nil}
@@ -15,8 +15,10 @@ use Rattle.conode_trace.specs.declared.trace_line.TraceLine.TheVariants.{Skipped
 use Rattle.conode_trace.specs.declared.event_line.EventLine.TheVariants.{Ticks, App}
 use Rattle.conode_trace.specs.Traces.{Input, TimedInput, inputs_of, own_input, ticks_after, tick}
 use Rattle.conode_trace.specs.Printed.{frame_line}
-use Rattle.conode_io.specs.Written.{WritesFront, WritesLines, WritesSome}
-use Rattle.conode_io.proofs.WriteLemmas.{lines_after}
+use Rattle.conode_io.specs.declared.fault.CmdFault.{CmdFault}
+use Rattle.conode_io.specs.declared.fault.CmdFault.TheVariants.{Read, Write, BadLine, Memory, NeverEnds}
+use Rattle.conode_io.specs.Written.{AppendsFront, WritesFront, WritesLines, WritesSome}
+use Rattle.conode_io.proofs.WriteLemmas.{front_after_lines, front_alone, front_of_more, line_alone, lines_after, no_lines, some_after_lines, some_of_more}
 use Rattle.co_node_model.specs.Inputs.{Inputs, Ticked}
 use Rattle.co_node_model.specs.declared.app_answer.AppAnswer.{AppAnswer}
 use Rattle.co_node_model.specs.Moments.{Constants}
@@ -26,7 +28,7 @@ use Rattle.co_node.specs.Nodes.{Stands}
 use Rattle.conode_replay.specs.declared.totals.Totals.{Totals}
 use Rattle.conode_replay.specs.Counts.{counted, handed_in}
 use Rattle.conode_replay.specs.Lines.{after_inputs, handed_by, input_lines, own_inputs, refused_lines, replayed_lines, ticks_by, totals_of, view_of, views_of}
-use Rattle.conode_replay.specs.Runs.{AfterAny, HasPrinted, StopsIn, TakesOwn, WritesPart, WritesWhole}
+use Rattle.conode_replay.specs.Runs.{AfterAny, HasPrinted, PrintedBy, StopsIn, TakesOwn, WritesPart, WritesWhole, WrittenAfter, WrittenBy}
 
 -- ---- inputs in two parts
 
@@ -199,6 +201,104 @@ module _ (k : Constants) (before : Inputs) (old mid new : Option (List ℕ)) (be
       stops_tick count within (WritesWhole mid new) (WritesWhole old new) (whole_more old mid new (replayed_lines k before (ticks_after line ms done)) h.written)
       (subst (λ (c : ℕ). WritesSome mid new (input_lines k (after_inputs before (ticks_after line ms done)) (record { line = line; ms = c; input = tick }))) at_clock (some k (after_inputs before (ticks_after line ms done)) h.stands))
 
+-- it is not printed
+module _ (first between node : Node) (old mid new : Option (List ℕ)) (printed line ms done clock : ℕ) (at_clock : clock ≡ ms + 1 + done)
+    (h : AfterAny first (λ k before. HasPrinted k before old mid between printed (ticks_after line ms done))) (stands : AfterAny between (λ k before. Stands k node (Ticked ∷ before))) where
+  pub ticks_break : (count : ℕ) → done < count → (fault : CmdFault) (result : Result ℕ CmdFault) → result ≡ Err fault
+      → WrittenAfter between mid new (λ k before. input_lines k before (record { line = line; ms = clock; input = tick })) (Err fault) → PrintedBy first old new node (ticks_after line ms count) result
+  ticks_break count within fault result is written = subst (PrintedBy first old new node (ticks_after line ms count)) (sym is) (at_fault fault written)
+    where
+      at_fault : (fault : CmdFault) → WrittenAfter between mid new (λ k before. input_lines k before (record { line = line; ms = clock; input = tick })) (Err fault)
+          → PrintedBy first old new node (ticks_after line ms count) (Err fault)
+      at_fault Write front = λ k before held. part_tick k before old mid new between node printed line ms done clock at_clock (h k before held) stands count within front
+      at_fault Memory some = λ k before held. whole_tick k before old mid new between node printed line ms done clock at_clock (h k before held) stands count within some
+      at_fault Read written = absurd written
+      at_fault NeverEnds written = absurd written
+      at_fault (BadLine number) written = absurd written
+
+-- ---- inputs in two parts, by how that ended
+
+pub break_later : (first node : Node) (old new : Option (List ℕ)) (xs ys : List TimedInput) (fault : CmdFault) (result : Result ℕ CmdFault) → result ≡ Err fault
+    → PrintedBy first old new node xs (Err fault) → PrintedBy first old new node (xs ++ ys) result
+break_later first node old new xs ys fault result is broke = subst (PrintedBy first old new node (xs ++ ys)) (sym is) (at_fault fault broke)
+  where
+    at_fault : (fault : CmdFault) → PrintedBy first old new node xs (Err fault) → PrintedBy first old new node (xs ++ ys) (Err fault)
+    at_fault Write stops = λ k before stands. stops_later k before node (WritesPart old new) xs ys (stops k before stands)
+    at_fault Memory stops = λ k before stands. stops_later k before node (WritesWhole old new) xs ys (stops k before stands)
+    at_fault Read broke = absurd broke
+    at_fault NeverEnds broke = absurd broke
+    at_fault (BadLine number) broke = absurd broke
+
+module _ (first between node : Node) (old mid new : Option (List ℕ)) (xs ys : List TimedInput) (printed : ℕ) (h : AfterAny first (λ k before. HasPrinted k before old mid between printed xs)) where
+  pub break_after : (fault : CmdFault) (result : Result ℕ CmdFault) → result ≡ Err fault → PrintedBy between mid new node ys (Err fault) → PrintedBy first old new node (xs ++ ys) result
+  break_after fault result is broke = subst (PrintedBy first old new node (xs ++ ys)) (sym is) (at_fault fault broke)
+    where
+      at_fault : (fault : CmdFault) → PrintedBy between mid new node ys (Err fault) → PrintedBy first old new node (xs ++ ys) (Err fault)
+      at_fault Write stops = λ k before stands.
+          stops_after k before node (WritesPart mid new) (WritesPart old new) xs ys (part_more old mid new (replayed_lines k before xs) (h k before stands).written) (stops k (after_inputs before xs) (h k before stands).stands)
+      at_fault Memory stops = λ k before stands.
+          stops_after k before node (WritesWhole mid new) (WritesWhole old new) xs ys (whole_more old mid new (replayed_lines k before xs) (h k before stands).written) (stops k (after_inputs before xs) (h k before stands).stands)
+      at_fault Read broke = absurd broke
+      at_fault NeverEnds broke = absurd broke
+      at_fault (BadLine number) broke = absurd broke
+
+  pub printed_both : (then : ℕ) → AfterAny between (λ k before. HasPrinted k before mid new node then ys) → AfterAny first (λ k before. HasPrinted k before old new node (printed + then) (xs ++ ys))
+  printed_both then more k before stands =
+      let so_far = h k before stands in
+      printed_more k before old mid new between node printed then xs ys so_far (more k (after_inputs before xs) so_far.stands)
+
+-- no fault of a reader comes of it
+pub printed_not : (first node : Node) (old new : Option (List ℕ)) (inputs : List TimedInput) (fault other : CmdFault) → PrintedBy first old new node inputs (Err fault)
+    → fault ≡ other → PrintedBy first old new node inputs (Err other)
+printed_not first node old new inputs fault other broke is = subst (λ (f : CmdFault). PrintedBy first old new node inputs (Err f)) is broke
+
+-- ---- lines, by how that ended
+
+module _ (old new : Option (List ℕ)) where
+  -- a line is handed over
+  pub line_by : (line : List ℕ) (result : Result (Unit {0}) CmdFault) → OnOk result (Appends old new line) → IfErr result (λ fault. fault ≡ Write) → IfErr result (λ fault. AppendsFront old new line)
+      → WrittenBy old new (line ∷ []) result
+  line_by line (Ok done) all fault front = line_alone old new line all
+  line_by line (Err fault) all is front = subst (λ (f : CmdFault). WrittenBy old new (line ∷ []) (Err f)) (sym is) (front_alone old new line front)
+
+  -- the writer fails
+  pub front_by : (lines : List (List ℕ)) (result : Result (Unit {0}) CmdFault) → result ≡ Err Write → WritesFront old new lines → WrittenBy old new lines result
+  front_by lines result is front = subst (WrittenBy old new lines) (sym is) front
+
+  -- no more is written
+  pub by_more : (lines more : List (List ℕ)) (fault : CmdFault) (result : Result (Unit {0}) CmdFault) → result ≡ Err fault → WrittenBy old new lines (Err fault) → WrittenBy old new (lines ++ more) result
+  by_more lines more fault result is written = subst (WrittenBy old new (lines ++ more)) (sym is) (at_fault fault written)
+    where
+      at_fault : (fault : CmdFault) → WrittenBy old new lines (Err fault) → WrittenBy old new (lines ++ more) (Err fault)
+      at_fault Write front = front_of_more old new lines more front
+      at_fault Memory some = some_of_more old new lines more some
+      at_fault Read written = absurd written
+      at_fault NeverEnds written = absurd written
+      at_fault (BadLine number) written = absurd written
+
+  -- after other lines
+  pub by_after : (mid : Option (List ℕ)) (lines more : List (List ℕ)) (result : Result (Unit {0}) CmdFault) → WritesLines old mid lines → WrittenBy mid new more result → WrittenBy old new (lines ++ more) result
+  by_after mid lines more (Ok done) first written = lines_after old mid new lines more first written
+  by_after mid lines more (Err Write) first front = front_after_lines old mid new lines more first front
+  by_after mid lines more (Err Memory) first some = some_after_lines old mid new lines more first some
+  by_after mid lines more (Err Read) first written = absurd written
+  by_after mid lines more (Err NeverEnds) first written = absurd written
+  by_after mid lines more (Err (BadLine number)) first written = absurd written
+
+  -- they are those that what the device took before prescribes
+  pub after_by : (node : Node) (lines : List (List ℕ)) (prescribed_lines : Constants → Inputs → List (List ℕ)) → AfterAny node (λ k before. lines ≡ prescribed_lines k before)
+      → (result : Result (Unit {0}) CmdFault) → WrittenBy old new lines result → WrittenAfter node old new prescribed_lines result
+  after_by node lines prescribed_lines same (Ok done) written = λ k before stands. subst (WritesLines old new) (same k before stands) written
+  after_by node lines prescribed_lines same (Err Write) front = λ k before stands. subst (WritesFront old new) (same k before stands) front
+  after_by node lines prescribed_lines same (Err Memory) some = λ k before stands. subst (WritesSome old new) (same k before stands) some
+  after_by node lines prescribed_lines same (Err Read) written = absurd written
+  after_by node lines prescribed_lines same (Err NeverEnds) written = absurd written
+  after_by node lines prescribed_lines same (Err (BadLine number)) written = absurd written
+
+-- a line is not made
+pub none_by : (held : Option (List ℕ)) (line : List ℕ) (result : Result (Unit {0}) CmdFault) → result ≡ Err Memory → WrittenBy held held (line ∷ []) result
+none_by held line result is = subst (WrittenBy held held (line ∷ [])) (sym is) (no_lines held line [])
+
 -- ---- an input
 
 -- what was printed of it is its lines
@@ -208,9 +308,9 @@ input_printed k before t answer sent P answered frames printed =
     subst (λ (a : AppAnswer). P (refused_lines t.line a ++ map (frame_line t.ms) (prescribed k before (view_of t.input)))) answered
     (subst (λ (s : List FrameContent). P (refused_lines t.line answer ++ map (frame_line t.ms) s)) frames printed)
 
-pub on_ok_also : {T E : Type 0} {A B : Type 0} → (r : Result T E) → (A → B) → OnOk r A → OnOk r B
-on_ok_also (Ok v) f h = f h
-on_ok_also (Err e) f h = tt
+pub input_same : (k : Constants) (before : Inputs) (t : TimedInput) (answer : AppAnswer) (sent : List FrameContent)
+    → answer ≡ app_after k (view_of t.input ∷ before) → sent ≡ prescribed k before (view_of t.input) → refused_lines t.line answer ++ map (frame_line t.ms) sent ≡ input_lines k before t
+input_same k before t answer sent answered frames = input_printed k before t answer sent (λ lines. refused_lines t.line answer ++ map (frame_line t.ms) sent ≡ lines) answered frames refl
 
 -- the own input of a line, and the only one of its list
 own_alone : (t : TimedLine) (input : Input) → own_input t.said ≡ Some input → own_inputs t ≡ record { line = t.number; ms = t.ms; input = input } ∷ []
@@ -234,11 +334,27 @@ module _ (k : Constants) (before : Inputs) (old new : Option (List ℕ)) (first 
       subst (StopsIn k before last Writes) (sym (own_alone t takes.input takes.is_own))
       (stops_one k before last Writes own then (input_printed k before own answer sent (Writes []) (answered k (view_of takes.input ∷ before) then) (takes.frames k before stands) writes))
 
-  pub part_own : WritesFront old new (refused_lines t.number answer ++ map (frame_line t.ms) sent) → StopsIn k before last (WritesPart old new) (own_inputs t)
-  part_own front = stops_own (WritesPart old new) front
+-- by how that ended
+module _ (first last : Node) (old new : Option (List ℕ)) (t : TimedLine) (sent : List FrameContent) (answer : AppAnswer) (takes : TakesOwn first last t.said sent)
+    (answered : AfterAny last (λ k before. answer ≡ app_after k before)) where
+  pub own_printed : (count : ℕ) → WritesLines old new (refused_lines t.number answer ++ map (frame_line t.ms) sent) → count ≡ length sent → AfterAny first (λ k before. HasPrinted k before old new last count (own_inputs t))
+  own_printed count written counts k before stands = printed_own k before old new first last t sent answer takes stands answered count written counts
 
-  pub whole_own : WritesSome old new (refused_lines t.number answer ++ map (frame_line t.ms) sent) → StopsIn k before last (WritesWhole old new) (own_inputs t)
-  whole_own some = stops_own (WritesWhole old new) some
+  pub own_breaks : (fault : CmdFault) (result : Result ℕ CmdFault) → result ≡ Err fault → WrittenBy old new (refused_lines t.number answer ++ map (frame_line t.ms) sent) (Err fault) → PrintedBy first old new last (own_inputs t) result
+  own_breaks fault result is written = subst (PrintedBy first old new last (own_inputs t)) (sym is) (at_fault fault written)
+    where
+      at_fault : (fault : CmdFault) → WrittenBy old new (refused_lines t.number answer ++ map (frame_line t.ms) sent) (Err fault) → PrintedBy first old new last (own_inputs t) (Err fault)
+      at_fault Write front = λ k before stands. stops_own k before old new first last t sent answer takes stands answered (WritesPart old new) front
+      at_fault Memory some = λ k before stands. stops_own k before old new first last t sent answer takes stands answered (WritesWhole old new) some
+      at_fault Read written = absurd written
+      at_fault NeverEnds written = absurd written
+      at_fault (BadLine number) written = absurd written
+
+-- a line without an own input
+pub own_none : (first last : Node) (held : Option (List ℕ)) (t : TimedLine) → (own_input t.said ≡ None) × (last ≡ first) → AfterAny first (λ k before. HasPrinted k before held held last 0 (own_inputs t))
+own_none first last held t (none, same) k before stands =
+    let no_inputs : own_inputs t ≡ [] = ap (λ (own : Option Input). option_map_or (λ i. record { line = t.number; ms = t.ms; input = i } ∷ []) own []) none in
+    subst (HasPrinted k before held held last 0) (sym no_inputs) (printed_none k before held last (subst (λ (node : Node). Stands k node before) (sym same) stands))
 
 -- ---- totals
 

@@ -2,5 +2,4 @@ pub mod Examples
 pub mod Inputs
 pub mod Replaying
 pub mod Statuses
-pub mod WriteSets
 pub mod Ends

@@ -1,6 +1,6 @@
 -- How far a trace is replayed.
 use Rattle.std.proofs.Common.{◌≡◌, ℕ, List, [], ◌∷◌, ◌++◌, Option, None, Some, Ok, Err, IfSome, refl, inl, inr, sym, subst, ◌∙◌}
-use Rattle.std.specs.Prelude.{◌≢◌, ◌⊎◌}
+use Rattle.std.specs.Prelude.{◌≢◌}
 use Rattle.std.specs.List.{flat_map}
 use Rattle.std.specs.Io.KnownBytes.{Keeps, IsAtEnd}
 use Rattle.std.proofs.KnownBytes.{Appends-kept}
@@ -23,7 +23,7 @@ use Rattle.co_node.specs.Nodes.{Stands}
 use Rattle.conode_replay.specs.declared.totals.Totals.{Totals}
 use Rattle.conode_replay.specs.Counts.{counted}
 use Rattle.conode_replay.specs.Lines.{after_inputs, boot_line, replayed_lines, started_lines, totals_line}
-use Rattle.conode_replay.specs.Runs.{AfterAny, BreaksOff, FailsToWrite, HasCounted, HasEnded, HasPrinted, HasRun, Replayed, StopsIn, WritesPart, WritesWhole}
+use Rattle.conode_replay.specs.Runs.{AfterAny, BreaksOff, FailsToWrite, HasCounted, HasEnded, HasPrinted, HasRun, PrintedBy, Replayed, StopsIn, WritesPart, WritesWhole, WrittenAfter, WrittenBy}
 use Rattle.conode_replay.proofs.Inputs.{after_append, counted_more, part_after, part_more, replayed_append, stops_after, stops_later, whole_after, whole_more}
 
 -- the lines of a trace so far are taken, and their inputs replayed
@@ -142,11 +142,13 @@ module _ (first : Node) (known left : Option (List ℕ)) (progress : Progress) (
         let run = runs k before stands in
         inr (inl (stops (WritesWhole mid new) (WritesWhole old new) k before (whole_more old mid new (started_lines k before h.took.inputs) run.written) (stopped k (after_inputs before h.took.inputs) run.stands) later)))
 
-    pub fails_in_line : (Ends : Constants → Inputs → Totals → List TimedInput → Type 0) (rest : Option (List ℕ)) (fault : CmdFault) → (fault ≡ Write) ⊎ (fault ≡ Memory)
-        → (fault ≡ Write → AfterAny node (λ k before. StopsIn k before then (WritesPart mid new) (inputs_of t)))
-        → (fault ≡ Memory → AfterAny node (λ k before. StopsIn k before then (WritesWhole mid new) (inputs_of t))) → Replayed Ends first then known rest old new (Err fault)
-    fails_in_line Ends rest fault (inl is) part whole = subst (λ (f : CmdFault). Replayed Ends first then known rest old new (Err f)) (sym is) (fails_writing Ends rest (part is))
-    fails_in_line Ends rest fault (inr is) part whole = subst (λ (f : CmdFault). Replayed Ends first then known rest old new (Err f)) (sym is) (fails_making Ends rest (whole is))
+    pub fails_in_line : (Ends : Constants → Inputs → Totals → List TimedInput → Type 0) (rest : Option (List ℕ)) (fault : CmdFault) → PrintedBy node mid new then (inputs_of t) (Err fault)
+        → Replayed Ends first then known rest old new (Err fault)
+    fails_in_line Ends rest Write broke = fails_writing Ends rest broke
+    fails_in_line Ends rest Memory broke = fails_making Ends rest broke
+    fails_in_line Ends rest Read broke = absurd broke
+    fails_in_line Ends rest NeverEnds broke = absurd broke
+    fails_in_line Ends rest (BadLine number) broke = absurd broke
 
 -- ---- the boot-up
 
@@ -154,15 +156,20 @@ if_known : (known : Option (List ℕ)) (P : List ℕ → Type 0) → ((text : Li
 if_known None P h = tt
 if_known (Some text) P h = h text
 
-pub boot_fails : (Ends : Constants → Inputs → Totals → List TimedInput → Type 0) (first : Node) (known rest old new : Option (List ℕ)) (fault : CmdFault) → (fault ≡ Write) ⊎ (fault ≡ Memory)
-    → (fault ≡ Write → AfterAny first (λ k before. WritesFront old new (boot_line k ∷ []))) → (fault ≡ Memory → AfterAny first (λ k before. WritesSome old new (boot_line k ∷ [])))
-    → Replayed Ends first first known rest old new (Err fault)
-boot_fails Ends first known rest old new fault (inl is) part whole =
-    subst (λ (f : CmdFault). Replayed Ends first first known rest old new (Err f)) (sym is)
-    (if_known known (λ text. AfterAny first (λ k before. FailsToWrite k before old new first (trace_in text).inputs)) (λ text k before stands. inl (inl (stands, part is k before stands))))
-boot_fails Ends first known rest old new fault (inr is) part whole =
-    subst (λ (f : CmdFault). Replayed Ends first first known rest old new (Err f)) (sym is)
-    (if_known known (λ text. AfterAny first (λ k before. BreaksOff k before first (WritesWhole old new) (trace_in text).inputs)) (λ text k before stands. inl (stands, whole is k before stands)))
+pub boot_fails : (Ends : Constants → Inputs → Totals → List TimedInput → Type 0) (first : Node) (known rest old new : Option (List ℕ)) (fault : CmdFault)
+    → WrittenAfter first old new (λ k before. boot_line k ∷ []) (Err fault) → Replayed Ends first first known rest old new (Err fault)
+boot_fails Ends first known rest old new Write front =
+    if_known known (λ text. AfterAny first (λ k before. FailsToWrite k before old new first (trace_in text).inputs)) (λ text k before stands. inl (inl (stands, front k before stands)))
+boot_fails Ends first known rest old new Memory some =
+    if_known known (λ text. AfterAny first (λ k before. BreaksOff k before first (WritesWhole old new) (trace_in text).inputs)) (λ text k before stands. inl (stands, some k before stands))
+boot_fails Ends first known rest old new Read written = absurd written
+boot_fails Ends first known rest old new NeverEnds written = absurd written
+boot_fails Ends first known rest old new (BadLine number) written = absurd written
+
+-- no other fault comes of it
+pub boot_not : (first : Node) (old new : Option (List ℕ)) (fault other : CmdFault) → WrittenAfter first old new (λ k before. boot_line k ∷ []) (Err fault) → fault ≡ other
+    → WrittenAfter first old new (λ k before. boot_line k ∷ []) (Err other)
+boot_not first old new fault other written is = subst (λ (f : CmdFault). WrittenAfter first old new (λ k before. boot_line k ∷ []) (Err f)) is written
 
 -- ---- the totals
 
@@ -212,9 +219,10 @@ module _ (first last : Node) (rest old mid new : Option (List ℕ)) (totals : To
             (whole_after old mid new (started_lines k before (trace_in text).inputs) all.run.written (totals_line totals ∷ []) some),
       ))
 
-  pub totals_fail : (known : Option (List ℕ)) (fault : CmdFault) → Replayed (λ k before. HasCounted k before old mid last) first last known rest old mid (Ok totals) → (fault ≡ Write) ⊎ (fault ≡ Memory)
-      → (fault ≡ Write → WritesFront mid new (totals_line totals ∷ [])) → (fault ≡ Memory → WritesSome mid new (totals_line totals ∷ [])) → Replayed (λ k before. HasEnded k before old new last) first last known rest old new (Err fault)
-  totals_fail known fault h (inl is) part whole =
-      subst (λ (f : CmdFault). Replayed (λ k before. HasEnded k before old new last) first last known rest old new (Err f)) (sym is) (fails_writing_totals known h (part is))
-  totals_fail known fault h (inr is) part whole =
-      subst (λ (f : CmdFault). Replayed (λ k before. HasEnded k before old new last) first last known rest old new (Err f)) (sym is) (fails_making_totals known h (whole is))
+  pub totals_fail : (known : Option (List ℕ)) (fault : CmdFault) → Replayed (λ k before. HasCounted k before old mid last) first last known rest old mid (Ok totals) → WrittenBy mid new (totals_line totals ∷ []) (Err fault)
+      → Replayed (λ k before. HasEnded k before old new last) first last known rest old new (Err fault)
+  totals_fail known Write h front = fails_writing_totals known h front
+  totals_fail known Memory h some = fails_making_totals known h some
+  totals_fail known Read h written = absurd written
+  totals_fail known NeverEnds h written = absurd written
+  totals_fail known (BadLine number) h written = absurd written

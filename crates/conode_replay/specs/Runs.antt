@@ -13,6 +13,9 @@ use Rattle.std.specs.Prelude.{
   Option,
   Some,
   None,
+  Bool,
+  true,
+  false,
   Result,
   Ok,
   Err,
@@ -25,7 +28,7 @@ use Rattle.conode_trace.specs.declared.trace_line.TraceLine.{TraceLine}
 use Rattle.co_frame.specs.FrameContent.{FrameContent}
 use Rattle.conode_io.specs.declared.fault.CmdFault.{CmdFault}
 use Rattle.conode_io.specs.declared.fault.CmdFault.TheVariants.{Read, Write, BadLine, Memory, NeverEnds}
-use Rattle.conode_io.specs.Written.{IsFront, WritesLines}
+use Rattle.conode_io.specs.Written.{IsFront, WritesFront, WritesLines, WritesSome}
 use Rattle.conode_lines.specs.TraceTexts.{trace_in, FailsWithinLine}
 use Rattle.co_node_model.specs.Inputs.{Inputs}
 use Rattle.co_node_model.specs.Moments.{Constants}
@@ -72,6 +75,11 @@ pub record TakesOwn (first last : Node) (said : TraceLine) (sent : List FrameCon
   pub stands : AfterAny first (λ k before. Stands k last (view_of input ∷ before))
   pub frames : AfterAny first (λ k before. sent ≡ prescribed k before (view_of input))
 
+-- whether it did: where a line has no own input, nothing happened
+abbrev pub TookOwn : Node → Node → TraceLine → List FrameContent → Bool → Type 0
+TookOwn first last said sent true = TakesOwn first last said sent
+TookOwn first last said sent false = (own_input said ≡ None) × (last ≡ first)
+
 -- it took all inputs, and their lines were written, so many frames among these
 pub record HasPrinted (k : Constants) (before : Inputs) (old new : Option (List ℕ)) (node : Node)
     (printed : ℕ) (inputs : List TimedInput) : Type 0 where
@@ -117,6 +125,41 @@ abbrev pub StopsIn : Constants → Inputs → Node → (List (List ℕ) → List
 StopsIn k before node Writes inputs =
     (at : StopsAt k before node inputs)
     × Writes (replayed_lines k before at.earlier) (input_lines k (after_inputs before at.earlier) at.last)
+
+-- ---- what private calls come to
+
+-- lines were written, by how that ended: all; where the writer failed a front; where memory ran out some, never all
+abbrev pub WrittenBy : Option (List ℕ) → Option (List ℕ) → List (List ℕ) → Result (Unit {0}) CmdFault → Type 0
+WrittenBy old new lines (Ok done) = WritesLines old new lines
+WrittenBy old new lines (Err Write) = WritesFront old new lines
+WrittenBy old new lines (Err Memory) = WritesSome old new lines
+WrittenBy old new lines (Err Read) = ⊥
+WrittenBy old new lines (Err NeverEnds) = ⊥
+WrittenBy old new lines (Err (BadLine number)) = ⊥
+
+-- the same of lines that what the device took before prescribes
+abbrev pub WrittenAfter : Node → Option (List ℕ) → Option (List ℕ) → (Constants → Inputs → List (List ℕ))
+    → Result (Unit {0}) CmdFault → Type 0
+WrittenAfter node old new lines (Ok done) = AfterAny node (λ k before. WritesLines old new (lines k before))
+WrittenAfter node old new lines (Err Write) = AfterAny node (λ k before. WritesFront old new (lines k before))
+WrittenAfter node old new lines (Err Memory) = AfterAny node (λ k before. WritesSome old new (lines k before))
+WrittenAfter node old new lines (Err Read) = ⊥
+WrittenAfter node old new lines (Err NeverEnds) = ⊥
+WrittenAfter node old new lines (Err (BadLine number)) = ⊥
+
+-- inputs were taken and their lines written, by how that ended
+abbrev pub PrintedBy : Node → Option (List ℕ) → Option (List ℕ) → Node → List TimedInput → Result ℕ CmdFault → Type 0
+PrintedBy first old new last inputs (Ok printed) =
+    AfterAny first (λ k before. HasPrinted k before old new last printed inputs)
+PrintedBy first old new last inputs (Err Write) =
+    AfterAny first (λ k before. StopsIn k before last (WritesPart old new) inputs)
+PrintedBy first old new last inputs (Err Memory) =
+    AfterAny first (λ k before. StopsIn k before last (WritesWhole old new) inputs)
+PrintedBy first old new last inputs (Err Read) = ⊥
+PrintedBy first old new last inputs (Err NeverEnds) = ⊥
+PrintedBy first old new last inputs (Err (BadLine number)) = ⊥
+
+-- ---- the whole
 
 -- it broke off at a line: of the boot-up; of the last input that it took; or of the totals
 abbrev pub BreaksOff : Constants → Inputs → Node → (List (List ℕ) → List (List ℕ) → Type 0) → List TimedInput → Type 0

@@ -1,6 +1,6 @@
 //! One input of a trace: the device takes it, and what comes of it is printed.
 
-ghost use Rattle.std.specs.Prelude.{◌≡◌, ◌⊎◌, ◌∷◌, IfErr, OnOk, Err};
+ghost use Rattle.std.specs.Prelude.{◌≡◌, ◌∷◌};
 ghost use Rattle.co_node_model.specs.Inputs.{Inputs, Framed, Ticked, Applied};
 ghost use Rattle.co_node_model.specs.Moments.{Constants};
 ghost use Rattle.co_node_model.specs.Device.{prescribed};
@@ -8,8 +8,8 @@ ghost use Rattle.co_node.specs.Nodes.{Stands};
 ghost use Rattle.conode_trace.specs.declared.event_line.EventLine.TheVariants.{App};
 ghost use Rattle.conode_trace.specs.Events.{HasFewBytes};
 ghost use Rattle.conode_trace.specs.Traces.{tick};
-ghost use Rattle.conode_io.specs.Written.{WritesFront, WritesLines, WritesSome};
 ghost use Rattle.conode_replay.specs.Lines.{app_of, input_lines};
+ghost use Rattle.conode_replay.specs.Runs.{WrittenAfter};
 
 use crate::lines::print_input;
 use co_frame::{Frame, Outbox};
@@ -65,18 +65,9 @@ pub(crate) fn tick<W: Write>(
         sent.new.items ≡ prescribed k before Ticked }
     ensures stands { (k : Constants) (before : Inputs) → Stands k node.old before →
         Stands k node.new (Ticked ∷ before) }
-    ensures ok { OnOk result ((k : Constants) (before : Inputs) → Stands k node.old before →
-        WritesLines (W.contents writer.old) (W.contents writer.new)
-        (input_lines k before (record { line = number; ms = ms; input = tick }))) }
-    ensures write { result ≡ Err CmdFault.Write →
-        (k : Constants) (before : Inputs) → Stands k node.old before →
-        WritesFront (W.contents writer.old) (W.contents writer.new)
-        (input_lines k before (record { line = number; ms = ms; input = tick })) }
-    ensures memory { result ≡ Err CmdFault.Memory →
-        (k : Constants) (before : Inputs) → Stands k node.old before →
-        WritesSome (W.contents writer.old) (W.contents writer.new)
-        (input_lines k before (record { line = number; ms = ms; input = tick })) }
-    ensures err { IfErr result (λ fault. (fault ≡ CmdFault.Write) ⊎ (fault ≡ CmdFault.Memory)) }
+    ensures written { WrittenAfter node.old (W.contents writer.old) (W.contents writer.new)
+        (λ k before. input_lines k before (record { line = number; ms = ms; input = tick }))
+        result }
 {
     node.tick(sent);
     print_input(text, number, ms, node.last_app(), sent.as_slice(), writer)

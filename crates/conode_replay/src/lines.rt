@@ -1,9 +1,9 @@
 //! The lines that are printed of a replay.
 
-ghost use Rattle.std.specs.Prelude.{◌≡◌, ◌⊎◌, [], ◌∷◌, ◌++◌, map, IfErr, OnOk, Err, string_bytes};
+ghost use Rattle.std.specs.Prelude.{◌≡◌, [], ◌∷◌, ◌++◌, map, OnOk, string_bytes};
 ghost use Rattle.conode_trace.specs.Printed.{frame_line};
-ghost use Rattle.conode_io.specs.Written.{WritesFront, WritesLines, WritesSome};
 ghost use Rattle.conode_replay.specs.Lines.{refused_line, refused_lines, totals_line};
+ghost use Rattle.conode_replay.specs.Runs.{WrittenBy};
 
 use crate::totals::Totals;
 use co_frame::{AbortCode, Frame};
@@ -42,19 +42,13 @@ fn set_totals_line(text: &mut String, totals: Totals) -> Result<(), AllocError>
 }
 
 /// Prints the line of the totals.
-#[tactic(auto, using(crate::proofs::WriteSets::one_line))]
 pub(crate) fn print_totals<W: Write>(
     text: &mut String,
     totals: Totals,
     writer: &mut W,
 ) -> Result<(), CmdFault>
-    ensures ok { OnOk result (WritesLines (W.contents writer.old) (W.contents writer.new)
-        (totals_line totals ∷ [])) }
-    ensures write { result ≡ Err CmdFault.Write → WritesFront (W.contents writer.old)
-        (W.contents writer.new) (totals_line totals ∷ []) }
-    ensures memory { result ≡ Err CmdFault.Memory → WritesSome (W.contents writer.old)
-        (W.contents writer.new) (totals_line totals ∷ []) }
-    ensures err { IfErr result (λ fault. (fault ≡ CmdFault.Write) ⊎ (fault ≡ CmdFault.Memory)) }
+    ensures { WrittenBy (W.contents writer.old) (W.contents writer.new)
+        (totals_line totals ∷ []) result }
 {
     set_totals_line(text, totals)?;
     hand_over(text.as_bytes(), writer)
@@ -67,13 +61,8 @@ pub(crate) fn print_frames<W: Write>(
     frames: &[Frame],
     writer: &mut W,
 ) -> Result<(), CmdFault>
-    ensures ok { OnOk result (WritesLines (W.contents writer.old) (W.contents writer.new)
-        (map (frame_line ms) frames.now)) }
-    ensures write { result ≡ Err CmdFault.Write → WritesFront (W.contents writer.old)
-        (W.contents writer.new) (map (frame_line ms) frames.now) }
-    ensures memory { result ≡ Err CmdFault.Memory → WritesSome (W.contents writer.old)
-        (W.contents writer.new) (map (frame_line ms) frames.now) }
-    ensures err { IfErr result (λ fault. (fault ≡ CmdFault.Write) ⊎ (fault ≡ CmdFault.Memory)) }
+    ensures { WrittenBy (W.contents writer.old) (W.contents writer.new)
+        (map (frame_line ms) frames.now) result }
 {
     for frame in frames {
         let line = frame_line(ms, frame);
@@ -84,20 +73,14 @@ pub(crate) fn print_frames<W: Write>(
 
 // prints that an event is refused, if it is
 #[inline(always)]
-#[tactic(auto, using(crate::proofs::WriteSets::one_line))]
 fn print_refusal<W: Write>(
     text: &mut String,
     number: usize,
     answer: AppAnswer,
     writer: &mut W,
 ) -> Result<(), CmdFault>
-    ensures ok { OnOk result (WritesLines (W.contents writer.old) (W.contents writer.new)
-        (refused_lines number answer)) }
-    ensures write { result ≡ Err CmdFault.Write → WritesFront (W.contents writer.old)
-        (W.contents writer.new) (refused_lines number answer) }
-    ensures memory { result ≡ Err CmdFault.Memory → WritesSome (W.contents writer.old)
-        (W.contents writer.new) (refused_lines number answer) }
-    ensures err { IfErr result (λ fault. (fault ≡ CmdFault.Write) ⊎ (fault ≡ CmdFault.Memory)) }
+    ensures { WrittenBy (W.contents writer.old) (W.contents writer.new)
+        (refused_lines number answer) result }
 {
     match answer {
         AppAnswer::Refused(code) => {
@@ -118,13 +101,8 @@ pub(crate) fn print_input<W: Write>(
     frames: &[Frame],
     writer: &mut W,
 ) -> Result<(), CmdFault>
-    ensures ok { OnOk result (WritesLines (W.contents writer.old) (W.contents writer.new)
-        (refused_lines number answer ++ map (frame_line ms) frames.now)) }
-    ensures write { result ≡ Err CmdFault.Write → WritesFront (W.contents writer.old)
-        (W.contents writer.new) (refused_lines number answer ++ map (frame_line ms) frames.now) }
-    ensures memory { result ≡ Err CmdFault.Memory → WritesSome (W.contents writer.old)
-        (W.contents writer.new) (refused_lines number answer ++ map (frame_line ms) frames.now) }
-    ensures err { IfErr result (λ fault. (fault ≡ CmdFault.Write) ⊎ (fault ≡ CmdFault.Memory)) }
+    ensures { WrittenBy (W.contents writer.old) (W.contents writer.new)
+        (refused_lines number answer ++ map (frame_line ms) frames.now) result }
 {
     print_refusal(text, number, answer, writer)?;
     if frames.is_empty() {

@@ -1,15 +1,12 @@
 //! The inputs of one line of a trace.
 
-ghost use Rattle.std.specs.Prelude.{◌≡◌, ◌⊎◌, ◌+◌, ◌^◌, ◌<◌, ◌≤◌, IfErr, IfOk, Err, None, true, false};
-ghost use Rattle.co_node_model.specs.Inputs.{Inputs};
-ghost use Rattle.co_node_model.specs.Moments.{Constants};
-ghost use Rattle.co_node.specs.Nodes.{Stands};
+ghost use Rattle.std.specs.Prelude.{◌≡◌, ◌+◌, ◌^◌, ◌<◌, ◌≤◌, IfOk};
 ghost use Rattle.conode_trace.specs.declared.trace_line.TraceLine.TheVariants.{Event};
 ghost use Rattle.conode_trace.specs.Events.{HasFewBytes};
 ghost use Rattle.conode_trace.specs.FrameLines.{WritesFewBytes};
-ghost use Rattle.conode_trace.specs.Traces.{inputs_of, own_input, ticks_after};
+ghost use Rattle.conode_trace.specs.Traces.{inputs_of, ticks_after};
 ghost use Rattle.conode_replay.specs.Lines.{own_inputs};
-ghost use Rattle.conode_replay.specs.Runs.{HasPrinted, StopsIn, TakesOwn, WritesPart, WritesWhole};
+ghost use Rattle.conode_replay.specs.Runs.{PrintedBy, TookOwn};
 
 use crate::input::{apply, take, tick};
 use crate::lines::print_input;
@@ -37,19 +34,8 @@ fn replay_ticks<W: Write>(
     writer: &mut W,
 ) -> Result<u64, CmdFault>
     requires { timed.now.before + 2 ^ 32 < 2 ^ 128 }
-    ensures ok { IfOk result (λ printed. (k : Constants) (before : Inputs) →
-        Stands k node.old before →
-        HasPrinted k before (W.contents writer.old) (W.contents writer.new) node.new printed
-        (ticks_after timed.now.number timed.now.before timed.now.ticks)) }
-    ensures write { result ≡ Err CmdFault.Write →
-        (k : Constants) (before : Inputs) → Stands k node.old before → StopsIn k before node.new
-        (WritesPart (W.contents writer.old) (W.contents writer.new))
-        (ticks_after timed.now.number timed.now.before timed.now.ticks) }
-    ensures memory { result ≡ Err CmdFault.Memory →
-        (k : Constants) (before : Inputs) → Stands k node.old before → StopsIn k before node.new
-        (WritesWhole (W.contents writer.old) (W.contents writer.new))
-        (ticks_after timed.now.number timed.now.before timed.now.ticks) }
-    ensures err { IfErr result (λ fault. (fault ≡ CmdFault.Write) ⊎ (fault ≡ CmdFault.Memory)) }
+    ensures printed { PrintedBy node.old (W.contents writer.old) (W.contents writer.new) node.new
+        (ticks_after timed.now.number timed.now.before timed.now.ticks) result }
     ensures few { IfOk result (λ printed. printed < 2 ^ 42) }
 {
     let mut printed: u64 = 0;
@@ -64,10 +50,7 @@ fn replay_ticks<W: Write>(
 // the device takes an event of the application, if an event line is one
 fn take_event(node: &mut Node, event: &EventLine<'_>, sent: &mut Outbox) -> bool
     requires { HasFewBytes event.now }
-    ensures some { result ≡ true →
-        TakesOwn node.old node.new (Event event.now) sent.new.items }
-    ensures none { result ≡ false → own_input (Event event.now) ≡ None }
-    ensures same { result ≡ false → node.new ≡ node.old }
+    ensures { TookOwn node.old node.new (Event event.now) sent.new.items result }
 {
     match event {
         EventLine::App(applied) => {
@@ -81,9 +64,7 @@ fn take_event(node: &mut Node, event: &EventLine<'_>, sent: &mut Outbox) -> bool
 // the device takes the own input of what a line says, if it has one
 fn take_own(node: &mut Node, said: &TraceLine<'_>, sent: &mut Outbox) -> bool
     requires { WritesFewBytes said.now }
-    ensures some { result ≡ true → TakesOwn node.old node.new said.now sent.new.items }
-    ensures none { result ≡ false → own_input said.now ≡ None }
-    ensures same { result ≡ false → node.new ≡ node.old }
+    ensures { TookOwn node.old node.new said.now sent.new.items result }
 {
     match said {
         TraceLine::Data { frame, .. } => {
@@ -105,17 +86,8 @@ fn replay_own<W: Write>(
     writer: &mut W,
 ) -> Result<u64, CmdFault>
     requires { WritesFewBytes timed.now.said }
-    ensures ok { IfOk result (λ printed. (k : Constants) (before : Inputs) →
-        Stands k node.old before →
-        HasPrinted k before (W.contents writer.old) (W.contents writer.new) node.new printed
-        (own_inputs timed.now)) }
-    ensures write { result ≡ Err CmdFault.Write →
-        (k : Constants) (before : Inputs) → Stands k node.old before → StopsIn k before node.new
-        (WritesPart (W.contents writer.old) (W.contents writer.new)) (own_inputs timed.now) }
-    ensures memory { result ≡ Err CmdFault.Memory →
-        (k : Constants) (before : Inputs) → Stands k node.old before → StopsIn k before node.new
-        (WritesWhole (W.contents writer.old) (W.contents writer.new)) (own_inputs timed.now) }
-    ensures err { IfErr result (λ fault. (fault ≡ CmdFault.Write) ⊎ (fault ≡ CmdFault.Memory)) }
+    ensures printed { PrintedBy node.old (W.contents writer.old) (W.contents writer.new) node.new
+        (own_inputs timed.now) result }
     ensures few { IfOk result (λ printed. printed ≤ 514) }
 {
     let taken = take_own(node, &timed.said, sent);
@@ -144,17 +116,8 @@ pub(crate) fn replay_line<W: Write>(
 ) -> Result<u64, CmdFault>
     requires early { timed.now.before + 2 ^ 32 < 2 ^ 128 }
     requires few { WritesFewBytes timed.now.said }
-    ensures ok { IfOk result (λ printed. (k : Constants) (before : Inputs) →
-        Stands k node.old before →
-        HasPrinted k before (W.contents writer.old) (W.contents writer.new) node.new printed
-        (inputs_of timed.now)) }
-    ensures write { result ≡ Err CmdFault.Write →
-        (k : Constants) (before : Inputs) → Stands k node.old before → StopsIn k before node.new
-        (WritesPart (W.contents writer.old) (W.contents writer.new)) (inputs_of timed.now) }
-    ensures memory { result ≡ Err CmdFault.Memory →
-        (k : Constants) (before : Inputs) → Stands k node.old before → StopsIn k before node.new
-        (WritesWhole (W.contents writer.old) (W.contents writer.new)) (inputs_of timed.now) }
-    ensures err { IfErr result (λ fault. (fault ≡ CmdFault.Write) ⊎ (fault ≡ CmdFault.Memory)) }
+    ensures printed { PrintedBy node.old (W.contents writer.old) (W.contents writer.new) node.new
+        (inputs_of timed.now) result }
     ensures few { IfOk result (λ printed. printed < 2 ^ 43) }
 {
     let ticked = replay_ticks(text, node, timed, sent, writer)?;

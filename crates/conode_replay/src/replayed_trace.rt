@@ -20,11 +20,7 @@ ghost use Rattle.std.specs.Prelude.{
 ghost use Rattle.co_stream.specs.Nexts.{new_reader};
 ghost use Rattle.co_stream.specs.Readings.{Gave};
 ghost use Rattle.conode_trace.specs.Traces.{trace_of};
-ghost use Rattle.conode_io.specs.Written.{WritesFront, WritesLines, WritesSome};
 ghost use Rattle.conode_lines.specs.TraceTexts.{trace_in, FailsWithinLine, GaveText};
-ghost use Rattle.co_node_model.specs.Inputs.{Inputs};
-ghost use Rattle.co_node_model.specs.Moments.{Constants};
-ghost use Rattle.co_node.specs.Nodes.{Stands};
 ghost use Rattle.conode_replay.specs.Lines.{boot_line};
 ghost use Rattle.conode_replay.specs.Runs.{
   AfterAny,
@@ -35,6 +31,7 @@ ghost use Rattle.conode_replay.specs.Runs.{
   HasRun,
   Replayed,
   WritesWhole,
+  WrittenAfter,
 };
 
 use crate::lines::{print_frames, print_totals};
@@ -51,15 +48,8 @@ use std::io::{Read, Write};
 
 // prints the boot-up, at clock 0
 fn print_boot<W: Write>(node: &Node, sent: &mut Outbox, writer: &mut W) -> Result<(), CmdFault>
-    ensures ok { OnOk result ((k : Constants) (before : Inputs) → Stands k node.now before →
-        WritesLines (W.contents writer.old) (W.contents writer.new) (boot_line k ∷ [])) }
-    ensures write { result ≡ Err CmdFault.Write →
-        (k : Constants) (before : Inputs) → Stands k node.now before →
-        WritesFront (W.contents writer.old) (W.contents writer.new) (boot_line k ∷ []) }
-    ensures memory { result ≡ Err CmdFault.Memory →
-        (k : Constants) (before : Inputs) → Stands k node.now before →
-        WritesSome (W.contents writer.old) (W.contents writer.new) (boot_line k ∷ []) }
-    ensures err { IfErr result (λ fault. (fault ≡ CmdFault.Write) ⊎ (fault ≡ CmdFault.Memory)) }
+    ensures { WrittenAfter node.now (W.contents writer.old) (W.contents writer.new)
+        (λ k before. boot_line k ∷ []) result }
 {
     node.boot(sent);
     print_frames(0, sent.as_slice(), writer)

@@ -1,9 +1,8 @@
-use Rattle.std.proofs.Common.{◌≡◌, Err, ap, arith}
+use Rattle.std.proofs.Common.{Err, ap, arith, ◌∙◌}
 use Rattle.std.proofs.lemmas.Result.{err_from_is_err_and}
 use Rattle.conode_io.specs.declared.fault.CmdFault.{CmdFault}
-use Rattle.conode_io.specs.declared.fault.CmdFault.TheVariants.{Write, Memory}
 use Rattle.conode_trace.specs.Traces.{ticks_after}
-use Rattle.conode_replay.proofs.Inputs.{printed_none, printed_tick, part_tick, whole_tick}
+use Rattle.conode_replay.proofs.Inputs.{printed_none, printed_tick, ticks_break}
 use Rattle.conode_replay.proofs.replayed_line.replay_ticks.Goals as goal
 
 pub loop-elapsed-init : goal.loop-elapsed-init
@@ -19,22 +18,13 @@ loop-elapsed-preserved g c =
       printed = λ k before stands.
           printed_tick k before (g.W.Write.contents c.args.writer.now) (g.W.Write.contents c.loop-elapsed.writer) (g.W.Write.contents c.tick.new.writer) c.loop-elapsed.node c.tick.new.node
           c.loop-elapsed.printed c.args.timed.now.number c.args.timed.now.before c.loop-elapsed.elapsed c.clock_after-ms.result c.clock_after-ms.ensures (c.loop-elapsed.invariant.printed k before stands) c.tick.ensures.stands
-          c.tick.new.sent.items c.len.result c.tick.ensures.frames c.in_ok-tick.ensures.ok c.len.ensures.value;
+          c.tick.new.sent.items c.len.result c.tick.ensures.frames c.in_ok-tick.ensures.written c.len.ensures.value;
       few = omega (arith, c.loop-elapsed.invariant.few, c.len.ensures.fits);
     }
 
-pub returns-in_err-tick-clause-write : goal.returns-in_err-tick-clause-write
-returns-in_err-tick-clause-write g c said k before stands =
+pub returns-in_err-tick-clause-printed : goal.returns-in_err-tick-clause-printed
+returns-in_err-tick-clause-printed g c =
     let passed = err_from_is_err_and c.from_residual.result c.from_residual.ensures.1 in
-    let own : c.in_err-tick.field-0.0 ≡ Write = cc (passed.1, passed.2) in
-    part_tick k before (g.W.Write.contents c.args.writer.now) (g.W.Write.contents c.loop-elapsed.writer) (g.W.Write.contents c.tick.new.writer) c.loop-elapsed.node c.tick.new.node
-    c.loop-elapsed.printed c.args.timed.now.number c.args.timed.now.before c.loop-elapsed.elapsed c.clock_after-ms.result c.clock_after-ms.ensures (c.loop-elapsed.invariant.printed k before stands) c.tick.ensures.stands
-    c.args.timed.now.ticks c.loop-elapsed-test.true (c.in_err-tick.ensures.write (ap (λ (e : CmdFault). Err e) own))
-
-pub returns-in_err-tick-clause-memory : goal.returns-in_err-tick-clause-memory
-returns-in_err-tick-clause-memory g c said k before stands =
-    let passed = err_from_is_err_and c.from_residual.result c.from_residual.ensures.1 in
-    let own : c.in_err-tick.field-0.0 ≡ Memory = cc (passed.1, passed.2) in
-    whole_tick k before (g.W.Write.contents c.args.writer.now) (g.W.Write.contents c.loop-elapsed.writer) (g.W.Write.contents c.tick.new.writer) c.loop-elapsed.node c.tick.new.node
-    c.loop-elapsed.printed c.args.timed.now.number c.args.timed.now.before c.loop-elapsed.elapsed c.clock_after-ms.result c.clock_after-ms.ensures (c.loop-elapsed.invariant.printed k before stands) c.tick.ensures.stands
-    c.args.timed.now.ticks c.loop-elapsed-test.true (c.in_err-tick.ensures.memory (ap (λ (e : CmdFault). Err e) own))
+    ticks_break c.args.node.now c.loop-elapsed.node c.tick.new.node (g.W.Write.contents c.args.writer.now) (g.W.Write.contents c.loop-elapsed.writer) (g.W.Write.contents c.tick.new.writer)
+    c.loop-elapsed.printed c.args.timed.now.number c.args.timed.now.before c.loop-elapsed.elapsed c.clock_after-ms.result c.clock_after-ms.ensures c.loop-elapsed.invariant.printed c.tick.ensures.stands
+    c.args.timed.now.ticks c.loop-elapsed-test.true c.in_err-tick.field-0.0 c.from_residual.result (passed.1 ∙ ap (λ (e : CmdFault). Err e) passed.2) c.in_err-tick.ensures.written

@@ -4,10 +4,12 @@ use Rattle.co_stream.specs.Nexts.{new_reader}
 use Rattle.co_stream.specs.Readings.{to_come}
 use Rattle.co_stream.proofs.Readers.{gave_nothing, gave_so, gave_then}
 use Rattle.conode_io.specs.declared.fault.CmdFault.{CmdFault}
-use Rattle.conode_io.specs.declared.fault.CmdFault.TheVariants.{Write}
+use Rattle.conode_io.specs.declared.fault.CmdFault.TheVariants.{NeverEnds, Read, Write}
 use Rattle.conode_lines.proofs.Taking.{all_to_come, next_line, next_fewer, next_no_fault, next_end, next_fault}
 use Rattle.conode_replay.specs.Runs.{HasCounted, Replayed}
-use Rattle.conode_replay.proofs.Replaying.{boot_fails, replayed_none, replayed_flushed, replayed_more, ends, ends_at_bad_line, ends_at_fault, fails_to_flush, fails_in_line}
+use Rattle.conode_trace.specs.Traces.{inputs_of}
+use Rattle.conode_replay.proofs.Inputs.{printed_not}
+use Rattle.conode_replay.proofs.Replaying.{boot_fails, boot_not, replayed_none, replayed_flushed, replayed_more, ends, ends_at_bad_line, ends_at_fault, fails_to_flush, fails_in_line}
 use Rattle.conode_replay.proofs.replayed_trace.replay_lines.Goals as goal
 
 pub returns-in_err-print_boot-clause-gave : goal.returns-in_err-print_boot-clause-gave
@@ -21,15 +23,26 @@ returns-in_err-print_boot-clause-gave g c =
       false,
       gave_nothing false known known _ refl
           (λ whole. subst (Replayed (λ k before. HasCounted k before old new first) first first whole whole old new) (sym same)
-          (boot_fails (λ k before. HasCounted k before old new first) first whole whole old new c.in_err-print_boot.field-0.0 c.in_err-print_boot.ensures.err
-          (λ w. c.in_err-print_boot.ensures.write (ap (λ (e : CmdFault). Err e) w)) (λ m. c.in_err-print_boot.ensures.memory (ap (λ (e : CmdFault). Err e) m)))),
+          (boot_fails (λ k before. HasCounted k before old new first) first whole whole old new c.in_err-print_boot.field-0.0 c.in_err-print_boot.ensures)),
     )
+
+pub returns-in_err-print_boot-clause-read : goal.returns-in_err-print_boot-clause-read
+returns-in_err-print_boot-clause-read g c said =
+    let passed = err_from_is_err_and c.from_residual.result c.from_residual.ensures.1 in
+    let own : c.in_err-print_boot.field-0.0 ≡ Read = cc (passed.1, passed.2) in
+    absurd (boot_not c.args.node.now (g.W.Write.contents c.args.writer.now) (g.W.Write.contents c.print_boot.new.writer) c.in_err-print_boot.field-0.0 Read c.in_err-print_boot.ensures own)
+
+pub returns-in_err-print_boot-clause-never_ends : goal.returns-in_err-print_boot-clause-never_ends
+returns-in_err-print_boot-clause-never_ends g c said =
+    let passed = err_from_is_err_and c.from_residual.result c.from_residual.ensures.1 in
+    let own : c.in_err-print_boot.field-0.0 ≡ NeverEnds = cc (passed.1, passed.2) in
+    absurd (boot_not c.args.node.now (g.W.Write.contents c.args.writer.now) (g.W.Write.contents c.print_boot.new.writer) c.in_err-print_boot.field-0.0 NeverEnds c.in_err-print_boot.ensures own)
 
 pub trace-init : goal.trace-init
 trace-init g c =
     let known = g.R.Read.remaining c.args.reader.now in
     rw c.requires (record {
-      replayed = gave_nothing false known known _ refl (λ whole. replayed_none c.args.node.now whole (to_come new_reader whole) _ (g.W.Write.contents c.args.writer.now) (g.W.Write.contents c.print_boot.new.writer) _ (all_to_come whole) c.new-progress.ensures.trace c.new-totals.ensures c.in_ok-print_boot.ensures.ok);
+      replayed = gave_nothing false known known _ refl (λ whole. replayed_none c.args.node.now whole (to_come new_reader whole) _ (g.W.Write.contents c.args.writer.now) (g.W.Write.contents c.print_boot.new.writer) _ (all_to_come whole) c.new-progress.ensures.trace c.new-totals.ensures c.in_ok-print_boot.ensures);
       fault = refl;
       few = rw c.new-progress.ensures.number (omega arith);
       room = rw c.new-totals.ensures (omega arith);
@@ -73,7 +86,7 @@ trace-preserved g c =
           replayed_more first had (to_come lines middle) c.trace.progress old flushed c.trace.node c.trace.totals
           (replayed_flushed first had (to_come lines middle) c.trace.progress old mid c.trace.node c.trace.totals held flushed c.let_out.ensures.text)
           (to_come next has) c.read.new.self (g.W.Write.contents c.replay_line.new.writer) c.replay_line.new.node c.in-Ok-Some.line.now c.in-Ok.timed _ _
-          gives c.in-Ok.ensures.line c.in_ok-printed-in-Ok.ensures.ok c.count.ensures.counted);
+          gives c.in-Ok.ensures.line c.in_ok-printed-in-Ok.ensures.printed c.count.ensures.counted);
       fault = next_no_fault lines next before after c.next.result holds c.in-Ok-Some.line is;
       few = omega (arith, fewer, c.in-Ok.ensures.number, c.trace.invariant.few);
       room = omega (arith, c.count.ensures.few, c.in_ok-printed-in-Ok.ensures.few, c.in-Ok.ensures.number, c.trace.invariant.room);
@@ -102,9 +115,20 @@ returns-in_err-printed-in-Ok-clause-gave g c =
           (fails_in_line first had (to_come lines middle) c.trace.progress old flushed c.trace.node c.trace.totals
           (replayed_flushed first had (to_come lines middle) c.trace.progress old mid c.trace.node c.trace.totals held flushed c.let_out.ensures.text)
           (to_come next has) c.read.new.self new then c.in-Ok-Some.line.now c.in-Ok.timed gives c.in-Ok.ensures.line
-          (λ k b. HasCounted k b old new then) has c.in_err-printed-in-Ok.field-0.0 c.in_err-printed-in-Ok.ensures.err
-          (λ w. c.in_err-printed-in-Ok.ensures.write (ap (λ (e : CmdFault). Err e) w)) (λ m. c.in_err-printed-in-Ok.ensures.memory (ap (λ (e : CmdFault). Err e) m)))),
+          (λ k b. HasCounted k b old new then) has c.in_err-printed-in-Ok.field-0.0 c.in_err-printed-in-Ok.ensures.printed)),
     )
+
+pub returns-in_err-printed-in-Ok-clause-read : goal.returns-in_err-printed-in-Ok-clause-read
+returns-in_err-printed-in-Ok-clause-read g c said =
+    let passed = err_from_is_err_and c.from_residual-in_err-printed-in-Ok.result c.from_residual-in_err-printed-in-Ok.ensures.1 in
+    let own : c.in_err-printed-in-Ok.field-0.0 ≡ Read = cc (passed.1, passed.2) in
+    absurd (printed_not c.trace.node c.replay_line.new.node (g.W.Write.contents c.let_out.new.writer) (g.W.Write.contents c.replay_line.new.writer) (inputs_of c.in-Ok.timed) c.in_err-printed-in-Ok.field-0.0 Read c.in_err-printed-in-Ok.ensures.printed own)
+
+pub returns-in_err-printed-in-Ok-clause-never_ends : goal.returns-in_err-printed-in-Ok-clause-never_ends
+returns-in_err-printed-in-Ok-clause-never_ends g c said =
+    let passed = err_from_is_err_and c.from_residual-in_err-printed-in-Ok.result c.from_residual-in_err-printed-in-Ok.ensures.1 in
+    let own : c.in_err-printed-in-Ok.field-0.0 ≡ NeverEnds = cc (passed.1, passed.2) in
+    absurd (printed_not c.trace.node c.replay_line.new.node (g.W.Write.contents c.let_out.new.writer) (g.W.Write.contents c.replay_line.new.writer) (inputs_of c.in-Ok.timed) c.in_err-printed-in-Ok.field-0.0 NeverEnds c.in_err-printed-in-Ok.ensures.printed own)
 
 pub returns-in-Err-read-clause-gave : goal.returns-in-Err-read-clause-gave
 returns-in-Err-read-clause-gave g c =

@@ -40,8 +40,7 @@ returns-in_err-print_totals g c =
       ended,
       gave_so false ended known rest _ _ gave
           (λ had has held. subst (Replayed (λ k before. HasEnded k before old new last) first last had has old new) (sym same)
-          (totals_fail first last has old mid new c.in_ok-totals.totals had fault held c.in_err-print_totals.ensures.err
-          (λ w. c.in_err-print_totals.ensures.write (ap (λ (e : CmdFault). Err e) w)) (λ m. c.in_err-print_totals.ensures.memory (ap (λ (e : CmdFault). Err e) m)))),
+          (totals_fail first last has old mid new c.in_ok-totals.totals had fault held c.in_err-print_totals.ensures)),
     )
 
 pub returns : goal.returns
@@ -55,5 +54,5 @@ returns g c =
     let new = g.W.Write.contents c.print_totals.new.writer in
     let (ended, gave) = c.in_ok-totals.ensures.gave in (
       ended,
-      gave_so false ended known rest _ _ gave (λ had has held. totals_written first last has old mid new c.in_ok-totals.totals had held c.in_ok-print_totals.ensures.ok),
+      gave_so false ended known rest _ _ gave (λ had has held. totals_written first last has old mid new c.in_ok-totals.totals had held c.in_ok-print_totals.ensures),
     )
