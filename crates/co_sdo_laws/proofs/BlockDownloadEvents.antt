@@ -10,6 +10,7 @@ use Rattle.co_frame.specs.BlockSegments.{is_abort_in_sub_block}
 use Rattle.co_frame.specs.declared.sdo_response.SdoResponse.{SdoResponse}
 use Rattle.co_frame.specs.declared.sdo_response.SdoResponse.TheVariants.{Abort as Aborted, BlockDownloadDone, BlockDownloadAcknowledge}
 use Rattle.co_frame.specs.SdoResponses.{response_in}
+use Rattle.co_sdo_client.specs.declared.mode.Mode.TheVariants.{Block}
 use Rattle.co_sdo_client.specs.declared.stage.Stage.TheVariants.{BlockDownload as Sending, BlockDownloadEnded}
 use Rattle.co_sdo_client.specs.declared.state.ClientState.TheVariants.{Waiting}
 use Rattle.co_sdo_client.specs.Calls.{Call, Segment, message_bytes, Event as ClientEvent, Answered, Ticked as TickedAtClient, answers as answers_of, Answers, since_first, with_answer, is_time_over as is_client_over}
@@ -25,14 +26,15 @@ use Rattle.co_sdo_laws.specs.World.{Setup, World, Requests, Answers as Back, Wor
 use Rattle.co_sdo_laws.specs.Undisturbed.{IsCalm, AreCalm}
 use Rattle.co_sdo_laws.proofs.Frames.{block_initiated_read, block_done_read, acknowledged_read}
 use Rattle.co_sdo_laws.proofs.Server.{serves_first, serves_ticked}
+use Rattle.co_sdo_laws.proofs.Permits.{bytes, IsDownload}
 use Rattle.co_sdo_laws.proofs.Client.{follows, stays}
 use Rattle.co_sdo_laws.proofs.Failures.{is_aborted, has_failed, failed_more}
 use Rattle.co_sdo_laws.proofs.Channel.{IsServing, serving_ticks, serving_ends}
 use Rattle.co_sdo_laws.proofs.Blocks.{live, live_both, cut_fails, cut_read, cut_is_more, Count, Moment, disturbed, heard, no_answer, cons≢nil, head_is, tail_is, calm_asks, calm_waits, same_requests}
 use Rattle.co_sdo_laws.proofs.GoneChannels.{is_awaited, awaited, awaited_both, aborted_other, IsGone, gone_ticks, gone_ends}
 use Rattle.co_sdo_laws.proofs.BlockSegments.{total, size_after, blocks, segments, InTurn, IsWhole}
-use Rattle.co_sdo_laws.proofs.BlockDownloadSegments.{bytes, confirmation, acknowledgement, client_end, all_done}
-use Rattle.co_sdo_laws.proofs.BlockDownloads.{IsDownload, HasBegun, Took, IsDone, Lawful, taking, complete, May, Closed, IsSet, Last, Stands, asking, confirmed, unconfirmed, sending, unheard, acknowledging, finishing, ending, ended, quiet, over, failed}
+use Rattle.co_sdo_laws.proofs.BlockDownloadSegments.{confirmation, acknowledgement, client_end, all_done}
+use Rattle.co_sdo_laws.proofs.BlockDownloads.{HasBegun, Took, IsDone, Lawful, taking, complete, May, Closed, IsSet, Last, Stands, asking, confirmed, unconfirmed, sending, unheard, acknowledging, finishing, ending, ended, quiet, over, failed, waiting, finished, gave_up, standing}
 use Rattle.co_sdo_laws.proofs.BlockDownloadRequests.{loses_request, request_comes}
 
 -- ---- an answer at the client
@@ -55,12 +57,12 @@ ended_fails call held (Some (BlockDownloadAcknowledge sequence size)) h = absurd
 ended_fails call held (Some BlockDownloadDone) h = absurd (false≢true (sym h))
 ended_fails call held _ h = refl
 
-other_verdict : (s : Setup) (p : Type 0) → IsDownload s p → (a : ℕ) (events : List ClientEvent) (c : Took s a events) (frame held : List ℕ) → is_awaited (response_in frame) ≡ false → (all : Bool) → eqb a (total (bytes s)) ≡ all
+other_verdict : (s : Setup) (p : Type 0) → IsDownload s p Block → (a : ℕ) (events : List ClientEvent) (c : Took s a events) (frame held : List ℕ) → is_awaited (response_in frame) ≡ false → (all : Bool) → eqb a (total (bytes s)) ≡ all
     → has_failed (state_by (answer_verdict s.call (stage_since s.call (Some c.taken)) held frame)) ≡ true
 other_verdict s p m a events c frame held other true e = rw (m.transfer, c.total, c.size, e) (ended_fails s.call held (response_in frame) other)
 other_verdict s p m a events c frame held other false e = rw (m.transfer, c.total, c.size, e) (sending_fails s.call a (sub_block_length (bytes s) a 127) held (response_in frame) other)
 
-other_comes : (s : Setup) (p : Type 0) → IsDownload s p → (a : ℕ) (frame : List ℕ) (w : World) → (p → ⊥) → Took s a w.events → is_awaited (response_in frame) ≡ false → Stands s p (at_client s (Answered frame) w)
+other_comes : (s : Setup) (p : Type 0) → IsDownload s p Block → (a : ℕ) (frame : List ℕ) (w : World) → (p → ⊥) → Took s a w.events → is_awaited (response_in frame) ≡ false → Stands s p (at_client s (Answered frame) w)
 other_comes s p m a frame w never c other =
     fails_by s p frame w never c.waits (ap (λ (v : Verdict). has_failed (state_by v)) (verdict_since s w.events frame (Some c.taken) c.is) ∙ other_verdict s p m a w.events c frame (held_after s.call w.events) other _ refl)
 
@@ -88,7 +90,7 @@ live_none (x ∷ xs) e = by _ refl (live_none xs)
 
 -- ---- the awaited answers come
 
-took_confirmation : (s : Setup) (p : Type 0) → IsDownload s p → (events : List ClientEvent) → HasBegun s events → outcome s.call (Answered (confirmation s) ∷ events) ≡ Waiting → Took s 0 (Answered (confirmation s) ∷ events)
+took_confirmation : (s : Setup) (p : Type 0) → IsDownload s p Block → (events : List ClientEvent) → HasBegun s events → outcome s.call (Answered (confirmation s) ∷ events) ≡ Waiting → Took s 0 (Answered (confirmation s) ∷ events)
 took_confirmation s p m events h waits = record {
   waits = waits;
   taken = record { first = confirmation s; later = [] };
@@ -97,7 +99,7 @@ took_confirmation s p m events h waits = record {
   size = ap block_size_by (block_initiated_read s.call.key 127 m.key);
 }
 
-confirmation_comes : (s : Setup) (p : Type 0) → IsDownload s p → (w : World) → HasBegun s w.events → Moment p awaited [] [] 1 0 w → May s p (taking s 0 0) w.log w.contents → Stands s p (at_client s (Answered (confirmation s)) w)
+confirmation_comes : (s : Setup) (p : Type 0) → IsDownload s p Block → (w : World) → HasBegun s w.events → Moment p awaited [] [] 1 0 w → May s p (taking s 0 0) w.log w.contents → Stands s p (at_client s (Answered (confirmation s)) w)
 confirmation_comes s p m w c at h =
     let is : verdict s.call w.events (Answered (confirmation s)) ≡ GoesOn (sub_block_sent (bytes s) 0 127) =
     verdict_since s w.events _ None c.first ∙ rw (block_initiated_read s.call.key 127 m.key, m.transfer, same_key-refl s.call.key) refl in
@@ -110,14 +112,14 @@ confirmation_comes s p m w c at h =
       | inr gone ↦ unheard 0 1 (size_after (bytes s) 0 - 1) gone.0 took (omega arith) (omega arith) (omega arith) sent.requests sent.answers gone.1
     ]
 
-acknowledged_since : (s : Setup) (p : Type 0) → IsDownload s p → (a t : ℕ) (events : List ClientEvent) (c : Took s a events) (held : List ℕ) → eqb a (total (bytes s)) ≡ false → nat_lt (size_after (bytes s) a) t ≡ false
+acknowledged_since : (s : Setup) (p : Type 0) → IsDownload s p Block → (a t : ℕ) (events : List ClientEvent) (c : Took s a events) (held : List ℕ) → eqb a (total (bytes s)) ≡ false → nat_lt (size_after (bytes s) a) t ≡ false
     → (all : Bool) → eqb (a + t) (total (bytes s)) ≡ all
     → answer_verdict s.call (stage_since s.call (Some c.taken)) held (acknowledgement t) ≡ (if all then GoesOn (block_download_end (bytes s)) else GoesOn (sub_block_sent (bytes s) (a + t) 127))
 acknowledged_since s p m a t events c held more few true l = rw (m.transfer, c.total, c.size, more, acknowledged_read t 127, few, l) refl
 acknowledged_since s p m a t events c held more few false l = rw (m.transfer, c.total, c.size, more, acknowledged_read t 127, few, l) refl
 
 -- more segments are acknowledged than were sent
-too_many : (s : Setup) (p : Type 0) → IsDownload s p → (a t : ℕ) (w : World) → Took s a w.events → (p → IsWhole (bytes s) a t) → eqb a (total (bytes s)) ≡ false → nat_lt (size_after (bytes s) a) t ≡ true → Stands s p (at_client s (Answered (acknowledgement t)) w)
+too_many : (s : Setup) (p : Type 0) → IsDownload s p Block → (a t : ℕ) (w : World) → Took s a w.events → (p → IsWhole (bytes s) a t) → eqb a (total (bytes s)) ≡ false → nat_lt (size_after (bytes s) a) t ≡ true → Stands s p (at_client s (Answered (acknowledgement t)) w)
 too_many s p m a t w c whole more many =
     let is : answer_verdict s.call (stage_since s.call (Some c.taken)) (held_after s.call w.events) (acknowledgement t) ≡ GivesUp 0x05040003 = rw (m.transfer, c.total, c.size, more, acknowledged_read t 127, many) refl in
     fails_by s p (acknowledgement t) w (λ x. let size = (whole x).size in absurd (grind (arith, nat_tests))) c.waits
@@ -141,7 +143,7 @@ full_count a u n h e under = let f : u ≡ 127 = omega arith in omega arith
 last_count : (a u n : ℕ) → a % 127 ≡ 0 → u ≡ min 127 (n - a) → a < n → a + u ≡ n → suc (1 + a / 127) ≡ 1 + (n + 126) / 127
 last_count a u n h e under all = omega arith
 
-acknowledgement_comes : (s : Setup) (p : Type 0) → IsDownload s p → (a t : ℕ) (w : World) → Took s a w.events → a + t < total (bytes s) → (p → IsWhole (bytes s) a t) → Moment p awaited [] [] (1 + a + t) (1 + a / 127) w → May s p (taking s (a + t) 0) w.log w.contents
+acknowledgement_comes : (s : Setup) (p : Type 0) → IsDownload s p Block → (a t : ℕ) (w : World) → Took s a w.events → a + t < total (bytes s) → (p → IsWhole (bytes s) a t) → Moment p awaited [] [] (1 + a + t) (1 + a / 127) w → May s p (taking s (a + t) 0) w.log w.contents
     → (many : Bool) → nat_lt (size_after (bytes s) a) t ≡ many → Stands s p (at_client s (Answered (acknowledgement t)) w)
 acknowledgement_comes s p m a t w c under whole at h true e = too_many s p m a t w c whole (grind (arith, nat_tests)) e
 acknowledgement_comes s p m a t w c under whole at h false e =
@@ -162,7 +164,7 @@ acknowledgement_comes s p m a t w c under whole at h false e =
       | inr gone ↦ unheard (a + t) 1 (size_after v (a + t) - 1) gone.0 took under (omega arith) (omega arith) sent.requests sent.answers gone.1
     ]
 
-last_acknowledgement_comes : (s : Setup) (p : Type 0) → IsDownload s p → (a t : ℕ) (w : World) → Took s a w.events → a < total (bytes s) → a + t ≡ total (bytes s) → (p → IsWhole (bytes s) a t) → Moment p awaited [] [] (1 + a + t) (1 + a / 127) w
+last_acknowledgement_comes : (s : Setup) (p : Type 0) → IsDownload s p Block → (a t : ℕ) (w : World) → Took s a w.events → a < total (bytes s) → a + t ≡ total (bytes s) → (p → IsWhole (bytes s) a t) → Moment p awaited [] [] (1 + a + t) (1 + a / 127) w
     → May s p (complete s) w.log w.contents → (many : Bool) → nat_lt (size_after (bytes s) a) t ≡ many → Stands s p (at_client s (Answered (acknowledgement t)) w)
 last_acknowledgement_comes s p m a t w c under all whole at h true e = too_many s p m a t w c whole (grind (arith, nat_tests)) e
 last_acknowledgement_comes s p m a t w c under all whole at h false e =
@@ -176,7 +178,7 @@ last_acknowledgement_comes s p m a t w c under all whole at h false e =
     (subst (λ (r : ℕ). Moment p awaited (client_end s ∷ []) [] r (1 + blocks v) (at_client s (Answered (acknowledgement t)) w)) sum
     (heard s p awaited (acknowledgement t) w _ _ _ _ _ _ at f.messages refl (λ x. let g = whole x in last_count a t (total v) g.whole g.size under all))) h
 
-done_comes : (s : Setup) (p : Type 0) → IsDownload s p → (w : World) → Took s (total (bytes s)) w.events → Moment p awaited [] [] (2 + total (bytes s)) (1 + blocks (bytes s)) w → IsSet s p w → Stands s p (at_client s (Answered all_done) w)
+done_comes : (s : Setup) (p : Type 0) → IsDownload s p Block → (w : World) → Took s (total (bytes s)) w.events → Moment p awaited [] [] (2 + total (bytes s)) (1 + blocks (bytes s)) w → IsSet s p w → Stands s p (at_client s (Answered all_done) w)
 done_comes s p m w c at set =
     let all : eqb (total (bytes s)) (total (bytes s)) ≡ true = grind (arith, nat_tests) in
     let is : verdict s.call w.events (Answered all_done) ≡ Ends [] [] = verdict_since s w.events _ (Some c.taken) c.is ∙ rw (m.transfer, c.total, c.size, all, block_done_read) refl in
@@ -266,7 +268,7 @@ set_at_client s p event w h = record { entry = h.entry; closed = λ x. let k = h
 only_one : (x f : List ℕ) (later : List (List ℕ)) (kept : List (List ℕ) → List (List ℕ)) → kept [] ≡ [] → x ∷ later ≡ f ∷ [] → kept later ≡ f ∷ [] → ⊥
 only_one x f later kept none e g = cons≢nil f [] (sym g ∙ ap kept (tail_is x f later [] e) ∙ none)
 
-answer_is : (s : Setup) (p : Type 0) → IsDownload s p → (w : World) (x : List ℕ) (later : List (List ℕ)) → w.answers ≡ x ∷ later → Stands s p w → Stands s p (at_client s (Answered x) (without_front Back w))
+answer_is : (s : Setup) (p : Type 0) → IsDownload s p Block → (w : World) (x : List ℕ) (later : List (List ℕ)) → w.answers ≡ x ∷ later → Stands s p w → Stands s p (at_client s (Answered x) (without_front Back w))
 answer_is s p up w x later e h = by h
   where
     rest : (kept : List (List ℕ) → List (List ℕ)) (given : List (List ℕ)) (r q : ℕ) → Moment p kept [] given r q w → awaited later ≡ [] → (p → later ≡ []) → Moment p awaited [] [] r q (without_front Back w)
@@ -311,7 +313,7 @@ answer_is s p up w x later e h = by h
         (record { entry = h.entry; closed = λ y. absurd (cons≢nil x later (sym e ∙ (last y).answers)) }) (λ y. absurd (cons≢nil x later (sym e ∙ (last y).answers)))
     by (failed n h) = failed n (failed_more s (Answered x) w.events h)
 
-answer_comes : (s : Setup) (p : Type 0) → IsDownload s p → (w : World) → Stands s p w → (xs : List (List ℕ)) → w.answers ≡ xs → Stands s p (front_arrives s Back xs (without_front Back w))
+answer_comes : (s : Setup) (p : Type 0) → IsDownload s p Block → (w : World) → Stands s p w → (xs : List (List ℕ)) → w.answers ≡ xs → Stands s p (front_arrives s Back xs (without_front Back w))
 answer_comes s p up w h [] e = subst (Stands s p) (no_answer w e) h
 answer_comes s p up w h (x ∷ later) e = answer_is s p up w x later e h
 
@@ -382,19 +384,12 @@ time_over s p w e calm waits = failed (λ x. false≢true (sym (calm x waits) �
 
 client_tick : (s : Setup) (p : Type 0) (w : World) (ends : Bool) → is_client_over s.call.time (TickedAtClient ∷ w.events) ≡ ends → (p → IsCalm s ClientTicked w) → Stands s p w → Stands s p (at_client s TickedAtClient w)
 client_tick s p w false e calm h = carry s p w (at_client s TickedAtClient w) (calm_tick s p w e) h
-client_tick s p w true e calm (asking b m h) = time_over s p w e calm b.waits
-client_tick s p w true e calm (confirmed b m h) = time_over s p w e calm b.waits
-client_tick s p w true e calm (unconfirmed n b f g) = time_over s p w e calm b.waits
-client_tick s p w true e calm (sending a t n more b under some size turn m h) = time_over s p w e calm b.waits
-client_tick s p w true e calm (unheard a n more never b under some size f g h) = time_over s p w e calm b.waits
-client_tick s p w true e calm (acknowledging a t b under whole m h) = time_over s p w e calm b.waits
-client_tick s p w true e calm (finishing a t b under all whole m h) = time_over s p w e calm b.waits
-client_tick s p w true e calm (ending b m h) = time_over s p w e calm b.waits
-client_tick s p w true e calm (ended b m h) = time_over s p w e calm b.waits
-client_tick s p w true e calm (quiet a n b f g) = time_over s p w e calm b.waits
-client_tick s p w true e calm (over b f h last) = over (over_event s TickedAtClient w b) (over_requests s TickedAtClient w b f) (set_at_client s p TickedAtClient w h)
-    (λ x. record { answers = (last x).answers; count = let n = (last x).count in record { received = n.received; answered = n.answered } })
-client_tick s p w true e calm (failed n h) = failed n (failed_more s TickedAtClient w.events h)
+client_tick s p w true e calm h = elim (standing s p w h) [
+  | waiting b ↦ time_over s p w e calm b
+  | finished b f set last ↦ over (over_event s TickedAtClient w b) (over_requests s TickedAtClient w b f) (set_at_client s p TickedAtClient w set)
+      (λ x. record { answers = (last x).answers; count = let n = (last x).count in record { received = n.received; answered = n.answered } })
+  | gave_up never f ↦ failed never (failed_more s TickedAtClient w.events f)
+]
 
 channel_tick : (s : Setup) (p : Type 0) (w : World) (ends : Bool) → (p → ends ≡ false) → Carries s p w (if ends then timed_out (ticked w) else ticked w)
 channel_tick s p w false calm = record {
@@ -431,7 +426,7 @@ channel_tick s p w true calm = record {
 
 -- ---- every event
 
-step : (s : Setup) (p : Type 0) → IsDownload s p → (event : WorldEvent) (w : World) → is_repeat event ≡ false → (p → IsCalm s event w) → Stands s p w → Stands s p (after_event s event w)
+step : (s : Setup) (p : Type 0) → IsDownload s p Block → (event : WorldEvent) (w : World) → is_repeat event ≡ false → (p → IsCalm s event w) → Stands s p w → Stands s p (after_event s event w)
 step s p m (Delivered Requests) w once calm h = request_comes s p m w h
 step s p m (Delivered Back) w once calm h = answer_comes s p m w h w.answers refl
 step s p m (Lost Requests) w once calm h = loses_request s p w calm h
@@ -440,7 +435,7 @@ step s p m (Repeated queue) w once calm h = absurd (false≢true (sym once))
 step s p m ClientTicked w once calm h = client_tick s p w _ refl calm h
 step s p m ChannelTicked w once calm h = carry s p w _ (channel_tick s p w (is_time_over s.time (Ticked ∷ w.log)) calm) h
 
-pub always : (s : Setup) (p : Type 0) → IsDownload s p → (events : List WorldEvent) → list_any is_repeat events ≡ false → (p → AreCalm s events) → Stands s p (world_after s events)
+pub always : (s : Setup) (p : Type 0) → IsDownload s p Block → (events : List WorldEvent) → list_any is_repeat events ≡ false → (p → AreCalm s events) → Stands s p (world_after s events)
 always s p m [] once calm = asking (record { waits = refl; first = refl }) (record { requests = rw m.transfer refl; answers = refl; exact = λ x. refl; count = λ x. record { received = refl; answered = refl } })
     (record { serves = serves_first s.description.rows s.past m.idle; lawful = refl })
 always s p m (event ∷ older) once calm =

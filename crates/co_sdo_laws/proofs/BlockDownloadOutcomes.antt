@@ -7,26 +7,19 @@ use Rattle.co_sdo_laws.specs.World.{Setup, World}
 use Rattle.co_sdo_laws.specs.Undisturbed.{GoesInBlocks, HaveSent, block_frames, block_download_requests, block_download_answers}
 use Rattle.co_sdo_laws.proofs.SentFrames.{AllThere, have_sent}
 use Rattle.co_sdo_laws.proofs.Failures.{has_failed}
-use Rattle.co_sdo_laws.proofs.Blocks.{live, waiting≢done}
-use Rattle.co_sdo_laws.proofs.BlockCounts.{waits_at, done_at}
+use Rattle.co_sdo_laws.proofs.Blocks.{live, waits_at, done_at}
+use Rattle.co_sdo_laws.proofs.Turns.{waiting≢done}
 use Rattle.co_sdo_laws.proofs.GoneChannels.{awaited}
-use Rattle.co_sdo_laws.proofs.BlockDownloadSegments.{bytes}
-use Rattle.co_sdo_laws.proofs.BlockDownloads.{Took, Closed, IsSet, Last, Stands, asking, confirmed, unconfirmed, sending, unheard, acknowledging, finishing, ending, ended, quiet, over, failed}
+use Rattle.co_sdo_laws.proofs.Permits.{bytes}
+use Rattle.co_sdo_laws.proofs.BlockDownloads.{Took, Closed, IsSet, Last, Stands, asking, confirmed, unconfirmed, sending, unheard, acknowledging, finishing, ending, ended, quiet, over, failed, waiting, finished, gave_up, standing}
 
 -- the entry of a client that is done has the bytes
 pub set_is : (s : Setup) (p : Type 0) (w : World) → Stands s p w → outcome s.call w.events ≡ Done → w.contents s.call.key ≡ Some (bytes s)
-set_is s p w (asking b m h) done = absurd (waiting≢done (sym b.waits ∙ done))
-set_is s p w (confirmed b m h) done = absurd (waiting≢done (sym b.waits ∙ done))
-set_is s p w (unconfirmed n b e f) done = absurd (waiting≢done (sym b.waits ∙ done))
-set_is s p w (sending a t n more b under some size turn m h) done = absurd (waiting≢done (sym b.waits ∙ done))
-set_is s p w (unheard a n more never b under some size e f h) done = absurd (waiting≢done (sym b.waits ∙ done))
-set_is s p w (acknowledging a t b under whole m h) done = absurd (waiting≢done (sym b.waits ∙ done))
-set_is s p w (finishing a t b under all whole m h) done = absurd (waiting≢done (sym b.waits ∙ done))
-set_is s p w (ending b m h) done = absurd (waiting≢done (sym b.waits ∙ done))
-set_is s p w (ended b m h) done = h.entry
-set_is s p w (quiet a n b e f) done = absurd (waiting≢done (sym b.waits ∙ done))
-set_is s p w (over b e h last) done = h.entry
-set_is s p w (failed n h) done = absurd (false≢true (ap has_failed (sym done) ∙ h))
+set_is s p w h done = elim (standing s p w h) [
+  | waiting b ↦ absurd (waiting≢done (sym b ∙ done))
+  | finished b e set last ↦ set.entry
+  | gave_up n f ↦ absurd (false≢true (ap has_failed (sym done) ∙ f))
+]
 
 -- ---- undisturbed
 
@@ -52,18 +45,11 @@ pub record Ends (s : Setup) (w : World) : Type 0 where
   pub none : w.requests ≡ []
 
 pub ends : (s : Setup) (w : World) → Stands s (Unit {0}) w → outcome s.call w.events ≡ Done → Ends s w
-ends s w (asking b m h) done = absurd (waiting≢done (sym b.waits ∙ done))
-ends s w (confirmed b m h) done = absurd (waiting≢done (sym b.waits ∙ done))
-ends s w (unconfirmed n b e f) done = absurd (n tt)
-ends s w (sending a t n more b under some size turn m h) done = absurd (waiting≢done (sym b.waits ∙ done))
-ends s w (unheard a n more never b under some size e f h) done = absurd (never tt)
-ends s w (acknowledging a t b under whole m h) done = absurd (waiting≢done (sym b.waits ∙ done))
-ends s w (finishing a t b under all whole m h) done = absurd (waiting≢done (sym b.waits ∙ done))
-ends s w (ending b m h) done = absurd (waiting≢done (sym b.waits ∙ done))
-ends s w (ended b m h) done = absurd (waiting≢done (sym b.waits ∙ done))
-ends s w (quiet a n b e f) done = absurd (n tt)
-ends s w (over b e h last) done = record { gives = b.gives; set = h.closed tt; last = last tt; none = e }
-ends s w (failed n h) done = absurd (n tt)
+ends s w h done = elim (standing s (Unit {0}) w h) [
+  | waiting b ↦ absurd (waiting≢done (sym b ∙ done))
+  | finished b e set last ↦ record { gives = b.gives; set = set.closed tt; last = last tt; none = e }
+  | gave_up n f ↦ absurd (n tt)
+]
 
 -- a client that is done and its channel have sent all frames
 pub all_sent : (s : Setup) (w : World) → AllThere s w → Stands s (Unit {0}) w → outcome s.call w.events ≡ Done → HaveSent s (block_download_requests (length (bytes s))) (block_download_answers (length (bytes s))) w

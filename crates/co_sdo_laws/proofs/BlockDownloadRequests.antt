@@ -3,40 +3,35 @@ use Rattle.std.proofs.Common.{◌≡◌, ℕ, zero, suc, ◌+◌, ◌-◌, ◌*�
 use Rattle.std.specs.Prelude.{nat_lt, ◌||◌}
 use Rattle.std.proofs.lemmas.Bool.{eqb-true}
 use Rattle.std.proofs.lemmas.Bool.Decides.{nat_tests}
-use Rattle.co_value.specs.Keys.{same_key-refl}
 use Rattle.co_value.specs.declared.key.Key.{Key}
 use Rattle.co_frame.specs.declared.sdo_response.SdoResponse.TheVariants.{BlockDownloadDone, BlockDownloadAcknowledge}
+use Rattle.co_sdo_client.specs.declared.mode.Mode.TheVariants.{Block}
 use Rattle.co_sdo_client.specs.Segments.{size_sent}
 use Rattle.co_dict.specs.Rows.{Contents, written}
 use Rattle.co_sdo.specs.Refused.{capacity_at, initiate_refusal, completion_refusal}
 use Rattle.co_sdo.specs.Log.{Response, answer_bytes, Log}
 use Rattle.co_sdo.specs.Replies.{aborted, reply_to}
 use Rattle.co_sdo_laws.specs.World.{Setup, World, Requests, at_channel, without_front, front_arrives}
-use Rattle.co_sdo_laws.proofs.Frames.{block_done_read, acknowledged_read}
+use Rattle.co_sdo_laws.proofs.Frames.{block_begin_long, block_done_read, acknowledged_read}
+use Rattle.co_sdo_laws.proofs.Permits.{bytes, indicated, IsDownload, lawful_of, none≢some, entry_is}
 use Rattle.co_sdo_laws.proofs.Server.{moved}
 use Rattle.co_sdo_laws.proofs.Failures.{failed_front}
 use Rattle.co_sdo_laws.proofs.Channel.{IsServing, is_served}
 use Rattle.co_sdo_laws.proofs.Blocks.{live, live_after, Moment, disturbed, replied, no_request}
 use Rattle.co_sdo_laws.proofs.GoneChannels.{awaited, awaited_after, aborted_other, IsGone, gone_answers, gone_goes_on}
 use Rattle.co_sdo_laws.proofs.BlockSegments.{all_held, all_is, total, size_after, blocks, unused, segment_at, segments, data_at, frame_with, frame_is, frame_long, next_joined, last_joined, InTurn, IsWhole}
-use Rattle.co_sdo_laws.proofs.BlockDownloadSegments.{bytes, begin, acknowledgement, client_end, all_done, size_read, initiate_long, inside, at_last, initiate_taken, initiate_refused, inside_next, inside_other, last_next, full_next, full_refused, end_other, end_refused, end_taken, completion_refused}
-use Rattle.co_sdo_laws.proofs.BlockDownloads.{IsDownload, HasBegun, Took, Lawful, dictionary, taking, complete, May, Closed, IsSet, Stands, asking, confirmed, unconfirmed, sending, unheard, acknowledging, finishing, ending, ended, quiet, over, failed}
+use Rattle.co_sdo_laws.proofs.BlockDownloadSegments.{begin, acknowledgement, client_end, all_done, inside, at_last, initiate_taken, initiate_refused, inside_next, inside_other, last_next, full_next, full_refused, end_other, end_refused, end_taken, completion_refused}
+use Rattle.co_sdo_laws.proofs.BlockDownloads.{HasBegun, Took, Lawful, taking, complete, May, Closed, IsSet, Stands, asking, confirmed, unconfirmed, sending, unheard, acknowledging, finishing, ending, ended, quiet, over, failed}
 
-none≢some : {A : Type 0} (x : Option A) (y : A) → x ≡ None → x ≡ Some y → ⊥
-none≢some x y e f = cc
-
-abbrev size_of : Setup → Option ℕ
-size_of s = size_read (size_sent s.call.job)
-
-initiate_comes : (s : Setup) (p : Type 0) → IsDownload s p → (w : World) → HasBegun s w.events → Moment p live [] [] 0 0 w → IsServing s (Lawful s) None w.log w.contents
-    → (refusal : Option ℕ) → initiate_refusal s.description s.call.key (size_of s) ≡ refusal → Stands s p (at_channel s (begin s) w)
+initiate_comes : (s : Setup) (p : Type 0) → IsDownload s p Block → (w : World) → HasBegun s w.events → Moment p live [] [] 0 0 w → IsServing s (Lawful s) None w.log w.contents
+    → (refusal : Option ℕ) → initiate_refusal s.description s.call.key (indicated s) ≡ refusal → Stands s p (at_channel s (begin s) w)
 initiate_comes s p m w c at h None e =
-    let made = is_served s w.log w.contents None (begin s) _ _ _ h.serves (dictionary s p m w.contents h.lawful) (initiate_long s.call.key (size_sent s.call.job))
+    let made = is_served s w.log w.contents None (begin s) _ _ _ h.serves (lawful_of s m.dictionary w.contents h.lawful) (block_begin_long s.call.key (size_sent s.call.job))
     (initiate_taken s.description w.contents s.call.key (size_sent s.call.job) m.key e) in
     confirmed c (replied s p live live_after (begin s) w _ _ _ _ 1 _ at made.replies refl (λ x. refl) (λ x. refl))
     (inl (record { serves = made.serves; lawful = made.sets ∙ h.lawful }))
 initiate_comes s p m w c at h (Some code) e =
-    let made = is_served s w.log w.contents None (begin s) _ _ _ h.serves (dictionary s p m w.contents h.lawful) (initiate_long s.call.key (size_sent s.call.job))
+    let made = is_served s w.log w.contents None (begin s) _ _ _ h.serves (lawful_of s m.dictionary w.contents h.lawful) (block_begin_long s.call.key (size_sent s.call.job))
     (initiate_refused s.description w.contents s.call.key (size_sent s.call.job) code m.key e) in
     unconfirmed (λ x. none≢some _ code (m.may_begin x) e) c at.requests (live_after w.answers _ _ at.answers (rw made.replies refl))
 
@@ -52,7 +47,7 @@ not_turn : (n t : ℕ) → eqb n (t + 1) ≡ false → n ≡ t + 1 → ⊥
 not_turn n t e h = absurd (grind (arith, nat_tests))
 
 -- to a segment that ends nothing the channel answers nothing
-inside_comes : (s : Setup) (p : Type 0) → IsDownload s p → (a t n more : ℕ) (w : World) → Took s a w.events → a + t < total (bytes s) → 1 ≤ n → n + suc more ≡ size_after (bytes s) a → (p → InTurn a t n)
+inside_comes : (s : Setup) (p : Type 0) → IsDownload s p Block → (a t n more : ℕ) (w : World) → Took s a w.events → a + t < total (bytes s) → 1 ≤ n → n + suc more ≡ size_after (bytes s) a → (p → InTurn a t n)
     → Moment p awaited (segments (bytes s) a (n + 1) (suc more)) [] (1 + a + t) (1 + a / 127) w → IsServing s (Lawful s) (Some (taking s (a + t) t)) w.log w.contents → (next : Bool) → eqb n (t + 1) ≡ next
     → Stands s p (at_channel s (frame_with (bytes s) a n false) w)
 inside_comes s p m a t n more w c under some size turn at h true e =
@@ -60,41 +55,41 @@ inside_comes s p m a t n more w c under some size turn at h true e =
     let v = bytes s in
     let other : eqb n 127 ≡ false = grind (arith, nat_tests) in
     let few : n < 128 = omega arith in
-    let made = is_served s w.log w.contents _ (frame_with v a n false) _ _ _ h.serves (dictionary s p m w.contents h.lawful) (frame_long v a n false)
-    (inside_next v s.description w.contents s.call.key (size_of s) t (take (7 * (a + t)) v) a n some few other e) in
+    let made = is_served s w.log w.contents _ (frame_with v a n false) _ _ _ h.serves (lawful_of s m.dictionary w.contents h.lawful) (frame_long v a n false)
+    (inside_next v s.description w.contents s.call.key (indicated s) t (take (7 * (a + t)) v) a n some few other e) in
     sending a (t + 1) (n + 1) more c (omega arith) (omega arith) (omega arith) (λ x. record { whole = (turn x).whole; next = let k = (turn x).next in omega arith })
     (replied s p awaited awaited_after (frame_with v a n false) w _ _ _ _ _ _ at made.replies refl (λ x. refl) (λ x. omega arith))
-    (record { serves = moved _ _ _ _ (ap (λ (xs : List ℕ). Some (inside s.call.key (size_of s) (t + 1) xs)) (next_joined v a t n next (omega arith))) made.serves; lawful = made.sets ∙ h.lawful })
+    (record { serves = moved _ _ _ _ (ap (λ (xs : List ℕ). Some (inside s.call.key (indicated s) (t + 1) xs)) (next_joined v a t n next (omega arith))) made.serves; lawful = made.sets ∙ h.lawful })
 inside_comes s p m a t n more w c under some size turn at h false e =
     let v = bytes s in
     let other : eqb n 127 ≡ false = grind (arith, nat_tests) in
     let few : n < 128 = omega arith in
     let never : p → ⊥ = λ x. not_turn n t e (turn x).next in
-    let made = is_served s w.log w.contents _ (frame_with v a n false) _ _ _ h.serves (dictionary s p m w.contents h.lawful) (frame_long v a n false)
-    (inside_other v s.description w.contents s.call.key (size_of s) t (take (7 * (a + t)) v) a n some few other e) in
+    let made = is_served s w.log w.contents _ (frame_with v a n false) _ _ _ h.serves (lawful_of s m.dictionary w.contents h.lawful) (frame_long v a n false)
+    (inside_other v s.description w.contents s.call.key (indicated s) t (take (7 * (a + t)) v) a n some few other e) in
     sending a t (n + 1) more c under (omega arith) (omega arith) (λ x. absurd (never x))
     (replied s p awaited awaited_after (frame_with v a n false) w _ _ _ _ _ _ at made.replies refl (λ x. refl) (λ x. absurd (never x)))
     (record { serves = made.serves; lawful = made.sets ∙ h.lawful })
 
 -- the last frame of a sub-block
-last_comes : (s : Setup) (p : Type 0) → IsDownload s p → (a t n : ℕ) (w : World) → Took s a w.events → a + t < total (bytes s) → 1 ≤ n → n < 128 → a + n ≡ total (bytes s) → n ≡ size_after (bytes s) a → (p → InTurn a t n)
+last_comes : (s : Setup) (p : Type 0) → IsDownload s p Block → (a t n : ℕ) (w : World) → Took s a w.events → a + t < total (bytes s) → 1 ≤ n → n < 128 → a + n ≡ total (bytes s) → n ≡ size_after (bytes s) a → (p → InTurn a t n)
     → Moment p awaited [] [] (1 + a + t) (1 + a / 127) w → IsServing s (Lawful s) (Some (taking s (a + t) t)) w.log w.contents → eqb n (t + 1) ≡ true → Stands s p (at_channel s (frame_with (bytes s) a n true) w)
 last_comes s p m a t n w c under some few whole size turn at h e =
     let next : n ≡ t + 1 = eqb-true _ _ e in
     let v = bytes s in
-    let made = is_served s w.log w.contents _ (frame_with v a n true) _ _ _ h.serves (dictionary s p m w.contents h.lawful) (frame_long v a n true)
-    (last_next v s.description w.contents s.call.key (size_of s) t (take (7 * (a + t)) v) a n some few e) in
+    let made = is_served s w.log w.contents _ (frame_with v a n true) _ _ _ h.serves (lawful_of s m.dictionary w.contents h.lawful) (frame_long v a n true)
+    (last_next v s.description w.contents s.call.key (indicated s) t (take (7 * (a + t)) v) a n some few e) in
     finishing a (t + 1) c (omega arith) (omega arith) (λ x. record { whole = (turn x).whole; size = sym next ∙ size; within = omega arith })
     (replied s p awaited awaited_after (frame_with v a n true) w _ _ _ _ _ _ at made.replies (acknowledged_other (t + 1)) (λ x. refl) (λ x. omega arith))
-    (inl (record { serves = moved _ _ _ _ (ap (λ (xs : List ℕ). Some (at_last s.call.key (size_of s) xs)) (last_joined v a t n next whole)) made.serves; lawful = made.sets ∙ h.lawful }))
+    (inl (record { serves = moved _ _ _ _ (ap (λ (xs : List ℕ). Some (at_last s.call.key (indicated s) xs)) (last_joined v a t n next whole)) made.serves; lawful = made.sets ∙ h.lawful }))
 
-full_comes : (s : Setup) (p : Type 0) → IsDownload s p → (a t n : ℕ) (w : World) → Took s a w.events → 1 ≤ n → n < 128 → a + n < total (bytes s) → n ≡ size_after (bytes s) a → eqb n 127 ≡ true → (p → InTurn a t n)
+full_comes : (s : Setup) (p : Type 0) → IsDownload s p Block → (a t n : ℕ) (w : World) → Took s a w.events → 1 ≤ n → n < 128 → a + n < total (bytes s) → n ≡ size_after (bytes s) a → eqb n 127 ≡ true → (p → InTurn a t n)
     → Moment p awaited [] [] (1 + a + t) (1 + a / 127) w → IsServing s (Lawful s) (Some (taking s (a + t) t)) w.log w.contents → eqb n (t + 1) ≡ true
     → (above : Bool) → nat_lt (capacity_at s.description.rows s.call.key) (length (take (7 * (a + t)) (bytes s) ++ data_at (bytes s) a n)) ≡ above → Stands s p (at_channel s (frame_with (bytes s) a n false) w)
 full_comes s p m a t n w c some few left size full turn at h e true room =
     let next : n ≡ t + 1 = eqb-true _ _ e in
-    let made = is_served s w.log w.contents _ (frame_with (bytes s) a n false) _ _ _ h.serves (dictionary s p m w.contents h.lawful) (frame_long (bytes s) a n false)
-    (full_refused (bytes s) s.description w.contents s.call.key (size_of s) t (take (7 * (a + t)) (bytes s)) a n some few full e room) in
+    let made = is_served s w.log w.contents _ (frame_with (bytes s) a n false) _ _ _ h.serves (lawful_of s m.dictionary w.contents h.lawful) (frame_long (bytes s) a n false)
+    (full_refused (bytes s) s.description w.contents s.call.key (indicated s) t (take (7 * (a + t)) (bytes s)) a n some few full e room) in
     gives_up s p a _ _ (frame_with (bytes s) a n false) w s.call.key 0x06070012 (λ x. fits (m.room x) (ap length (next_joined (bytes s) a t n next left)) room) c at made.replies
   where
     fits : {cap k : ℕ} → length (bytes s) ≤ cap → k ≡ length (take (7 * (a + (t + 1))) (bytes s)) → nat_lt cap k ≡ true → ⊥
@@ -102,30 +97,30 @@ full_comes s p m a t n w c some few left size full turn at h e true room =
 full_comes s p m a t n w c some few left size full turn at h e false room =
     let next : n ≡ t + 1 = eqb-true _ _ e in
     let v = bytes s in
-    let made = is_served s w.log w.contents _ (frame_with v a n false) _ _ _ h.serves (dictionary s p m w.contents h.lawful) (frame_long v a n false)
-    (full_next v s.description w.contents s.call.key (size_of s) t (take (7 * (a + t)) v) a n some few full e room) in
+    let made = is_served s w.log w.contents _ (frame_with v a n false) _ _ _ h.serves (lawful_of s m.dictionary w.contents h.lawful) (frame_long v a n false)
+    (full_next v s.description w.contents s.call.key (indicated s) t (take (7 * (a + t)) v) a n some few full e room) in
     acknowledging a (t + 1) c (omega arith) (λ x. record { whole = (turn x).whole; size = sym next ∙ size; within = omega arith })
     (replied s p awaited awaited_after (frame_with v a n false) w _ _ _ _ _ _ at made.replies (acknowledged_other (t + 1)) (λ x. refl) (λ x. omega arith))
-    (inl (record { serves = moved _ _ _ _ (ap (λ (xs : List ℕ). Some (inside s.call.key (size_of s) 0 xs)) (next_joined v a t n next left)) made.serves; lawful = made.sets ∙ h.lawful }))
+    (inl (record { serves = moved _ _ _ _ (ap (λ (xs : List ℕ). Some (inside s.call.key (indicated s) 0 xs)) (next_joined v a t n next left)) made.serves; lawful = made.sets ∙ h.lawful }))
 
-missed_comes : (s : Setup) (p : Type 0) → IsDownload s p → (a t n : ℕ) (last : Bool) (w : World) → Took s a w.events → a + t < total (bytes s) → 1 ≤ n → n < 128 → last || eqb n 127 ≡ true → (p → InTurn a t n)
+missed_comes : (s : Setup) (p : Type 0) → IsDownload s p Block → (a t n : ℕ) (last : Bool) (w : World) → Took s a w.events → a + t < total (bytes s) → 1 ≤ n → n < 128 → last || eqb n 127 ≡ true → (p → InTurn a t n)
     → Moment p awaited [] [] (1 + a + t) (1 + a / 127) w → IsServing s (Lawful s) (Some (taking s (a + t) t)) w.log w.contents → eqb n (t + 1) ≡ false
     → (above : Bool) → nat_lt (capacity_at s.description.rows s.call.key) (length (take (7 * (a + t)) (bytes s) ++ [])) ≡ above → Stands s p (at_channel s (frame_with (bytes s) a n last) w)
 missed_comes s p m a t n last w c under some few ends turn at h e true room =
     let v = bytes s in
-    let made = is_served s w.log w.contents _ (frame_with v a n last) _ _ _ h.serves (dictionary s p m w.contents h.lawful) (frame_long v a n last)
-    (end_refused v s.description w.contents s.call.key (size_of s) t (take (7 * (a + t)) v) a n last some few ends e room) in
+    let made = is_served s w.log w.contents _ (frame_with v a n last) _ _ _ h.serves (lawful_of s m.dictionary w.contents h.lawful) (frame_long v a n last)
+    (end_refused v s.description w.contents s.call.key (indicated s) t (take (7 * (a + t)) v) a n last some few ends e room) in
     gives_up s p a _ _ (frame_with v a n last) w s.call.key 0x06070012 (λ x. not_turn n t e (turn x).next) c at made.replies
 missed_comes s p m a t n last w c under some few ends turn at h e false room =
     let v = bytes s in
     let never : p → ⊥ = λ x. not_turn n t e (turn x).next in
-    let made = is_served s w.log w.contents _ (frame_with v a n last) _ _ _ h.serves (dictionary s p m w.contents h.lawful) (frame_long v a n last)
-    (end_other v s.description w.contents s.call.key (size_of s) t (take (7 * (a + t)) v) a n last some few ends e room) in
+    let made = is_served s w.log w.contents _ (frame_with v a n last) _ _ _ h.serves (lawful_of s m.dictionary w.contents h.lawful) (frame_long v a n last)
+    (end_other v s.description w.contents s.call.key (indicated s) t (take (7 * (a + t)) v) a n last some few ends e room) in
     acknowledging a t c under (λ x. absurd (never x))
     (replied s p awaited awaited_after (frame_with v a n last) w _ _ _ _ _ _ at made.replies (acknowledged_other t) (λ x. refl) (λ x. absurd (never x)))
     (inl (record { serves = made.serves; lawful = made.sets ∙ h.lawful }))
 
-end_comes : (s : Setup) (p : Type 0) → IsDownload s p → (a t n : ℕ) (w : World) → Took s a w.events → a + t < total (bytes s) → 1 ≤ n → n ≡ size_after (bytes s) a → (p → InTurn a t n)
+end_comes : (s : Setup) (p : Type 0) → IsDownload s p Block → (a t n : ℕ) (w : World) → Took s a w.events → a + t < total (bytes s) → 1 ≤ n → n ≡ size_after (bytes s) a → (p → InTurn a t n)
     → Moment p awaited [] [] (1 + a + t) (1 + a / 127) w → IsServing s (Lawful s) (Some (taking s (a + t) t)) w.log w.contents → (last next : Bool) → eqb (a + n) (total (bytes s)) ≡ last → eqb n (t + 1) ≡ next
     → Stands s p (at_channel s (frame_with (bytes s) a n last) w)
 end_comes s p m a t n w c under some size turn at h true true l e = last_comes s p m a t n w c under some (omega arith) (eqb-true _ _ l) size turn at h e
@@ -138,7 +133,7 @@ end_comes s p m a t n w c under some size turn at h false false l e =
     let full : eqb n 127 ≡ true = grind (arith, nat_tests) in
     missed_comes s p m a t n false w c under some (omega arith) full turn at h e _ refl
 
-segment_comes : (s : Setup) (p : Type 0) → IsDownload s p → (a t n more : ℕ) (w : World) → Took s a w.events → a + t < total (bytes s) → 1 ≤ n → n + more ≡ size_after (bytes s) a → (p → InTurn a t n)
+segment_comes : (s : Setup) (p : Type 0) → IsDownload s p Block → (a t n more : ℕ) (w : World) → Took s a w.events → a + t < total (bytes s) → 1 ≤ n → n + more ≡ size_after (bytes s) a → (p → InTurn a t n)
     → Moment p awaited (segments (bytes s) a (n + 1) more) [] (1 + a + t) (1 + a / 127) w → IsServing s (Lawful s) (Some (taking s (a + t) t)) w.log w.contents → Stands s p (at_channel s (segment_at (bytes s) a n) w)
 segment_comes s p m a t n zero w c under some size turn at h =
     subst (λ (x : List ℕ). Stands s p (at_channel s x w)) (sym (frame_is (bytes s) a n _ refl)) (end_comes s p m a t n w c under some (omega arith) turn at h _ _ refl refl)
@@ -170,26 +165,23 @@ unheard_comes s p a n (suc more) w never c under some size rest none h =
 done_awaited : awaited (map answer_bytes (Response BlockDownloadDone ∷ [])) ≡ all_done ∷ []
 done_awaited = rw block_done_read refl
 
-is_set : (contents : Contents) (key : Key) (v : List ℕ) → written contents key v key ≡ Some v
-is_set contents key v = rw (same_key-refl key) refl
-
-finish_comes : (s : Setup) (p : Type 0) → IsDownload s p → (w : World) → Took s (total (bytes s)) w.events → Moment p awaited [] [] (1 + total (bytes s)) (1 + blocks (bytes s)) w → IsServing s (Lawful s) (Some (complete s)) w.log w.contents
-    → (refusal : Option ℕ) → completion_refusal s.description w.contents s.call.key (size_of s) (bytes s) ≡ refusal → Stands s p (at_channel s (client_end s) w)
+finish_comes : (s : Setup) (p : Type 0) → IsDownload s p Block → (w : World) → Took s (total (bytes s)) w.events → Moment p awaited [] [] (1 + total (bytes s)) (1 + blocks (bytes s)) w → IsServing s (Lawful s) (Some (complete s)) w.log w.contents
+    → (refusal : Option ℕ) → completion_refusal s.description w.contents s.call.key (indicated s) (bytes s) ≡ refusal → Stands s p (at_channel s (client_end s) w)
 finish_comes s p m w c at h None e =
     let v = bytes s in
     let whole = all_is v (total v - 1) (omega arith) in
-    let made = is_served s w.log w.contents _ (client_end s) _ _ _ h.serves (dictionary s p m w.contents h.lawful) refl
-    (end_taken s.description w.contents s.call.key (size_of s) (all_held v (total v - 1)) v (unused v) (omega arith) whole e) in
+    let made = is_served s w.log w.contents _ (client_end s) _ _ _ h.serves (lawful_of s m.dictionary w.contents h.lawful) refl
+    (end_taken s.description w.contents s.call.key (indicated s) (all_held v (total v - 1)) v (unused v) (omega arith) whole e) in
     ended c (replied s p awaited awaited_after (client_end s) w _ _ _ _ _ _ at made.replies done_awaited (λ x. refl) (λ x. omega arith)) (record {
-      entry = ap (λ (x : Contents). x s.call.key) made.sets ∙ is_set w.contents s.call.key v;
+      entry = ap (λ (x : Contents). x s.call.key) made.sets ∙ entry_is w.contents s.call.key v;
       closed = λ x. record { serves = made.serves; sets = made.sets ∙ ap (λ (y : Contents). written y s.call.key v) h.lawful };
     })
 finish_comes s p m w c at h (Some code) e =
     let v = bytes s in
     let whole = all_is v (total v - 1) (omega arith) in
-    let made = is_served s w.log w.contents _ (client_end s) _ _ _ h.serves (dictionary s p m w.contents h.lawful) refl
-    (completion_refused s.description w.contents s.call.key (size_of s) (all_held v (total v - 1)) v (unused v) code (omega arith) whole e) in
-    let permitted : p → ⊥ = λ x. none≢some _ code (ap (λ (y : Contents). completion_refusal s.description y s.call.key (size_of s) v) h.lawful ∙ m.may_complete x) e in
+    let made = is_served s w.log w.contents _ (client_end s) _ _ _ h.serves (lawful_of s m.dictionary w.contents h.lawful) refl
+    (completion_refused s.description w.contents s.call.key (indicated s) (all_held v (total v - 1)) v (unused v) code (omega arith) whole e) in
+    let permitted : p → ⊥ = λ x. none≢some _ code (ap (λ (y : Contents). completion_refusal s.description y s.call.key (indicated s) v) h.lawful ∙ m.may_complete x) e in
     gives_up s p (total v) _ _ (client_end s) w s.call.key code permitted c at made.replies
 
 -- ---- the oldest request comes or is lost
@@ -220,7 +212,7 @@ front_came s p w xs e h = subst (λ (ys : List (List ℕ)). Stands s p (front_ar
 nothing_came : (s : Setup) (p : Type 0) (w : World) → w.requests ≡ [] → Stands s p w → Stands s p (front_arrives s Requests w.requests (without_front Requests w))
 nothing_came s p w e h = front_came s p w [] e (subst (Stands s p) (no_request w e) h)
 
-pub request_comes : (s : Setup) (p : Type 0) → IsDownload s p → (w : World) → Stands s p w → Stands s p (front_arrives s Requests w.requests (without_front Requests w))
+pub request_comes : (s : Setup) (p : Type 0) → IsDownload s p Block → (w : World) → Stands s p w → Stands s p (front_arrives s Requests w.requests (without_front Requests w))
 request_comes s p up w (asking b m h) = front_came s p w _ m.requests (initiate_comes s p up (without_front Requests w) b (dropped p live _ _ _ _ _ w m) h _ refl)
 request_comes s p up w (confirmed b m h) = nothing_came s p w m.requests (confirmed b m h)
 request_comes s p up w (unconfirmed n b e f) = nothing_came s p w e (unconfirmed n b e f)

@@ -3,12 +3,11 @@
 use Rattle.std.proofs.Common.{◌≡◌, ℕ, ◌+◌, ◌<◌, ◌≤◌, Bool, true, false, List, [], ◌∷◌, ◌++◌, length, Option, Some, None, refl, ap, arith, eqb, append-nil}
 use Rattle.std.specs.Prelude.{◌||◌, nat_lt}
 use Rattle.co_value.specs.declared.key.Key.{Key}
-use Rattle.co_value.specs.Numbers.{unsigned_of, low_bytes}
 use Rattle.co_frame.specs.declared.sdo_request.SdoRequest.TheVariants.{BlockDownloadInitiate, BlockDownloadEnd}
 use Rattle.co_frame.specs.declared.sdo_response.SdoResponse.TheVariants.{BlockDownloadInitiated, BlockDownloadDone, BlockDownloadAcknowledge}
-use Rattle.co_frame.specs.SdoRequests.{request_row_in, request_in, request_bytes}
+use Rattle.co_frame.specs.SdoRequests.{request_bytes}
 use Rattle.co_frame.specs.SdoResponses.{response_bytes}
-use Rattle.co_sdo_client.specs.Segments.{bytes_of, size_sent}
+use Rattle.co_sdo_client.specs.Segments.{size_sent}
 use Rattle.co_dict.specs.Rows.{Contents, written}
 use Rattle.co_dict.specs.Stores.{Description}
 use Rattle.co_sdo.specs.declared.stage.Stage.TheVariants.{SubBlock, LastTaken}
@@ -18,14 +17,12 @@ use Rattle.co_sdo.specs.Log.{Response}
 use Rattle.co_sdo.specs.Opened.{OpenTransfer}
 use Rattle.co_sdo.specs.Replies.{aborted}
 use Rattle.co_sdo_laws.specs.World.{Setup}
-use Rattle.co_sdo_laws.proofs.Frames.{bare_block_initiate_read, block_end_read}
+use Rattle.co_sdo_laws.proofs.Frames.{size_read, block_begin_read, block_end_read}
+use Rattle.co_sdo_laws.proofs.Permits.{bytes}
 use Rattle.co_sdo_laws.proofs.Channel.{Steps}
 use Rattle.co_sdo_laws.proofs.BlockSegments.{unused, data_at, frame_with, frame_read, other_byte}
 
 -- ---- frames
-
-abbrev pub bytes : Setup → List ℕ
-bytes s = bytes_of s.call.job
 
 abbrev pub begin : Setup → List ℕ
 begin s = request_bytes (BlockDownloadInitiate s.call.key (size_sent s.call.job))
@@ -42,26 +39,6 @@ client_end s = request_bytes (BlockDownloadEnd (unused (bytes s)))
 abbrev pub all_done : List ℕ
 all_done = response_bytes BlockDownloadDone
 
--- the size that a begin is read to indicate
-abbrev pub size_read : Option ℕ → Option ℕ
-size_read None = None
-size_read (Some size) = Some (unsigned_of (low_bytes 4 size))
-
-two_bytes : (x : ℕ) → x < 65536 → unsigned_of (low_bytes 2 x) ≡ x
-two_bytes x h = omega arith
-
-sized_initiate_read : (key : Key) (size : ℕ) → key.index < 65536 → request_in (request_bytes (BlockDownloadInitiate key (Some size))) ≡ Some (BlockDownloadInitiate key (Some (unsigned_of (low_bytes 4 size))))
-unfolding request_row_in
-sized_initiate_read key size k = rw (two_bytes key.index k) refl
-
-initiate_read : (key : Key) (size : Option ℕ) → key.index < 65536 → request_in (request_bytes (BlockDownloadInitiate key size)) ≡ Some (BlockDownloadInitiate key (size_read size))
-initiate_read key None k = bare_block_initiate_read key k
-initiate_read key (Some size) k = sized_initiate_read key size k
-
-pub initiate_long : (key : Key) (size : Option ℕ) → length (request_bytes (BlockDownloadInitiate key size)) ≡ 8
-initiate_long key None = refl
-initiate_long key (Some size) = refl
-
 -- ---- the begin at an idle channel
 
 -- inside a sub-block after so many of its segments, and after the last of all
@@ -73,11 +50,11 @@ at_last key size held = record { key = key; stage = LastTaken size; bytes = held
 
 pub initiate_taken : (d : Description) (contents : Contents) (key : Key) (size : Option ℕ) → key.index < 65536 → initiate_refusal d key (size_read size) ≡ None
     → Steps d contents None (request_bytes (BlockDownloadInitiate key size)) (Response (BlockDownloadInitiated key 127) ∷ []) (Some (inside key (size_read size) 0 [])) contents
-initiate_taken d contents key size k free = let read = initiate_read key size k in record { replies = rw (read, free) refl; opens = rw (read, free) refl; sets = rw read refl }
+initiate_taken d contents key size k free = let read = block_begin_read key size k in record { replies = rw (read, free) refl; opens = rw (read, free) refl; sets = rw read refl }
 
 pub initiate_refused : (d : Description) (contents : Contents) (key : Key) (size : Option ℕ) (code : ℕ) → key.index < 65536 → initiate_refusal d key (size_read size) ≡ Some code
     → Steps d contents None (request_bytes (BlockDownloadInitiate key size)) (aborted key code) None contents
-initiate_refused d contents key size code k refused = let read = initiate_read key size k in record { replies = rw (read, refused) refl; opens = rw (read, refused) refl; sets = rw read refl }
+initiate_refused d contents key size code k refused = let read = block_begin_read key size k in record { replies = rw (read, refused) refl; opens = rw (read, refused) refl; sets = rw read refl }
 
 -- ---- a segment at a channel inside a sub-block
 

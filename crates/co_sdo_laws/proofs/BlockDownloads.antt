@@ -16,22 +16,14 @@ use Rattle.co_sdo.specs.Refused.{capacity_at, initiate_refusal, completion_refus
 use Rattle.co_sdo.specs.Log.{Log}
 use Rattle.co_sdo.specs.Opened.{OpenTransfer}
 use Rattle.co_sdo_laws.specs.World.{Setup, World}
+use Rattle.co_sdo_laws.proofs.Permits.{bytes, indicated}
 use Rattle.co_sdo_laws.proofs.Server.{Serves}
 use Rattle.co_sdo_laws.proofs.Failures.{has_failed}
 use Rattle.co_sdo_laws.proofs.Channel.{IsServing}
 use Rattle.co_sdo_laws.proofs.Blocks.{live, Count, Moment}
 use Rattle.co_sdo_laws.proofs.GoneChannels.{awaited, IsGone}
 use Rattle.co_sdo_laws.proofs.BlockSegments.{all_held, total, size_after, blocks, segments, InTurn, IsWhole}
-use Rattle.co_sdo_laws.proofs.BlockDownloadSegments.{bytes, begin, confirmation, acknowledgement, client_end, all_done, size_read, inside, at_last}
-
-pub record IsDownload (s : Setup) (p : Type 0) : Type 0 where
-  pub dictionary : IsDictionary s.description s.contents
-  pub key : s.call.key.index < 65536
-  pub idle : open_transfer s.past ≡ None
-  pub transfer : transfer_of s.call ≡ transfer_by Block (DownloadJob [] true)
-  pub may_begin : p → initiate_refusal s.description s.call.key (size_read (size_sent s.call.job)) ≡ None
-  pub may_complete : p → completion_refusal s.description s.contents s.call.key (size_read (size_sent s.call.job)) (bytes s) ≡ None
-  pub room : p → length (bytes s) ≤ capacity_at s.description.rows s.call.key
+use Rattle.co_sdo_laws.proofs.BlockDownloadSegments.{begin, confirmation, acknowledgement, client_end, all_done, inside, at_last}
 
 -- ---- the client
 
@@ -58,16 +50,13 @@ pub record IsDone (s : Setup) (events : List ClientEvent) : Type 0 where
 abbrev pub Lawful : Setup → Contents → Type 0
 Lawful s contents = contents ≡ s.contents
 
-pub dictionary : (s : Setup) (p : Type 0) → IsDownload s p → (contents : Contents) → contents ≡ s.contents → IsDictionary s.description contents
-dictionary s p m contents e = subst (IsDictionary s.description) (sym e) m.dictionary
-
 -- inside a sub-block: so many segments were taken, as many of them in it
 abbrev pub taking : Setup → ℕ → ℕ → OpenTransfer
-taking s sum taken = inside s.call.key (size_read (size_sent s.call.job)) taken (take (7 * sum) (bytes s))
+taking s sum taken = inside s.call.key (indicated s) taken (take (7 * sum) (bytes s))
 
 -- all were taken
 abbrev pub complete : Setup → OpenTransfer
-complete s = at_last s.call.key (size_read (size_sent s.call.job)) (all_held (bytes s) (total (bytes s) - 1))
+complete s = at_last s.call.key (indicated s) (all_held (bytes s) (total (bytes s) - 1))
 
 -- this is open, or, of a disturbed transfer, the channel gave it up
 abbrev pub May : Setup → Type 0 → OpenTransfer → Log → Contents → Type 0
@@ -112,3 +101,23 @@ pub data Stands (s : Setup) (p : Type 0) (w : World) : Type 0 where
   quiet : (a : ℕ) → (p → ⊥) → Took s a w.events → w.requests ≡ [] → awaited w.answers ≡ [] → Stands s p w
   over : IsDone s w.events → w.requests ≡ [] → IsSet s p w → (p → Last s w) → Stands s p w
   failed : (p → ⊥) → has_failed (outcome s.call w.events) ≡ true → Stands s p w
+
+-- how the client stands in it
+pub data Standing (s : Setup) (p : Type 0) (w : World) : Type 0 where
+  waiting : outcome s.call w.events ≡ Waiting → Standing s p w
+  finished : IsDone s w.events → w.requests ≡ [] → IsSet s p w → (p → Last s w) → Standing s p w
+  gave_up : (p → ⊥) → has_failed (outcome s.call w.events) ≡ true → Standing s p w
+
+pub standing : (s : Setup) (p : Type 0) (w : World) → Stands s p w → Standing s p w
+standing s p w (asking b m h) = waiting b.waits
+standing s p w (confirmed b m h) = waiting b.waits
+standing s p w (unconfirmed n b e f) = waiting b.waits
+standing s p w (sending a t n more b under some size turn m h) = waiting b.waits
+standing s p w (unheard a n more never b under some size e f h) = waiting b.waits
+standing s p w (acknowledging a t b under whole m h) = waiting b.waits
+standing s p w (finishing a t b under e whole m h) = waiting b.waits
+standing s p w (ending b m h) = waiting b.waits
+standing s p w (ended b m h) = waiting b.waits
+standing s p w (quiet a n b e f) = waiting b.waits
+standing s p w (over b e h last) = finished b e h last
+standing s p w (failed n h) = gave_up n h

@@ -9,6 +9,7 @@ use Rattle.co_frame.specs.BlockSegments.{is_abort_in_sub_block}
 use Rattle.co_frame.specs.declared.sdo_request.SdoRequest.TheVariants.{BlockUploadStart, BlockUploadEnd}
 use Rattle.co_frame.specs.declared.sdo_response.SdoResponse.TheVariants.{BlockUploadInitiated}
 use Rattle.co_frame.specs.SdoResponses.{response_in}
+use Rattle.co_sdo_client.specs.declared.mode.Mode.TheVariants.{Block}
 use Rattle.co_sdo_client.specs.declared.state.ClientState.TheVariants.{Waiting}
 use Rattle.co_sdo_client.specs.Calls.{Request, message_bytes, Event as ClientEvent, Answered, Ticked as TickedAtClient, answers as answers_of, Answers, since_first, with_answer, is_time_over as is_client_over}
 use Rattle.co_sdo_client.specs.Segments.{cap_of}
@@ -26,23 +27,23 @@ use Rattle.co_sdo_laws.proofs.Server.{serves_first}
 use Rattle.co_sdo_laws.proofs.Client.{follows, stays}
 use Rattle.co_sdo_laws.proofs.Failures.{has_failed, failed_more, failed_front}
 use Rattle.co_sdo_laws.proofs.Channel.{IsServing, serving_ticks, serving_ends}
-use Rattle.co_sdo_laws.proofs.SegmentedUploads.{value}
+use Rattle.co_sdo_laws.proofs.Permits.{value, IsUpload, small_value, not_above}
 use Rattle.co_sdo_laws.proofs.Blocks.{live, live_both, cut_fails, cut_is_more, Count, Moment, disturbed, heard, no_request, no_answer, cons≢nil, head_is, tail_is, calm_asks, calm_waits, same_requests}
 use Rattle.co_sdo_laws.proofs.BlockSegments.{all_is, total, blocks, unused, segment_at, segments}
-use Rattle.co_sdo_laws.proofs.BlockUploads.{IsUpload, small_value, begin, confirmation, server_end, client_end, HasBegun, Took, TookAll, IsDone, Lawful, Idle, begun, sending, at_end, May, Last, sent_end, end_came, Stands, asking, confirmed, starting, taking, acknowledging, finishing, ending, quiet, over, failed}
+use Rattle.co_sdo_laws.proofs.BlockUploads.{begin, confirmation, server_end, client_end, HasBegun, Took, TookAll, IsDone, Lawful, Idle, begun, sending, at_end, May, Last, sent_end, end_came, Stands, asking, confirmed, starting, taking, acknowledging, finishing, ending, quiet, over, failed, waiting, finished, gave_up, standing}
 use Rattle.co_sdo_laws.proofs.BlockUploadRequests.{initiate_comes, start_comes, acknowledgement_comes, last_acknowledgement_comes, end_comes}
 use Rattle.co_sdo_laws.proofs.BlockUploadSegments.{verdict_since, fails_by, segment_comes}
 
 -- ---- the other answers
 
-confirmation_read : (s : Setup) (p : Type 0) → IsUpload s p → response_in (confirmation s) ≡ Some (BlockUploadInitiated s.call.key (Some (length (value s))))
+confirmation_read : (s : Setup) (p : Type 0) → IsUpload s p Block → response_in (confirmation s) ≡ Some (BlockUploadInitiated s.call.key (Some (length (value s))))
 confirmation_read s p m = let small = small_value s m.dictionary in block_upload_initiated_read s.call.key (length (value s)) m.key (omega arith)
 
 -- there is room for the value
-has_room : (s : Setup) (p : Type 0) → IsUpload s p → nat_lt (cap_of s.call.job) (length (value s)) ≡ true → p → ⊥
+has_room : (s : Setup) (p : Type 0) → IsUpload s p Block → nat_lt (cap_of s.call.job) (length (value s)) ≡ true → p → ⊥
 has_room s p m above x = let fits = m.fits x in absurd (grind (arith, nat_tests))
 
-confirmation_comes : (s : Setup) (p : Type 0) → IsUpload s p → (w : World) → HasBegun s w.events → Moment p live [] [] 1 0 w → May s p (begun s) w.log w.contents
+confirmation_comes : (s : Setup) (p : Type 0) → IsUpload s p Block → (w : World) → HasBegun s w.events → Moment p live [] [] 1 0 w → May s p (begun s) w.log w.contents
     → (above : Bool) → nat_lt (cap_of s.call.job) (length (value s)) ≡ above → Stands s p (at_client s (Answered (confirmation s)) w)
 confirmation_comes s p m w c at h true room =
     let is : verdict s.call w.events (Answered (confirmation s)) ≡ GivesUp 0x05040005 = verdict_since s w.events _ None c.first ∙ rw (confirmation_read s p m, m.transfer, same_key-refl s.call.key, room) refl in
@@ -63,7 +64,7 @@ confirmation_comes s p m w c at h false room =
 below_itself : (n : ℕ) → nat_lt n n ≡ false
 below_itself n = grind (arith, nat_tests)
 
-server_end_comes : (s : Setup) (p : Type 0) → IsUpload s p → (w : World) → TookAll s w.events → Moment p live [] [] (2 + blocks (value s)) (1 + total (value s)) w → May s p (at_end s) w.log w.contents
+server_end_comes : (s : Setup) (p : Type 0) → IsUpload s p Block → (w : World) → TookAll s w.events → Moment p live [] [] (2 + blocks (value s)) (1 + total (value s)) w → May s p (at_end s) w.log w.contents
     → (above : Bool) → nat_lt (cap_of s.call.job) (length (value s)) ≡ above → Stands s p (at_client s (Answered (server_end s)) w)
 server_end_comes s p m w c at h true room =
     let whole = all_is (value s) (total (value s) - 1) (omega arith) in
@@ -141,7 +142,7 @@ nothing_came s p w e h = front_came s p w [] e (subst (Stands s p) (no_request w
 dropped : (p : Type 0) (x : List ℕ) (given : List (List ℕ)) (r q : ℕ) (w : World) → Moment p live (x ∷ []) given r q w → Moment p live [] given r q (without_front Requests w)
 dropped p x given r q w m = record { requests = ap (drop 1) m.requests; answers = m.answers; exact = m.exact; count = λ y. record { received = (m.count y).received; answered = (m.count y).answered } }
 
-over_front : (s : Setup) (p : Type 0) → IsUpload s p → (w : World) → IsDone s w.events → (p → Last s w) → (xs : List (List ℕ)) → w.requests ≡ xs → Stands s p (front_arrives s Requests xs (without_front Requests w))
+over_front : (s : Setup) (p : Type 0) → IsUpload s p Block → (w : World) → IsDone s w.events → (p → Last s w) → (xs : List (List ℕ)) → w.requests ≡ xs → Stands s p (front_arrives s Requests xs (without_front Requests w))
 over_front s p m w b last [] e = over b (λ x. subst (Last s) (no_request w e) (last x))
 over_front s p m w b last (frame ∷ later) e = over b (λ x. came x (last x))
   where
@@ -153,7 +154,7 @@ over_front s p m w b last (frame ∷ later) e = over b (λ x. came x (last x))
         (end_came (ap (drop 1) a) (rw (none, made.replies) refl) (record { received = let k = n.received in omega arith; answered = n.answered }) (record { serves = made.serves; lawful = made.sets ∙ h.lawful }))
     came x (end_came a none n h) = absurd (cons≢nil frame later (sym e ∙ a))
 
-request_comes : (s : Setup) (p : Type 0) → IsUpload s p → (w : World) → Stands s p w → Stands s p (front_arrives s Requests w.requests (without_front Requests w))
+request_comes : (s : Setup) (p : Type 0) → IsUpload s p Block → (w : World) → Stands s p w → Stands s p (front_arrives s Requests w.requests (without_front Requests w))
 request_comes s p m w (asking b at h) = front_came s p w _ at.requests (initiate_comes s p m (without_front Requests w) b (dropped p _ _ _ _ w at) h _ refl)
 request_comes s p m w (confirmed b at h) = nothing_came s p w at.requests (confirmed b at h)
 request_comes s p m w (starting b at h) = front_came s p w _ at.requests (start_comes s p m (without_front Requests w) b (dropped p _ _ _ _ w at) h)
@@ -237,7 +238,7 @@ rest p x y later given r q w e f m = record {
 }
 
 -- another answer comes
-live_comes : (s : Setup) (p : Type 0) → IsUpload s p → (x : List ℕ) (later : List (List ℕ)) (w : World) → w.answers ≡ x ∷ later → live w.answers ≡ x ∷ live later → Stands s p w → Stands s p (at_client s (Answered x) (without_front Back w))
+live_comes : (s : Setup) (p : Type 0) → IsUpload s p Block → (x : List ℕ) (later : List (List ℕ)) (w : World) → w.answers ≡ x ∷ later → live w.answers ≡ x ∷ live later → Stands s p w → Stands s p (at_client s (Answered x) (without_front Back w))
 live_comes s p up x later w e f h = by h
   where
     front : (y : List ℕ) (given : List (List ℕ)) → live w.answers ≡ y ∷ given → Stands s p (at_client s (Answered y) (without_front Back w)) → Stands s p (at_client s (Answered x) (without_front Back w))
@@ -264,7 +265,7 @@ answer_lost s p w never h (x ∷ later) e = by _ refl
     by true c = loses_cut s p w never (rw (e, c) refl) h
     by false c = loses_live s p w x never (rw (e, c) refl) h
 
-answer_comes : (s : Setup) (p : Type 0) → IsUpload s p → (w : World) → Stands s p w → (xs : List (List ℕ)) → w.answers ≡ xs → Stands s p (front_arrives s Back xs (without_front Back w))
+answer_comes : (s : Setup) (p : Type 0) → IsUpload s p Block → (w : World) → Stands s p w → (xs : List (List ℕ)) → w.answers ≡ xs → Stands s p (front_arrives s Back xs (without_front Back w))
 answer_comes s p m w h [] e = subst (Stands s p) (no_answer w e) h
 answer_comes s p m w h (x ∷ later) e = by _ refl
   where
@@ -300,16 +301,11 @@ last_ticks s w b (end_came a c n h) = end_came (same_requests w.requests _ (ap (
 
 client_tick : (s : Setup) (p : Type 0) (w : World) (ends : Bool) → is_client_over s.call.time (TickedAtClient ∷ w.events) ≡ ends → (p → IsCalm s ClientTicked w) → Stands s p w → Stands s p (at_client s TickedAtClient w)
 client_tick s p w false e calm h = carry s p w (at_client s TickedAtClient w) (calm_tick s p w e) h
-client_tick s p w true e calm (asking b m h) = time_over s p w e calm b.waits
-client_tick s p w true e calm (confirmed b m h) = time_over s p w e calm b.waits
-client_tick s p w true e calm (starting b m h) = time_over s p w e calm b.waits
-client_tick s p w true e calm (taking a t n more b under some size turn m h) = time_over s p w e calm b.waits
-client_tick s p w true e calm (acknowledging a u b under whole m h) = time_over s p w e calm b.waits
-client_tick s p w true e calm (finishing a u b g whole m h) = time_over s p w e calm b.waits
-client_tick s p w true e calm (ending b m h) = time_over s p w e calm b.waits
-client_tick s p w true e calm (quiet never b f g) = time_over s p w e calm b
-client_tick s p w true e calm (over b last) = over (over_event s TickedAtClient w b) (λ x. last_ticks s w b (last x))
-client_tick s p w true e calm (failed never h) = failed never (failed_more s TickedAtClient w.events h)
+client_tick s p w true e calm h = elim (standing s p w h) [
+  | waiting b ↦ time_over s p w e calm b
+  | finished b last ↦ over (over_event s TickedAtClient w b) (λ x. last_ticks s w b (last x))
+  | gave_up never f ↦ failed never (failed_more s TickedAtClient w.events f)
+]
 
 may_tick : (s : Setup) (p : Type 0) (o : OpenTransfer) (log : Log) (contents : Contents) → May s p o log contents → May s p o (Ticked ∷ log) contents
 may_tick s p o log contents (inl h) = inl (h.0, serving_ticks s (Lawful s) None log contents h.1)
@@ -351,7 +347,7 @@ channel_tick s p w true calm = record {
 
 -- ---- every event
 
-step : (s : Setup) (p : Type 0) → IsUpload s p → (event : WorldEvent) (w : World) → is_repeat event ≡ false → (p → IsCalm s event w) → Stands s p w → Stands s p (after_event s event w)
+step : (s : Setup) (p : Type 0) → IsUpload s p Block → (event : WorldEvent) (w : World) → is_repeat event ≡ false → (p → IsCalm s event w) → Stands s p w → Stands s p (after_event s event w)
 step s p m (Delivered Requests) w once calm h = request_comes s p m w h
 step s p m (Delivered Back) w once calm h = answer_comes s p m w h w.answers refl
 step s p m (Lost Requests) w once calm h = loses_request s p w calm h
@@ -360,7 +356,7 @@ step s p m (Repeated queue) w once calm h = absurd (false≢true (sym once))
 step s p m ClientTicked w once calm h = client_tick s p w _ refl calm h
 step s p m ChannelTicked w once calm h = carry s p w _ (channel_tick s p w (is_time_over s.time (Ticked ∷ w.log)) calm) h
 
-pub always : (s : Setup) (p : Type 0) → IsUpload s p → (events : List WorldEvent) → list_any is_repeat events ≡ false → (p → AreCalm s events) → Stands s p (world_after s events)
+pub always : (s : Setup) (p : Type 0) → IsUpload s p Block → (events : List WorldEvent) → list_any is_repeat events ≡ false → (p → AreCalm s events) → Stands s p (world_after s events)
 always s p m [] once calm = asking (record { waits = refl; first = refl }) (record { requests = rw m.transfer refl; answers = refl; exact = λ x. refl; count = λ x. record { received = refl; answered = refl } })
     (record { serves = serves_first s.description.rows s.past m.idle; lawful = refl })
 always s p m (event ∷ older) once calm =

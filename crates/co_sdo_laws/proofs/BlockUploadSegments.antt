@@ -4,6 +4,7 @@ use Rattle.std.specs.Prelude.{nat_lt, ◌||◌, if◌then◌else◌}
 use Rattle.std.proofs.lemmas.Bool.{eqb-true}
 use Rattle.std.proofs.lemmas.Bool.Decides.{nat_tests}
 use Rattle.co_frame.specs.declared.sdo_request.SdoRequest.TheVariants.{BlockUploadAcknowledge}
+use Rattle.co_sdo_client.specs.declared.mode.Mode.TheVariants.{Block}
 use Rattle.co_sdo_client.specs.declared.state.ClientState.TheVariants.{Waiting}
 use Rattle.co_sdo_client.specs.Calls.{Request, Event as ClientEvent, Answered, answers as answers_of, Answers, since_first, with_answer}
 use Rattle.co_sdo_client.specs.Segments.{cap_of}
@@ -14,10 +15,10 @@ use Rattle.co_sdo_client.specs.Outcomes.{state_by, outcome}
 use Rattle.co_sdo_laws.specs.World.{Setup, World, at_client}
 use Rattle.co_sdo_laws.proofs.Client.{follows}
 use Rattle.co_sdo_laws.proofs.Failures.{has_failed}
-use Rattle.co_sdo_laws.proofs.SegmentedUploads.{value}
+use Rattle.co_sdo_laws.proofs.Permits.{value, IsUpload}
 use Rattle.co_sdo_laws.proofs.Blocks.{live, Moment, heard}
 use Rattle.co_sdo_laws.proofs.BlockSegments.{total, size_after, segment_at, segments, segment_with, data_at, frame_with, frame_is, frame_long, frame_read, other_byte, next_joined, last_joined, InTurn, IsWhole, grows, passes}
-use Rattle.co_sdo_laws.proofs.BlockUploads.{IsUpload, Took, sending, May, Stands, taking, acknowledging, finishing, failed}
+use Rattle.co_sdo_laws.proofs.BlockUploads.{Took, sending, May, Stands, taking, acknowledging, finishing, failed}
 
 -- ---- verdicts
 
@@ -25,12 +26,12 @@ abbrev pub given : Setup → Answers → List ℕ → Verdict
 given s a frame = answer_verdict s.call (stage_since s.call (Some a)) (held_since s.call (Some a)) frame
 
 -- a frame inside a sub-block whose last flag is `last`
-inside_verdict : (s : Setup) (p : Type 0) → IsUpload s p → (a n t : ℕ) (taken : Answers) → 1 ≤ n → n < 128 → eqb n 127 ≡ false → has_last taken.later ≡ false
+inside_verdict : (s : Setup) (p : Type 0) → IsUpload s p Block → (a n t : ℕ) (taken : Answers) → 1 ≤ n → n < 128 → eqb n 127 ≡ false → has_last taken.later ≡ false
     → length (taken_segments (sub_block taken.later)) ≡ t → given s taken (frame_with (value s) a n false) ≡ GoesOn []
 inside_verdict s p m a n t taken some few other inside count =
     rw (m.transfer, inside, count, frame_read (value s) a n false some few, frame_long (value s) a n false, other_byte false n some few, other) refl
 
-last_verdict : (s : Setup) (p : Type 0) → IsUpload s p → (a n t : ℕ) (taken : Answers) → 1 ≤ n → n < 128 → eqb n (t + 1) ≡ true → has_last taken.later ≡ false
+last_verdict : (s : Setup) (p : Type 0) → IsUpload s p Block → (a n t : ℕ) (taken : Answers) → 1 ≤ n → n < 128 → eqb n (t + 1) ≡ true → has_last taken.later ≡ false
     → length (taken_segments (sub_block taken.later)) ≡ t → given s taken (frame_with (value s) a n true) ≡ GoesOn (Request (BlockUploadAcknowledge (t + 1) 127) ∷ [])
 last_verdict s p m a n t taken some few next inside count =
     rw (m.transfer, inside, count, frame_read (value s) a n true some few, frame_long (value s) a n true, other_byte true n some few, next) refl
@@ -39,13 +40,13 @@ last_verdict s p m a n t taken some few next inside count =
 abbrev by_room : Bool → ℕ → Verdict
 by_room above count = if above then GivesUp 0x05040005 else GoesOn (Request (BlockUploadAcknowledge count 127) ∷ [])
 
-full_verdict : (s : Setup) (p : Type 0) → IsUpload s p → (a n t : ℕ) (taken : Answers) (above : Bool) → 1 ≤ n → n < 128 → eqb n (t + 1) ≡ true → eqb n 127 ≡ true → has_last taken.later ≡ false
+full_verdict : (s : Setup) (p : Type 0) → IsUpload s p Block → (a n t : ℕ) (taken : Answers) (above : Bool) → 1 ≤ n → n < 128 → eqb n (t + 1) ≡ true → eqb n 127 ≡ true → has_last taken.later ≡ false
     → length (taken_segments (sub_block taken.later)) ≡ t → nat_lt (cap_of s.call.job) (length (block_bytes taken.later ++ data_at (value s) a n)) ≡ above
     → given s taken (frame_with (value s) a n false) ≡ by_room above (t + 1)
 full_verdict s p m a n t taken above some few next full inside count room =
     rw (m.transfer, inside, count, frame_read (value s) a n false some few, frame_long (value s) a n false, other_byte false n some few, next, full, room) refl
 
-missed_verdict : (s : Setup) (p : Type 0) → IsUpload s p → (a n t : ℕ) (last : Bool) (taken : Answers) (above : Bool) → 1 ≤ n → n < 128 → eqb n (t + 1) ≡ false → last || eqb n 127 ≡ true → has_last taken.later ≡ false
+missed_verdict : (s : Setup) (p : Type 0) → IsUpload s p Block → (a n t : ℕ) (last : Bool) (taken : Answers) (above : Bool) → 1 ≤ n → n < 128 → eqb n (t + 1) ≡ false → last || eqb n 127 ≡ true → has_last taken.later ≡ false
     → length (taken_segments (sub_block taken.later)) ≡ t → nat_lt (cap_of s.call.job) (length (block_bytes taken.later ++ [])) ≡ above
     → given s taken (frame_with (value s) a n last) ≡ by_room above t
 missed_verdict s p m a n t last taken above some few other ends inside count room =
@@ -70,7 +71,7 @@ not_turn : (n t : ℕ) → eqb n (t + 1) ≡ false → n ≡ t + 1 → ⊥
 not_turn n t e h = absurd (grind (arith, nat_tests))
 
 -- one that doesn't end its sub-block
-inside_comes : (s : Setup) (p : Type 0) → IsUpload s p → (a t n more : ℕ) (w : World) → Took s (a + t) t w.events → a + t < total (value s) → 1 ≤ n → n + suc more ≡ size_after (value s) a → (p → InTurn a t n)
+inside_comes : (s : Setup) (p : Type 0) → IsUpload s p Block → (a t n more : ℕ) (w : World) → Took s (a + t) t w.events → a + t < total (value s) → 1 ≤ n → n + suc more ≡ size_after (value s) a → (p → InTurn a t n)
     → Moment p live [] (segments (value s) a (n + 1) (suc more)) (2 + a / 127) (1 + a + t) w → May s p (sending s a) w.log w.contents → (next : Bool) → eqb n (t + 1) ≡ next
     → Stands s p (at_client s (Answered (frame_with (value s) a n false)) w)
 inside_comes s p m a t n more w c under some size turn at h true e =
@@ -110,7 +111,7 @@ inside_comes s p m a t n more w c under some size turn at h false e =
     }) under (omega arith) (omega arith) (λ x. absurd (never x)) (heard s p live frame w _ _ _ _ _ _ at f.messages refl (λ x. absurd (never x))) h
 
 -- the last segment of all, and all before it were taken
-last_comes : (s : Setup) (p : Type 0) → IsUpload s p → (a t n : ℕ) (w : World) → Took s (a + t) t w.events → 1 ≤ n → n < 128 → a + n ≡ total (value s) → n ≡ size_after (value s) a → (p → InTurn a t n)
+last_comes : (s : Setup) (p : Type 0) → IsUpload s p Block → (a t n : ℕ) (w : World) → Took s (a + t) t w.events → 1 ≤ n → n < 128 → a + n ≡ total (value s) → n ≡ size_after (value s) a → (p → InTurn a t n)
     → Moment p live [] [] (2 + a / 127) (1 + a + t) w → May s p (sending s a) w.log w.contents → eqb n (t + 1) ≡ true → Stands s p (at_client s (Answered (frame_with (value s) a n true)) w)
 last_comes s p m a t n w c some few whole size turn at h e =
     let next : n ≡ t + 1 = eqb-true _ _ e in
@@ -129,7 +130,7 @@ last_comes s p m a t n w c some few whole size turn at h e =
     (heard s p live frame w _ _ _ _ _ _ at f.messages refl (λ x. omega arith)) h
 
 -- the last segment of a whole sub-block, and all before it were taken
-full_comes : (s : Setup) (p : Type 0) → IsUpload s p → (a t n : ℕ) (w : World) (c : Took s (a + t) t w.events) → 1 ≤ n → n < 128 → a + n < total (value s) → n ≡ size_after (value s) a → eqb n 127 ≡ true → (p → InTurn a t n)
+full_comes : (s : Setup) (p : Type 0) → IsUpload s p Block → (a t n : ℕ) (w : World) (c : Took s (a + t) t w.events) → 1 ≤ n → n < 128 → a + n < total (value s) → n ≡ size_after (value s) a → eqb n 127 ≡ true → (p → InTurn a t n)
     → Moment p live [] [] (2 + a / 127) (1 + a + t) w → May s p (sending s a) w.log w.contents → eqb n (t + 1) ≡ true
     → (above : Bool) → nat_lt (cap_of s.call.job) (length (block_bytes c.took.later ++ data_at (value s) a n)) ≡ above → Stands s p (at_client s (Answered (frame_with (value s) a n false)) w)
 full_comes s p m a t n w c some few left size full turn at h e true room =
@@ -159,7 +160,7 @@ full_comes s p m a t n w c some few left size full turn at h e false room =
     (heard s p live frame w _ _ _ _ _ _ at f.messages refl (λ x. omega arith)) h
 
 -- a sub-block ends with a segment that isn't the next
-missed_comes : (s : Setup) (p : Type 0) → IsUpload s p → (a t n : ℕ) (last : Bool) (w : World) (c : Took s (a + t) t w.events) → a + t < total (value s) → 1 ≤ n → n < 128 → last || eqb n 127 ≡ true → (p → InTurn a t n)
+missed_comes : (s : Setup) (p : Type 0) → IsUpload s p Block → (a t n : ℕ) (last : Bool) (w : World) (c : Took s (a + t) t w.events) → a + t < total (value s) → 1 ≤ n → n < 128 → last || eqb n 127 ≡ true → (p → InTurn a t n)
     → Moment p live [] [] (2 + a / 127) (1 + a + t) w → May s p (sending s a) w.log w.contents → eqb n (t + 1) ≡ false
     → (above : Bool) → nat_lt (cap_of s.call.job) (length (block_bytes c.took.later ++ [])) ≡ above → Stands s p (at_client s (Answered (frame_with (value s) a n last)) w)
 missed_comes s p m a t n last w c under some few ends turn at h e true room =
@@ -183,7 +184,7 @@ missed_comes s p m a t n last w c under some few ends turn at h e false room =
     }) under (λ x. absurd (never x)) (heard s p live frame w _ _ _ _ _ _ at f.messages refl (λ x. absurd (never x))) h
 
 -- the last frame of a sub-block
-end_comes : (s : Setup) (p : Type 0) → IsUpload s p → (a t n : ℕ) (w : World) → Took s (a + t) t w.events → a + t < total (value s) → 1 ≤ n → n ≡ size_after (value s) a → (p → InTurn a t n)
+end_comes : (s : Setup) (p : Type 0) → IsUpload s p Block → (a t n : ℕ) (w : World) → Took s (a + t) t w.events → a + t < total (value s) → 1 ≤ n → n ≡ size_after (value s) a → (p → InTurn a t n)
     → Moment p live [] [] (2 + a / 127) (1 + a + t) w → May s p (sending s a) w.log w.contents → (last next : Bool) → eqb (a + n) (total (value s)) ≡ last → eqb n (t + 1) ≡ next
     → Stands s p (at_client s (Answered (frame_with (value s) a n last)) w)
 end_comes s p m a t n w c under some size turn at h true true l e = last_comes s p m a t n w c some (omega arith) (eqb-true _ _ l) size turn at h e
@@ -196,7 +197,7 @@ end_comes s p m a t n w c under some size turn at h false false l e =
     let full : eqb n 127 ≡ true = grind (arith, nat_tests) in
     missed_comes s p m a t n false w c under some (omega arith) full turn at h e _ refl
 
-pub segment_comes : (s : Setup) (p : Type 0) → IsUpload s p → (a t n more : ℕ) (w : World) → Took s (a + t) t w.events → a + t < total (value s) → 1 ≤ n → n + more ≡ size_after (value s) a → (p → InTurn a t n)
+pub segment_comes : (s : Setup) (p : Type 0) → IsUpload s p Block → (a t n more : ℕ) (w : World) → Took s (a + t) t w.events → a + t < total (value s) → 1 ≤ n → n + more ≡ size_after (value s) a → (p → InTurn a t n)
     → Moment p live [] (segments (value s) a (n + 1) more) (2 + a / 127) (1 + a + t) w → May s p (sending s a) w.log w.contents → Stands s p (at_client s (Answered (segment_at (value s) a n)) w)
 segment_comes s p m a t n zero w c under some size turn at h =
     subst (λ (x : List ℕ). Stands s p (at_client s (Answered x) w)) (sym (frame_is (value s) a n _ refl)) (end_comes s p m a t n w c under some (omega arith) turn at h _ _ refl refl)

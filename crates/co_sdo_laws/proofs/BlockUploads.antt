@@ -31,29 +31,9 @@ use Rattle.co_sdo_laws.specs.World.{Setup, World}
 use Rattle.co_sdo_laws.proofs.Frames.{start_read, acknowledge_read, client_end_read}
 use Rattle.co_sdo_laws.proofs.Failures.{has_failed}
 use Rattle.co_sdo_laws.proofs.Channel.{IsServing, Steps}
-use Rattle.co_sdo_laws.proofs.SegmentedUploads.{value}
+use Rattle.co_sdo_laws.proofs.Permits.{value}
 use Rattle.co_sdo_laws.proofs.Blocks.{live, Count, Moment}
 use Rattle.co_sdo_laws.proofs.BlockSegments.{all_held, total, size_after, blocks, unused, segments, InTurn, IsWhole}
-
-pub record IsUpload (s : Setup) (p : Type 0) : Type 0 where
-  pub dictionary : IsDictionary s.description s.contents
-  pub key : s.call.key.index < 65536
-  pub idle : open_transfer s.past ≡ None
-  pub transfer : transfer_of s.call ≡ transfer_by Block (UploadJob 0)
-  pub may_read : p → reading_refusal s.description s.contents s.call.key ≡ None
-  pub fits : p → length (value s) ≤ cap_of s.call.job
-
--- ---- an entry's size
-
-small_row : (d : Description) (key : Key) (row : Option Row) → IsDescription d → d.rows key ≡ row → option_map_or (λ (r : Row). r.capacity) row 0 ≤ 65535
-small_row d key None h e = omega arith
-small_row d key (Some row) h e = h.capacity key row e
-
-pub small_value : (s : Setup) → IsDictionary s.description s.contents → length (value s) ≤ 65535
-small_value s lawful =
-    let fits : length (value s) ≤ capacity_at s.description.rows s.call.key = value_fits s.description s.contents s.call.key lawful in
-    let small : capacity_at s.description.rows s.call.key ≤ 65535 = small_row s.description s.call.key (s.description.rows s.call.key) lawful.description refl in
-    omega arith
 
 -- ---- frames
 
@@ -125,9 +105,6 @@ at_end s = record { key = s.call.key; stage = BlockUploadEnded; bytes = value s 
 -- this is open, or, of a disturbed transfer, nothing any more
 abbrev pub May : Setup → Type 0 → OpenTransfer → Log → Contents → Type 0
 May s p o log contents = ((p → ⊥) × Idle s log contents) ⊎ IsServing s (Lawful s) (Some o) log contents
-
-pub dictionary : (s : Setup) (p : Type 0) → IsUpload s p → (contents : Contents) → contents ≡ s.contents → IsDictionary s.description contents
-dictionary s p m contents e = subst (IsDictionary s.description) (sym e) m.dictionary
 
 pub initiate_taken : (d : Description) (contents : Contents) (key : Key) (v frame : List ℕ) → request_in frame ≡ Some (BlockUploadInitiate key 127 0)
     → reading_refusal d contents key ≡ None → value_at contents key ≡ v
@@ -202,3 +179,21 @@ pub data Stands (s : Setup) (p : Type 0) (w : World) : Type 0 where
   quiet : (p → ⊥) → outcome s.call w.events ≡ Waiting → w.requests ≡ [] → live w.answers ≡ [] → Stands s p w
   over : IsDone s w.events → (p → Last s w) → Stands s p w
   failed : (p → ⊥) → has_failed (outcome s.call w.events) ≡ true → Stands s p w
+
+-- how the client stands in it
+pub data Standing (s : Setup) (p : Type 0) (w : World) : Type 0 where
+  waiting : outcome s.call w.events ≡ Waiting → Standing s p w
+  finished : IsDone s w.events → (p → Last s w) → Standing s p w
+  gave_up : (p → ⊥) → has_failed (outcome s.call w.events) ≡ true → Standing s p w
+
+pub standing : (s : Setup) (p : Type 0) (w : World) → Stands s p w → Standing s p w
+standing s p w (asking b m h) = waiting b.waits
+standing s p w (confirmed b m h) = waiting b.waits
+standing s p w (starting b m h) = waiting b.waits
+standing s p w (taking a t n more b under some size turn m h) = waiting b.waits
+standing s p w (acknowledging a u b under whole m h) = waiting b.waits
+standing s p w (finishing a u b e whole m h) = waiting b.waits
+standing s p w (ending b m h) = waiting b.waits
+standing s p w (quiet n b e f) = waiting b
+standing s p w (over b last) = finished b last
+standing s p w (failed n h) = gave_up n h

@@ -1,8 +1,9 @@
 -- What the block transfers of both directions share: aborts among answers, what is on its way, and how many frames have come. `p`
 -- says that a transfer is permitted and that nothing disturbs it; what holds of every transfer needs no `p`.
-use Rattle.std.proofs.Common.{◌≡◌, ℕ, suc, ◌+◌, ◌≤◌, Bool, true, false, List, [], ◌∷◌, ◌++◌, length, drop, map, refl, sym, ap, ◌∙◌, arith, eqb, append-nil}
-use Rattle.std.specs.Prelude.{if◌then◌else◌, slice_index}
+use Rattle.std.proofs.Common.{◌≡◌, ℕ, suc, ◌+◌, ◌<◌, ◌≤◌, Bool, true, false, List, [], ◌∷◌, ◌++◌, length, drop, map, refl, sym, ap, ◌∙◌, arith, eqb, append-nil}
+use Rattle.std.specs.Prelude.{if◌then◌else◌, nat_le, slice_index}
 use Rattle.std.proofs.lemmas.Bool.{eqb-true, and_parts}
+use Rattle.std.proofs.lemmas.Bool.Decides.{nat_tests}
 use Rattle.co_frame.specs.BlockSegments.{is_abort_in_sub_block}
 use Rattle.co_frame.specs.SdoResponses.{response_row_in, response_in}
 use Rattle.co_sdo_client.specs.declared.stage.Stage.{Stage}
@@ -15,6 +16,7 @@ use Rattle.co_sdo_client.specs.Outcomes.{state_by, while_waiting, outcome, asked
 use Rattle.co_sdo.specs.Log.{Answer, answer_bytes}
 use Rattle.co_sdo.specs.Replies.{reply_to}
 use Rattle.co_sdo_laws.specs.World.{Setup, World, Requests, Answers as Back, at_client, at_channel, without_front}
+use Rattle.co_sdo_laws.specs.Undisturbed.{arrived, on_their_way, GoesInBlocks}
 use Rattle.co_sdo_laws.proofs.Client.{follows, tick_verdict}
 use Rattle.co_sdo_laws.proofs.Unawaited.{aborted_fails}
 use Rattle.co_sdo_laws.proofs.Failures.{is_aborted, has_failed}
@@ -128,9 +130,6 @@ tail_is x y xs ys e = cc
 
 -- ---- the client
 
-pub waiting≢done : Waiting ≡ Done → ⊥
-waiting≢done e = cc
-
 sends_none : (state : ClientState) → while_waiting {A = List Message} state [] [] ≡ []
 sends_none Waiting = refl
 sends_none Done = refl
@@ -144,3 +143,38 @@ calm_waits s events e waits = (follows s.call events TickedAtClient (GoesOn []) 
 
 pub same_requests : (xs ys : List (List ℕ)) → ys ≡ [] → xs ++ ys ≡ xs
 same_requests xs ys e = rw e (append-nil xs)
+
+-- ---- how far an undisturbed transfer is, by the frames that have come and those on their way
+
+on_way : (kept : List (List ℕ) → List (List ℕ)) (sent given : List (List ℕ)) (r q : ℕ) (w : World) → Moment (Unit {0}) kept sent given r q w → on_their_way w ≡ length sent + length given
+on_way kept sent given r q w m = rw (m.requests, m.exact tt) refl
+
+-- where a frame is on its way not none is
+pub some_on_way : (kept : List (List ℕ) → List (List ℕ)) (sent given : List (List ℕ)) (r q : ℕ) (w : World) → Moment (Unit {0}) kept sent given r q w → 1 ≤ length sent + length given → on_their_way w ≡ 0 → ⊥
+some_on_way kept sent given r q w m some none = let n : on_their_way w ≡ length sent + length given = on_way kept sent given r q w m in absurd (omega arith)
+
+pub waits_at : (s : Setup) (needed frames : ℕ) (kept : List (List ℕ) → List (List ℕ)) (sent given : List (List ℕ)) (r q : ℕ) (w : World) → Moment (Unit {0}) kept sent given r q w → outcome s.call w.events ≡ Waiting
+    → r + q < needed → needed ≤ frames → 1 ≤ length sent + length given → GoesInBlocks s.call needed frames w
+waits_at s needed frames kept sent given r q w m waits below few some =
+    let a = (m.count tt).received in
+    let b = (m.count tt).answered in
+    let other : nat_le needed (arrived w) ≡ false = grind (arith, nat_tests) in
+    let n : on_their_way w ≡ length sent + length given = on_way kept sent given r q w m in
+    record {
+      within = omega arith;
+      state = rw (other, waits) refl;
+      moves = λ less. omega arith;
+      rests = λ e. absurd (omega arith);
+    }
+
+pub done_at : (s : Setup) (needed frames left r q : ℕ) (w : World) → Count r q w → outcome s.call w.events ≡ Done → needed ≤ r + q → r + q + left ≡ frames → left ≤ 1 → on_their_way w ≡ left → GoesInBlocks s.call needed frames w
+done_at s needed frames left r q w n done some all few way =
+    let a = n.received in
+    let b = n.answered in
+    let enough : nat_le needed (arrived w) ≡ true = grind (arith, nat_tests) in
+    record {
+      within = omega arith;
+      state = rw (enough, done) refl;
+      moves = λ less. omega arith;
+      rests = λ e. omega arith;
+    }

@@ -15,7 +15,7 @@ use Rattle.co_sdo.specs.Log.{Log}
 use Rattle.co_sdo_laws.specs.World.{Setup, World, WorldEvent, world_after}
 use Rattle.co_sdo_laws.specs.Undisturbed.{AreCalm, IsUndisturbed, on_their_way, rounds_after, IsOver, is_short}
 use Rattle.co_sdo_laws.specs.Chains.{Server, Transfer, calls, initiate_at, end_of, server_after, server_after_all, outcomes, results, contents_after, contents_after_all, bytes_given, all_bytes_given, Fits, MayCall, MayCallAll, IsWhole, AreWhole, IsReady, IsChain, frames_needed, in_rounds, all_in_rounds}
-use Rattle.co_sdo_laws.proofs.Transfers.{setup, Kind, at_once, at_once_lawful, segmented, segmented_lawful, sent_in_blocks, sent_lawful, uploaded, fetched_in_blocks, is_over, rests}
+use Rattle.co_sdo_laws.proofs.Transfers.{setup, Kind, lawful, expedited, segmented, sent_in_blocks, uploaded, fetched_in_blocks, is_over, rests}
 use Rattle.co_sdo_laws.proofs.Progress.{rounds_calm}
 
 -- ---- one transfer
@@ -52,10 +52,10 @@ plain_passes : (key : Key) (client_time : ℕ) (bytes : List ℕ) (tells : Bool)
     (if short then 2 else 2 * requests_needed (length bytes))
 plain_passes key client_time bytes tells time d contents past true e u small =
     let s = setup key Plain client_time (Download bytes tells) time d contents past in
-    passes s (at_once s [] u e) (at_once_lawful s [] u e small)
+    passes s (expedited s [] u e).kind (lawful s [] u refl small)
 plain_passes key client_time bytes tells time d contents past false e u small =
     let s = setup key Plain client_time (Download bytes tells) time d contents past in
-    passes s (segmented s [] u (ap not e)) (segmented_lawful s [] u (ap not e) small)
+    passes s (segmented s [] u (ap not e)).kind (lawful s [] u refl small)
 
 passes_by : (key : Key) (mode : Mode) (client_time : ℕ) (job : Job) (time : ℕ) (d : Description) (contents : Contents)
     (past : Log)
@@ -65,10 +65,10 @@ passes_by key Plain client_time (Download bytes tells) time d contents past u fi
     plain_passes key client_time bytes tells time d contents past _ refl u fits
 passes_by key Segmented client_time (Download bytes tells) time d contents past u fits =
     let s = setup key Segmented client_time (Download bytes tells) time d contents past in
-    passes s (segmented s [] u refl) (segmented_lawful s [] u refl fits)
+    passes s (segmented s [] u refl).kind (lawful s [] u refl fits)
 passes_by key Block client_time (Download bytes tells) time d contents past u fits =
     let s = setup key Block client_time (Download bytes tells) time d contents past in
-    passes s (sent_in_blocks s [] u refl) (sent_lawful s [] u refl fits)
+    passes s (sent_in_blocks s [] u refl) (lawful s [] u refl fits)
 passes_by key Plain client_time (Upload cap) time d contents past u fits =
     let s = setup key Plain client_time (Upload cap) time d contents past in
     passes s (uploaded s [] u refl fits).kind u.dictionary

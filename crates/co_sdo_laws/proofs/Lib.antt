@@ -3,6 +3,7 @@ pub mod UndisturbedExamples
 pub mod Client
 pub mod Frames
 pub mod Permits
+pub mod Protocols
 pub mod Server
 pub mod Pasts
 mod PastExamples
@@ -11,6 +12,7 @@ pub mod Failures
 pub mod Unawaited
 pub mod Channel
 pub mod Segments
+pub mod StopAndWait
 pub mod SegmentedDownloads
 pub mod ExpeditedDownloads
 pub mod SegmentedUploads
@@ -18,7 +20,6 @@ pub mod ExpeditedUploads
 pub mod SentFrames
 pub mod Blocks
 pub mod BlockSegments
-pub mod BlockCounts
 pub mod BlockUploads
 pub mod BlockUploadRequests
 pub mod BlockUploadSegments

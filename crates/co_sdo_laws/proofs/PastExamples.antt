@@ -14,8 +14,8 @@ use Rattle.co_sdo_laws.specs.World.{Setup, WorldEvent, Lost, Requests, ChannelTi
 use Rattle.co_sdo_laws.specs.Undisturbed.{IsUndisturbed, GoesInTurns, rounds_after, arrived}
 use Rattle.co_sdo_laws.proofs.Pasts.{is_filled}
 use Rattle.co_sdo_laws.proofs.Progress.{rounds_calm}
-use Rattle.co_sdo_laws.proofs.Transfers.{download_goes}
-use Rattle.co_sdo_laws.proofs.Examples.{string_key, row_in, bytes_in, dictionary, report, r, a, ten, fourteen}
+use Rattle.co_sdo_laws.proofs.Transfers.{segmented}
+use Rattle.co_sdo_laws.proofs.Examples.{string_key, row_in, bytes_in, dictionary, report, waits, is_done, r, a, ten, fourteen}
 use Rattle.co_sdo_laws.proofs.UndisturbedExamples.{is_dictionary}
 
 -- another client begins in a world that events, newest first, came to
@@ -42,7 +42,8 @@ idle_again : open_transfer read_again.past ≡ None
 unfolding request_row_in response_row_in reading_refusal initiate_refusal completion_refusal has_object
 idle_again = refl
 
-ten_are_read : report read_again (r ∷ a ∷ r ∷ a ∷ r ∷ a ∷ []) ≡ record { requests = []; answers = []; entry = Some (codes "0123456789"); state = Done; sent = 3; value = codes "0123456789" }
+ten_are_read : report read_again (r ∷ a ∷ r ∷ a ∷ r ∷ a ∷ [])
+    ≡ is_done 3 [] [] (codes "0123456789") (codes "0123456789")
 unfolding request_row_in response_row_in reading_refusal initiate_refusal completion_refusal has_object
 ten_are_read = refl
 
@@ -83,9 +84,9 @@ unfolding request_row_in response_row_in reading_refusal initiate_refusal comple
 write_undisturbed n = record { dictionary = is_dictionary; key = omega arith; job = omega arith; permitted = refl; idle = refl; calm = rounds_calm write_again n [] tt }
 
 write_goes : (n : ℕ) → GoesInTurns write_again.call 3 (world_after write_again (rounds_after n []))
-write_goes n = download_goes write_again (rounds_after n []) (write_undisturbed n) refl
+write_goes n = (segmented write_again (rounds_after n []) (write_undisturbed n) refl).turns (rounds_after n []) (write_undisturbed n).calm
 
-ten_are_written : report write_again (r ∷ a ∷ r ∷ a ∷ r ∷ a ∷ []) ≡ record { requests = []; answers = []; entry = Some (codes "0123456789"); state = Done; sent = 3; value = [] }
+ten_are_written : report write_again (r ∷ a ∷ r ∷ a ∷ r ∷ a ∷ []) ≡ is_done 3 [] [] (codes "0123456789") []
 unfolding request_row_in response_row_in reading_refusal initiate_refusal completion_refusal has_object
 ten_are_written = refl
 
@@ -100,6 +101,6 @@ still_open : open_transfer inside_blocks.past ≡ None → ⊥
 unfolding request_row_in response_row_in reading_refusal initiate_refusal completion_refusal has_object
 still_open e = cc
 
-nothing_comes : report inside_blocks (r ∷ []) ≡ record { requests = []; answers = []; entry = Some (codes "ABCDEFGHI"); state = Waiting; sent = 1; value = [] }
+nothing_comes : report inside_blocks (r ∷ []) ≡ waits 1 [] [] (codes "ABCDEFGHI")
 unfolding request_row_in response_row_in reading_refusal initiate_refusal completion_refusal has_object
 nothing_comes = refl

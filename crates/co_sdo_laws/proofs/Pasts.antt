@@ -10,17 +10,12 @@ use Rattle.co_frame.specs.SdoRequests.{request_in}
 use Rattle.co_frame.specs.declared.sdo_request.SdoRequest.{SdoRequest}
 use Rattle.co_frame.specs.declared.sdo_request.SdoRequest.TheVariants.{DownloadInitiate, Upload, BlockUploadInitiate, BlockDownloadInitiate}
 use Rattle.co_dict.specs.Rows.{Rows, Contents, fits, takes, written}
-use Rattle.co_dict.specs.Stores.{Description, IsFilled, IsDictionary}
-use Rattle.co_sdo_client.specs.Calls.{Job, Download, Upload as UploadJob}
-use Rattle.co_sdo_client.specs.Segments.{bytes_of}
+use Rattle.co_dict.specs.Stores.{Description, IsFilled}
 use Rattle.co_sdo.specs.Log.{Ticked, Log, exchanges}
 use Rattle.co_sdo.specs.OpenTransfers.{Transfer, open_transfer}
 use Rattle.co_sdo.specs.Opened.{opened, opened_by, is_time_over}
 use Rattle.co_sdo.specs.Standing.{Standing, Stands, is_under_way, is_transfer_after}
 use Rattle.co_sdo_laws.proofs.Server.{Serves}
-use Rattle.co_sdo_laws.proofs.Permits.{takes_bytes}
-use Rattle.co_sdo_laws.specs.Undisturbed.{IsPermitted}
-use Rattle.co_sdo_laws.specs.Chains.{contents_after}
 use Rattle.co_sdo_laws.specs.World.{Setup, World, Queue, Requests, Answers, WorldEvent, Delivered, Lost, Repeated, ClientTicked, ChannelTicked, timed_out, ticked, on_way, without_front, front_arrives, after_event, world_after}
 
 -- ---- requests
@@ -102,12 +97,3 @@ is_filled rows contents key bytes h room small = record {
     all_small : (other : Key) (held : List ℕ) (same : Bool) → (if same then Some bytes else contents other) ≡ Some held → AreBytes held
     all_small other held true c = let is : bytes ≡ held = cc in subst AreBytes is small
     all_small other held false c = h.bytes other held c
-
--- after a permitted job, with bytes of a download that are some, the contents are a dictionary again
-pub dictionary_after : (d : Description) (contents : Contents) (key : Key) (job : Job) → IsDictionary d contents → IsPermitted d contents key job → AreBytes (bytes_of job) → IsDictionary d (contents_after contents key job)
-dictionary_after d contents key (Download bytes tells) lawful free small = record {
-  description = lawful.description;
-  initially = lawful.initially;
-  filled = is_filled d.rows contents key bytes lawful.filled (takes_bytes d contents key bytes lawful.description free) small;
-}
-dictionary_after d contents key (UploadJob cap) lawful free small = lawful

@@ -26,7 +26,7 @@ use Rattle.co_sdo_laws.specs.World.{Setup, World, WorldEvent, Requests, Answers,
 use Rattle.co_sdo_laws.specs.Undisturbed.{IsCalm, AreCalm, IsPermitted, IsUndisturbed, rounds_after, GoesInTurns}
 use Rattle.co_sdo_laws.proofs.Server.{tick_opens}
 use Rattle.co_sdo_laws.proofs.Progress.{rounds_calm}
-use Rattle.co_sdo_laws.proofs.Transfers.{download_goes}
+use Rattle.co_sdo_laws.proofs.Transfers.{segmented}
 use Rattle.co_sdo_laws.proofs.Examples.{string_key, domain_key, row, row_in, bytes_in, dictionary, setup, r, a, ten, fourteen}
 
 -- ---- the example's dictionary is one
@@ -170,7 +170,7 @@ ten_done = refl
 
 -- so that the law says how it goes
 ten_goes : GoesInTurns ten.call 3 (world_after ten ten_events)
-ten_goes = download_goes ten ten_events ten_undisturbed refl
+ten_goes = (segmented ten ten_events ten_undisturbed refl).turns ten_events ten_calm
 
 -- ---- and in blocks: any number of rounds
 
