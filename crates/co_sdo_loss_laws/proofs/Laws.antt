@@ -62,7 +62,10 @@ protocol : (mode : Mode) (job : Job) → is_plain_download mode job ≡ true
     → (is_expedited_download mode job ≡ true) ⊎ (is_segmented_download mode job ≡ true)
 protocol Plain (Download bytes tells) h = plain (is_short (length bytes))
 protocol Segmented (Download bytes tells) h = inr refl
-protocol _ _ h = cc
+protocol Block (Download bytes tells) h = cc
+protocol Plain (Upload cap) h = cc
+protocol Segmented (Upload cap) h = cc
+protocol Block (Upload cap) h = cc
 
 pub download_sets : (s : Setup) (events : List WorldEvent) → IsAlone s → is_plain_download s.call.mode s.call.job ≡ true
     → outcome s.call (world_after s events).events ≡ Done → (world_after s events).contents s.call.key ≡ Some (bytes_of s.call.job)
