@@ -17,9 +17,9 @@ use Rattle.co_sdo_laws.proofs.Permits.{bytes, indicated, IsDownload, lawful_of, 
 use Rattle.co_sdo_laws.proofs.Server.{moved}
 use Rattle.co_sdo_laws.proofs.Failures.{failed_front}
 use Rattle.co_sdo_laws.proofs.Channel.{IsServing, is_served}
-use Rattle.co_sdo_laws.proofs.Blocks.{live, live_after, Moment, disturbed, replied, no_request}
-use Rattle.co_sdo_laws.proofs.GoneChannels.{awaited, awaited_after, aborted_other, IsGone, gone_answers, gone_goes_on}
-use Rattle.co_sdo_laws.proofs.BlockSegments.{all_held, all_is, total, size_after, blocks, unused, segment_at, segments, data_at, frame_with, frame_is, frame_long, next_joined, last_joined, InTurn, IsWhole}
+use Rattle.co_sdo_laws.proofs.Blocks.{is_live, live, kept_after, Moment, disturbed, replied, no_request, dropped, front_came, nothing_came}
+use Rattle.co_sdo_laws.proofs.GoneChannels.{is_awaited_frame, awaited, aborted_other, IsGone, gone_answers, gone_goes_on}
+use Rattle.co_sdo_laws.proofs.BlockSegments.{all_held, all_is, total, size_after, blocks, unused, segment_at, segments, data_at, frame_with, frame_is, frame_long, next_joined, last_joined, InTurn, IsWhole, not_turn}
 use Rattle.co_sdo_laws.proofs.BlockDownloadSegments.{begin, acknowledgement, client_end, all_done, inside, at_last, initiate_taken, initiate_refused, inside_next, inside_other, last_next, full_next, full_refused, end_other, end_refused, end_taken, completion_refused}
 use Rattle.co_sdo_laws.proofs.BlockDownloads.{HasBegun, Took, Lawful, taking, complete, May, Closed, IsSet, Stands, asking, confirmed, unconfirmed, sending, unheard, acknowledging, finishing, ending, ended, quiet, over, failed}
 
@@ -28,12 +28,12 @@ initiate_comes : (s : Setup) (p : Type 0) → IsDownload s p Block → (w : Worl
 initiate_comes s p m w c at h None e =
     let made = is_served s w.log w.contents None (begin s) _ _ _ h.serves (lawful_of s m.dictionary w.contents h.lawful) (block_begin_long s.call.key (size_sent s.call.job))
     (initiate_taken s.description w.contents s.call.key (size_sent s.call.job) m.key e) in
-    confirmed c (replied s p live live_after (begin s) w _ _ _ _ 1 _ at made.replies refl (λ x. refl) (λ x. refl))
+    confirmed c (replied s p live (kept_after is_live) (begin s) w _ _ _ _ 1 _ at made.replies refl (λ x. refl) (λ x. refl))
     (inl (record { serves = made.serves; lawful = made.sets ∙ h.lawful }))
 initiate_comes s p m w c at h (Some code) e =
     let made = is_served s w.log w.contents None (begin s) _ _ _ h.serves (lawful_of s m.dictionary w.contents h.lawful) (block_begin_long s.call.key (size_sent s.call.job))
     (initiate_refused s.description w.contents s.call.key (size_sent s.call.job) code m.key e) in
-    unconfirmed (λ x. none≢some _ code (m.may_begin x) e) c at.requests (live_after w.answers _ _ at.answers (rw made.replies refl))
+    unconfirmed (λ x. none≢some _ code (m.may_begin x) e) c at.requests (kept_after is_live w.answers _ _ at.answers (rw made.replies refl))
 
 acknowledged_other : (count : ℕ) → awaited (map answer_bytes (Response (BlockDownloadAcknowledge count 127) ∷ [])) ≡ acknowledgement count ∷ []
 acknowledged_other count = rw (acknowledged_read count 127) refl
@@ -41,10 +41,7 @@ acknowledged_other count = rw (acknowledged_read count 127) refl
 -- the channel gives up, or is gone: what it answers isn't awaited
 gives_up : (s : Setup) (p : Type 0) (a r q : ℕ) (frame : List ℕ) (w : World) (key : Key) (code : ℕ) → (p → ⊥) → Took s a w.events → Moment p awaited [] [] r q w → reply_to s.description w.contents w.log frame ≡ aborted key code
     → Stands s p (at_channel s frame w)
-gives_up s p a r q frame w key code never c at e = quiet a never c at.requests (awaited_after w.answers _ _ at.answers (rw e (aborted_other key code)))
-
-not_turn : (n t : ℕ) → eqb n (t + 1) ≡ false → n ≡ t + 1 → ⊥
-not_turn n t e h = absurd (grind (arith, nat_tests))
+gives_up s p a r q frame w key code never c at e = quiet a never c at.requests (kept_after is_awaited_frame w.answers _ _ at.answers (rw e (aborted_other key code)))
 
 -- to a segment that ends nothing the channel answers nothing
 inside_comes : (s : Setup) (p : Type 0) → IsDownload s p Block → (a t n more : ℕ) (w : World) → Took s a w.events → a + t < total (bytes s) → 1 ≤ n → n + suc more ≡ size_after (bytes s) a → (p → InTurn a t n)
@@ -58,7 +55,7 @@ inside_comes s p m a t n more w c under some size turn at h true e =
     let made = is_served s w.log w.contents _ (frame_with v a n false) _ _ _ h.serves (lawful_of s m.dictionary w.contents h.lawful) (frame_long v a n false)
     (inside_next v s.description w.contents s.call.key (indicated s) t (take (7 * (a + t)) v) a n some few other e) in
     sending a (t + 1) (n + 1) more c (omega arith) (omega arith) (omega arith) (λ x. record { whole = (turn x).whole; next = let k = (turn x).next in omega arith })
-    (replied s p awaited awaited_after (frame_with v a n false) w _ _ _ _ _ _ at made.replies refl (λ x. refl) (λ x. omega arith))
+    (replied s p awaited (kept_after is_awaited_frame) (frame_with v a n false) w _ _ _ _ _ _ at made.replies refl (λ x. refl) (λ x. omega arith))
     (record { serves = moved _ _ _ _ (ap (λ (xs : List ℕ). Some (inside s.call.key (indicated s) (t + 1) xs)) (next_joined v a t n next (omega arith))) made.serves; lawful = made.sets ∙ h.lawful })
 inside_comes s p m a t n more w c under some size turn at h false e =
     let v = bytes s in
@@ -68,7 +65,7 @@ inside_comes s p m a t n more w c under some size turn at h false e =
     let made = is_served s w.log w.contents _ (frame_with v a n false) _ _ _ h.serves (lawful_of s m.dictionary w.contents h.lawful) (frame_long v a n false)
     (inside_other v s.description w.contents s.call.key (indicated s) t (take (7 * (a + t)) v) a n some few other e) in
     sending a t (n + 1) more c under (omega arith) (omega arith) (λ x. absurd (never x))
-    (replied s p awaited awaited_after (frame_with v a n false) w _ _ _ _ _ _ at made.replies refl (λ x. refl) (λ x. absurd (never x)))
+    (replied s p awaited (kept_after is_awaited_frame) (frame_with v a n false) w _ _ _ _ _ _ at made.replies refl (λ x. refl) (λ x. absurd (never x)))
     (record { serves = made.serves; lawful = made.sets ∙ h.lawful })
 
 -- the last frame of a sub-block
@@ -80,7 +77,7 @@ last_comes s p m a t n w c under some few whole size turn at h e =
     let made = is_served s w.log w.contents _ (frame_with v a n true) _ _ _ h.serves (lawful_of s m.dictionary w.contents h.lawful) (frame_long v a n true)
     (last_next v s.description w.contents s.call.key (indicated s) t (take (7 * (a + t)) v) a n some few e) in
     finishing a (t + 1) c (omega arith) (omega arith) (λ x. record { whole = (turn x).whole; size = sym next ∙ size; within = omega arith })
-    (replied s p awaited awaited_after (frame_with v a n true) w _ _ _ _ _ _ at made.replies (acknowledged_other (t + 1)) (λ x. refl) (λ x. omega arith))
+    (replied s p awaited (kept_after is_awaited_frame) (frame_with v a n true) w _ _ _ _ _ _ at made.replies (acknowledged_other (t + 1)) (λ x. refl) (λ x. omega arith))
     (inl (record { serves = moved _ _ _ _ (ap (λ (xs : List ℕ). Some (at_last s.call.key (indicated s) xs)) (last_joined v a t n next whole)) made.serves; lawful = made.sets ∙ h.lawful }))
 
 full_comes : (s : Setup) (p : Type 0) → IsDownload s p Block → (a t n : ℕ) (w : World) → Took s a w.events → 1 ≤ n → n < 128 → a + n < total (bytes s) → n ≡ size_after (bytes s) a → eqb n 127 ≡ true → (p → InTurn a t n)
@@ -100,7 +97,7 @@ full_comes s p m a t n w c some few left size full turn at h e false room =
     let made = is_served s w.log w.contents _ (frame_with v a n false) _ _ _ h.serves (lawful_of s m.dictionary w.contents h.lawful) (frame_long v a n false)
     (full_next v s.description w.contents s.call.key (indicated s) t (take (7 * (a + t)) v) a n some few full e room) in
     acknowledging a (t + 1) c (omega arith) (λ x. record { whole = (turn x).whole; size = sym next ∙ size; within = omega arith })
-    (replied s p awaited awaited_after (frame_with v a n false) w _ _ _ _ _ _ at made.replies (acknowledged_other (t + 1)) (λ x. refl) (λ x. omega arith))
+    (replied s p awaited (kept_after is_awaited_frame) (frame_with v a n false) w _ _ _ _ _ _ at made.replies (acknowledged_other (t + 1)) (λ x. refl) (λ x. omega arith))
     (inl (record { serves = moved _ _ _ _ (ap (λ (xs : List ℕ). Some (inside s.call.key (indicated s) 0 xs)) (next_joined v a t n next left)) made.serves; lawful = made.sets ∙ h.lawful }))
 
 missed_comes : (s : Setup) (p : Type 0) → IsDownload s p Block → (a t n : ℕ) (last : Bool) (w : World) → Took s a w.events → a + t < total (bytes s) → 1 ≤ n → n < 128 → last || eqb n 127 ≡ true → (p → InTurn a t n)
@@ -117,7 +114,7 @@ missed_comes s p m a t n last w c under some few ends turn at h e false room =
     let made = is_served s w.log w.contents _ (frame_with v a n last) _ _ _ h.serves (lawful_of s m.dictionary w.contents h.lawful) (frame_long v a n last)
     (end_other v s.description w.contents s.call.key (indicated s) t (take (7 * (a + t)) v) a n last some few ends e room) in
     acknowledging a t c under (λ x. absurd (never x))
-    (replied s p awaited awaited_after (frame_with v a n last) w _ _ _ _ _ _ at made.replies (acknowledged_other t) (λ x. refl) (λ x. absurd (never x)))
+    (replied s p awaited (kept_after is_awaited_frame) (frame_with v a n last) w _ _ _ _ _ _ at made.replies (acknowledged_other t) (λ x. refl) (λ x. absurd (never x)))
     (inl (record { serves = made.serves; lawful = made.sets ∙ h.lawful }))
 
 end_comes : (s : Setup) (p : Type 0) → IsDownload s p Block → (a t n : ℕ) (w : World) → Took s a w.events → a + t < total (bytes s) → 1 ≤ n → n ≡ size_after (bytes s) a → (p → InTurn a t n)
@@ -147,7 +144,7 @@ low_byte : (n : ℕ) → n < 128 → cond false 128 0 + n < 128
 low_byte n h = omega arith
 
 gone_replies : (s : Setup) (frame : List ℕ) (w : World) → awaited w.answers ≡ [] → IsGone w.log → awaited (w.answers ++ map answer_bytes (reply_to s.description w.contents w.log frame)) ≡ []
-gone_replies s frame w none h = awaited_after w.answers _ _ none (gone_answers s.description w.contents w.log frame h)
+gone_replies s frame w none h = kept_after is_awaited_frame w.answers _ _ none (gone_answers s.description w.contents w.log frame h)
 
 unheard_comes : (s : Setup) (p : Type 0) (a n more : ℕ) (w : World) → (p → ⊥) → Took s a w.events → a < total (bytes s) → 1 ≤ n → n + more ≡ size_after (bytes s) a → w.requests ≡ segments (bytes s) a (n + 1) more → awaited w.answers ≡ []
     → IsGone w.log → Stands s p (at_channel s (segment_at (bytes s) a n) w)
@@ -172,7 +169,7 @@ finish_comes s p m w c at h None e =
     let whole = all_is v (total v - 1) (omega arith) in
     let made = is_served s w.log w.contents _ (client_end s) _ _ _ h.serves (lawful_of s m.dictionary w.contents h.lawful) refl
     (end_taken s.description w.contents s.call.key (indicated s) (all_held v (total v - 1)) v (unused v) (omega arith) whole e) in
-    ended c (replied s p awaited awaited_after (client_end s) w _ _ _ _ _ _ at made.replies done_awaited (λ x. refl) (λ x. omega arith)) (record {
+    ended c (replied s p awaited (kept_after is_awaited_frame) (client_end s) w _ _ _ _ _ _ at made.replies done_awaited (λ x. refl) (λ x. omega arith)) (record {
       entry = ap (λ (x : Contents). x s.call.key) made.sets ∙ entry_is w.contents s.call.key v;
       closed = λ x. record { serves = made.serves; sets = made.sets ∙ ap (λ (y : Contents). written y s.call.key v) h.lawful };
     })
@@ -185,9 +182,6 @@ finish_comes s p m w c at h (Some code) e =
     gives_up s p (total v) _ _ (client_end s) w s.call.key code permitted c at made.replies
 
 -- ---- the oldest request comes or is lost
-
-dropped : (p : Type 0) (kept : List (List ℕ) → List (List ℕ)) (x : List ℕ) (later given : List (List ℕ)) (r q : ℕ) (w : World) → Moment p kept (x ∷ later) given r q w → Moment p kept later given r q (without_front Requests w)
-dropped p kept x later given r q w m = record { requests = ap (drop 1) m.requests; answers = m.answers; exact = m.exact; count = λ y. record { received = (m.count y).received; answered = (m.count y).answered } }
 
 pub loses_request : (s : Setup) (p : Type 0) (w : World) → (p → ⊥) → Stands s p w → Stands s p (without_front Requests w)
 loses_request s p w never (asking b m h) = unconfirmed never b (ap (drop 1) m.requests) m.answers
@@ -206,26 +200,20 @@ loses_request s p w never (quiet a n b e f) = quiet a never b (ap (drop 1) e) f
 loses_request s p w never (over b e h last) = subst (Stands s p) (no_request w e) (over b e h last)
 loses_request s p w never (failed n h) = failed never h
 
-front_came : (s : Setup) (p : Type 0) (w : World) (xs : List (List ℕ)) → w.requests ≡ xs → Stands s p (front_arrives s Requests xs (without_front Requests w)) → Stands s p (front_arrives s Requests w.requests (without_front Requests w))
-front_came s p w xs e h = subst (λ (ys : List (List ℕ)). Stands s p (front_arrives s Requests ys (without_front Requests w))) (sym e) h
-
-nothing_came : (s : Setup) (p : Type 0) (w : World) → w.requests ≡ [] → Stands s p w → Stands s p (front_arrives s Requests w.requests (without_front Requests w))
-nothing_came s p w e h = front_came s p w [] e (subst (Stands s p) (no_request w e) h)
-
 pub request_comes : (s : Setup) (p : Type 0) → IsDownload s p Block → (w : World) → Stands s p w → Stands s p (front_arrives s Requests w.requests (without_front Requests w))
-request_comes s p up w (asking b m h) = front_came s p w _ m.requests (initiate_comes s p up (without_front Requests w) b (dropped p live _ _ _ _ _ w m) h _ refl)
-request_comes s p up w (confirmed b m h) = nothing_came s p w m.requests (confirmed b m h)
-request_comes s p up w (unconfirmed n b e f) = nothing_came s p w e (unconfirmed n b e f)
+request_comes s p up w (asking b m h) = front_came s (Stands s p) w _ m.requests (initiate_comes s p up (without_front Requests w) b (dropped p live _ _ _ _ _ w m) h _ refl)
+request_comes s p up w (confirmed b m h) = nothing_came s (Stands s p) w m.requests (confirmed b m h)
+request_comes s p up w (unconfirmed n b e f) = nothing_came s (Stands s p) w e (unconfirmed n b e f)
 request_comes s p up w (sending a t n more b under some size turn m h) =
-    front_came s p w (segment_at (bytes s) a n ∷ segments (bytes s) a (n + 1) more) m.requests
+    front_came s (Stands s p) w (segment_at (bytes s) a n ∷ segments (bytes s) a (n + 1) more) m.requests
     (segment_comes s p up a t n more (without_front Requests w) b under some size turn (dropped p awaited (segment_at (bytes s) a n) (segments (bytes s) a (n + 1) more) _ _ _ w m) h)
 request_comes s p up w (unheard a n more never b under some size e f h) =
-    front_came s p w (segment_at (bytes s) a n ∷ segments (bytes s) a (n + 1) more) e (unheard_comes s p a n more (without_front Requests w) never b under some size (ap (drop 1) e) f h)
-request_comes s p up w (acknowledging a t b under whole m h) = nothing_came s p w m.requests (acknowledging a t b under whole m h)
-request_comes s p up w (finishing a t b under e whole m h) = nothing_came s p w m.requests (finishing a t b under e whole m h)
-request_comes s p up w (ending b m (inl h)) = front_came s p w _ m.requests (finish_comes s p up (without_front Requests w) b (dropped p awaited _ _ _ _ _ w m) h _ refl)
-request_comes s p up w (ending b m (inr h)) = front_came s p w _ m.requests (quiet (total (bytes s)) h.0 b (ap (drop 1) m.requests) (gone_replies s (client_end s) (without_front Requests w) m.answers h.1))
-request_comes s p up w (ended b m h) = nothing_came s p w m.requests (ended b m h)
-request_comes s p up w (quiet a n b e f) = nothing_came s p w e (quiet a n b e f)
-request_comes s p up w (over b e h last) = nothing_came s p w e (over b e h last)
+    front_came s (Stands s p) w (segment_at (bytes s) a n ∷ segments (bytes s) a (n + 1) more) e (unheard_comes s p a n more (without_front Requests w) never b under some size (ap (drop 1) e) f h)
+request_comes s p up w (acknowledging a t b under whole m h) = nothing_came s (Stands s p) w m.requests (acknowledging a t b under whole m h)
+request_comes s p up w (finishing a t b under e whole m h) = nothing_came s (Stands s p) w m.requests (finishing a t b under e whole m h)
+request_comes s p up w (ending b m (inl h)) = front_came s (Stands s p) w _ m.requests (finish_comes s p up (without_front Requests w) b (dropped p awaited _ _ _ _ _ w m) h _ refl)
+request_comes s p up w (ending b m (inr h)) = front_came s (Stands s p) w _ m.requests (quiet (total (bytes s)) h.0 b (ap (drop 1) m.requests) (gone_replies s (client_end s) (without_front Requests w) m.answers h.1))
+request_comes s p up w (ended b m h) = nothing_came s (Stands s p) w m.requests (ended b m h)
+request_comes s p up w (quiet a n b e f) = nothing_came s (Stands s p) w e (quiet a n b e f)
+request_comes s p up w (over b e h last) = nothing_came s (Stands s p) w e (over b e h last)
 request_comes s p up w (failed n h) = failed n (failed_front s Requests w.requests (without_front Requests w) h)

@@ -20,7 +20,7 @@ use Rattle.co_sdo_laws.proofs.Permits.{bytes, indicated}
 use Rattle.co_sdo_laws.proofs.Server.{Serves}
 use Rattle.co_sdo_laws.proofs.Failures.{has_failed}
 use Rattle.co_sdo_laws.proofs.Channel.{IsServing}
-use Rattle.co_sdo_laws.proofs.Blocks.{live, Count, Moment}
+use Rattle.co_sdo_laws.proofs.Blocks.{live, Count, Moment, IsDone}
 use Rattle.co_sdo_laws.proofs.GoneChannels.{awaited, IsGone}
 use Rattle.co_sdo_laws.proofs.BlockSegments.{all_held, total, size_after, blocks, segments, InTurn, IsWhole}
 use Rattle.co_sdo_laws.proofs.BlockDownloadSegments.{begin, confirmation, acknowledgement, client_end, all_done, inside, at_last}
@@ -39,11 +39,6 @@ pub record Took (s : Setup) (sum : ℕ) (events : List ClientEvent) : Type 0 whe
   pub is : since_first (answers_of events) ≡ Some taken
   pub total : acknowledged taken.later ≡ sum
   pub size : block_size_by (response_in (newest taken)) ≡ 127
-
--- a client that is done, and gives no bytes
-pub record IsDone (s : Setup) (events : List ClientEvent) : Type 0 where
-  pub done : outcome s.call events ≡ Done
-  pub gives : result s.call events ≡ []
 
 -- ---- the channel
 
@@ -99,13 +94,13 @@ pub data Stands (s : Setup) (p : Type 0) (w : World) : Type 0 where
   ended : Took s (total (bytes s)) w.events → Moment p awaited [] (all_done ∷ []) (2 + total (bytes s)) (1 + blocks (bytes s)) w → IsSet s p w → Stands s p w
   -- nothing is on its way that the client awaits
   quiet : (a : ℕ) → (p → ⊥) → Took s a w.events → w.requests ≡ [] → awaited w.answers ≡ [] → Stands s p w
-  over : IsDone s w.events → w.requests ≡ [] → IsSet s p w → (p → Last s w) → Stands s p w
+  over : IsDone s [] w.events → w.requests ≡ [] → IsSet s p w → (p → Last s w) → Stands s p w
   failed : (p → ⊥) → has_failed (outcome s.call w.events) ≡ true → Stands s p w
 
 -- how the client stands in it
 pub data Standing (s : Setup) (p : Type 0) (w : World) : Type 0 where
   waiting : outcome s.call w.events ≡ Waiting → Standing s p w
-  finished : IsDone s w.events → w.requests ≡ [] → IsSet s p w → (p → Last s w) → Standing s p w
+  finished : IsDone s [] w.events → w.requests ≡ [] → IsSet s p w → (p → Last s w) → Standing s p w
   gave_up : (p → ⊥) → has_failed (outcome s.call w.events) ≡ true → Standing s p w
 
 pub standing : (s : Setup) (p : Type 0) (w : World) → Stands s p w → Standing s p w

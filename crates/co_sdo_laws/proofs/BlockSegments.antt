@@ -136,6 +136,19 @@ pub record IsWhole (v : List ℕ) (a t : ℕ) : Type 0 where
   pub size : t ≡ size_after v a
   pub within : a < total v
 
+pub not_turn : (n t : ℕ) → eqb n (t + 1) ≡ false → n ≡ t + 1 → ⊥
+not_turn n t e h = absurd (grind (arith, nat_tests))
+
+-- a whole sub-block has 127 segments where others are left; so many have been acknowledged then
+pub full : (a u n : ℕ) → a % 127 ≡ 0 → u ≡ min 127 (n - a) → a + u < n → (a + u) % 127 ≡ 0
+full a u n h e under = let f : u ≡ 127 = omega arith in omega arith
+
+pub full_count : (b a u n : ℕ) → a % 127 ≡ 0 → u ≡ min 127 (n - a) → a + u < n → suc (b + a / 127) ≡ b + (a + u) / 127
+full_count b a u n h e under = let f : u ≡ 127 = omega arith in omega arith
+
+pub last_count : (b a u n : ℕ) → a % 127 ≡ 0 → u ≡ min 127 (n - a) → a < n → a + u ≡ n → suc (b + a / 127) ≡ b + (n + 126) / 127
+last_count b a u n h e under all = omega arith
+
 -- ---- what a receiver has taken
 
 -- what a receiver has with one more frame, the next segment

@@ -24,15 +24,15 @@ use Rattle.co_sdo_laws.specs.World.{Setup, World, Requests, Answers as Back, Wor
 use Rattle.co_sdo_laws.specs.Undisturbed.{IsCalm, AreCalm}
 use Rattle.co_sdo_laws.proofs.Frames.{block_upload_initiated_read, upload_end_read}
 use Rattle.co_sdo_laws.proofs.Server.{serves_first}
-use Rattle.co_sdo_laws.proofs.Client.{follows, stays}
+use Rattle.co_sdo_laws.proofs.Client.{follows, stays, verdict_since}
 use Rattle.co_sdo_laws.proofs.Failures.{has_failed, failed_more, failed_front}
 use Rattle.co_sdo_laws.proofs.Channel.{IsServing, serving_ticks, serving_ends}
 use Rattle.co_sdo_laws.proofs.Permits.{value, IsUpload, small_value, not_above}
-use Rattle.co_sdo_laws.proofs.Blocks.{live, live_both, cut_fails, cut_is_more, Count, Moment, disturbed, heard, no_request, no_answer, cons≢nil, head_is, tail_is, calm_asks, calm_waits, same_requests}
+use Rattle.co_sdo_laws.proofs.Blocks.{is_live, live, kept_both, cut_fails, cut_is_more, Count, Moment, disturbed, heard, no_request, no_answer, cons≢nil, head_is, tail_is, dropped, front_came, nothing_came, IsDone, over_event, calm_asks, calm_waits, same_requests}
 use Rattle.co_sdo_laws.proofs.BlockSegments.{all_is, total, blocks, unused, segment_at, segments}
-use Rattle.co_sdo_laws.proofs.BlockUploads.{begin, confirmation, server_end, client_end, HasBegun, Took, TookAll, IsDone, Lawful, Idle, begun, sending, at_end, May, Last, sent_end, end_came, Stands, asking, confirmed, starting, taking, acknowledging, finishing, ending, quiet, over, failed, waiting, finished, gave_up, standing}
+use Rattle.co_sdo_laws.proofs.BlockUploads.{begin, confirmation, server_end, client_end, HasBegun, Took, TookAll, Lawful, Idle, begun, sending, at_end, May, Last, sent_end, end_came, Stands, asking, confirmed, starting, taking, acknowledging, finishing, ending, quiet, over, failed, waiting, finished, gave_up, standing}
 use Rattle.co_sdo_laws.proofs.BlockUploadRequests.{initiate_comes, start_comes, acknowledgement_comes, last_acknowledgement_comes, end_comes}
-use Rattle.co_sdo_laws.proofs.BlockUploadSegments.{verdict_since, fails_by, segment_comes}
+use Rattle.co_sdo_laws.proofs.BlockUploadSegments.{fails_by, segment_comes}
 
 -- ---- the other answers
 
@@ -46,10 +46,10 @@ has_room s p m above x = let fits = m.fits x in absurd (grind (arith, nat_tests)
 confirmation_comes : (s : Setup) (p : Type 0) → IsUpload s p Block → (w : World) → HasBegun s w.events → Moment p live [] [] 1 0 w → May s p (begun s) w.log w.contents
     → (above : Bool) → nat_lt (cap_of s.call.job) (length (value s)) ≡ above → Stands s p (at_client s (Answered (confirmation s)) w)
 confirmation_comes s p m w c at h true room =
-    let is : verdict s.call w.events (Answered (confirmation s)) ≡ GivesUp 0x05040005 = verdict_since s w.events _ None c.first ∙ rw (confirmation_read s p m, m.transfer, same_key-refl s.call.key, room) refl in
+    let is : verdict s.call w.events (Answered (confirmation s)) ≡ GivesUp 0x05040005 = verdict_since s.call w.events _ None c.first ∙ rw (confirmation_read s p m, m.transfer, same_key-refl s.call.key, room) refl in
     fails_by s p (confirmation s) w (has_room s p m room) c.waits (rw is refl)
 confirmation_comes s p m w c at h false room =
-    let is : verdict s.call w.events (Answered (confirmation s)) ≡ GoesOn (Request BlockUploadStart ∷ []) = verdict_since s w.events _ None c.first ∙ rw (confirmation_read s p m, m.transfer, same_key-refl s.call.key, room) refl in
+    let is : verdict s.call w.events (Answered (confirmation s)) ≡ GoesOn (Request BlockUploadStart ∷ []) = verdict_since s.call w.events _ None c.first ∙ rw (confirmation_read s p m, m.transfer, same_key-refl s.call.key, room) refl in
     let f = follows s.call w.events (Answered (confirmation s)) (GoesOn (Request BlockUploadStart ∷ [])) c.waits is in
     starting (record {
       waits = f.state;
@@ -69,12 +69,12 @@ server_end_comes : (s : Setup) (p : Type 0) → IsUpload s p Block → (w : Worl
 server_end_comes s p m w c at h true room =
     let whole = all_is (value s) (total (value s) - 1) (omega arith) in
     let is : verdict s.call w.events (Answered (server_end s)) ≡ GivesUp 0x05040005 =
-    verdict_since s w.events _ (Some c.took) c.is ∙ rw (m.transfer, c.last, c.size, upload_end_read (unused (value s)) (omega arith), c.held, whole, below_itself (length (value s)), room) refl in
+    verdict_since s.call w.events _ (Some c.took) c.is ∙ rw (m.transfer, c.last, c.size, upload_end_read (unused (value s)) (omega arith), c.held, whole, below_itself (length (value s)), room) refl in
     fails_by s p (server_end s) w (has_room s p m room) c.waits (rw is refl)
 server_end_comes s p m w c at h false room =
     let whole = all_is (value s) (total (value s) - 1) (omega arith) in
     let is : verdict s.call w.events (Answered (server_end s)) ≡ Ends (Request BlockUploadEnd ∷ []) (value s) =
-    verdict_since s w.events _ (Some c.took) c.is ∙ rw (m.transfer, c.last, c.size, upload_end_read (unused (value s)) (omega arith), c.held, whole, below_itself (length (value s)), room) refl in
+    verdict_since s.call w.events _ (Some c.took) c.is ∙ rw (m.transfer, c.last, c.size, upload_end_read (unused (value s)) (omega arith), c.held, whole, below_itself (length (value s)), room) refl in
     let f = follows s.call w.events (Answered (server_end s)) (Ends (Request BlockUploadEnd ∷ []) (value s)) c.waits is in
     let next : Moment p live (client_end ∷ []) [] (2 + blocks (value s)) (2 + total (value s)) (at_client s (Answered (server_end s)) w) = heard s p live (server_end s) w _ _ _ _ _ _ at f.messages refl (λ x. omega arith) in
     over (record { done = f.state; gives = f.value }) (λ x. sent_end next.requests (next.exact x) (next.count x) (elim h [ inl gone ↦ absurd (gone.0 x) | inr opened ↦ opened ]))
@@ -86,7 +86,7 @@ record Carries (s : Setup) (p : Type 0) (w w' : World) : Type 0 where
   took : (sum taken : ℕ) → Took s sum taken w.events → Took s sum taken w'.events
   all : TookAll s w.events → TookAll s w'.events
   waits : outcome s.call w.events ≡ Waiting → outcome s.call w'.events ≡ Waiting
-  done : IsDone s w.events → IsDone s w'.events
+  done : IsDone s (value s) w.events → IsDone s (value s) w'.events
   fails : has_failed (outcome s.call w.events) ≡ true → has_failed (outcome s.call w'.events) ≡ true
   requests : w'.requests ≡ w.requests
   answers : live w'.answers ≡ live w.answers
@@ -133,16 +133,7 @@ loses_request s p w never (quiet n b e f) = quiet never b (ap (drop 1) e) f
 loses_request s p w never (over b last) = over b (λ x. absurd (never x))
 loses_request s p w never (failed n h) = failed never h
 
-front_came : (s : Setup) (p : Type 0) (w : World) (xs : List (List ℕ)) → w.requests ≡ xs → Stands s p (front_arrives s Requests xs (without_front Requests w)) → Stands s p (front_arrives s Requests w.requests (without_front Requests w))
-front_came s p w xs e h = subst (λ (ys : List (List ℕ)). Stands s p (front_arrives s Requests ys (without_front Requests w))) (sym e) h
-
-nothing_came : (s : Setup) (p : Type 0) (w : World) → w.requests ≡ [] → Stands s p w → Stands s p (front_arrives s Requests w.requests (without_front Requests w))
-nothing_came s p w e h = front_came s p w [] e (subst (Stands s p) (no_request w e) h)
-
-dropped : (p : Type 0) (x : List ℕ) (given : List (List ℕ)) (r q : ℕ) (w : World) → Moment p live (x ∷ []) given r q w → Moment p live [] given r q (without_front Requests w)
-dropped p x given r q w m = record { requests = ap (drop 1) m.requests; answers = m.answers; exact = m.exact; count = λ y. record { received = (m.count y).received; answered = (m.count y).answered } }
-
-over_front : (s : Setup) (p : Type 0) → IsUpload s p Block → (w : World) → IsDone s w.events → (p → Last s w) → (xs : List (List ℕ)) → w.requests ≡ xs → Stands s p (front_arrives s Requests xs (without_front Requests w))
+over_front : (s : Setup) (p : Type 0) → IsUpload s p Block → (w : World) → IsDone s (value s) w.events → (p → Last s w) → (xs : List (List ℕ)) → w.requests ≡ xs → Stands s p (front_arrives s Requests xs (without_front Requests w))
 over_front s p m w b last [] e = over b (λ x. subst (Last s) (no_request w e) (last x))
 over_front s p m w b last (frame ∷ later) e = over b (λ x. came x (last x))
   where
@@ -155,14 +146,14 @@ over_front s p m w b last (frame ∷ later) e = over b (λ x. came x (last x))
     came x (end_came a none n h) = absurd (cons≢nil frame later (sym e ∙ a))
 
 request_comes : (s : Setup) (p : Type 0) → IsUpload s p Block → (w : World) → Stands s p w → Stands s p (front_arrives s Requests w.requests (without_front Requests w))
-request_comes s p m w (asking b at h) = front_came s p w _ at.requests (initiate_comes s p m (without_front Requests w) b (dropped p _ _ _ _ w at) h _ refl)
-request_comes s p m w (confirmed b at h) = nothing_came s p w at.requests (confirmed b at h)
-request_comes s p m w (starting b at h) = front_came s p w _ at.requests (start_comes s p m (without_front Requests w) b (dropped p _ _ _ _ w at) h)
-request_comes s p m w (taking a t n more b under some size turn at h) = nothing_came s p w at.requests (taking a t n more b under some size turn at h)
-request_comes s p m w (acknowledging a u b under whole at h) = front_came s p w _ at.requests (acknowledgement_comes s p m a u (without_front Requests w) b under whole (dropped p _ _ _ _ w at) h _ refl)
-request_comes s p m w (finishing a u b e whole at h) = front_came s p w _ at.requests (last_acknowledgement_comes s p m a u (without_front Requests w) b e whole (dropped p _ _ _ _ w at) h _ refl)
-request_comes s p m w (ending b at h) = nothing_came s p w at.requests (ending b at h)
-request_comes s p m w (quiet never b e f) = nothing_came s p w e (quiet never b e f)
+request_comes s p m w (asking b at h) = front_came s (Stands s p) w _ at.requests (initiate_comes s p m (without_front Requests w) b (dropped p live _ _ _ _ _ w at) h _ refl)
+request_comes s p m w (confirmed b at h) = nothing_came s (Stands s p) w at.requests (confirmed b at h)
+request_comes s p m w (starting b at h) = front_came s (Stands s p) w _ at.requests (start_comes s p m (without_front Requests w) b (dropped p live _ _ _ _ _ w at) h)
+request_comes s p m w (taking a t n more b under some size turn at h) = nothing_came s (Stands s p) w at.requests (taking a t n more b under some size turn at h)
+request_comes s p m w (acknowledging a u b under whole at h) = front_came s (Stands s p) w _ at.requests (acknowledgement_comes s p m a u (without_front Requests w) b under whole (dropped p live _ _ _ _ _ w at) h _ refl)
+request_comes s p m w (finishing a u b e whole at h) = front_came s (Stands s p) w _ at.requests (last_acknowledgement_comes s p m a u (without_front Requests w) b e whole (dropped p live _ _ _ _ _ w at) h _ refl)
+request_comes s p m w (ending b at h) = nothing_came s (Stands s p) w at.requests (ending b at h)
+request_comes s p m w (quiet never b e f) = nothing_came s (Stands s p) w e (quiet never b e f)
 request_comes s p m w (over b last) = over_front s p m w b last w.requests refl
 request_comes s p m w (failed never h) = failed never (failed_front s Requests w.requests (without_front Requests w) h)
 
@@ -199,9 +190,6 @@ loses_cut s p w never e h = carry s p w (without_front Back w) (record {
   idle = λ c. c;
   may = λ o c. c;
 }) h
-
-over_event : (s : Setup) (event : ClientEvent) (w : World) → IsDone s w.events → IsDone s (event ∷ w.events)
-over_event s event w b = let f = stays s.call w.events event b.done in record { done = f.state; gives = f.value ∙ b.gives }
 
 last_answers : (s : Setup) (w : World) → Last s w → w.answers ≡ []
 last_answers s w (sent_end a b n h) = b
@@ -295,7 +283,7 @@ calm_tick s p w e = record {
 time_over : (s : Setup) (p : Type 0) (w : World) → is_client_over s.call.time (TickedAtClient ∷ w.events) ≡ true → (p → IsCalm s ClientTicked w) → outcome s.call w.events ≡ Waiting → Stands s p (at_client s TickedAtClient w)
 time_over s p w e calm waits = failed (λ x. false≢true (sym (calm x waits) ∙ e)) (rw (waits, e) refl)
 
-last_ticks : (s : Setup) (w : World) → IsDone s w.events → Last s w → Last s (at_client s TickedAtClient w)
+last_ticks : (s : Setup) (w : World) → IsDone s (value s) w.events → Last s w → Last s (at_client s TickedAtClient w)
 last_ticks s w b (sent_end a c n h) = sent_end (same_requests w.requests _ (ap (map message_bytes) (stays s.call w.events TickedAtClient b.done).messages) ∙ a) c (record { received = n.received; answered = n.answered }) h
 last_ticks s w b (end_came a c n h) = end_came (same_requests w.requests _ (ap (map message_bytes) (stays s.call w.events TickedAtClient b.done).messages) ∙ a) c (record { received = n.received; answered = n.answered }) h
 
@@ -338,7 +326,7 @@ channel_tick s p w true calm = record {
   done = λ c. c;
   fails = λ c. c;
   requests = refl;
-  answers = live_both w.answers (map answer_bytes (time_out_reply (Ticked ∷ w.log))) ∙ append-nil (live w.answers);
+  answers = kept_both is_live w.answers (map answer_bytes (time_out_reply (Ticked ∷ w.log))) ∙ append-nil (live w.answers);
   exact = λ x. absurd (false≢true (sym (calm x)));
   count = λ r q x. absurd (false≢true (sym (calm x)));
   idle = λ c. serving_ends s (Lawful s) None (Ticked ∷ w.log) w.contents (serving_ticks s (Lawful s) None w.log w.contents c);

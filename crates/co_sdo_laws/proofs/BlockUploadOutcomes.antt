@@ -13,8 +13,8 @@ use Rattle.co_sdo_laws.proofs.Server.{Serves}
 use Rattle.co_sdo_laws.proofs.Failures.{has_failed}
 use Rattle.co_sdo_laws.proofs.Permits.{value}
 use Rattle.co_sdo_laws.proofs.Turns.{waiting≢done}
-use Rattle.co_sdo_laws.proofs.Blocks.{live, Moment, some_on_way, waits_at, done_at}
-use Rattle.co_sdo_laws.proofs.BlockUploads.{IsDone, May, Last, sent_end, end_came, Stands, asking, confirmed, starting, taking, acknowledging, finishing, ending, quiet, over, failed, waiting, finished, gave_up, standing}
+use Rattle.co_sdo_laws.proofs.Blocks.{live, Moment, IsDone, some_on_way, waits_at, done_at}
+use Rattle.co_sdo_laws.proofs.BlockUploads.{May, Last, sent_end, end_came, Stands, asking, confirmed, starting, taking, acknowledging, finishing, ending, quiet, over, failed, waiting, finished, gave_up, standing}
 
 -- a client that is done gives the value
 pub value_is : (s : Setup) (p : Type 0) (w : World) → Stands s p w → outcome s.call w.events ≡ Done → result s.call w.events ≡ value s
@@ -31,7 +31,7 @@ pub data View (s : Setup) (w : World) : Type 0 where
   going : outcome s.call w.events ≡ Waiting → (on_their_way w ≡ 0 → ⊥)
       → GoesInBlocks s.call (block_frames (length (value s))) (block_upload_frames (length (value s))) w
       → w.contents ≡ s.contents → View s w
-  after : IsDone s w.events → Last s w → View s w
+  after : IsDone s (value s) w.events → Last s w → View s w
 
 goes : (s : Setup) (sent given : List (List ℕ)) (r q : ℕ) (w : World) → Moment (Unit {0}) live sent given r q w
     → outcome s.call w.events ≡ Waiting → r + q < block_frames (length (value s)) → 1 ≤ length sent + length given

@@ -19,22 +19,22 @@ use Rattle.co_sdo_laws.specs.World.{Setup, World, at_channel}
 use Rattle.co_sdo_laws.proofs.Frames.{block_upload_read}
 use Rattle.co_sdo_laws.proofs.Channel.{IsServed, is_served, IsServing}
 use Rattle.co_sdo_laws.proofs.Permits.{value, IsUpload, lawful_of, none≢some}
-use Rattle.co_sdo_laws.proofs.Blocks.{live, live_after, Moment, replied}
-use Rattle.co_sdo_laws.proofs.BlockSegments.{total, size_after, blocks, unused, segment_at, segments, live_segments, InTurn, IsWhole}
-use Rattle.co_sdo_laws.proofs.BlockUploads.{begin, start, acknowledgement, client_end, HasBegun, Took, TookAll, IsDone, Idle, begun, sending, at_end, May, initiate_taken, initiate_refused, start_taken, start_refused, acknowledged, all_acknowledged, too_many, acknowledge_refused, end_taken, Last, sent_end, end_came, Stands, confirmed, taking, ending, quiet, over}
+use Rattle.co_sdo_laws.proofs.Blocks.{is_live, live, kept_after, Moment, replied}
+use Rattle.co_sdo_laws.proofs.BlockSegments.{total, size_after, blocks, unused, segment_at, segments, live_segments, InTurn, IsWhole, full, full_count, last_count}
+use Rattle.co_sdo_laws.proofs.BlockUploads.{begin, start, acknowledgement, client_end, HasBegun, Took, TookAll, Idle, begun, sending, at_end, May, initiate_taken, initiate_refused, start_taken, start_refused, acknowledged, all_acknowledged, too_many, acknowledge_refused, end_taken, Last, sent_end, end_came, Stands, confirmed, taking, ending, quiet, over}
 
 -- ---- a request comes, and nothing else is on its way
 
 refused : (s : Setup) (p : Type 0) (w : World) (frame : List ℕ) (r q : ℕ) (key : Key) (code : ℕ) (next : Option OpenTransfer) (after : Contents) → (p → ⊥) → outcome s.call w.events ≡ Waiting → Moment p live [] [] r q w
     → IsServed s w.log w.contents frame (aborted key code) next after → Stands s p (at_channel s frame w)
-refused s p w frame r q key code next after never waits m h = quiet never waits m.requests (live_after w.answers _ [] m.answers (rw h.replies refl))
+refused s p w frame r q key code next after never waits m h = quiet never waits m.requests (kept_after is_live w.answers _ [] m.answers (rw h.replies refl))
 
 pub initiate_comes : (s : Setup) (p : Type 0) → IsUpload s p Block → (w : World) → HasBegun s w.events → Moment p live [] [] 0 0 w → Idle s w.log w.contents
     → (refusal : Option ℕ) → reading_refusal s.description w.contents s.call.key ≡ refusal → Stands s p (at_channel s (begin s) w)
 initiate_comes s p m w c at h None e =
     let made = is_served s w.log w.contents None (begin s) _ _ _ h.serves (lawful_of s m.dictionary w.contents h.lawful) refl
     (initiate_taken s.description w.contents s.call.key (value s) (begin s) (block_upload_read s.call.key 127 0 m.key) e (ap (λ (x : Contents). value_at x s.call.key) h.lawful)) in
-    confirmed c (replied s p live live_after (begin s) w _ _ _ _ 1 _ at made.replies refl (λ x. refl) (λ x. refl))
+    confirmed c (replied s p live (kept_after is_live) (begin s) w _ _ _ _ 1 _ at made.replies refl (λ x. refl) (λ x. refl))
     (inr (record { serves = made.serves; lawful = made.sets ∙ h.lawful }))
 initiate_comes s p m w c at h (Some code) e =
     refused s p w (begin s) _ _ s.call.key code None w.contents
@@ -54,7 +54,7 @@ sub_block_comes s p w frame a r h whole count c at same made =
     let none : a ≡ a + 0 = omega arith in
     let v = value s in
     taking a 0 1 (size_after v a - 1) (subst (λ (i : ℕ). Took s i 0 w.events) none c) (omega arith) (omega arith) (omega arith) (λ x. record { whole = whole x; next = refl })
-    (replied s p live live_after frame w _ _ _ _ _ _ at made.replies (ap live (burst v a h) ∙ live_segments v a 1 (suc (size_after v a - 1)) (omega arith) (omega arith)) (λ x. burst v a h) count)
+    (replied s p live (kept_after is_live) frame w _ _ _ _ _ _ at made.replies (ap live (burst v a h) ∙ live_segments v a 1 (suc (size_after v a - 1)) (omega arith) (omega arith)) (λ x. burst v a h) count)
     (inr (record { serves = made.serves; lawful = made.sets ∙ same }))
 
 pub start_comes : (s : Setup) (p : Type 0) → IsUpload s p Block → (w : World) → Took s 0 0 w.events → Moment p live [] [] 1 1 w → May s p (begun s) w.log w.contents → Stands s p (at_channel s start w)
@@ -86,16 +86,10 @@ acknowledgement_comes s p m a u w c under whole at (inr h) false e =
     let more : eqb (a + u) (total (value s)) ≡ false = grind (arith, nat_tests) in
     let sum : 1 + a + u ≡ 1 + (a + u) + 0 = omega arith in
     sub_block_comes s p w (acknowledgement u) (a + u) (2 + a / 127) under (λ x. let g = whole x in full a u (total (value s)) g.whole g.size under)
-    (λ x. let g = whole x in count a u (total (value s)) g.whole g.size under)
+    (λ x. let g = whole x in full_count 2 a u (total (value s)) g.whole g.size under)
     c (subst (λ (q : ℕ). Moment p live [] [] (2 + a / 127) q w) sum at) h.lawful
     (is_served s w.log w.contents (Some (sending s a)) (acknowledgement u) _ _ _ h.serves (lawful_of s m.dictionary w.contents h.lawful) refl
     (acknowledged s.description w.contents s.call.key (value s) a (size_after (value s) a) u e more))
-  where
-    full : (a u n : ℕ) → a % 127 ≡ 0 → u ≡ min 127 (n - a) → a + u < n → (a + u) % 127 ≡ 0
-    full a u n h e under = let f : u ≡ 127 = omega arith in omega arith
-
-    count : (a u n : ℕ) → a % 127 ≡ 0 → u ≡ min 127 (n - a) → a + u < n → suc (2 + a / 127) ≡ 2 + (a + u) / 127
-    count a u n h e under = let f : u ≡ 127 = omega arith in omega arith
 
 end_byte : (n : ℕ) → n ≤ 7 → eqb (32 * 6 + (4 * n + 1)) 128 ≡ false
 end_byte n h = grind (arith, nat_tests)
@@ -110,12 +104,9 @@ last_acknowledgement_comes s p m a u w c all whole at (inr h) false e =
     (all_acknowledged s.description w.contents s.call.key (value s) a (size_after (value s) a) u e same) in
     let sum : 1 + a + u ≡ 1 + total (value s) = omega arith in
     ending c
-    (replied s p live live_after (acknowledgement u) w _ _ _ _ _ _ (subst (λ (q : ℕ). Moment p live [] [] (2 + a / 127) q w) sum at) made.replies (rw (end_byte (unused (value s)) (omega arith)) refl) (λ x. refl)
-    (λ x. let g = whole x in count a u (total (value s)) g.whole g.size g.within all))
+    (replied s p live (kept_after is_live) (acknowledgement u) w _ _ _ _ _ _ (subst (λ (q : ℕ). Moment p live [] [] (2 + a / 127) q w) sum at) made.replies (rw (end_byte (unused (value s)) (omega arith)) refl) (λ x. refl)
+    (λ x. let g = whole x in last_count 2 a u (total (value s)) g.whole g.size g.within all))
     (inr (record { serves = made.serves; lawful = made.sets ∙ h.lawful }))
-  where
-    count : (a u n : ℕ) → a % 127 ≡ 0 → u ≡ min 127 (n - a) → a < n → a + u ≡ n → suc (2 + a / 127) ≡ 2 + (n + 126) / 127
-    count a u n h e under all = omega arith
 
 -- the client's end comes to a channel that waits for it
 pub end_comes : (s : Setup) (p : Type 0) → IsUpload s p Block → (w : World) → w.answers ≡ [] → IsServing s (λ contents. contents ≡ s.contents) (Some (at_end s)) w.log w.contents

@@ -13,11 +13,11 @@ use Rattle.co_sdo_client.specs.Stages.{stage_since, held_since}
 use Rattle.co_sdo_client.specs.Verdicts.{Verdict, GoesOn, GivesUp, verdict, answer_verdict}
 use Rattle.co_sdo_client.specs.Outcomes.{state_by, outcome}
 use Rattle.co_sdo_laws.specs.World.{Setup, World, at_client}
-use Rattle.co_sdo_laws.proofs.Client.{follows}
+use Rattle.co_sdo_laws.proofs.Client.{follows, verdict_since}
 use Rattle.co_sdo_laws.proofs.Failures.{has_failed}
 use Rattle.co_sdo_laws.proofs.Permits.{value, IsUpload}
 use Rattle.co_sdo_laws.proofs.Blocks.{live, Moment, heard}
-use Rattle.co_sdo_laws.proofs.BlockSegments.{total, size_after, segment_at, segments, segment_with, data_at, frame_with, frame_is, frame_long, frame_read, other_byte, next_joined, last_joined, InTurn, IsWhole, grows, passes}
+use Rattle.co_sdo_laws.proofs.BlockSegments.{total, size_after, segment_at, segments, segment_with, data_at, frame_with, frame_is, frame_long, frame_read, other_byte, next_joined, last_joined, InTurn, IsWhole, not_turn, grows, passes}
 use Rattle.co_sdo_laws.proofs.BlockUploads.{Took, sending, May, Stands, taking, acknowledging, finishing, failed}
 
 -- ---- verdicts
@@ -52,10 +52,6 @@ missed_verdict : (s : Setup) (p : Type 0) → IsUpload s p Block → (a n t : �
 missed_verdict s p m a n t last taken above some few other ends inside count room =
     rw (m.transfer, inside, count, frame_read (value s) a n last some few, frame_long (value s) a n last, other_byte last n some few, other, ends, room) refl
 
-pub verdict_since : (s : Setup) (events : List ClientEvent) (frame : List ℕ) (a : Option Answers) → since_first (answers_of events) ≡ a
-    → verdict s.call events (Answered frame) ≡ answer_verdict s.call (stage_since s.call a) (held_since s.call a) frame
-verdict_since s events frame a h = ap (λ (x : Option Answers). answer_verdict s.call (stage_since s.call x) (held_since s.call x) frame) h
-
 abbrev with_frame : Answers → List ℕ → Answers
 with_frame a frame = record { first = a.first; later = frame ∷ a.later }
 
@@ -67,9 +63,6 @@ fails_by s p frame w never waits h = failed never (rw waits h)
 
 -- ---- a segment comes
 
-not_turn : (n t : ℕ) → eqb n (t + 1) ≡ false → n ≡ t + 1 → ⊥
-not_turn n t e h = absurd (grind (arith, nat_tests))
-
 -- one that doesn't end its sub-block
 inside_comes : (s : Setup) (p : Type 0) → IsUpload s p Block → (a t n more : ℕ) (w : World) → Took s (a + t) t w.events → a + t < total (value s) → 1 ≤ n → n + suc more ≡ size_after (value s) a → (p → InTurn a t n)
     → Moment p live [] (segments (value s) a (n + 1) (suc more)) (2 + a / 127) (1 + a + t) w → May s p (sending s a) w.log w.contents → (next : Bool) → eqb n (t + 1) ≡ next
@@ -79,7 +72,7 @@ inside_comes s p m a t n more w c under some size turn at h true e =
     let frame = frame_with (value s) a n false in
     let other : eqb n 127 ≡ false = grind (arith, nat_tests) in
     let few : n < 128 = omega arith in
-    let is = verdict_since s w.events frame (Some c.took) c.is ∙ inside_verdict s p m a n t c.took some few other c.inside c.in_block in
+    let is = verdict_since s.call w.events frame (Some c.took) c.is ∙ inside_verdict s p m a n t c.took some few other c.inside c.in_block in
     let f = follows s.call w.events (Answered frame) (GoesOn []) c.waits is in
     let g = grows c.took.later frame (segment_with false n (data_at (value s) a n)) t (frame_read (value s) a n false some few) e c.inside c.in_block in
     taking a (t + 1) (n + 1) more (record {
@@ -97,7 +90,7 @@ inside_comes s p m a t n more w c under some size turn at h false e =
     let other : eqb n 127 ≡ false = grind (arith, nat_tests) in
     let few : n < 128 = omega arith in
     let never : p → ⊥ = λ x. not_turn n t e (turn x).next in
-    let is = verdict_since s w.events frame (Some c.took) c.is ∙ inside_verdict s p m a n t c.took some few other c.inside c.in_block in
+    let is = verdict_since s.call w.events frame (Some c.took) c.is ∙ inside_verdict s p m a n t c.took some few other c.inside c.in_block in
     let f = follows s.call w.events (Answered frame) (GoesOn []) c.waits is in
     let g = passes c.took.later frame (segment_with false n (data_at (value s) a n)) t (frame_read (value s) a n false some few) e c.inside c.in_block in
     taking a t (n + 1) more (record {
@@ -116,7 +109,7 @@ last_comes : (s : Setup) (p : Type 0) → IsUpload s p Block → (a t n : ℕ) (
 last_comes s p m a t n w c some few whole size turn at h e =
     let next : n ≡ t + 1 = eqb-true _ _ e in
     let frame = frame_with (value s) a n true in
-    let is = verdict_since s w.events frame (Some c.took) c.is ∙ last_verdict s p m a n t c.took some few e c.inside c.in_block in
+    let is = verdict_since s.call w.events frame (Some c.took) c.is ∙ last_verdict s p m a n t c.took some few e c.inside c.in_block in
     let f = follows s.call w.events (Answered frame) (GoesOn (Request (BlockUploadAcknowledge (t + 1) 127) ∷ [])) c.waits is in
     let g = grows c.took.later frame (segment_with true n (data_at (value s) a n)) t (frame_read (value s) a n true some few) e c.inside c.in_block in
     finishing a (t + 1) (record {
@@ -136,7 +129,7 @@ full_comes : (s : Setup) (p : Type 0) → IsUpload s p Block → (a t n : ℕ) (
 full_comes s p m a t n w c some few left size full turn at h e true room =
     let frame = frame_with (value s) a n false in
     let next : n ≡ t + 1 = eqb-true _ _ e in
-    let is = verdict_since s w.events frame (Some c.took) c.is ∙ full_verdict s p m a n t c.took true some few e full c.inside c.in_block room in
+    let is = verdict_since s.call w.events frame (Some c.took) c.is ∙ full_verdict s p m a n t c.took true some few e full c.inside c.in_block room in
     let held = ap (λ (xs : List ℕ). xs ++ data_at (value s) a n) c.held ∙ next_joined (value s) a t n next left in
     fails_by s p frame w (λ x. fits (m.fits x) (ap length held) room) c.waits (rw is refl)
   where
@@ -145,7 +138,7 @@ full_comes s p m a t n w c some few left size full turn at h e true room =
 full_comes s p m a t n w c some few left size full turn at h e false room =
     let next : n ≡ t + 1 = eqb-true _ _ e in
     let frame = frame_with (value s) a n false in
-    let is = verdict_since s w.events frame (Some c.took) c.is ∙ full_verdict s p m a n t c.took false some few e full c.inside c.in_block room in
+    let is = verdict_since s.call w.events frame (Some c.took) c.is ∙ full_verdict s p m a n t c.took false some few e full c.inside c.in_block room in
     let f = follows s.call w.events (Answered frame) (GoesOn (Request (BlockUploadAcknowledge (t + 1) 127) ∷ [])) c.waits is in
     let g = grows c.took.later frame (segment_with false n (data_at (value s) a n)) t (frame_read (value s) a n false some few) e c.inside c.in_block in
     acknowledging a (t + 1) (record {
@@ -165,12 +158,12 @@ missed_comes : (s : Setup) (p : Type 0) → IsUpload s p Block → (a t n : ℕ)
     → (above : Bool) → nat_lt (cap_of s.call.job) (length (block_bytes c.took.later ++ [])) ≡ above → Stands s p (at_client s (Answered (frame_with (value s) a n last)) w)
 missed_comes s p m a t n last w c under some few ends turn at h e true room =
     let frame = frame_with (value s) a n last in
-    let is = verdict_since s w.events frame (Some c.took) c.is ∙ missed_verdict s p m a n t last c.took true some few e ends c.inside c.in_block room in
+    let is = verdict_since s.call w.events frame (Some c.took) c.is ∙ missed_verdict s p m a n t last c.took true some few e ends c.inside c.in_block room in
     fails_by s p frame w (λ x. not_turn n t e (turn x).next) c.waits (rw is refl)
 missed_comes s p m a t n last w c under some few ends turn at h e false room =
     let frame = frame_with (value s) a n last in
     let never : p → ⊥ = λ x. not_turn n t e (turn x).next in
-    let is = verdict_since s w.events frame (Some c.took) c.is ∙ missed_verdict s p m a n t last c.took false some few e ends c.inside c.in_block room in
+    let is = verdict_since s.call w.events frame (Some c.took) c.is ∙ missed_verdict s p m a n t last c.took false some few e ends c.inside c.in_block room in
     let f = follows s.call w.events (Answered frame) (GoesOn (Request (BlockUploadAcknowledge t 127) ∷ [])) c.waits is in
     let g = passes c.took.later frame (segment_with last n (data_at (value s) a n)) t (frame_read (value s) a n last some few) e c.inside c.in_block in
     acknowledging a t (record {

@@ -32,7 +32,7 @@ use Rattle.co_sdo_laws.proofs.Frames.{start_read, acknowledge_read, client_end_r
 use Rattle.co_sdo_laws.proofs.Failures.{has_failed}
 use Rattle.co_sdo_laws.proofs.Channel.{IsServing, Steps}
 use Rattle.co_sdo_laws.proofs.Permits.{value}
-use Rattle.co_sdo_laws.proofs.Blocks.{live, Count, Moment}
+use Rattle.co_sdo_laws.proofs.Blocks.{live, Count, Moment, IsDone}
 use Rattle.co_sdo_laws.proofs.BlockSegments.{all_held, total, size_after, blocks, unused, segments, InTurn, IsWhole}
 
 -- ---- frames
@@ -80,10 +80,6 @@ pub record TookAll (s : Setup) (events : List ClientEvent) : Type 0 where
   pub size : size_by (response_in took.first) ≡ Some (length (value s))
   pub last : has_last took.later ≡ true
   pub held : block_bytes took.later ≡ all_held (value s) (total (value s) - 1)
-
-pub record IsDone (s : Setup) (events : List ClientEvent) : Type 0 where
-  pub done : outcome s.call events ≡ Done
-  pub gives : result s.call events ≡ value s
 
 -- ---- the channel
 
@@ -177,13 +173,13 @@ pub data Stands (s : Setup) (p : Type 0) (w : World) : Type 0 where
   ending : TookAll s w.events → Moment p live [] (server_end s ∷ []) (2 + blocks (value s)) (1 + total (value s)) w → May s p (at_end s) w.log w.contents → Stands s p w
   -- nothing is on its way but aborts
   quiet : (p → ⊥) → outcome s.call w.events ≡ Waiting → w.requests ≡ [] → live w.answers ≡ [] → Stands s p w
-  over : IsDone s w.events → (p → Last s w) → Stands s p w
+  over : IsDone s (value s) w.events → (p → Last s w) → Stands s p w
   failed : (p → ⊥) → has_failed (outcome s.call w.events) ≡ true → Stands s p w
 
 -- how the client stands in it
 pub data Standing (s : Setup) (p : Type 0) (w : World) : Type 0 where
   waiting : outcome s.call w.events ≡ Waiting → Standing s p w
-  finished : IsDone s w.events → (p → Last s w) → Standing s p w
+  finished : IsDone s (value s) w.events → (p → Last s w) → Standing s p w
   gave_up : (p → ⊥) → has_failed (outcome s.call w.events) ≡ true → Standing s p w
 
 pub standing : (s : Setup) (p : Type 0) (w : World) → Stands s p w → Standing s p w

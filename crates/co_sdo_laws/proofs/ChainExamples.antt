@@ -14,7 +14,7 @@ use Rattle.co_sdo.specs.OpenTransfers.{open_transfer}
 use Rattle.co_sdo_laws.specs.World.{Setup, world_after}
 use Rattle.co_sdo_laws.specs.Undisturbed.{rounds_after, IsOver}
 use Rattle.co_sdo_laws.specs.Chains.{Server, Transfer, outcomes, results, server_after_all, contents_after_all, all_bytes_given, MayCall, MayCallAll, IsWhole, IsReady, IsChain, frames_needed, all_in_rounds}
-use Rattle.co_sdo_laws.proofs.Chains.{chain_in_rounds, each_gives}
+use Rattle.co_sdo_laws.proofs.Chains.{all_end, chain_in_rounds}
 use Rattle.co_sdo_laws.proofs.Examples.{string_key, domain_key, bytes_in, dictionary, setup, r, a, ten}
 use Rattle.co_sdo_laws.proofs.UndisturbedExamples.{is_dictionary}
 
@@ -90,7 +90,7 @@ chain = chain_in_rounds server read_and_write ready may_read_and_write
 
 by_the_law : results server (all_in_rounds bytes_in read_and_write)
     ≡ codes "ABCDEFGHI" ∷ [] ∷ codes "0123456789" ∷ []
-by_the_law = each_gives server (all_in_rounds bytes_in read_and_write) chain.ready chain.permitted chain.whole
+by_the_law = (all_end server (all_in_rounds bytes_in read_and_write) chain.ready chain.permitted chain.whole).values
 
 -- ---- what is no such chain
 

@@ -115,43 +115,29 @@ goes_on server t later ready may whole =
       may = subst (λ (c : Contents). MayCallAll server.description c (calls later)) (sym e.leaves) may.1;
     }
 
-pub all_done : (server : Server) (transfers : List Transfer) → IsReady server
-    → MayCallAll server.description server.contents (calls transfers) → AreWhole server transfers
-    → outcomes server transfers ≡ map (λ t. Done) transfers
-all_done server [] ready may whole = refl
-all_done server (t ∷ later) ready may whole =
-    let g = goes_on server t later ready may whole in
-    let done = g.ends.over.done in
-    let others = all_done (server_after server t) later g.ready g.may whole.1 in
-    rw (done, others) refl
+-- what all of them come to
+pub record AllEnd (server : Server) (transfers : List Transfer) : Type 0 where
+  pub done : outcomes server transfers ≡ map (λ t. Done) transfers
+  pub contents : (server_after_all server transfers).contents ≡ contents_after_all server.contents (calls transfers)
+  pub values : results server transfers ≡ all_bytes_given server.contents (calls transfers)
+  pub ready : IsReady (server_after_all server transfers)
 
-pub all_contents : (server : Server) (transfers : List Transfer) → IsReady server
-    → MayCallAll server.description server.contents (calls transfers) → AreWhole server transfers
-    → (server_after_all server transfers).contents ≡ contents_after_all server.contents (calls transfers)
-all_contents server [] ready may whole = refl
-all_contents server (t ∷ later) ready may whole =
+pub all_end : (server : Server) (transfers : List Transfer) → IsReady server
+    → MayCallAll server.description server.contents (calls transfers) → AreWhole server transfers → AllEnd server transfers
+all_end server [] ready may whole = record { done = refl; contents = refl; values = refl; ready = ready }
+all_end server (t ∷ later) ready may whole =
     let g = goes_on server t later ready may whole in
-    all_contents (server_after server t) later g.ready g.may whole.1
-    ∙ ap (λ (c : Contents). contents_after_all c (calls later)) g.ends.leaves
-
-pub each_gives : (server : Server) (transfers : List Transfer) → IsReady server
-    → MayCallAll server.description server.contents (calls transfers) → AreWhole server transfers
-    → results server transfers ≡ all_bytes_given server.contents (calls transfers)
-each_gives server [] ready may whole = refl
-each_gives server (t ∷ later) ready may whole =
-    let g = goes_on server t later ready may whole in
-    let others = each_gives (server_after server t) later g.ready g.may whole.1
-    ∙ ap (λ (c : Contents). all_bytes_given c (calls later)) g.ends.leaves in
-    ap (λ (xs : List ℕ). xs ∷ results (server_after server t) later) g.ends.gives
-    ∙ ap (λ (xs : List (List ℕ)). bytes_given server.contents t.call.key t.call.job ∷ xs) others
-
-pub all_ready : (server : Server) (transfers : List Transfer) → IsReady server
-    → MayCallAll server.description server.contents (calls transfers) → AreWhole server transfers
-    → IsReady (server_after_all server transfers)
-all_ready server [] ready may whole = ready
-all_ready server (t ∷ later) ready may whole =
-    let g = goes_on server t later ready may whole in
-    all_ready (server_after server t) later g.ready g.may whole.1
+    let is_done = g.ends.over.done in
+    let rest = all_end (server_after server t) later g.ready g.may whole.1 in
+    let others_done = rest.done in
+    let values = rest.values ∙ ap (λ (c : Contents). all_bytes_given c (calls later)) g.ends.leaves in
+    record {
+      done = rw (is_done, others_done) refl;
+      contents = rest.contents ∙ ap (λ (c : Contents). contents_after_all c (calls later)) g.ends.leaves;
+      values = ap (λ (xs : List ℕ). xs ∷ results (server_after server t) later) g.ends.gives
+          ∙ ap (λ (xs : List (List ℕ)). bytes_given server.contents t.call.key t.call.job ∷ xs) values;
+      ready = rest.ready;
+    }
 
 -- ---- in rounds
 

@@ -104,25 +104,15 @@ a = Delivered Answers
 abbrev pub ten : Setup
 ten = setup string_key Segmented (Download (codes "0123456789") true)
 
-ten_begins : report ten [] ≡ waits 1 (hex (codes "210120000A000000") ∷ []) [] (codes "ABCDEFGHI")
+ten_go : map (report ten) ([] ∷ (r ∷ []) ∷ (r ∷ a ∷ []) ∷ (r ∷ a ∷ r ∷ a ∷ r ∷ []) ∷ (r ∷ a ∷ r ∷ a ∷ r ∷ a ∷ []) ∷ [])
+    ≡ waits 1 (hex (codes "210120000A000000") ∷ []) [] (codes "ABCDEFGHI")
+    ∷ waits 1 [] (hex (codes "6001200000000000") ∷ []) (codes "ABCDEFGHI")
+    ∷ waits 2 (hex (codes "0030313233343536") ∷ []) [] (codes "ABCDEFGHI")
+    ∷ waits 3 [] (hex (codes "3000000000000000") ∷ []) (codes "0123456789")
+    ∷ is_done 3 [] [] (codes "0123456789") []
+    ∷ []
 unfolding request_row_in response_row_in reading_refusal initiate_refusal completion_refusal has_object
-ten_begins = refl
-
-ten_confirmed : report ten (r ∷ []) ≡ waits 1 [] (hex (codes "6001200000000000") ∷ []) (codes "ABCDEFGHI")
-unfolding request_row_in response_row_in reading_refusal initiate_refusal completion_refusal has_object
-ten_confirmed = refl
-
-ten_goes_on : report ten (r ∷ a ∷ []) ≡ waits 2 (hex (codes "0030313233343536") ∷ []) [] (codes "ABCDEFGHI")
-unfolding request_row_in response_row_in reading_refusal initiate_refusal completion_refusal has_object
-ten_goes_on = refl
-
-ten_is_set : report ten (r ∷ a ∷ r ∷ a ∷ r ∷ []) ≡ waits 3 [] (hex (codes "3000000000000000") ∷ []) (codes "0123456789")
-unfolding request_row_in response_row_in reading_refusal initiate_refusal completion_refusal has_object
-ten_is_set = refl
-
-ten_is_done : report ten (r ∷ a ∷ r ∷ a ∷ r ∷ a ∷ []) ≡ is_done 3 [] [] (codes "0123456789") []
-unfolding request_row_in response_row_in reading_refusal initiate_refusal completion_refusal has_object
-ten_is_done = refl
+ten_go = refl
 
 -- nothing is on its way in the queue: nothing happens
 ten_waits : report ten (a ∷ r ∷ r ∷ a ∷ []) ≡ report ten (r ∷ a ∷ [])
@@ -169,18 +159,13 @@ nine_are_done = refl
 abbrev pub fourteen : Setup
 fourteen = setup domain_key Block (Download (codes "0123456789ABCD") true)
 
-fourteen_are_sent : report fourteen (r ∷ a ∷ [])
+fourteen_go : map (report fourteen) ((r ∷ a ∷ []) ∷ (r ∷ a ∷ r ∷ r ∷ []) ∷ (r ∷ a ∷ r ∷ r ∷ a ∷ r ∷ a ∷ []) ∷ [])
     ≡ waits 3 (hex (codes "0130313233343536") ∷ hex (codes "8237383941424344") ∷ []) [] []
+    ∷ waits 3 [] (hex (codes "A2027F0000000000") ∷ []) []
+    ∷ is_done 4 [] [] (codes "0123456789ABCD") []
+    ∷ []
 unfolding request_row_in response_row_in reading_refusal initiate_refusal completion_refusal has_object
-fourteen_are_sent = refl
-
-fourteen_are_taken : report fourteen (r ∷ a ∷ r ∷ r ∷ []) ≡ waits 3 [] (hex (codes "A2027F0000000000") ∷ []) []
-unfolding request_row_in response_row_in reading_refusal initiate_refusal completion_refusal has_object
-fourteen_are_taken = refl
-
-fourteen_are_done : report fourteen (r ∷ a ∷ r ∷ r ∷ a ∷ r ∷ a ∷ []) ≡ is_done 4 [] [] (codes "0123456789ABCD") []
-unfolding request_row_in response_row_in reading_refusal initiate_refusal completion_refusal has_object
-fourteen_are_done = refl
+fourteen_go = refl
 
 -- ---- and read in blocks
 

@@ -33,6 +33,7 @@ use Rattle.co_sdo.proofs.Initiations.{exchange}
 use Rattle.co_sdo.proofs.Logs.{after_initiates, after_open, after_nothing}
 use Rattle.co_sdo_laws.proofs.Server.{tick_opens}
 use Rattle.co_sdo_laws.proofs.Channel.{ended}
+use Rattle.co_sdo_laws.proofs.Blocks.{kept}
 
 -- ---- answers that the client of a block download awaits after its begin
 
@@ -42,20 +43,11 @@ is_awaited (Some BlockDownloadDone) = true
 is_awaited _ = false
 
 -- those among frames
+abbrev pub is_awaited_frame : List ℕ → Bool
+is_awaited_frame frame = is_awaited (response_in frame)
+
 abbrev pub awaited : List (List ℕ) → List (List ℕ)
-awaited [] = []
-awaited (frame ∷ later) = if is_awaited (response_in frame) then frame ∷ awaited later else awaited later
-
-pub awaited_both : (xs ys : List (List ℕ)) → awaited (xs ++ ys) ≡ awaited xs ++ awaited ys
-awaited_both [] ys = refl
-awaited_both (x ∷ xs) ys = by (is_awaited (response_in x)) (awaited_both xs ys)
-  where
-    by : (b : Bool) → awaited (xs ++ ys) ≡ awaited xs ++ awaited ys → (if b then x ∷ awaited (xs ++ ys) else awaited (xs ++ ys)) ≡ (if b then x ∷ awaited xs else awaited xs) ++ awaited ys
-    by true e = ap (λ (zs : List (List ℕ)). x ∷ zs) e
-    by false e = e
-
-pub awaited_after : (xs ys zs : List (List ℕ)) → awaited xs ≡ [] → awaited ys ≡ zs → awaited (xs ++ ys) ≡ zs
-awaited_after xs ys zs e f = awaited_both xs ys ∙ ap (λ (x : List (List ℕ)). x ++ awaited ys) e ∙ f
+awaited = kept is_awaited_frame
 
 by_row : (frame : List ℕ) → is_awaited (response_row_in frame) ≡ false → is_awaited (response_in frame) ≡ false
 by_row frame h = by (eqb (length frame) 8)

@@ -27,6 +27,7 @@ use Rattle.co_sdo_laws.specs.World.{Setup}
 use Rattle.co_sdo_laws.proofs.Frames.{upload_read, next_read, upload_initiated_read, segment_sent_read}
 use Rattle.co_sdo_laws.proofs.Segments.{same, joined, taken_all, part_small, not_end, is_end}
 use Rattle.co_sdo_laws.proofs.Permits.{value, small_value, IsUpload, lawful_of, none≢some, not_above}
+use Rattle.co_sdo_laws.proofs.Client.{verdict_since}
 use Rattle.co_sdo_laws.proofs.Turns.{GoesOnWith}
 use Rattle.co_sdo_laws.proofs.Failures.{Fails, IsAbort, has_failed}
 use Rattle.co_sdo_laws.proofs.Unawaited.{aborted_fails, toggles_differ}
@@ -213,13 +214,9 @@ stale : (s : Setup) (p : Type 0) → IsUpload s p Segmented → (k : ℕ)
 stale s p m zero = rw (m.transfer, initiate_read s p m) refl
 stale s p m (suc k) = rw (m.transfer, initiate_read s p m, later_count s k, segment_is_read s k, toggles_differ k) refl
 
-verdict_since : (s : Setup) (events : List ClientEvent) (frame : List ℕ) (a : Option Answers) → since_first (answers_of events) ≡ a
-    → verdict s.call events (Answered frame) ≡ given s a frame
-verdict_since s events frame a h = ap (λ (x : Option Answers). given s x frame) h
-
 fails_since : (s : Setup) (events : List ClientEvent) (frame : List ℕ) (a : Option Answers) → since_first (answers_of events) ≡ a
     → has_failed (state_by (given s a frame)) ≡ true → Fails s events frame
-fails_since s events frame a h g = ap (λ (v : Verdict). has_failed (state_by v)) (verdict_since s events frame a h) ∙ g
+fails_since s events frame a h g = ap (λ (v : Verdict). has_failed (state_by v)) (verdict_since s.call events frame a h) ∙ g
 
 client_next : (s : Setup) (k : ℕ) (events : List ClientEvent) → AtClient s k events → AtClient s (suc k) (Answered (answer s k) ∷ events)
 client_next s zero events h = ap (λ (a : Option Answers). Some (with_answer (answer s 0) a)) h
@@ -238,7 +235,7 @@ client_goes_on s p m k events l h true e =
     inr (has_room s p m k e, fails_since s events (answer s k) (taken_at s k) h (no_room s p m k e))
 client_goes_on s p m k events l h false e = inl (record {
   message = Request (NextSegment (is_odd k));
-  goes_on = verdict_since s events (answer s k) (taken_at s k) h ∙ more s p m k l e;
+  goes_on = verdict_since s.call events (answer s k) (taken_at s k) h ∙ more s p m k l e;
   asks = refl;
   next = client_next s k events h;
 })
@@ -248,7 +245,7 @@ client_ends : (s : Setup) (p : Type 0) → IsUpload s p Segmented → (k : ℕ) 
     → (verdict s.call events (Answered (answer s k)) ≡ Ends [] (value s)) ⊎ ((p → ⊥) × Fails s events (answer s k))
 client_ends s p m k events l h true e =
     inr (has_room s p m k e, fails_since s events (answer s k) (taken_at s k) h (no_room s p m k e))
-client_ends s p m k events l h false e = inl (verdict_since s events (answer s k) (taken_at s k) h ∙ all s p m k l e)
+client_ends s p m k events l h false e = inl (verdict_since s.call events (answer s k) (taken_at s k) h ∙ all s p m k l e)
 
 pub abort_comes : (s : Setup) → transfer_of s.call ≡ transfer_by Segmented (UploadJob 0) → (events : List ClientEvent) (frame : List ℕ)
     → IsAbort frame → Fails s events frame

@@ -145,27 +145,18 @@ taken : (s : Setup) (t : Parts s) → t.Sound → (before : Contents) (k : ℕ) 
 taken s t sound before k log contents (still h kept) = (inr h, λ e. absurd (not_last k t.last h.within e))
 taken s t sound before k log contents (was_last e h left set) = (inl (record { serves = h.serves; lawful = h.lawful sound }), λ e. set)
 
+-- it takes request k, or refuses it
+abbrev Replies : (s : Setup) → Parts s → ℕ → Log → Contents → Type 0
+Replies s t k log contents =
+    Takes s log contents (t.request k) (answer s t k) (Taken s t k) ⊎ Refuses s log contents (t.request k) (Idle s t)
+
 takes_or_refuses : (s : Setup) {p : Type 0} (t : Parts s) → StopAndWait s p t → t.Sound → (k : ℕ) (current : Option OpenTransfer)
     (log : Log) (contents : Contents) → IsServing s t.Lawful current log contents → Reacts s p t k current contents
-    → Takes s log contents (t.request k) (answer s t k) (Taken s t k) ⊎ Refuses s log contents (t.request k) (Idle s t)
+    → Replies s t k log contents
 takes_or_refuses s t m sound k current log contents h r = elim (reacts s t m k current log contents h r) [
   | inl took ↦ inl (record { replies = took.replies; next = taken s t sound contents k _ _ took.next })
   | inr refused ↦ inr refused.1
 ]
-
-began : (s : Setup) {p : Type 0} (t : Parts s) → StopAndWait s p t → t.Sound → (log : Log) (contents : Contents)
-    → Idle s t log contents ⊎ Open s t 0 log contents
-    → Takes s log contents (t.request 0) (answer s t 0) (Taken s t 0) ⊎ Refuses s log contents (t.request 0) (Idle s t)
-began s t m sound log contents (inl h) =
-    takes_or_refuses s t m sound 0 None log contents h (m.begins None contents refl h.lawful)
-began s t m sound log contents (inr h) =
-    takes_or_refuses s t m sound 0 _ log contents h.serving (m.begins _ contents m.outside h.serving.lawful)
-
-went_on : (s : Setup) {p : Type 0} (t : Parts s) → StopAndWait s p t → t.Sound → (k : ℕ) (log : Log) (contents : Contents)
-    → Open s t k log contents → Takes s log contents (t.request (suc k)) (answer s t (suc k)) (Taken s t (suc k))
-    ⊎ Refuses s log contents (t.request (suc k)) (Idle s t)
-went_on s t m sound k log contents h =
-    takes_or_refuses s t m sound (suc k) _ log contents h.serving (m.goes_on k contents h.within h.serving.lawful)
 
 -- ---- what is on its way while the client waits for answer k
 
@@ -280,18 +271,21 @@ sent_next s t k xs (one e) = both k refl (ap (λ (ys : List (List ℕ)). ys ++ t
 
 -- request k for the first time
 first_time : (s : Setup) {p : Type 0} (t : Parts s) → StopAndWait s p t → t.Sound → (k : ℕ) (log : Log) (contents : Contents)
-    → k ≤ t.last → Before s t k log contents
-    → Takes s log contents (t.request k) (answer s t k) (Taken s t k) ⊎ Refuses s log contents (t.request k) (Idle s t)
-first_time s t m sound zero log contents l h = began s t m sound log contents (inl h)
+    → k ≤ t.last → Before s t k log contents → Replies s t k log contents
+first_time s t m sound zero log contents l h =
+    takes_or_refuses s t m sound 0 None log contents h (m.begins None contents refl h.lawful)
 first_time s t m sound (suc k) log contents l (inl h) =
     inr (refused_by s t m (suc k) None log contents h (m.refuses_idle k contents (omega arith)))
-first_time s t m sound (suc k) log contents l (inr h) = went_on s t m sound k log contents h
+first_time s t m sound (suc k) log contents l (inr h) =
+    takes_or_refuses s t m sound (suc k) _ log contents h.serving (m.goes_on k contents h.within h.serving.lawful)
 
 -- request k again
 again : (s : Setup) {p : Type 0} (t : Parts s) → StopAndWait s p t → t.Sound → (k : ℕ) (log : Log) (contents : Contents)
-    → k ≤ t.last → Idle s t log contents ⊎ Open s t k log contents
-    → Takes s log contents (t.request k) (answer s t k) (Taken s t k) ⊎ Refuses s log contents (t.request k) (Idle s t)
-again s t m sound zero log contents l h = began s t m sound log contents h
+    → k ≤ t.last → Idle s t log contents ⊎ Open s t k log contents → Replies s t k log contents
+again s t m sound zero log contents l (inl h) =
+    takes_or_refuses s t m sound 0 None log contents h (m.begins None contents refl h.lawful)
+again s t m sound zero log contents l (inr h) =
+    takes_or_refuses s t m sound 0 _ log contents h.serving (m.begins _ contents m.outside h.serving.lawful)
 again s t m sound (suc k) log contents l (inl h) =
     inr (refused_by s t m (suc k) None log contents h (m.refuses_idle k contents (omega arith)))
 again s t m sound (suc k) log contents l (inr h) =

@@ -44,29 +44,28 @@ entry_of key = by (same_key key string_key) (same_key key domain_key) refl refl
     by false true e f = is_domain (same_key-is key domain_key f)
     by false false e f = is_none (rw (e, f) refl) (rw (e, f) refl)
 
--- a row, and where it is
-data Has (key : Key) (held : Row) : Type 0 where
-  has_string : key ≡ string_key → held ≡ row VisibleString 16 → Has key held
-  has_domain : key ≡ domain_key → held ≡ row Domain 20 → Has key held
-
-has_row : (key : Key) (held : Row) → row_in key ≡ Some held → Entry key → Has key held
-has_row key held h (is_string e) = has_string e (taken (ap row_in (sym e) ∙ h))
+-- what holds of both rows holds of each
+at_each : (P : Key → Row → Type 0) → P string_key (row VisibleString 16) → P domain_key (row Domain 20) → (key : Key) (held : Row)
+    → row_in key ≡ Some held → P key held
+at_each P first second key held h = by (entry_of key)
   where
-    taken : row_in string_key ≡ Some held → held ≡ row VisibleString 16
-    taken e = cc
-has_row key held h (is_domain e) = has_domain e (taken (ap row_in (sym e) ∙ h))
-  where
-    taken : row_in domain_key ≡ Some held → held ≡ row Domain 20
-    taken e = cc
-has_row key held h (is_none e f) = cc
-
-row_at : (key : Key) (held : Row) → row_in key ≡ Some held → Has key held
-row_at key held h = has_row key held h (entry_of key)
+    by : Entry key → P key held
+    by (is_string e) =
+        let is : Some (row VisibleString 16) ≡ Some held = ap row_in (sym e) ∙ h in
+        let same : held ≡ row VisibleString 16 = cc in
+        rw (e, same) first
+    by (is_domain e) =
+        let is : Some (row Domain 20) ≡ Some held = ap row_in (sym e) ∙ h in
+        let same : held ≡ row Domain 20 = cc in
+        rw (e, same) second
+    by (is_none e f) = cc
 
 filled : IsFilled row_in bytes_in
 filled = record {
   present = λ key. present key (entry_of key);
-  fitting = λ key held bytes h g. fitting key held bytes (row_at key held h) g;
+  fitting = λ key held bytes h g. at_each (λ k r. bytes_in k ≡ Some bytes → fits r (length bytes) ≡ true)
+      (λ e. let is : Some (codes "ABCDEFGHI") ≡ Some bytes = e in let same : bytes ≡ codes "ABCDEFGHI" = cc in rw same refl)
+      (λ e. let is : Some [] ≡ Some bytes = e in let same : bytes ≡ [] = cc in rw same refl) key held h g;
   bytes = λ key bytes g. small key bytes g (entry_of key);
 }
   where
@@ -74,16 +73,6 @@ filled = record {
     present key (is_string e) = rw e refl
     present key (is_domain e) = rw e refl
     present key (is_none e f) = rw (e, f) refl
-
-    fitting : (key : Key) (held : Row) (bytes : List ℕ) → Has key held → bytes_in key ≡ Some bytes → fits held (length bytes) ≡ true
-    fitting key held bytes (has_string e f) g =
-        let is : Some (codes "ABCDEFGHI") ≡ Some bytes = ap bytes_in (sym e) ∙ g in
-        let is_bytes : bytes ≡ codes "ABCDEFGHI" = cc in
-        rw (f, is_bytes) refl
-    fitting key held bytes (has_domain e f) g =
-        let is : Some [] ≡ Some bytes = ap bytes_in (sym e) ∙ g in
-        let is_bytes : bytes ≡ [] = cc in
-        rw (f, is_bytes) refl
 
     small : (key : Key) (bytes : List ℕ) → bytes_in key ≡ Some bytes → Entry key → AreBytes bytes
     small key bytes g (is_string e) =
@@ -101,12 +90,16 @@ described = record {
   first_node = omega arith;
   last_node = omega arith;
   finite = λ key. finite key (entry_of key);
-  width = λ key held width h. wide key held width (row_at key held h);
-  fixed = λ key held t h. fixed key held t (row_at key held h);
-  key = λ key held h. keyed key held (row_at key held h);
-  from_1000 = λ key held h. high key held (row_at key held h);
-  capacity = λ key held h. small key held (row_at key held h);
-  limits = λ key held h. limits key held (row_at key held h);
+  width = λ key held width h g. at_each (λ k r. width_of r.data_type ≡ Some width → r.capacity ≡ width)
+      (λ e. let none : None ≡ Some width = e in cc) (λ e. let none : None ≡ Some width = e in cc) key held h g;
+  fixed = λ key held t h g. at_each (λ k r. fixed_type_of k ≡ Some t → r.data_type ≡ t)
+      (λ e. let none : None ≡ Some t = e in cc) (λ e. let none : None ≡ Some t = e in cc) key held h g;
+  key = at_each (λ k r. IsKey k) (record { index = omega arith; sub = omega arith }) (record { index = omega arith; sub = omega arith });
+  from_1000 = at_each (λ k r. 0x1000 ≤ k.index) (omega arith) (omega arith);
+  capacity = at_each (λ k r. r.capacity ≤ 65535) (omega arith) (omega arith);
+  limits = at_each (λ k r. HasLimits r)
+      (record { ordered = omega (arith, ints); low = λ width g. cc; high = λ width g. cc })
+      (record { ordered = omega (arith, ints); low = λ width g. cc; high = λ width g. cc });
   dummies = λ index h. cc;
 }
   where
@@ -119,30 +112,6 @@ described = record {
         none true second i j = rw i refl
         none false true i j = rw (i, j) refl
         none false false i j = rw (i, j) refl
-
-    wide : (key : Key) (held : Row) (width : ℕ) → Has key held → width_of held.data_type ≡ Some width → held.capacity ≡ width
-    wide key held width (has_string e f) g = let none : None ≡ Some width = ap (λ (r : Row). width_of r.data_type) (sym f) ∙ g in cc
-    wide key held width (has_domain e f) g = let none : None ≡ Some width = ap (λ (r : Row). width_of r.data_type) (sym f) ∙ g in cc
-
-    fixed : (key : Key) (held : Row) (t : DataType) → Has key held → fixed_type_of key ≡ Some t → held.data_type ≡ t
-    fixed key held t (has_string e f) g = let none : None ≡ Some t = ap fixed_type_of (sym e) ∙ g in cc
-    fixed key held t (has_domain e f) g = let none : None ≡ Some t = ap fixed_type_of (sym e) ∙ g in cc
-
-    keyed : (key : Key) (held : Row) → Has key held → IsKey key
-    keyed key held (has_string e f) = rw e (record { index = omega arith; sub = omega arith })
-    keyed key held (has_domain e f) = rw e (record { index = omega arith; sub = omega arith })
-
-    high : (key : Key) (held : Row) → Has key held → 0x1000 ≤ key.index
-    high key held (has_string e f) = rw e (omega arith)
-    high key held (has_domain e f) = rw e (omega arith)
-
-    small : (key : Key) (held : Row) → Has key held → held.capacity ≤ 65535
-    small key held (has_string e f) = rw f (omega arith)
-    small key held (has_domain e f) = rw f (omega arith)
-
-    limits : (key : Key) (held : Row) → Has key held → HasLimits held
-    limits key held (has_string e f) = rw f (record { ordered = omega (arith, ints); low = λ width g. cc; high = λ width g. cc })
-    limits key held (has_domain e f) = rw f (record { ordered = omega (arith, ints); low = λ width g. cc; high = λ width g. cc })
 
 pub is_dictionary : IsDictionary dictionary bytes_in
 is_dictionary = record { description = described; initially = filled; filled = filled }
