@@ -1,5 +1,5 @@
 -- A download in blocks: the answers, and every event.
-use Rattle.std.proofs.Common.{◌≡◌, ℕ, suc, ◌+◌, ◌-◌, ◌*◌, ◌/◌, ◌%◌, ◌<◌, Bool, true, false, List, [], ◌∷◌, ◌++◌, length, take, drop, map, Option, Some, None, refl, sym, ap, ◌∙◌, arith, eqb, subst, append-nil, ◌⊎◌, inl, inr}
+use Rattle.std.proofs.Common.{◌≡◌, ℕ, suc, ◌+◌, ◌-◌, ◌*◌, ◌/◌, ◌%◌, ◌<◌, Bool, true, false, List, [], ◌∷◌, ◌++◌, length, take, drop, map, Option, Some, None, refl, sym, ap, ◌∙◌, arith, eqb, subst, append-nil, ◌⊎◌, inl, inr, ◌≤◌}
 use Rattle.std.specs.Prelude.{nat_lt, min, if◌then◌else◌}
 use Rattle.std.specs.List.{range_with_len, list_any}
 use Rattle.std.proofs.lemmas.Bool.{false≢true, not-false, or_parts}
@@ -12,30 +12,31 @@ use Rattle.co_frame.specs.declared.sdo_response.SdoResponse.TheVariants.{Abort a
 use Rattle.co_frame.specs.SdoResponses.{response_in}
 use Rattle.co_sdo_client.specs.declared.mode.Mode.TheVariants.{Block}
 use Rattle.co_sdo_client.specs.declared.stage.Stage.TheVariants.{BlockDownload as Sending, BlockDownloadEnded}
-use Rattle.co_sdo_client.specs.declared.state.ClientState.TheVariants.{Waiting}
+use Rattle.co_sdo_client.specs.declared.state.ClientState.TheVariants.{Waiting, Done}
 use Rattle.co_sdo_client.specs.Calls.{Call, Segment, message_bytes, Event as ClientEvent, Answered, Ticked as TickedAtClient, answers as answers_of, Answers, since_first, with_answer, is_time_over as is_client_over}
 use Rattle.co_sdo_client.specs.Segments.{block_segment, sub_block_length, sub_block_sent, block_download_end}
 use Rattle.co_sdo_client.specs.Stages.{stage_since, held_since, held_after, block_size_by}
 use Rattle.co_sdo_client.specs.Verdicts.{Verdict, GoesOn, Ends, GivesUp, verdict, answer_verdict, response_verdict}
-use Rattle.co_sdo_client.specs.Outcomes.{state_by, outcome, asked}
+use Rattle.co_sdo_client.specs.Outcomes.{state_by, outcome, asked, result}
 use Rattle.co_dict.specs.Rows.{Contents}
 use Rattle.co_sdo.specs.Log.{answer_bytes, Ticked}
 use Rattle.co_sdo.specs.Opened.{OpenTransfer, opened_after, is_time_over}
 use Rattle.co_sdo.specs.Replies.{open_key, time_out_reply}
 use Rattle.co_sdo_laws.specs.World.{Setup, World, Requests, Answers as Back, WorldEvent, Delivered, Lost, Repeated, ClientTicked, ChannelTicked, is_repeat, at_client, timed_out, ticked, without_front, front_arrives, after_event, world_after}
-use Rattle.co_sdo_laws.specs.Undisturbed.{IsCalm, AreCalm}
+use Rattle.co_sdo_laws.specs.Undisturbed.{IsCalm, AreCalm, GoesInBlocks, HaveSent, block_frames, block_download_requests, block_download_answers}
 use Rattle.co_sdo_laws.proofs.Frames.{block_initiated_read, block_done_read, acknowledged_read}
 use Rattle.co_sdo_laws.proofs.Server.{serves_first, serves_ticked}
 use Rattle.co_sdo_laws.proofs.Permits.{bytes, IsDownload}
 use Rattle.co_sdo_laws.proofs.Client.{follows, stays, verdict_since}
 use Rattle.co_sdo_laws.proofs.Failures.{is_aborted, has_failed, failed_more}
 use Rattle.co_sdo_laws.proofs.Channel.{IsServing, serving_ticks, serving_ends}
-use Rattle.co_sdo_laws.proofs.Blocks.{is_live, live, kept_both, kept_first, kept_one, kept_drop, kept_drop_one, IsDone, over_event, cut_fails, cut_read, cut_is_more, Count, Moment, disturbed, heard, no_answer, cons≢nil, head_is, tail_is, calm_asks, calm_waits, same_requests}
+use Rattle.co_sdo_laws.proofs.Blocks.{is_live, live, kept_both, kept_first, kept_one, kept_drop, kept_drop_one, IsDone, over_event, cut_fails, cut_read, cut_is_more, Count, Moment, disturbed, heard, no_answer, cons≢nil, head_is, tail_is, calm_asks, calm_waits, same_requests, waits_at, done_at}
 use Rattle.co_sdo_laws.proofs.GoneChannels.{is_awaited, is_awaited_frame, awaited, aborted_other, IsGone, gone_ticks, gone_ends}
 use Rattle.co_sdo_laws.proofs.BlockSegments.{total, size_after, blocks, segments, InTurn, IsWhole, full, full_count, last_count}
-use Rattle.co_sdo_laws.proofs.BlockDownloadSegments.{confirmation, acknowledgement, client_end, all_done}
-use Rattle.co_sdo_laws.proofs.BlockDownloads.{HasBegun, Took, Lawful, taking, complete, May, Closed, IsSet, Last, Stands, asking, confirmed, unconfirmed, sending, unheard, acknowledging, finishing, ending, ended, quiet, over, failed, waiting, finished, gave_up, standing}
+use Rattle.co_sdo_laws.proofs.BlockDownloads.{confirmation, acknowledgement, client_end, all_done, HasBegun, Took, Lawful, taking, complete, May, Closed, IsSet, Last, Stands, asking, confirmed, unconfirmed, sending, unheard, acknowledging, finishing, ending, ended, quiet, over, failed, waiting, finished, gave_up, standing}
 use Rattle.co_sdo_laws.proofs.BlockDownloadRequests.{loses_request, request_comes}
+use Rattle.co_sdo_laws.proofs.Progress.{AllThere, have_sent}
+use Rattle.co_sdo_laws.proofs.Turns.{waiting≢done}
 
 -- ---- an answer at the client
 
@@ -391,3 +392,53 @@ always s p m [] once calm = asking (record { waits = refl; first = refl }) (reco
 always s p m (event ∷ older) once calm =
     let both = or_parts (is_repeat event) (list_any is_repeat older) once in
     step s p m event (world_after s older) both.0 (λ x. (calm x).0) (always s p m older both.1 (λ x. (calm x).1))
+
+-- ---- what these worlds say of the client and its channel
+
+-- the entry of a client that is done has the bytes
+pub set_is : (s : Setup) (p : Type 0) (w : World) → Stands s p w → outcome s.call w.events ≡ Done → w.contents s.call.key ≡ Some (bytes s)
+set_is s p w h done = elim (standing s p w h) [
+  | waiting b ↦ absurd (waiting≢done (sym b ∙ done))
+  | finished b e set last ↦ set.entry
+  | gave_up n f ↦ absurd (false≢true (ap has_failed (sym done) ∙ f))
+]
+
+-- ---- undisturbed
+
+pub goes_in_blocks : (s : Setup) (w : World) → Stands s (Unit {0}) w → GoesInBlocks s.call (block_frames (length (bytes s))) (block_frames (length (bytes s))) w
+goes_in_blocks s w (asking b m h) = waits_at s _ _ live _ _ _ _ w m b.waits (omega arith) (omega arith) (omega arith)
+goes_in_blocks s w (confirmed b m h) = waits_at s _ _ live _ _ _ _ w m b.waits (omega arith) (omega arith) (omega arith)
+goes_in_blocks s w (unconfirmed n b e f) = absurd (n tt)
+goes_in_blocks s w (sending a t n more b under some size turn m h) = waits_at s _ _ awaited _ _ _ _ w m b.waits (omega arith) (omega arith) (omega arith)
+goes_in_blocks s w (unheard a n more never b under some size e f h) = absurd (never tt)
+goes_in_blocks s w (acknowledging a t b under whole m h) = waits_at s _ _ awaited _ _ _ _ w m b.waits (omega arith) (omega arith) (omega arith)
+goes_in_blocks s w (finishing a t b under all whole m h) = waits_at s _ _ awaited _ _ _ _ w m b.waits (omega arith) (omega arith) (omega arith)
+goes_in_blocks s w (ending b m h) = waits_at s _ _ awaited _ _ _ _ w m b.waits (omega arith) (omega arith) (omega arith)
+goes_in_blocks s w (ended b m h) = waits_at s _ _ awaited _ _ _ _ w m b.waits (omega arith) (omega arith) (omega arith)
+goes_in_blocks s w (quiet a n b e f) = absurd (n tt)
+goes_in_blocks s w (over b e h last) = let l = last tt in done_at s _ _ 0 _ _ w l.count b.done (omega arith) (omega arith) (omega arith) (rw (e, l.answers) refl)
+goes_in_blocks s w (failed n h) = absurd (n tt)
+
+-- a client that is done gives no bytes, its bytes are in the entry, and nothing is open at the channel
+pub record AtEnd (s : Setup) (w : World) : Type 0 where
+  pub gives : result s.call w.events ≡ []
+  pub set : Closed s w
+  pub last : Last s w
+  pub none : w.requests ≡ []
+
+pub ends : (s : Setup) (w : World) → Stands s (Unit {0}) w → outcome s.call w.events ≡ Done → AtEnd s w
+ends s w h done = elim (standing s (Unit {0}) w h) [
+  | waiting b ↦ absurd (waiting≢done (sym b ∙ done))
+  | finished b e set last ↦ record { gives = b.gives; set = set.closed tt; last = last tt; none = e }
+  | gave_up n f ↦ absurd (n tt)
+]
+
+-- a client that is done and its channel have sent all frames
+pub all_sent : (s : Setup) (w : World) → AllThere s w → Stands s (Unit {0}) w → outcome s.call w.events ≡ Done → HaveSent s (block_download_requests (length (bytes s))) (block_download_answers (length (bytes s))) w
+all_sent s w t h done =
+    let end = ends s w h done in
+    let r = end.last.count.received in
+    let q = end.last.count.answered in
+    let e = end.none in
+    let f = end.last.answers in
+    have_sent s w _ _ t (rw e (omega arith)) (rw f (omega arith))

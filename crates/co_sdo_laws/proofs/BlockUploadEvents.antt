@@ -1,5 +1,5 @@
 -- An upload in blocks: every event.
-use Rattle.std.proofs.Common.{◌≡◌, ℕ, zero, suc, ◌+◌, ◌-◌, ◌/◌, Bool, true, false, List, [], ◌∷◌, ◌++◌, length, drop, map, Option, Some, None, refl, sym, ap, ◌∙◌, arith, subst, append-nil, inl, inr}
+use Rattle.std.proofs.Common.{◌≡◌, ℕ, zero, suc, ◌+◌, ◌-◌, ◌/◌, Bool, true, false, List, [], ◌∷◌, ◌++◌, length, drop, map, Option, Some, None, refl, sym, ap, ◌∙◌, arith, subst, append-nil, inl, inr, ◌<◌, ◌≤◌}
 use Rattle.std.specs.Prelude.{nat_lt, if◌then◌else◌}
 use Rattle.std.specs.List.{list_any}
 use Rattle.std.proofs.lemmas.Bool.{false≢true, or_parts}
@@ -10,29 +10,31 @@ use Rattle.co_frame.specs.declared.sdo_request.SdoRequest.TheVariants.{BlockUplo
 use Rattle.co_frame.specs.declared.sdo_response.SdoResponse.TheVariants.{BlockUploadInitiated}
 use Rattle.co_frame.specs.SdoResponses.{response_in}
 use Rattle.co_sdo_client.specs.declared.mode.Mode.TheVariants.{Block}
-use Rattle.co_sdo_client.specs.declared.state.ClientState.TheVariants.{Waiting}
+use Rattle.co_sdo_client.specs.declared.state.ClientState.TheVariants.{Waiting, Done}
 use Rattle.co_sdo_client.specs.Calls.{Request, message_bytes, Event as ClientEvent, Answered, Ticked as TickedAtClient, answers as answers_of, Answers, since_first, with_answer, is_time_over as is_client_over}
 use Rattle.co_sdo_client.specs.Segments.{cap_of}
 use Rattle.co_sdo_client.specs.Stages.{size_by, stage_since, held_since}
 use Rattle.co_sdo_client.specs.Verdicts.{GoesOn, Ends, GivesUp, verdict}
-use Rattle.co_sdo_client.specs.Outcomes.{outcome, asked}
+use Rattle.co_sdo_client.specs.Outcomes.{outcome, asked, result}
 use Rattle.co_dict.specs.Rows.{Contents}
 use Rattle.co_sdo.specs.Log.{answer_bytes, Ticked, TimedOut, Log}
 use Rattle.co_sdo.specs.Opened.{OpenTransfer, is_time_over}
 use Rattle.co_sdo.specs.Replies.{time_out_reply}
 use Rattle.co_sdo_laws.specs.World.{Setup, World, Requests, Answers as Back, WorldEvent, Delivered, Lost, Repeated, ClientTicked, ChannelTicked, is_repeat, at_client, timed_out, ticked, without_front, front_arrives, after_event, world_after}
-use Rattle.co_sdo_laws.specs.Undisturbed.{IsCalm, AreCalm}
+use Rattle.co_sdo_laws.specs.Undisturbed.{IsCalm, AreCalm, on_their_way, GoesInBlocks, HaveSent, block_frames, block_upload_frames, block_upload_requests, block_upload_answers}
 use Rattle.co_sdo_laws.proofs.Frames.{block_upload_initiated_read, upload_end_read}
-use Rattle.co_sdo_laws.proofs.Server.{serves_first}
+use Rattle.co_sdo_laws.proofs.Server.{serves_first, Serves}
 use Rattle.co_sdo_laws.proofs.Client.{follows, stays, verdict_since}
 use Rattle.co_sdo_laws.proofs.Failures.{has_failed, failed_more, failed_front}
 use Rattle.co_sdo_laws.proofs.Channel.{IsServing, serving_ticks, serving_ends}
 use Rattle.co_sdo_laws.proofs.Permits.{value, IsUpload, small_value, not_above}
-use Rattle.co_sdo_laws.proofs.Blocks.{is_live, live, kept_both, cut_fails, cut_is_more, Count, Moment, disturbed, heard, no_request, no_answer, cons≢nil, head_is, tail_is, dropped, front_came, nothing_came, IsDone, over_event, calm_asks, calm_waits, same_requests}
+use Rattle.co_sdo_laws.proofs.Blocks.{is_live, live, kept_both, cut_fails, cut_is_more, Count, Moment, disturbed, heard, no_request, no_answer, cons≢nil, head_is, tail_is, dropped, front_came, nothing_came, IsDone, over_event, calm_asks, calm_waits, same_requests, some_on_way, waits_at, done_at}
 use Rattle.co_sdo_laws.proofs.BlockSegments.{all_is, total, blocks, unused, segment_at, segments}
 use Rattle.co_sdo_laws.proofs.BlockUploads.{begin, confirmation, server_end, client_end, HasBegun, Took, TookAll, Lawful, Idle, begun, sending, at_end, May, Last, sent_end, end_came, Stands, asking, confirmed, starting, taking, acknowledging, finishing, ending, quiet, over, failed, waiting, finished, gave_up, standing}
 use Rattle.co_sdo_laws.proofs.BlockUploadRequests.{initiate_comes, start_comes, acknowledgement_comes, last_acknowledgement_comes, end_comes}
 use Rattle.co_sdo_laws.proofs.BlockUploadSegments.{fails_by, segment_comes}
+use Rattle.co_sdo_laws.proofs.Progress.{AllThere, have_sent}
+use Rattle.co_sdo_laws.proofs.Turns.{waiting≢done}
 
 -- ---- the other answers
 
@@ -197,25 +199,12 @@ last_answers s w (end_came a b n h) = b
 
 -- an abort comes
 abort_comes : (s : Setup) (p : Type 0) (x : List ℕ) (later : List (List ℕ)) (w : World) → w.answers ≡ x ∷ later → is_abort_in_sub_block x ≡ true → Stands s p w → Stands s p (at_client s (Answered x) (without_front Back w))
-abort_comes s p x later w e cut h = by h
-  where
-    never : {sent given : List (List ℕ)} {r q : ℕ} → Moment p live sent given r q w → p → ⊥
-    never m y = cut_is_more x later _ cut (ap live (sym e) ∙ m.answers) (sym e ∙ m.exact y)
-
-    comes : (p → ⊥) → outcome s.call w.events ≡ Waiting → Stands s p (at_client s (Answered x) (without_front Back w))
-    comes n waits = fails_by s p x (without_front Back w) n waits (cut_fails s.call (stage_since s.call (since_first (answers_of w.events))) (held_since s.call (since_first (answers_of w.events))) x cut)
-
-    by : Stands s p w → Stands s p (at_client s (Answered x) (without_front Back w))
-    by (asking b m h) = comes (never m) b.waits
-    by (confirmed b m h) = comes (never m) b.waits
-    by (starting b m h) = comes (never m) b.waits
-    by (taking a t n more b under some size turn m h) = comes (never m) b.waits
-    by (acknowledging a u b under whole m h) = comes (never m) b.waits
-    by (finishing a u b g whole m h) = comes (never m) b.waits
-    by (ending b m h) = comes (never m) b.waits
-    by (quiet n b f g) = comes n b
-    by (over b last) = over (over_event s (Answered x) w b) (λ y. absurd (cons≢nil x later (sym e ∙ last_answers s w (last y))))
-    by (failed n h) = failed n (failed_more s (Answered x) w.events h)
+abort_comes s p x later w e cut h = elim (standing s p w h) [
+  | waiting b all ↦ fails_by s p x (without_front Back w) (λ y. cut_is_more x later w.answers cut (ap live (sym e) ∙ all y) (sym e)) b
+      (cut_fails s.call (stage_since s.call (since_first (answers_of w.events))) (held_since s.call (since_first (answers_of w.events))) x cut)
+  | finished b last ↦ over (over_event s (Answered x) w b) (λ y. absurd (cons≢nil x later (sym e ∙ last_answers s w (last y))))
+  | gave_up n f ↦ failed n (failed_more s (Answered x) w.events f)
+]
 
 rest : (p : Type 0) (x y : List ℕ) (later given : List (List ℕ)) (r q : ℕ) (w : World) → w.answers ≡ x ∷ later → live w.answers ≡ x ∷ live later → Moment p live [] (y ∷ given) r q w → Moment p live [] given r q (without_front Back w)
 rest p x y later given r q w e f m = record {
@@ -290,7 +279,7 @@ last_ticks s w b (end_came a c n h) = end_came (same_requests w.requests _ (ap (
 client_tick : (s : Setup) (p : Type 0) (w : World) (ends : Bool) → is_client_over s.call.time (TickedAtClient ∷ w.events) ≡ ends → (p → IsCalm s ClientTicked w) → Stands s p w → Stands s p (at_client s TickedAtClient w)
 client_tick s p w false e calm h = carry s p w (at_client s TickedAtClient w) (calm_tick s p w e) h
 client_tick s p w true e calm h = elim (standing s p w h) [
-  | waiting b ↦ time_over s p w e calm b
+  | waiting b all ↦ time_over s p w e calm b
   | finished b last ↦ over (over_event s TickedAtClient w b) (λ x. last_ticks s w b (last x))
   | gave_up never f ↦ failed never (failed_more s TickedAtClient w.events f)
 ]
@@ -350,3 +339,78 @@ always s p m [] once calm = asking (record { waits = refl; first = refl }) (reco
 always s p m (event ∷ older) once calm =
     let both = or_parts (is_repeat event) (list_any is_repeat older) once in
     step s p m event (world_after s older) both.0 (λ x. (calm x).0) (always s p m older both.1 (λ x. (calm x).1))
+
+-- ---- what these worlds say of the client and its channel
+
+-- a client that is done gives the value
+pub value_is : (s : Setup) (p : Type 0) (w : World) → Stands s p w → outcome s.call w.events ≡ Done → result s.call w.events ≡ value s
+value_is s p w h done = elim (standing s p w h) [
+  | waiting b all ↦ absurd (waiting≢done (sym b ∙ done))
+  | finished b last ↦ b.gives
+  | gave_up n f ↦ absurd (false≢true (ap has_failed (sym done) ∙ f))
+]
+
+-- ---- undisturbed
+
+-- the client waits, a frame is on its way, and no entry is changed; or it is done
+pub data View (s : Setup) (w : World) : Type 0 where
+  going : outcome s.call w.events ≡ Waiting → (on_their_way w ≡ 0 → ⊥)
+      → GoesInBlocks s.call (block_frames (length (value s))) (block_upload_frames (length (value s))) w
+      → w.contents ≡ s.contents → View s w
+  after : IsDone s (value s) w.events → Last s w → View s w
+
+goes : (s : Setup) (sent given : List (List ℕ)) (r q : ℕ) (w : World) → Moment (Unit {0}) live sent given r q w
+    → outcome s.call w.events ≡ Waiting → r + q < block_frames (length (value s)) → 1 ≤ length sent + length given
+    → w.contents ≡ s.contents → View s w
+goes s sent given r q w m waits below some same =
+    going waits (some_on_way live sent given r q w m some) (waits_at s _ _ live _ _ _ _ w m waits below (omega arith) some) same
+
+still_same : (s : Setup) (o : OpenTransfer) (log : Log) (contents : Contents) → May s (Unit {0}) o log contents → contents ≡ s.contents
+still_same s o log contents (inl gone) = absurd (gone.0 tt)
+still_same s o log contents (inr h) = h.lawful
+
+pub view : (s : Setup) (w : World) → Stands s (Unit {0}) w → View s w
+view s w (asking b m h) = goes s _ _ _ _ w m b.waits (omega arith) (omega arith) h.lawful
+view s w (confirmed b m h) = goes s _ _ _ _ w m b.waits (omega arith) (omega arith) (still_same s _ _ _ h)
+view s w (starting b m h) = goes s _ _ _ _ w m b.waits (omega arith) (omega arith) (still_same s _ _ _ h)
+view s w (taking a t n more b under some size turn m h) = goes s _ _ _ _ w m b.waits (omega arith) (omega arith) (still_same s _ _ _ h)
+view s w (acknowledging a u b under whole m h) = goes s _ _ _ _ w m b.waits (omega arith) (omega arith) (still_same s _ _ _ h)
+view s w (finishing a u b e whole m h) =
+    let within = (whole tt).within in goes s _ _ _ _ w m b.waits (omega arith) (omega arith) (still_same s _ _ _ h)
+view s w (ending b m h) = goes s _ _ _ _ w m b.waits (omega arith) (omega arith) (still_same s _ _ _ h)
+view s w (quiet n b e f) = absurd (n tt)
+view s w (over b last) = after b (last tt)
+view s w (failed n h) = absurd (n tt)
+
+pub goes_in_blocks : (s : Setup) (w : World) → View s w
+    → GoesInBlocks s.call (block_frames (length (value s))) (block_upload_frames (length (value s))) w
+goes_in_blocks s w (going waits some goes same) = goes
+goes_in_blocks s w (after b (sent_end e f n h)) =
+    done_at s _ _ 1 _ _ w n b.done (omega arith) (omega arith) (omega arith) (rw (e, f) refl)
+goes_in_blocks s w (after b (end_came e f n h)) =
+    done_at s _ _ 0 _ _ w n b.done (omega arith) (omega arith) (omega arith) (rw (e, f) refl)
+
+-- no entry is changed
+pub contents_same : (s : Setup) (w : World) → View s w → w.contents ≡ s.contents
+contents_same s w (going waits some goes same) = same
+contents_same s w (after b (sent_end e f n h)) = h.lawful
+contents_same s w (after b (end_came e f n h)) = h.lawful
+
+-- nothing is open at the channel when no frame is on its way
+pub closed : (s : Setup) (w : World) → View s w → on_their_way w ≡ 0 → Serves s.description.rows w.log None
+closed s w (going waits some goes same) none = absurd (some none)
+closed s w (after b (sent_end e f n h)) none = let one : on_their_way w ≡ 1 = rw (e, f) refl in absurd (omega arith)
+closed s w (after b (end_came e f n h)) none = h.serves
+
+-- a client that is done gives the value, and it and its channel have sent all frames
+pub gives : (s : Setup) (w : World) → View s w → outcome s.call w.events ≡ Done → result s.call w.events ≡ value s
+gives s w (going waits some goes same) done = absurd (waiting≢done (sym waits ∙ done))
+gives s w (after b last) done = b.gives
+
+pub all_sent : (s : Setup) (w : World) → AllThere s w → View s w → outcome s.call w.events ≡ Done
+    → HaveSent s (block_upload_requests (length (value s))) (block_upload_answers (length (value s))) w
+all_sent s w t (going waits some goes same) done = absurd (waiting≢done (sym waits ∙ done))
+all_sent s w t (after b (sent_end e f n h)) done =
+    let r = n.received in let q = n.answered in have_sent s w _ _ t (rw e (omega arith)) (rw f (omega arith))
+all_sent s w t (after b (end_came e f n h)) done =
+    let r = n.received in let q = n.answered in have_sent s w _ _ t (rw e (omega arith)) (rw f (omega arith))

@@ -1,7 +1,7 @@
 -- An upload in blocks from which frames may be lost, whatever the dictionary permits and the client has room for. Frames are lost
 -- from the front of a queue alone: what comes of a sub-block is an end of it, and an acknowledgement counts the segments that
 -- were taken in turn. Where it is permitted and undisturbed (`p`), each sub-block is taken whole, and the frames are counted.
-use Rattle.std.proofs.Common.{◌≡◌, ℕ, suc, ◌+◌, ◌-◌, ◌*◌, ◌/◌, ◌<◌, ◌≤◌, true, false, List, [], ◌∷◌, length, take, Option, Some, None, refl, sym, arith, eqb, subst, ◌⊎◌}
+use Rattle.std.proofs.Common.{◌≡◌, ◌∙◌, ℕ, suc, ◌+◌, ◌-◌, ◌*◌, ◌/◌, ◌<◌, ◌≤◌, true, false, List, [], ◌∷◌, length, take, Option, Some, None, refl, sym, arith, eqb, subst, ◌⊎◌}
 use Rattle.std.specs.Prelude.{nat_lt}
 use Rattle.std.specs.Option.{option_map_or}
 use Rattle.co_value.specs.declared.key.Key.{Key}
@@ -178,18 +178,18 @@ pub data Stands (s : Setup) (p : Type 0) (w : World) : Type 0 where
 
 -- how the client stands in it
 pub data Standing (s : Setup) (p : Type 0) (w : World) : Type 0 where
-  waiting : outcome s.call w.events ≡ Waiting → Standing s p w
+  waiting : outcome s.call w.events ≡ Waiting → (p → live w.answers ≡ w.answers) → Standing s p w
   finished : IsDone s (value s) w.events → (p → Last s w) → Standing s p w
   gave_up : (p → ⊥) → has_failed (outcome s.call w.events) ≡ true → Standing s p w
 
 pub standing : (s : Setup) (p : Type 0) (w : World) → Stands s p w → Standing s p w
-standing s p w (asking b m h) = waiting b.waits
-standing s p w (confirmed b m h) = waiting b.waits
-standing s p w (starting b m h) = waiting b.waits
-standing s p w (taking a t n more b under some size turn m h) = waiting b.waits
-standing s p w (acknowledging a u b under whole m h) = waiting b.waits
-standing s p w (finishing a u b e whole m h) = waiting b.waits
-standing s p w (ending b m h) = waiting b.waits
-standing s p w (quiet n b e f) = waiting b
+standing s p w (asking b m h) = waiting b.waits (λ x. m.answers ∙ sym (m.exact x))
+standing s p w (confirmed b m h) = waiting b.waits (λ x. m.answers ∙ sym (m.exact x))
+standing s p w (starting b m h) = waiting b.waits (λ x. m.answers ∙ sym (m.exact x))
+standing s p w (taking a t n more b under some size turn m h) = waiting b.waits (λ x. m.answers ∙ sym (m.exact x))
+standing s p w (acknowledging a u b under whole m h) = waiting b.waits (λ x. m.answers ∙ sym (m.exact x))
+standing s p w (finishing a u b e whole m h) = waiting b.waits (λ x. m.answers ∙ sym (m.exact x))
+standing s p w (ending b m h) = waiting b.waits (λ x. m.answers ∙ sym (m.exact x))
+standing s p w (quiet n b e f) = waiting b (λ x. absurd (n x))
 standing s p w (over b last) = finished b last
 standing s p w (failed n h) = gave_up n h

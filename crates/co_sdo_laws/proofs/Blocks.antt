@@ -18,8 +18,7 @@ use Rattle.co_sdo.specs.Replies.{reply_to}
 use Rattle.co_sdo_laws.specs.World.{Setup, World, Requests, Answers as Back, at_client, at_channel, without_front, front_arrives}
 use Rattle.co_sdo_laws.specs.Undisturbed.{arrived, on_their_way, GoesInBlocks}
 use Rattle.co_sdo_laws.proofs.Client.{follows, stays, tick_verdict}
-use Rattle.co_sdo_laws.proofs.Unawaited.{aborted_fails}
-use Rattle.co_sdo_laws.proofs.Failures.{is_aborted, has_failed}
+use Rattle.co_sdo_laws.proofs.Failures.{aborted_fails, is_aborted, has_failed}
 
 -- ---- the frames among others that pass a test
 

@@ -32,8 +32,7 @@ use Rattle.co_sdo_laws.proofs.Segments.{same, joined, taken_all, part_small, not
 use Rattle.co_sdo_laws.proofs.Permits.{bytes, indicated, IsDownload, none≢some, entry_is}
 use Rattle.co_sdo_laws.proofs.Channel.{stays_lawful}
 use Rattle.co_sdo_laws.proofs.Turns.{Turns, GoesOnWith}
-use Rattle.co_sdo_laws.proofs.Failures.{Fails, IsAbort, has_failed}
-use Rattle.co_sdo_laws.proofs.Unawaited.{aborted_fails, toggles_differ, later_count}
+use Rattle.co_sdo_laws.proofs.Failures.{Fails, IsAbort, has_failed, aborted_fails, toggles_differ, later_count}
 use Rattle.co_sdo_laws.proofs.StopAndWait.{Parts, IsRefused, Reacts, takes, takes_last, refuses, StopAndWait, turns_of}
 
 abbrev pub request : Setup → ℕ → List ℕ

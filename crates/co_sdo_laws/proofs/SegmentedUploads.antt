@@ -29,8 +29,7 @@ use Rattle.co_sdo_laws.proofs.Segments.{same, joined, taken_all, part_small, not
 use Rattle.co_sdo_laws.proofs.Permits.{value, small_value, IsUpload, lawful_of, none≢some, not_above}
 use Rattle.co_sdo_laws.proofs.Client.{verdict_since}
 use Rattle.co_sdo_laws.proofs.Turns.{GoesOnWith}
-use Rattle.co_sdo_laws.proofs.Failures.{Fails, IsAbort, has_failed}
-use Rattle.co_sdo_laws.proofs.Unawaited.{aborted_fails, toggles_differ}
+use Rattle.co_sdo_laws.proofs.Failures.{Fails, IsAbort, has_failed, aborted_fails, toggles_differ}
 use Rattle.co_sdo_laws.proofs.StopAndWait.{Parts, IsRefused, Reacts, takes, takes_last, refuses, StopAndWait}
 
 abbrev request : Setup → ℕ → List ℕ

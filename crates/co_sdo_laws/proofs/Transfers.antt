@@ -19,11 +19,10 @@ use Rattle.co_sdo.specs.OpenTransfers.{open_transfer}
 use Rattle.co_sdo.specs.Uploads.{value_at}
 use Rattle.co_sdo_laws.specs.World.{Setup, World, WorldEvent, Delivered, Lost, Repeated, ClientTicked, ChannelTicked, is_repeat, world_after}
 use Rattle.co_sdo_laws.specs.Undisturbed.{IsCalm, AreCalm, IsUndisturbed, arrived, on_their_way, rounds_after, IsOver, GoesInTurns, is_short, is_expedited_download, is_segmented_download, is_plain_upload, is_block_download, is_block_upload, GoesInBlocks, HaveSent, block_frames, block_upload_frames, upload_requests, block_download_requests, block_download_answers, block_upload_requests, block_upload_answers}
-use Rattle.co_sdo_laws.proofs.Permits.{value, is_download, may_send, IsDownload, IsUpload}
-use Rattle.co_sdo_laws.proofs.Protocols as protocols
-use Rattle.co_sdo_laws.proofs.Protocols.{Goes, in_segments, at_once, short_bytes}
+use Rattle.co_sdo_laws.proofs.Permits.{value, is_download, may_send, IsDownload, IsUpload, Goes, in_segments, at_once, short_bytes}
+use Rattle.co_sdo_laws.proofs.Permits as protocols
 use Rattle.co_sdo_laws.proofs.Pasts.{unopened}
-use Rattle.co_sdo_laws.proofs.Progress.{rounds_calm, all_arrive}
+use Rattle.co_sdo_laws.proofs.Progress.{rounds_calm, all_arrive, AllThere, all_there, have_sent}
 use Rattle.co_sdo_laws.proofs.Channel.{stays_lawful}
 use Rattle.co_sdo_laws.proofs.Turns.{InTurns as Turned, IsAt, always, goes_in_turns, when_done, channel_at, either}
 use Rattle.co_sdo_laws.proofs.StopAndWait.{Parts, StopAndWait, turns_of}
@@ -31,13 +30,12 @@ use Rattle.co_sdo_laws.proofs.SegmentedDownloads as downloads
 use Rattle.co_sdo_laws.proofs.ExpeditedDownloads as short_downloads
 use Rattle.co_sdo_laws.proofs.SegmentedUploads as long_uploads
 use Rattle.co_sdo_laws.proofs.ExpeditedUploads as short_uploads
-use Rattle.co_sdo_laws.proofs.SentFrames.{AllThere, all_there, have_sent}
 use Rattle.co_sdo_laws.proofs.BlockDownloads as sent
 use Rattle.co_sdo_laws.proofs.BlockDownloadEvents.{always as sent_blocks}
-use Rattle.co_sdo_laws.proofs.BlockDownloadOutcomes as blocks_outcome
+use Rattle.co_sdo_laws.proofs.BlockDownloadEvents as blocks_outcome
 use Rattle.co_sdo_laws.proofs.BlockUploads as fetched
 use Rattle.co_sdo_laws.proofs.BlockUploadEvents.{always as fetched_blocks}
-use Rattle.co_sdo_laws.proofs.BlockUploadOutcomes as fetched_outcome
+use Rattle.co_sdo_laws.proofs.BlockUploadEvents as fetched_outcome
 
 -- ---- of every kind
 

@@ -12,18 +12,17 @@ use Rattle.co_sdo.specs.Uploads.{value_at}
 use Rattle.co_sdo_laws.specs.World.{Setup, WorldEvent, world_after}
 use Rattle.co_sdo_laws.specs.Undisturbed.{is_short, is_expedited_download, is_segmented_download, is_plain_upload, is_block_upload, is_block_download}
 use Rattle.co_sdo_loss_laws.specs.Disturbed.{IsAlone, is_plain_download, is_repeat}
-use Rattle.co_sdo_laws.proofs.Permits.{IsDownload, IsUpload}
-use Rattle.co_sdo_laws.proofs.Protocols as protocols
-use Rattle.co_sdo_laws.proofs.Protocols.{Goes, short_bytes}
+use Rattle.co_sdo_laws.proofs.Permits.{IsDownload, IsUpload, Goes, short_bytes}
+use Rattle.co_sdo_laws.proofs.Permits as protocols
 use Rattle.co_sdo_laws.proofs.StopAndWait.{Parts, IsOver, StopAndWait, always, when_done}
 use Rattle.co_sdo_laws.proofs.SegmentedDownloads as in_segments
 use Rattle.co_sdo_laws.proofs.ExpeditedDownloads as at_once
 use Rattle.co_sdo_laws.proofs.SegmentedUploads as read_in_segments
 use Rattle.co_sdo_laws.proofs.ExpeditedUploads as read_at_once
 use Rattle.co_sdo_laws.proofs.BlockUploadEvents as read_in_blocks
-use Rattle.co_sdo_laws.proofs.BlockUploadOutcomes.{value_is}
+use Rattle.co_sdo_laws.proofs.BlockUploadEvents.{value_is}
 use Rattle.co_sdo_laws.proofs.BlockDownloadEvents as written_in_blocks
-use Rattle.co_sdo_laws.proofs.BlockDownloadOutcomes.{set_is}
+use Rattle.co_sdo_laws.proofs.BlockDownloadEvents.{set_is}
 
 -- ---- nothing is said of rights
 

@@ -1,4 +1,4 @@
-use Rattle.co_sdo_laws.proofs.Protocols.{in_blocks}
+use Rattle.co_sdo_laws.proofs.Permits.{in_blocks}
 use Rattle.co_sdo_laws.proofs.Transfers.{sent_in_blocks, lawful, is_done, is_over, rests}
 use Rattle.co_sdo_laws.proofs.undisturbed.block_download.Goals as goal
 

@@ -1,4 +1,4 @@
-use Rattle.co_sdo_laws.proofs.Protocols.{at_once}
+use Rattle.co_sdo_laws.proofs.Permits.{at_once}
 use Rattle.co_sdo_laws.proofs.Transfers.{expedited, lawful, is_done, is_over, rests}
 use Rattle.co_sdo_laws.proofs.undisturbed.expedited_download.Goals as goal
 

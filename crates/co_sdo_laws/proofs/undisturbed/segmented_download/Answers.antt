@@ -1,4 +1,4 @@
-use Rattle.co_sdo_laws.proofs.Protocols.{in_segments}
+use Rattle.co_sdo_laws.proofs.Permits.{in_segments}
 use Rattle.co_sdo_laws.proofs.Transfers.{segmented, lawful, is_done, is_over, rests}
 use Rattle.co_sdo_laws.proofs.undisturbed.segmented_download.Goals as goal
 
