@@ -10,7 +10,7 @@ use Rattle.co_frame.specs.declared.block_segment.BlockSegment.{BlockSegment}
 use Rattle.co_sdo_client.specs.Segments.{part_after, segment_count, block_segment, sub_block_length}
 use Rattle.co_sdo_client.specs.SubBlocks.{segment_taken, sub_block, taken_segments, block_bytes, has_last}
 use Rattle.co_sdo.specs.Downloads.{without}
-use Rattle.co_sdo_laws.proofs.Frames.{block_segment_read}
+use Rattle.co_sdo_laws.proofs.Frames.{padded_length, block_segment_read}
 use Rattle.co_sdo_laws.proofs.Segments.{joined, part_small}
 use Rattle.co_sdo_laws.proofs.Blocks.{live}
 
@@ -24,9 +24,6 @@ pub full_joined : (v : List ℕ) (k : ℕ) → suc k < segment_count v → take 
 full_joined v k h =
     let n = full_part v k h in
     rw (n, append-nil (part_after k v)) (joined v k)
-
-pub padded_long : (xs : List ℕ) → length xs ≤ 7 → length (padded 7 xs) ≡ 7
-padded_long xs h = simp (length-append, length-replicate) (omega arith)
 
 part_length : (v : List ℕ) (k : ℕ) → length (part_after k v) ≡ min 7 (length v - 7 * k)
 part_length v k = length-take 7 (drop (7 * k) v) ∙ ap (min 7) (length-drop (7 * k) v)
@@ -86,7 +83,7 @@ abbrev pub frame_with : List ℕ → ℕ → ℕ → Bool → List ℕ
 frame_with v a n last = block_segment_bytes (segment_with last n (data_at v a n))
 
 pub data_long : (v : List ℕ) (a n : ℕ) → length (data_at v a n) ≡ 7
-data_long v a n = padded_long (part_after (a + n - 1) v) (part_small (a + n - 1) v)
+data_long v a n = padded_length (part_after (a + n - 1) v) 7 (part_small (a + n - 1) v)
 
 pub frame_is : (v : List ℕ) (a n : ℕ) (last : Bool) → eqb (a + n) (total v) ≡ last → segment_at v a n ≡ frame_with v a n last
 frame_is v a n last l = rw l refl

@@ -27,7 +27,7 @@ use Rattle.co_sdo_laws.proofs.Server.{serves_first, Serves}
 use Rattle.co_sdo_laws.proofs.Client.{follows, stays, verdict_since}
 use Rattle.co_sdo_laws.proofs.Failures.{has_failed, failed_more, failed_front}
 use Rattle.co_sdo_laws.proofs.Channel.{IsServing, serving_ticks, serving_ends}
-use Rattle.co_sdo_laws.proofs.Permits.{value, IsUpload, small_value, not_above}
+use Rattle.co_sdo_laws.proofs.Permits.{value, IsUpload, small_value, not_above, below_itself}
 use Rattle.co_sdo_laws.proofs.Blocks.{is_live, live, kept_both, cut_fails, cut_is_more, Count, Moment, disturbed, heard, no_request, no_answer, cons≢nil, head_is, tail_is, dropped, front_came, nothing_came, IsDone, over_event, calm_asks, calm_waits, same_requests, some_on_way, waits_at, done_at}
 use Rattle.co_sdo_laws.proofs.BlockSegments.{all_is, total, blocks, unused, segment_at, segments}
 use Rattle.co_sdo_laws.proofs.BlockUploads.{begin, confirmation, server_end, client_end, HasBegun, Took, TookAll, Lawful, Idle, begun, sending, at_end, May, Last, sent_end, end_came, Stands, asking, confirmed, starting, taking, acknowledging, finishing, ending, quiet, over, failed, waiting, finished, gave_up, standing}
@@ -41,15 +41,11 @@ use Rattle.co_sdo_laws.proofs.Turns.{waiting≢done}
 confirmation_read : (s : Setup) (p : Type 0) → IsUpload s p Block → response_in (confirmation s) ≡ Some (BlockUploadInitiated s.call.key (Some (length (value s))))
 confirmation_read s p m = let small = small_value s m.dictionary in block_upload_initiated_read s.call.key (length (value s)) m.key (omega arith)
 
--- there is room for the value
-has_room : (s : Setup) (p : Type 0) → IsUpload s p Block → nat_lt (cap_of s.call.job) (length (value s)) ≡ true → p → ⊥
-has_room s p m above x = let fits = m.fits x in absurd (grind (arith, nat_tests))
-
 confirmation_comes : (s : Setup) (p : Type 0) → IsUpload s p Block → (w : World) → HasBegun s w.events → Moment p live [] [] 1 0 w → May s p (begun s) w.log w.contents
     → (above : Bool) → nat_lt (cap_of s.call.job) (length (value s)) ≡ above → Stands s p (at_client s (Answered (confirmation s)) w)
 confirmation_comes s p m w c at h true room =
     let is : verdict s.call w.events (Answered (confirmation s)) ≡ GivesUp 0x05040005 = verdict_since s.call w.events _ None c.first ∙ rw (confirmation_read s p m, m.transfer, same_key-refl s.call.key, room) refl in
-    fails_by s p (confirmation s) w (has_room s p m room) c.waits (rw is refl)
+    fails_by s p (confirmation s) w (λ x. not_above (cap_of s.call.job) _ (m.fits x) room) c.waits (rw is refl)
 confirmation_comes s p m w c at h false room =
     let is : verdict s.call w.events (Answered (confirmation s)) ≡ GoesOn (Request BlockUploadStart ∷ []) = verdict_since s.call w.events _ None c.first ∙ rw (confirmation_read s p m, m.transfer, same_key-refl s.call.key, room) refl in
     let f = follows s.call w.events (Answered (confirmation s)) (GoesOn (Request BlockUploadStart ∷ [])) c.waits is in
@@ -63,16 +59,13 @@ confirmation_comes s p m w c at h false room =
       held = refl;
     }) (heard s p live (confirmation s) w _ _ _ _ _ _ at f.messages refl (λ x. refl)) h
 
-below_itself : (n : ℕ) → nat_lt n n ≡ false
-below_itself n = grind (arith, nat_tests)
-
 server_end_comes : (s : Setup) (p : Type 0) → IsUpload s p Block → (w : World) → TookAll s w.events → Moment p live [] [] (2 + blocks (value s)) (1 + total (value s)) w → May s p (at_end s) w.log w.contents
     → (above : Bool) → nat_lt (cap_of s.call.job) (length (value s)) ≡ above → Stands s p (at_client s (Answered (server_end s)) w)
 server_end_comes s p m w c at h true room =
     let whole = all_is (value s) (total (value s) - 1) (omega arith) in
     let is : verdict s.call w.events (Answered (server_end s)) ≡ GivesUp 0x05040005 =
     verdict_since s.call w.events _ (Some c.took) c.is ∙ rw (m.transfer, c.last, c.size, upload_end_read (unused (value s)) (omega arith), c.held, whole, below_itself (length (value s)), room) refl in
-    fails_by s p (server_end s) w (has_room s p m room) c.waits (rw is refl)
+    fails_by s p (server_end s) w (λ x. not_above (cap_of s.call.job) _ (m.fits x) room) c.waits (rw is refl)
 server_end_comes s p m w c at h false room =
     let whole = all_is (value s) (total (value s) - 1) (omega arith) in
     let is : verdict s.call w.events (Answered (server_end s)) ≡ Ends (Request BlockUploadEnd ∷ []) (value s) =

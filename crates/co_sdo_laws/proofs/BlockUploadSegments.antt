@@ -61,6 +61,21 @@ grown s frame events a h = ap (λ (x : Option Answers). Some (with_answer frame 
 pub fails_by : (s : Setup) (p : Type 0) (frame : List ℕ) (w : World) → (p → ⊥) → outcome s.call w.events ≡ Waiting → has_failed (state_by (verdict s.call w.events (Answered frame))) ≡ true → Stands s p (at_client s (Answered frame) w)
 fails_by s p frame w never waits h = failed never (rw waits h)
 
+-- one more frame, taken or not
+took_next : {sum taken sum' taken' : ℕ} (s : Setup) (frame : List ℕ) (events : List ClientEvent) (c : Took s sum taken events)
+    → outcome s.call (Answered frame ∷ events) ≡ Waiting → has_last (frame ∷ c.took.later) ≡ false
+    → length (taken_segments (sub_block (frame ∷ c.took.later))) ≡ taken'
+    → block_bytes (frame ∷ c.took.later) ≡ take (7 * sum') (value s) → Took s sum' taken' (Answered frame ∷ events)
+took_next s frame events c waits inside in_block held = record {
+  waits = waits;
+  took = with_frame c.took frame;
+  is = grown s frame events c.took c.is;
+  size = c.size;
+  inside = inside;
+  in_block = in_block;
+  held = held;
+}
+
 -- ---- a segment comes
 
 -- one that doesn't end its sub-block
@@ -75,15 +90,8 @@ inside_comes s p m a t n more w c under some size turn at h true e =
     let is = verdict_since s.call w.events frame (Some c.took) c.is ∙ inside_verdict s p m a n t c.took some few other c.inside c.in_block in
     let f = follows s.call w.events (Answered frame) (GoesOn []) c.waits is in
     let g = grows c.took.later frame (segment_with false n (data_at (value s) a n)) t (frame_read (value s) a n false some few) e c.inside c.in_block in
-    taking a (t + 1) (n + 1) more (record {
-      waits = f.state;
-      took = with_frame c.took frame;
-      is = grown s frame w.events c.took c.is;
-      size = c.size;
-      inside = g.last;
-      in_block = g.inside other;
-      held = g.bytes ∙ ap (λ (xs : List ℕ). xs ++ data_at (value s) a n) c.held ∙ next_joined (value s) a t n next (omega arith);
-    }) (omega arith) (omega arith) (omega arith) (λ x. record { whole = (turn x).whole; next = let k = (turn x).next in omega arith })
+    taking a (t + 1) (n + 1) more (took_next s frame w.events c f.state g.last (g.inside other)
+    (g.bytes ∙ ap (λ (xs : List ℕ). xs ++ data_at (value s) a n) c.held ∙ next_joined (value s) a t n next (omega arith))) (omega arith) (omega arith) (omega arith) (λ x. record { whole = (turn x).whole; next = let k = (turn x).next in omega arith })
     (heard s p live frame w _ _ _ _ _ _ at f.messages refl (λ x. omega arith)) h
 inside_comes s p m a t n more w c under some size turn at h false e =
     let frame = frame_with (value s) a n false in
@@ -93,15 +101,8 @@ inside_comes s p m a t n more w c under some size turn at h false e =
     let is = verdict_since s.call w.events frame (Some c.took) c.is ∙ inside_verdict s p m a n t c.took some few other c.inside c.in_block in
     let f = follows s.call w.events (Answered frame) (GoesOn []) c.waits is in
     let g = passes c.took.later frame (segment_with false n (data_at (value s) a n)) t (frame_read (value s) a n false some few) e c.inside c.in_block in
-    taking a t (n + 1) more (record {
-      waits = f.state;
-      took = with_frame c.took frame;
-      is = grown s frame w.events c.took c.is;
-      size = c.size;
-      inside = g.last;
-      in_block = g.inside other;
-      held = g.bytes ∙ c.held;
-    }) under (omega arith) (omega arith) (λ x. absurd (never x)) (heard s p live frame w _ _ _ _ _ _ at f.messages refl (λ x. absurd (never x))) h
+    taking a t (n + 1) more (took_next s frame w.events c f.state g.last (g.inside other)
+    (g.bytes ∙ c.held)) under (omega arith) (omega arith) (λ x. absurd (never x)) (heard s p live frame w _ _ _ _ _ _ at f.messages refl (λ x. absurd (never x))) h
 
 -- the last segment of all, and all before it were taken
 last_comes : (s : Setup) (p : Type 0) → IsUpload s p Block → (a t n : ℕ) (w : World) → Took s (a + t) t w.events → 1 ≤ n → n < 128 → a + n ≡ total (value s) → n ≡ size_after (value s) a → (p → InTurn a t n)
@@ -141,15 +142,8 @@ full_comes s p m a t n w c some few left size full turn at h e false room =
     let is = verdict_since s.call w.events frame (Some c.took) c.is ∙ full_verdict s p m a n t c.took false some few e full c.inside c.in_block room in
     let f = follows s.call w.events (Answered frame) (GoesOn (Request (BlockUploadAcknowledge (t + 1) 127) ∷ [])) c.waits is in
     let g = grows c.took.later frame (segment_with false n (data_at (value s) a n)) t (frame_read (value s) a n false some few) e c.inside c.in_block in
-    acknowledging a (t + 1) (record {
-      waits = f.state;
-      took = with_frame c.took frame;
-      is = grown s frame w.events c.took c.is;
-      size = c.size;
-      inside = g.last;
-      in_block = g.ended full;
-      held = g.bytes ∙ ap (λ (xs : List ℕ). xs ++ data_at (value s) a n) c.held ∙ next_joined (value s) a t n next left;
-    }) (omega arith) (λ x. record { whole = (turn x).whole; size = sym next ∙ size; within = omega arith })
+    acknowledging a (t + 1) (took_next s frame w.events c f.state g.last (g.ended full)
+    (g.bytes ∙ ap (λ (xs : List ℕ). xs ++ data_at (value s) a n) c.held ∙ next_joined (value s) a t n next left)) (omega arith) (λ x. record { whole = (turn x).whole; size = sym next ∙ size; within = omega arith })
     (heard s p live frame w _ _ _ _ _ _ at f.messages refl (λ x. omega arith)) h
 
 -- a sub-block ends with a segment that isn't the next
@@ -166,15 +160,8 @@ missed_comes s p m a t n last w c under some few ends turn at h e false room =
     let is = verdict_since s.call w.events frame (Some c.took) c.is ∙ missed_verdict s p m a n t last c.took false some few e ends c.inside c.in_block room in
     let f = follows s.call w.events (Answered frame) (GoesOn (Request (BlockUploadAcknowledge t 127) ∷ [])) c.waits is in
     let g = passes c.took.later frame (segment_with last n (data_at (value s) a n)) t (frame_read (value s) a n last some few) e c.inside c.in_block in
-    acknowledging a t (record {
-      waits = f.state;
-      took = with_frame c.took frame;
-      is = grown s frame w.events c.took c.is;
-      size = c.size;
-      inside = g.last;
-      in_block = g.ended ends;
-      held = g.bytes ∙ c.held;
-    }) under (λ x. absurd (never x)) (heard s p live frame w _ _ _ _ _ _ at f.messages refl (λ x. absurd (never x))) h
+    acknowledging a t (took_next s frame w.events c f.state g.last (g.ended ends)
+    (g.bytes ∙ c.held)) under (λ x. absurd (never x)) (heard s p live frame w _ _ _ _ _ _ at f.messages refl (λ x. absurd (never x))) h
 
 -- the last frame of a sub-block
 end_comes : (s : Setup) (p : Type 0) → IsUpload s p Block → (a t n : ℕ) (w : World) → Took s (a + t) t w.events → a + t < total (value s) → 1 ≤ n → n ≡ size_after (value s) a → (p → InTurn a t n)

@@ -52,7 +52,7 @@ unused_of true false m h = omega arith
 unused_of false true m h = omega arith
 unused_of false false m h = omega arith
 
-padded_length : (xs : List ℕ) (n : ℕ) → length xs ≤ n → length (padded n xs) ≡ n
+pub padded_length : (xs : List ℕ) (n : ℕ) → length xs ≤ n → length (padded n xs) ≡ n
 padded_length xs n h = simp (length-append, length-replicate) (omega arith)
 
 padded_taken : (xs : List ℕ) (n : ℕ) → length xs ≤ n → take (n - (n - length xs)) (padded n xs) ≡ xs

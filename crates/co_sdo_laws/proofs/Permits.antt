@@ -134,6 +134,9 @@ pub record IsUpload (s : Setup) (p : Type 0) (mode : Mode) : Type 0 where
 pub not_above : (cap n : ℕ) → n ≤ cap → nat_lt cap n ≡ true → ⊥
 not_above cap n few above = absurd (grind (arith, nat_tests))
 
+pub below_itself : (n : ℕ) → nat_lt n n ≡ false
+below_itself n = grind (arith, nat_tests)
+
 pub lawful_of : (s : Setup) → IsDictionary s.description s.contents → (contents : Contents) → contents ≡ s.contents
     → IsDictionary s.description contents
 lawful_of s lawful contents e = subst (IsDictionary s.description) (sym e) lawful

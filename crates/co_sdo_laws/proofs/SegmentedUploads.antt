@@ -26,7 +26,7 @@ use Rattle.co_sdo.proofs.Continuations.{not_odd}
 use Rattle.co_sdo_laws.specs.World.{Setup}
 use Rattle.co_sdo_laws.proofs.Frames.{upload_read, next_read, upload_initiated_read, segment_sent_read}
 use Rattle.co_sdo_laws.proofs.Segments.{same, joined, taken_all, part_small, not_end, is_end}
-use Rattle.co_sdo_laws.proofs.Permits.{value, small_value, IsUpload, lawful_of, none≢some, not_above}
+use Rattle.co_sdo_laws.proofs.Permits.{value, small_value, IsUpload, lawful_of, none≢some, not_above, below_itself}
 use Rattle.co_sdo_laws.proofs.Client.{verdict_since}
 use Rattle.co_sdo_laws.proofs.Turns.{GoesOnWith}
 use Rattle.co_sdo_laws.proofs.Failures.{Fails, IsAbort, has_failed, aborted_fails, toggles_differ}
@@ -182,9 +182,6 @@ given s a frame = answer_verdict s.call (stage_since s.call a) (held_since s.cal
 abbrev held_with : Setup → ℕ → ℕ
 held_with s zero = length (value s)
 held_with s (suc k) = length (take (7 * suc k) (value s))
-
-below_itself : (n : ℕ) → nat_lt n n ≡ false
-below_itself n = grind (arith, nat_tests)
 
 no_room : (s : Setup) (p : Type 0) → IsUpload s p Segmented → (k : ℕ) → nat_lt (cap_of s.call.job) (held_with s k) ≡ true
     → has_failed (state_by (given s (taken_at s k) (answer s k))) ≡ true

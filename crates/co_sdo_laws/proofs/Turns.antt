@@ -13,6 +13,7 @@ use Rattle.co_sdo.specs.Completed.{set_by, contents_with}
 use Rattle.co_sdo.proofs.Initiations.{exchange}
 use Rattle.co_sdo_laws.specs.World.{Setup, World, Requests, Answers, WorldEvent, Delivered, Lost, Repeated, ClientTicked, ChannelTicked, first_world, after_event, world_after}
 use Rattle.co_sdo_laws.specs.Undisturbed.{IsCalm, AreCalm, GoesInTurns}
+use Rattle.co_sdo_laws.proofs.Progress.{no_front}
 use Rattle.co_sdo_laws.proofs.Client.{follows, stays, tick_verdict}
 
 -- the channel takes a request: its only answer, and how it stands then
@@ -139,14 +140,6 @@ last_answer_comes s t k w h last =
       answered = let n = h.answered in omega arith;
     }))
 
--- ---- nothing is on its way in a queue
-
-no_request : (s : Setup) (w : World) → w.requests ≡ [] → w ≡ after_event s (Delivered Requests) w
-no_request s w e = rw e refl
-
-no_answer : (s : Setup) (w : World) → w.answers ≡ [] → w ≡ after_event s (Delivered Answers) w
-no_answer s w e = rw e refl
-
 -- ---- ticks
 
 waits_ticks : (s : Setup) (t : Turns s) (j k : ℕ) (sent given : List (List ℕ)) (w : World) → Waits s t j k sent given w → IsCalm s ClientTicked w
@@ -216,11 +209,11 @@ either k n h = by (eqb k n) refl
 
 step : (s : Setup) (t : Turns s) (event : WorldEvent) (w : World) → IsCalm s event w → InTurns s t w → InTurns s t (after_event s event w)
 step s t (Delivered Requests) w calm (asking k h) = request_comes s t k w h
-step s t (Delivered Requests) w calm (answering k h) = subst (InTurns s t) (no_request s w h.requests) (answering k h)
-step s t (Delivered Requests) w calm (over h) = subst (InTurns s t) (no_request s w h.requests) (over h)
-step s t (Delivered Answers) w calm (asking k h) = subst (InTurns s t) (no_answer s w h.answers) (asking k h)
+step s t (Delivered Requests) w calm (answering k h) = subst (InTurns s t) (no_front s Requests w h.requests) (answering k h)
+step s t (Delivered Requests) w calm (over h) = subst (InTurns s t) (no_front s Requests w h.requests) (over h)
+step s t (Delivered Answers) w calm (asking k h) = subst (InTurns s t) (no_front s Answers w h.answers) (asking k h)
 step s t (Delivered Answers) w calm (answering k h) = elim (either (k + 1) t.needed (let less = h.within in omega arith)) [ inl more ↦ answer_comes s t k w h more | inr last ↦ last_answer_comes s t k w h last ]
-step s t (Delivered Answers) w calm (over h) = subst (InTurns s t) (no_answer s w h.answers) (over h)
+step s t (Delivered Answers) w calm (over h) = subst (InTurns s t) (no_front s Answers w h.answers) (over h)
 step s t (Lost queue) w calm h = absurd calm
 step s t (Repeated queue) w calm h = absurd calm
 step s t ClientTicked w calm (asking k h) = asking k (waits_ticks s t _ _ _ _ w h calm)
