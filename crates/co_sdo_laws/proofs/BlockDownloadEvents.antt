@@ -1,6 +1,6 @@
 -- A download in blocks: the answers, and every event.
-use Rattle.std.proofs.Common.{◌≡◌, ℕ, suc, ◌+◌, ◌-◌, ◌*◌, ◌/◌, ◌%◌, ◌<◌, Bool, true, false, List, [], ◌∷◌, ◌++◌, length, take, drop, map, Option, Some, None, refl, sym, ap, ◌∙◌, arith, eqb, subst, append-nil, ◌⊎◌, inl, inr, ◌≤◌}
-use Rattle.std.specs.Prelude.{nat_lt, min, if◌then◌else◌}
+use Rattle.std.proofs.Common.{◌≡◌, ℕ, suc, ◌+◌, ◌-◌, ◌/◌, ◌<◌, Bool, true, false, List, [], ◌∷◌, ◌++◌, length, drop, map, Option, Some, None, refl, sym, ap, ◌∙◌, arith, eqb, subst, append-nil, inl, inr}
+use Rattle.std.specs.Prelude.{nat_lt, if◌then◌else◌}
 use Rattle.std.specs.List.{range_with_len, list_any}
 use Rattle.std.proofs.lemmas.Bool.{false≢true, not-false, or_parts}
 use Rattle.std.proofs.lemmas.Bool.Decides.{nat_tests}
@@ -17,7 +17,7 @@ use Rattle.co_sdo_client.specs.Calls.{Call, Segment, message_bytes, Event as Cli
 use Rattle.co_sdo_client.specs.Segments.{block_segment, sub_block_length, sub_block_sent, block_download_end}
 use Rattle.co_sdo_client.specs.Stages.{stage_since, held_since, held_after, block_size_by}
 use Rattle.co_sdo_client.specs.Verdicts.{Verdict, GoesOn, Ends, GivesUp, verdict, answer_verdict, response_verdict}
-use Rattle.co_sdo_client.specs.Outcomes.{state_by, outcome, asked, result}
+use Rattle.co_sdo_client.specs.Outcomes.{state_by, outcome, result}
 use Rattle.co_dict.specs.Rows.{Contents}
 use Rattle.co_sdo.specs.Log.{answer_bytes, Ticked}
 use Rattle.co_sdo.specs.Opened.{OpenTransfer, opened_after, is_time_over}
@@ -30,9 +30,9 @@ use Rattle.co_sdo_laws.proofs.Permits.{bytes, IsDownload}
 use Rattle.co_sdo_laws.proofs.Client.{follows, stays, verdict_since}
 use Rattle.co_sdo_laws.proofs.Failures.{is_aborted, has_failed, failed_more}
 use Rattle.co_sdo_laws.proofs.Channel.{IsServing, serving_ticks, serving_ends}
-use Rattle.co_sdo_laws.proofs.Blocks.{is_live, live, kept_both, kept_first, kept_one, kept_drop, kept_drop_one, IsDone, over_event, cut_fails, cut_read, cut_is_more, Count, Moment, disturbed, heard, no_answer, cons≢nil, head_is, tail_is, calm_asks, calm_waits, same_requests, waits_at, done_at}
+use Rattle.co_sdo_laws.proofs.Blocks.{is_live, live, kept_both, kept_first, kept_one, kept_drop, kept_drop_one, IsDone, over_event, cut_fails, cut_read, Count, Moment, disturbed, heard, no_answer, cons≢nil, tail_is, calm_asks, calm_waits, same_requests, waits_at, done_at}
 use Rattle.co_sdo_laws.proofs.GoneChannels.{is_awaited, is_awaited_frame, awaited, aborted_other, IsGone, gone_ticks, gone_ends}
-use Rattle.co_sdo_laws.proofs.BlockSegments.{total, size_after, blocks, segments, InTurn, IsWhole, full, full_count, last_count}
+use Rattle.co_sdo_laws.proofs.BlockSegments.{total, size_after, blocks, segments, IsWhole, full, full_count, last_count}
 use Rattle.co_sdo_laws.proofs.BlockDownloads.{confirmation, acknowledgement, client_end, all_done, HasBegun, Took, Lawful, taking, complete, May, Closed, IsSet, Last, Stands, asking, confirmed, unconfirmed, sending, unheard, acknowledging, finishing, ending, ended, quiet, over, failed, waiting, finished, gave_up, standing}
 use Rattle.co_sdo_laws.proofs.BlockDownloadRequests.{loses_request, request_comes}
 use Rattle.co_sdo_laws.proofs.Progress.{AllThere, have_sent}

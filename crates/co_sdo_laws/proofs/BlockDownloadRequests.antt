@@ -9,7 +9,7 @@ use Rattle.co_sdo_client.specs.declared.mode.Mode.TheVariants.{Block}
 use Rattle.co_sdo_client.specs.Segments.{size_sent}
 use Rattle.co_dict.specs.Rows.{Contents, written}
 use Rattle.co_sdo.specs.Refused.{capacity_at, initiate_refusal, completion_refusal}
-use Rattle.co_sdo.specs.Log.{Response, answer_bytes, Log}
+use Rattle.co_sdo.specs.Log.{Response, answer_bytes}
 use Rattle.co_sdo.specs.Replies.{aborted, reply_to}
 use Rattle.co_sdo_laws.specs.World.{Setup, World, Requests, at_channel, without_front, front_arrives}
 use Rattle.co_sdo_laws.proofs.Frames.{block_begin_long, block_done_read, acknowledged_read}
@@ -19,8 +19,8 @@ use Rattle.co_sdo_laws.proofs.Failures.{failed_front}
 use Rattle.co_sdo_laws.proofs.Channel.{IsServing, is_served}
 use Rattle.co_sdo_laws.proofs.Blocks.{is_live, live, kept_after, Moment, disturbed, replied, no_request, dropped, front_came, nothing_came}
 use Rattle.co_sdo_laws.proofs.GoneChannels.{is_awaited_frame, awaited, aborted_other, IsGone, gone_answers, gone_goes_on}
-use Rattle.co_sdo_laws.proofs.BlockSegments.{all_held, all_is, total, size_after, blocks, unused, segment_at, segments, data_at, frame_with, frame_is, frame_long, next_joined, last_joined, InTurn, IsWhole, not_turn}
-use Rattle.co_sdo_laws.proofs.BlockDownloads.{begin, acknowledgement, client_end, all_done, inside, at_last, initiate_taken, initiate_refused, inside_next, inside_other, last_next, full_next, full_refused, end_other, end_refused, end_taken, completion_refused, HasBegun, Took, Lawful, taking, complete, May, Closed, IsSet, Stands, asking, confirmed, unconfirmed, sending, unheard, acknowledging, finishing, ending, ended, quiet, over, failed}
+use Rattle.co_sdo_laws.proofs.BlockSegments.{all_held, all_is, total, size_after, blocks, unused, segment_at, segments, data_at, frame_with, frame_is, frame_long, next_joined, last_joined, InTurn, not_turn}
+use Rattle.co_sdo_laws.proofs.BlockDownloads.{begin, acknowledgement, client_end, all_done, inside, at_last, initiate_taken, initiate_refused, inside_next, inside_other, last_next, full_next, full_refused, end_other, end_refused, end_taken, completion_refused, HasBegun, Took, Lawful, taking, complete, Stands, asking, confirmed, unconfirmed, sending, unheard, acknowledging, finishing, ending, ended, quiet, over, failed}
 
 initiate_comes : (s : Setup) (p : Type 0) → IsDownload s p Block → (w : World) → HasBegun s w.events → Moment p live [] [] 0 0 w → IsServing s (Lawful s) None w.log w.contents
     → (refusal : Option ℕ) → initiate_refusal s.description s.call.key (indicated s) ≡ refusal → Stands s p (at_channel s (begin s) w)

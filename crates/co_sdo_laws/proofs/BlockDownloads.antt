@@ -1,16 +1,16 @@
 -- A download in blocks from which frames may be lost, whatever the dictionary permits: what holds of a world. Frames are lost from the
 -- front of a queue alone. An acknowledgement is answered to the last frame on its way, and the client goes on only with it. Where it is
 -- permitted and undisturbed (`p`), each sub-block is taken whole, and the frames are counted.
-use Rattle.std.proofs.Common.{◌≡◌, ℕ, ◌+◌, ◌<◌, ◌≤◌, Bool, true, false, List, [], ◌∷◌, ◌++◌, length, Option, Some, None, refl, ap, arith, eqb, append-nil, suc, ◌-◌, ◌*◌, ◌/◌, take, sym, subst, ◌⊎◌}
+use Rattle.std.proofs.Common.{◌≡◌, ℕ, ◌+◌, ◌<◌, ◌≤◌, Bool, true, false, List, [], ◌∷◌, ◌++◌, length, Option, Some, None, refl, ap, eqb, append-nil, suc, ◌-◌, ◌*◌, ◌/◌, take, ◌⊎◌}
 use Rattle.std.specs.Prelude.{◌||◌, nat_lt}
 use Rattle.co_value.specs.declared.key.Key.{Key}
 use Rattle.co_frame.specs.declared.sdo_request.SdoRequest.TheVariants.{BlockDownloadInitiate, BlockDownloadEnd}
 use Rattle.co_frame.specs.declared.sdo_response.SdoResponse.TheVariants.{BlockDownloadInitiated, BlockDownloadDone, BlockDownloadAcknowledge}
 use Rattle.co_frame.specs.SdoRequests.{request_bytes}
 use Rattle.co_frame.specs.SdoResponses.{response_bytes, response_in}
-use Rattle.co_sdo_client.specs.Segments.{size_sent, transfer_of, transfer_by}
+use Rattle.co_sdo_client.specs.Segments.{size_sent}
 use Rattle.co_dict.specs.Rows.{Contents, written}
-use Rattle.co_dict.specs.Stores.{Description, IsDictionary}
+use Rattle.co_dict.specs.Stores.{Description}
 use Rattle.co_sdo.specs.declared.stage.Stage.TheVariants.{SubBlock, LastTaken}
 use Rattle.co_sdo.specs.Refused.{capacity_at, initiate_refusal, completion_refusal}
 use Rattle.co_sdo.specs.Downloads.{without}
@@ -22,12 +22,10 @@ use Rattle.co_sdo_laws.proofs.Frames.{size_read, block_begin_read, block_end_rea
 use Rattle.co_sdo_laws.proofs.Permits.{bytes, indicated}
 use Rattle.co_sdo_laws.proofs.Channel.{Steps, IsServing}
 use Rattle.co_sdo_laws.proofs.BlockSegments.{unused, data_at, frame_with, frame_read, other_byte, all_held, total, size_after, blocks, segments, InTurn, IsWhole}
-use Rattle.co_sdo_client.specs.declared.mode.Mode.TheVariants.{Block}
-use Rattle.co_sdo_client.specs.declared.state.ClientState.TheVariants.{Waiting, Done}
-use Rattle.co_sdo_client.specs.Calls.{Download as DownloadJob, Event as ClientEvent, answers as answers_of, Answers, since_first}
+use Rattle.co_sdo_client.specs.declared.state.ClientState.TheVariants.{Waiting}
+use Rattle.co_sdo_client.specs.Calls.{Event as ClientEvent, answers as answers_of, Answers, since_first}
 use Rattle.co_sdo_client.specs.Stages.{acknowledged, block_size_by, newest}
-use Rattle.co_sdo_client.specs.Outcomes.{outcome, result}
-use Rattle.co_sdo.specs.OpenTransfers.{open_transfer}
+use Rattle.co_sdo_client.specs.Outcomes.{outcome}
 use Rattle.co_sdo_laws.proofs.Server.{Serves}
 use Rattle.co_sdo_laws.proofs.Failures.{has_failed}
 use Rattle.co_sdo_laws.proofs.Blocks.{live, Count, Moment, IsDone}

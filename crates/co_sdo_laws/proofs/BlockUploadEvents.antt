@@ -1,9 +1,8 @@
 -- An upload in blocks: every event.
-use Rattle.std.proofs.Common.{◌≡◌, ℕ, zero, suc, ◌+◌, ◌-◌, ◌/◌, Bool, true, false, List, [], ◌∷◌, ◌++◌, length, drop, map, Option, Some, None, refl, sym, ap, ◌∙◌, arith, subst, append-nil, inl, inr, ◌<◌, ◌≤◌}
+use Rattle.std.proofs.Common.{◌≡◌, ℕ, zero, suc, ◌+◌, ◌-◌, Bool, true, false, List, [], ◌∷◌, length, drop, map, Option, Some, None, refl, sym, ap, ◌∙◌, arith, subst, append-nil, inl, inr, ◌<◌, ◌≤◌}
 use Rattle.std.specs.Prelude.{nat_lt, if◌then◌else◌}
 use Rattle.std.specs.List.{list_any}
 use Rattle.std.proofs.lemmas.Bool.{false≢true, or_parts}
-use Rattle.std.proofs.lemmas.Bool.Decides.{nat_tests}
 use Rattle.co_value.specs.Keys.{same_key-refl}
 use Rattle.co_frame.specs.BlockSegments.{is_abort_in_sub_block}
 use Rattle.co_frame.specs.declared.sdo_request.SdoRequest.TheVariants.{BlockUploadStart, BlockUploadEnd}
@@ -11,11 +10,11 @@ use Rattle.co_frame.specs.declared.sdo_response.SdoResponse.TheVariants.{BlockUp
 use Rattle.co_frame.specs.SdoResponses.{response_in}
 use Rattle.co_sdo_client.specs.declared.mode.Mode.TheVariants.{Block}
 use Rattle.co_sdo_client.specs.declared.state.ClientState.TheVariants.{Waiting, Done}
-use Rattle.co_sdo_client.specs.Calls.{Request, message_bytes, Event as ClientEvent, Answered, Ticked as TickedAtClient, answers as answers_of, Answers, since_first, with_answer, is_time_over as is_client_over}
+use Rattle.co_sdo_client.specs.Calls.{Request, message_bytes, Answered, Ticked as TickedAtClient, answers as answers_of, Answers, since_first, with_answer, is_time_over as is_client_over}
 use Rattle.co_sdo_client.specs.Segments.{cap_of}
 use Rattle.co_sdo_client.specs.Stages.{size_by, stage_since, held_since}
 use Rattle.co_sdo_client.specs.Verdicts.{GoesOn, Ends, GivesUp, verdict}
-use Rattle.co_sdo_client.specs.Outcomes.{outcome, asked, result}
+use Rattle.co_sdo_client.specs.Outcomes.{outcome, result}
 use Rattle.co_dict.specs.Rows.{Contents}
 use Rattle.co_sdo.specs.Log.{answer_bytes, Ticked, TimedOut, Log}
 use Rattle.co_sdo.specs.Opened.{OpenTransfer, is_time_over}
@@ -30,7 +29,7 @@ use Rattle.co_sdo_laws.proofs.Channel.{IsServing, serving_ticks, serving_ends}
 use Rattle.co_sdo_laws.proofs.Permits.{value, IsUpload, small_value, not_above, below_itself}
 use Rattle.co_sdo_laws.proofs.Blocks.{is_live, live, kept_both, cut_fails, cut_is_more, Count, Moment, disturbed, heard, no_request, no_answer, cons≢nil, head_is, tail_is, dropped, front_came, nothing_came, IsDone, over_event, calm_asks, calm_waits, same_requests, some_on_way, waits_at, done_at}
 use Rattle.co_sdo_laws.proofs.BlockSegments.{all_is, total, blocks, unused, segment_at, segments}
-use Rattle.co_sdo_laws.proofs.BlockUploads.{begin, confirmation, server_end, client_end, HasBegun, Took, TookAll, Lawful, Idle, begun, sending, at_end, May, Last, sent_end, end_came, Stands, asking, confirmed, starting, taking, acknowledging, finishing, ending, quiet, over, failed, waiting, finished, gave_up, standing}
+use Rattle.co_sdo_laws.proofs.BlockUploads.{confirmation, server_end, client_end, HasBegun, Took, TookAll, Lawful, Idle, begun, sending, at_end, May, Last, sent_end, end_came, Stands, asking, confirmed, starting, taking, acknowledging, finishing, ending, quiet, over, failed, waiting, finished, gave_up, standing}
 use Rattle.co_sdo_laws.proofs.BlockUploadRequests.{initiate_comes, start_comes, acknowledgement_comes, last_acknowledgement_comes, end_comes}
 use Rattle.co_sdo_laws.proofs.BlockUploadSegments.{fails_by, segment_comes}
 use Rattle.co_sdo_laws.proofs.Progress.{AllThere, have_sent}

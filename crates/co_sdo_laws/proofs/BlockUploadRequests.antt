@@ -1,6 +1,6 @@
 -- An upload in blocks: a request comes to the channel.
-use Rattle.std.proofs.Common.{◌≡◌, ℕ, suc, ◌+◌, ◌-◌, ◌*◌, ◌/◌, ◌%◌, ◌<◌, ◌≤◌, Bool, true, false, List, [], ◌∷◌, length, map, Option, Some, None, refl, sym, ap, ◌∙◌, arith, eqb, subst, inl, inr}
-use Rattle.std.specs.Prelude.{nat_lt, min}
+use Rattle.std.proofs.Common.{◌≡◌, ℕ, suc, ◌+◌, ◌-◌, ◌*◌, ◌/◌, ◌%◌, ◌<◌, ◌≤◌, Bool, true, false, List, [], map, Option, Some, None, refl, ap, ◌∙◌, arith, eqb, subst, inl, inr}
+use Rattle.std.specs.Prelude.{nat_lt}
 use Rattle.std.specs.List.{range_with_len}
 use Rattle.std.proofs.lemmas.Bool.Decides.{nat_tests}
 use Rattle.std.proofs.lemmas.Simd.{map-map}
@@ -20,8 +20,8 @@ use Rattle.co_sdo_laws.proofs.Frames.{block_upload_read}
 use Rattle.co_sdo_laws.proofs.Channel.{IsServed, is_served, IsServing}
 use Rattle.co_sdo_laws.proofs.Permits.{value, IsUpload, lawful_of, none≢some}
 use Rattle.co_sdo_laws.proofs.Blocks.{is_live, live, kept_after, Moment, replied}
-use Rattle.co_sdo_laws.proofs.BlockSegments.{total, size_after, blocks, unused, segment_at, segments, live_segments, InTurn, IsWhole, full, full_count, last_count}
-use Rattle.co_sdo_laws.proofs.BlockUploads.{begin, start, acknowledgement, client_end, HasBegun, Took, TookAll, Idle, begun, sending, at_end, May, initiate_taken, initiate_refused, start_taken, start_refused, acknowledged, all_acknowledged, too_many, acknowledge_refused, end_taken, Last, sent_end, end_came, Stands, confirmed, taking, ending, quiet, over}
+use Rattle.co_sdo_laws.proofs.BlockSegments.{total, size_after, unused, segments, live_segments, IsWhole, full, full_count, last_count}
+use Rattle.co_sdo_laws.proofs.BlockUploads.{begin, start, acknowledgement, client_end, HasBegun, Took, TookAll, Idle, begun, sending, at_end, May, initiate_taken, initiate_refused, start_taken, start_refused, acknowledged, all_acknowledged, too_many, acknowledge_refused, end_taken, Stands, confirmed, taking, ending, quiet}
 
 -- ---- a request comes, and nothing else is on its way
 

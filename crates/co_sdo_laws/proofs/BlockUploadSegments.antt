@@ -1,5 +1,5 @@
 -- An upload in blocks: a segment comes to the client, the next or another.
-use Rattle.std.proofs.Common.{◌≡◌, ℕ, zero, suc, ◌+◌, ◌-◌, ◌*◌, ◌/◌, ◌<◌, ◌≤◌, Bool, true, false, List, [], ◌∷◌, ◌++◌, length, take, Option, Some, refl, sym, ap, ◌∙◌, arith, eqb, subst, length-take, append-nil}
+use Rattle.std.proofs.Common.{◌≡◌, ℕ, zero, suc, ◌+◌, ◌-◌, ◌*◌, ◌/◌, ◌<◌, ◌≤◌, Bool, true, false, List, [], ◌∷◌, ◌++◌, length, take, Option, Some, refl, sym, ap, ◌∙◌, arith, eqb, subst, length-take}
 use Rattle.std.specs.Prelude.{nat_lt, ◌||◌, if◌then◌else◌}
 use Rattle.std.proofs.lemmas.Bool.{eqb-true}
 use Rattle.std.proofs.lemmas.Bool.Decides.{nat_tests}
@@ -17,7 +17,7 @@ use Rattle.co_sdo_laws.proofs.Client.{follows, verdict_since}
 use Rattle.co_sdo_laws.proofs.Failures.{has_failed}
 use Rattle.co_sdo_laws.proofs.Permits.{value, IsUpload}
 use Rattle.co_sdo_laws.proofs.Blocks.{live, Moment, heard}
-use Rattle.co_sdo_laws.proofs.BlockSegments.{total, size_after, segment_at, segments, segment_with, data_at, frame_with, frame_is, frame_long, frame_read, other_byte, next_joined, last_joined, InTurn, IsWhole, not_turn, grows, passes}
+use Rattle.co_sdo_laws.proofs.BlockSegments.{total, size_after, segment_at, segments, segment_with, data_at, frame_with, frame_is, frame_long, frame_read, other_byte, next_joined, last_joined, InTurn, not_turn, grows, passes}
 use Rattle.co_sdo_laws.proofs.BlockUploads.{Took, sending, May, Stands, taking, acknowledging, finishing, failed}
 
 -- ---- verdicts

@@ -1,32 +1,27 @@
 -- An upload in blocks from which frames may be lost, whatever the dictionary permits and the client has room for. Frames are lost
 -- from the front of a queue alone: what comes of a sub-block is an end of it, and an acknowledgement counts the segments that
 -- were taken in turn. Where it is permitted and undisturbed (`p`), each sub-block is taken whole, and the frames are counted.
-use Rattle.std.proofs.Common.{◌≡◌, ◌∙◌, ℕ, suc, ◌+◌, ◌-◌, ◌*◌, ◌/◌, ◌<◌, ◌≤◌, true, false, List, [], ◌∷◌, length, take, Option, Some, None, refl, sym, arith, eqb, subst, ◌⊎◌}
+use Rattle.std.proofs.Common.{◌≡◌, ◌∙◌, ℕ, suc, ◌+◌, ◌-◌, ◌*◌, ◌/◌, ◌<◌, ◌≤◌, true, false, List, [], ◌∷◌, length, take, Some, None, refl, sym, eqb, ◌⊎◌}
 use Rattle.std.specs.Prelude.{nat_lt}
-use Rattle.std.specs.Option.{option_map_or}
 use Rattle.co_value.specs.declared.key.Key.{Key}
 use Rattle.co_frame.specs.declared.sdo_request.SdoRequest.TheVariants.{BlockUploadInitiate, BlockUploadStart, BlockUploadAcknowledge, BlockUploadEnd as UploadEnd}
 use Rattle.co_frame.specs.declared.sdo_response.SdoResponse.TheVariants.{BlockUploadInitiated, BlockUploadEnd as EndSent}
 use Rattle.co_frame.specs.SdoRequests.{request_in, request_bytes}
 use Rattle.co_frame.specs.SdoResponses.{response_in, response_bytes}
-use Rattle.co_sdo_client.specs.declared.mode.Mode.TheVariants.{Block}
-use Rattle.co_sdo_client.specs.declared.state.ClientState.TheVariants.{Waiting, Done}
-use Rattle.co_sdo_client.specs.Calls.{Upload as UploadJob, Event as ClientEvent, answers as answers_of, Answers, since_first}
-use Rattle.co_sdo_client.specs.Segments.{cap_of, transfer_of, transfer_by, segment_count, sub_block_length}
+use Rattle.co_sdo_client.specs.declared.state.ClientState.TheVariants.{Waiting}
+use Rattle.co_sdo_client.specs.Calls.{Event as ClientEvent, answers as answers_of, Answers, since_first}
+use Rattle.co_sdo_client.specs.Segments.{segment_count, sub_block_length}
 use Rattle.co_sdo_client.specs.SubBlocks.{sub_block, taken_segments, block_bytes, has_last}
 use Rattle.co_sdo_client.specs.Stages.{size_by}
-use Rattle.co_sdo_client.specs.Outcomes.{outcome, result}
-use Rattle.co_dict.specs.declared.row.Row.{Row}
-use Rattle.co_dict.specs.Rows.{Contents, capacity_at}
-use Rattle.co_dict.specs.Stores.{Description, IsDescription, IsDictionary}
+use Rattle.co_sdo_client.specs.Outcomes.{outcome}
+use Rattle.co_dict.specs.Rows.{Contents}
+use Rattle.co_dict.specs.Stores.{Description}
 use Rattle.co_sdo.specs.declared.stage.Stage.TheVariants.{BlockUploadInitiated as BegunStage, BlockUpload as SendingStage, BlockUploadEnded}
-use Rattle.co_sdo.specs.OpenTransfers.{open_transfer}
 use Rattle.co_sdo.specs.Refused.{reading_refusal}
 use Rattle.co_sdo.specs.Log.{Response, Log}
 use Rattle.co_sdo.specs.Uploads.{value_at, sub_block_sent}
 use Rattle.co_sdo.specs.Opened.{OpenTransfer}
 use Rattle.co_sdo.specs.Replies.{aborted}
-use Rattle.co_sdo.proofs.StoreLemmas.{value_fits}
 use Rattle.co_sdo_laws.specs.World.{Setup, World}
 use Rattle.co_sdo_laws.proofs.Frames.{start_read, acknowledge_read, client_end_read}
 use Rattle.co_sdo_laws.proofs.Failures.{has_failed}

@@ -1,6 +1,6 @@
 -- A channel that gave a block download up, or never heard of it, and hears its segments as requests: it answers nothing that the
 -- client awaits, and none of them but the last, with c, brings it back into a block transfer.
-use Rattle.std.proofs.Common.{◌≡◌, ℕ, ◌+◌, ◌-◌, ◌*◌, ◌/◌, ◌<◌, ◌≤◌, Bool, true, false, cond, not, List, [], ◌∷◌, ◌++◌, length, map, Option, Some, None, refl, sym, ap, ◌∙◌, arith, eqb, subst}
+use Rattle.std.proofs.Common.{◌≡◌, ℕ, ◌+◌, ◌-◌, ◌*◌, ◌/◌, ◌<◌, ◌≤◌, Bool, true, false, cond, not, List, [], ◌∷◌, length, map, Option, Some, None, refl, sym, ap, ◌∙◌, arith, eqb, subst}
 use Rattle.std.specs.Prelude.{◌%◌, ◌||◌, ◌&&◌, if◌then◌else◌, slice_index, nat_le}
 use Rattle.std.specs.List.{list_any}
 use Rattle.std.specs.Option.{option_map_or}
@@ -9,7 +9,7 @@ use Rattle.std.proofs.lemmas.Bool.Decides.{nat_tests}
 use Rattle.arrayvec.specs.ArrayVec.{ArrayVec}
 use Rattle.co_value.specs.declared.key.Key.{Key}
 use Rattle.co_frame.specs.declared.sdo_request.SdoRequest.{SdoRequest}
-use Rattle.co_frame.specs.declared.sdo_request.SdoRequest.TheVariants.{DownloadExpedited, DownloadInitiate, DownloadSegment, Upload, UploadSegment, Abort, BlockUploadInitiate, BlockUploadEnd, BlockUploadAcknowledge, BlockUploadStart, BlockDownloadInitiate, BlockDownloadEnd}
+use Rattle.co_frame.specs.declared.sdo_request.SdoRequest.TheVariants.{DownloadExpedited, DownloadInitiate, DownloadSegment, Upload, UploadSegment, Abort, BlockUploadInitiate, BlockDownloadInitiate}
 use Rattle.co_frame.specs.declared.sdo_request.ExpeditedData.{ExpeditedData}
 use Rattle.co_frame.specs.declared.sdo_request.ExpeditedData.TheVariants.{Indicated}
 use Rattle.co_frame.specs.declared.sdo_response.SdoResponse.{SdoResponse}

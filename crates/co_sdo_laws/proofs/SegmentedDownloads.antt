@@ -1,6 +1,6 @@
 -- A download in segments, whatever the dictionary permits: what its client and its channel make of each frame that may come.
 use Rattle.std.proofs.Common.{◌≡◌, ℕ, zero, suc, ◌+◌, ◌*◌, ◌<◌, ◌≤◌, Bool, true, false, cond, not, List, [], ◌∷◌, ◌++◌, length, take, Option, Some, None, refl, sym, ap, ◌∙◌, arith, length-take, inl}
-use Rattle.std.specs.Prelude.{nat_lt, nat_le}
+use Rattle.std.specs.Prelude.{nat_lt}
 use Rattle.std.proofs.lemmas.Bool.Decides.{nat_tests}
 use Rattle.arrayvec.specs.ArrayVec.{ArrayVec}
 use Rattle.co_value.specs.Keys.{same_key-refl}
@@ -11,7 +11,7 @@ use Rattle.co_frame.specs.SdoRequests.{request_in, request_bytes}
 use Rattle.co_frame.specs.SdoResponses.{response_in}
 use Rattle.co_sdo_client.specs.declared.stage.Stage.TheVariants.{Begun, Download as Sending}
 use Rattle.co_sdo_client.specs.declared.mode.Mode.TheVariants.{Segmented}
-use Rattle.co_sdo_client.specs.Calls.{Download as DownloadJob, message_bytes, Event as ClientEvent, Answered, answers as answers_of, Answers, since_first, with_answer}
+use Rattle.co_sdo_client.specs.Calls.{Download as DownloadJob, message_bytes, Event as ClientEvent, Answered, answers as answers_of, since_first, with_answer}
 use Rattle.co_sdo_client.specs.Segments.{is_odd, bytes_of, size_sent, transfer_of, transfer_by, part_after, is_last_after, segment_after, segments_for}
 use Rattle.co_sdo_client.specs.Stages.{stage_since, held_after}
 use Rattle.co_sdo_client.specs.Verdicts.{Verdict, GoesOn, Ends, verdict, answer_verdict}
@@ -27,7 +27,7 @@ use Rattle.co_sdo.specs.Replies.{is_in_sub_block, toggle_refusal, room_refusal, 
 use Rattle.co_sdo.proofs.Continuations.{not_odd}
 use Rattle.co_sdo.proofs.RefusalLemmas.{first_none, second_none}
 use Rattle.co_sdo_laws.specs.World.{Setup}
-use Rattle.co_sdo_laws.proofs.Frames.{size_read, begin_read, begin_long, segment_read, segment_long, done_read, segment_done_read}
+use Rattle.co_sdo_laws.proofs.Frames.{begin_read, begin_long, segment_read, segment_long, done_read, segment_done_read}
 use Rattle.co_sdo_laws.proofs.Segments.{same, joined, taken_all, part_small, not_end, is_end}
 use Rattle.co_sdo_laws.proofs.Permits.{bytes, indicated, IsDownload, none≢some, entry_is}
 use Rattle.co_sdo_laws.proofs.Channel.{stays_lawful}

@@ -1,12 +1,12 @@
 -- An upload in segments, whatever the dictionary permits and the client has room for: what its client and its channel make of
 -- each frame that may come.
-use Rattle.std.proofs.Common.{◌≡◌, ℕ, zero, suc, ◌+◌, ◌*◌, ◌<◌, ◌≤◌, Bool, true, false, cond, not, List, [], ◌∷◌, length, take, Option, Some, None, refl, sym, ap, ◌∙◌, arith, subst, length-take, ◌⊎◌, inl, inr}
+use Rattle.std.proofs.Common.{◌≡◌, ℕ, zero, suc, ◌+◌, ◌*◌, ◌<◌, Bool, true, false, not, List, [], ◌∷◌, length, take, Option, Some, None, refl, sym, ap, ◌∙◌, arith, length-take, ◌⊎◌, inl, inr}
 use Rattle.std.specs.Prelude.{nat_le, nat_lt, ◌&&◌}
 use Rattle.std.proofs.lemmas.Bool.Decides.{nat_tests}
 use Rattle.co_value.specs.Keys.{same_key-refl}
 use Rattle.co_frame.specs.declared.sdo_request.SdoRequest.TheVariants.{Upload as UploadRequest, UploadSegment as NextSegment}
 use Rattle.co_frame.specs.declared.sdo_response.SdoResponse.TheVariants.{UploadInitiated, UploadSegment}
-use Rattle.co_frame.specs.SdoRequests.{request_in, request_bytes}
+use Rattle.co_frame.specs.SdoRequests.{request_bytes}
 use Rattle.co_frame.specs.SdoResponses.{response_in}
 use Rattle.co_sdo_client.specs.declared.stage.Stage.TheVariants.{Begun, Upload as Receiving}
 use Rattle.co_sdo_client.specs.declared.mode.Mode.TheVariants.{Segmented}

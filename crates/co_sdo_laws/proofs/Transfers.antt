@@ -33,7 +33,6 @@ use Rattle.co_sdo_laws.proofs.ExpeditedUploads as short_uploads
 use Rattle.co_sdo_laws.proofs.BlockDownloads as sent
 use Rattle.co_sdo_laws.proofs.BlockDownloadEvents.{always as sent_blocks}
 use Rattle.co_sdo_laws.proofs.BlockDownloadEvents as blocks_outcome
-use Rattle.co_sdo_laws.proofs.BlockUploads as fetched
 use Rattle.co_sdo_laws.proofs.BlockUploadEvents.{always as fetched_blocks}
 use Rattle.co_sdo_laws.proofs.BlockUploadEvents as fetched_outcome
 

@@ -7,7 +7,6 @@ use Rattle.co_value.specs.declared.key.Key.{Key}
 use Rattle.co_value.specs.Keys.{same_key, same_key-is}
 use Rattle.co_value.specs.Numbers.{AreBytes}
 use Rattle.co_value.specs.declared.data_type.DataType.TheVariants.{VisibleString, Domain}
-use Rattle.co_value.specs.declared.data_type.DataType.{DataType}
 use Rattle.co_profile.specs.FixedTypes.{fixed_type_of}
 use Rattle.co_value.specs.Types.{width_of}
 use Rattle.co_frame.specs.SdoRequests.{request_row_in}
@@ -17,7 +16,7 @@ use Rattle.co_dict.specs.Rows.{fits}
 use Rattle.co_dict.specs.Objects.{has_object}
 use Rattle.co_dict.specs.Stores.{IsFilled, IsKey, HasLimits, IsDescription, IsDictionary}
 use Rattle.co_sdo_client.specs.declared.mode.Mode.TheVariants.{Segmented, Block}
-use Rattle.co_sdo_client.specs.declared.state.ClientState.TheVariants.{Done, Waiting}
+use Rattle.co_sdo_client.specs.declared.state.ClientState.TheVariants.{Done}
 use Rattle.co_sdo_client.specs.Calls.{Download, Upload, Call}
 use Rattle.co_sdo_client.specs.Outcomes.{outcome}
 use Rattle.co_sdo.specs.Refused.{reading_refusal, initiate_refusal, completion_refusal}

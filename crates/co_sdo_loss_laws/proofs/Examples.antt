@@ -1,12 +1,11 @@
 -- Worked transfers that are disturbed, computed from the definitions over the dictionary of two entries: the client waits 3 ms
 -- for an answer, the channel 2 ms for a request. The first event stands first.
-use Rattle.std.proofs.Common.{map, ◌≡◌, ℕ, List, [], ◌∷◌, refl, codes, Some, true, false, reverse, ap, arith}
+use Rattle.std.proofs.Common.{map, ◌≡◌, List, [], ◌∷◌, refl, codes, Some, true, false, reverse, ap, arith}
 use Rattle.co_value.specs.Numbers.{AreBytes}
 use Rattle.co_frame.specs.SdoRequests.{request_row_in}
 use Rattle.co_frame.specs.SdoResponses.{response_row_in}
 use Rattle.co_dict.specs.Objects.{has_object}
 use Rattle.co_sdo_client.specs.declared.mode.Mode.TheVariants.{Plain, Segmented, Block}
-use Rattle.co_sdo_client.specs.declared.state.ClientState.TheVariants.{Waiting, Done, Failed}
 use Rattle.co_sdo_client.specs.Calls.{Download, Upload}
 use Rattle.co_sdo_client.specs.Segments.{bytes_of}
 use Rattle.co_sdo_client.specs.Outcomes.{result}

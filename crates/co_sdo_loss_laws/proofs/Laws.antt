@@ -1,7 +1,6 @@
 -- What a transfer has done where its client is done, whatever disturbed it.
-use Rattle.std.proofs.Common.{◌≡◌, Bool, true, false, not, List, ◌≤◌, length, Some, refl, ◌⊎◌, inl, inr}
+use Rattle.std.proofs.Common.{◌≡◌, Bool, true, false, not, List, length, Some, refl, ◌⊎◌, inl, inr}
 use Rattle.std.specs.List.{list_any}
-use Rattle.co_value.specs.declared.key.Key.{Key}
 use Rattle.co_sdo_client.specs.declared.mode.Mode.{Mode}
 use Rattle.co_sdo_client.specs.declared.mode.Mode.TheVariants.{Plain, Segmented, Block}
 use Rattle.co_sdo_client.specs.declared.state.ClientState.TheVariants.{Done}
