@@ -25,11 +25,10 @@ use Rattle.co_sdo.specs.Replies.{open_key, time_out_reply}
 use Rattle.co_sdo_laws.specs.World.{Setup, World, Requests, Answers as Back, WorldEvent, Delivered, Lost, Repeated, ClientTicked, ChannelTicked, is_repeat, at_client, timed_out, ticked, without_front, front_arrives, after_event, world_after}
 use Rattle.co_sdo_laws.specs.Undisturbed.{IsCalm, AreCalm, GoesInBlocks, HaveSent, block_frames, block_download_requests, block_download_answers}
 use Rattle.co_sdo_laws.proofs.Frames.{block_initiated_read, block_done_read, acknowledged_read}
-use Rattle.co_sdo_laws.proofs.Server.{serves_first, serves_ticked}
+use Rattle.co_sdo_laws.proofs.Channel.{serves_first, serves_ticked, IsServing, serving_ticks, serving_ends}
 use Rattle.co_sdo_laws.proofs.Permits.{bytes, IsDownload}
 use Rattle.co_sdo_laws.proofs.Client.{follows, stays, verdict_since}
 use Rattle.co_sdo_laws.proofs.Failures.{is_aborted, has_failed, failed_more}
-use Rattle.co_sdo_laws.proofs.Channel.{IsServing, serving_ticks, serving_ends}
 use Rattle.co_sdo_laws.proofs.Blocks.{is_live, live, kept_both, kept_first, kept_one, kept_drop, kept_drop_one, IsDone, over_event, cut_fails, cut_read, Count, Moment, disturbed, heard, no_answer, cons≢nil, tail_is, calm_asks, calm_waits, same_requests, waits_at, done_at}
 use Rattle.co_sdo_laws.proofs.GoneChannels.{is_awaited, is_awaited_frame, awaited, aborted_other, IsGone, gone_ticks, gone_ends}
 use Rattle.co_sdo_laws.proofs.BlockSegments.{total, size_after, blocks, segments, IsWhole, full, full_count, last_count}

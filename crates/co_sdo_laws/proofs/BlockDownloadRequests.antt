@@ -14,9 +14,8 @@ use Rattle.co_sdo.specs.Replies.{aborted, reply_to}
 use Rattle.co_sdo_laws.specs.World.{Setup, World, Requests, at_channel, without_front, front_arrives}
 use Rattle.co_sdo_laws.proofs.Frames.{block_begin_long, block_done_read, acknowledged_read}
 use Rattle.co_sdo_laws.proofs.Permits.{bytes, indicated, IsDownload, lawful_of, none≢some, entry_is}
-use Rattle.co_sdo_laws.proofs.Server.{moved}
+use Rattle.co_sdo_laws.proofs.Channel.{moved, IsServing, is_served}
 use Rattle.co_sdo_laws.proofs.Failures.{failed_front}
-use Rattle.co_sdo_laws.proofs.Channel.{IsServing, is_served}
 use Rattle.co_sdo_laws.proofs.Blocks.{is_live, live, kept_after, Moment, disturbed, replied, no_request, dropped, front_came, nothing_came}
 use Rattle.co_sdo_laws.proofs.GoneChannels.{is_awaited_frame, awaited, aborted_other, IsGone, gone_answers, gone_goes_on}
 use Rattle.co_sdo_laws.proofs.BlockSegments.{all_held, all_is, total, size_after, blocks, unused, segment_at, segments, data_at, frame_with, frame_is, frame_long, next_joined, last_joined, InTurn, not_turn}

@@ -20,13 +20,12 @@ use Rattle.co_sdo.specs.Replies.{aborted}
 use Rattle.co_sdo_laws.specs.World.{Setup, World}
 use Rattle.co_sdo_laws.proofs.Frames.{size_read, block_begin_read, block_end_read}
 use Rattle.co_sdo_laws.proofs.Permits.{bytes, indicated}
-use Rattle.co_sdo_laws.proofs.Channel.{Steps, IsServing}
+use Rattle.co_sdo_laws.proofs.Channel.{Steps, IsServing, Serves}
 use Rattle.co_sdo_laws.proofs.BlockSegments.{unused, data_at, frame_with, frame_read, other_byte, all_held, total, size_after, blocks, segments, InTurn, IsWhole}
 use Rattle.co_sdo_client.specs.declared.state.ClientState.TheVariants.{Waiting}
 use Rattle.co_sdo_client.specs.Calls.{Event as ClientEvent, answers as answers_of, Answers, since_first}
 use Rattle.co_sdo_client.specs.Stages.{acknowledged, block_size_by, newest}
 use Rattle.co_sdo_client.specs.Outcomes.{outcome}
-use Rattle.co_sdo_laws.proofs.Server.{Serves}
 use Rattle.co_sdo_laws.proofs.Failures.{has_failed}
 use Rattle.co_sdo_laws.proofs.Blocks.{live, Count, Moment, IsDone}
 use Rattle.co_sdo_laws.proofs.GoneChannels.{awaited, IsGone}

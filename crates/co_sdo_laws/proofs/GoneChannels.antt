@@ -31,8 +31,7 @@ use Rattle.co_sdo.specs.Opened.{OpenTransfer, opened, opened_by, opened_after}
 use Rattle.co_sdo.specs.Replies.{aborted, unless_refused, toggle_refusal, block_size_refusal, segment_refusal, request_answers, answers_to, reply_to}
 use Rattle.co_sdo.proofs.Initiations.{exchange}
 use Rattle.co_sdo.proofs.Logs.{after_initiates, after_open, after_nothing}
-use Rattle.co_sdo_laws.proofs.Server.{tick_opens}
-use Rattle.co_sdo_laws.proofs.Channel.{ended}
+use Rattle.co_sdo_laws.proofs.Channel.{tick_opens, ended}
 use Rattle.co_sdo_laws.proofs.Blocks.{kept}
 
 -- ---- answers that the client of a block download awaits after its begin

@@ -3,11 +3,9 @@ pub mod UndisturbedExamples
 pub mod Client
 pub mod Frames
 pub mod Permits
-pub mod Server
-pub mod Pasts
+pub mod Channel
 pub mod Turns
 pub mod Failures
-pub mod Channel
 pub mod Segments
 pub mod StopAndWait
 pub mod SegmentedDownloads
@@ -27,4 +25,3 @@ pub mod BlockDownloadEvents
 pub mod Progress
 pub mod Transfers
 pub mod Chains
-mod ChainExamples

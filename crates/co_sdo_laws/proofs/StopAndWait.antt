@@ -21,8 +21,7 @@ use Rattle.co_sdo.specs.Opened.{OpenTransfer, opened_after, is_time_over}
 use Rattle.co_sdo.specs.Replies.{aborted, is_in_sub_block, open_key, time_out_reply}
 use Rattle.co_sdo_laws.specs.World.{Setup, World, Queue, Requests, Answers, WorldEvent, Delivered, Lost, Repeated, ClientTicked, ChannelTicked, first_world, at_client, at_channel, timed_out, ticked, without_front, front_arrives, after_event, world_after}
 use Rattle.co_sdo_laws.proofs.Client.{follows, stays, tick_verdict}
-use Rattle.co_sdo_laws.proofs.Server.{Serves, serves_first, serves_ticked}
-use Rattle.co_sdo_laws.proofs.Channel.{IsServing, serving_ticks, serving_ends, Steps, is_served, takes_it, refuses_it}
+use Rattle.co_sdo_laws.proofs.Channel.{Serves, serves_first, serves_ticked, IsServing, serving_ticks, serving_ends, Steps, is_served, takes_it, refuses_it}
 use Rattle.co_sdo_laws.proofs.Turns.{Takes, GoesOnWith, Turns, either, waiting≢done}
 use Rattle.co_sdo_laws.proofs.Failures.{IsAbort, has_failed, Fails, Refuses, abort_read, failed_event}
 

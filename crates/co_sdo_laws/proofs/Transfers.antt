@@ -21,9 +21,8 @@ use Rattle.co_sdo_laws.specs.World.{Setup, World, WorldEvent, Delivered, Lost, R
 use Rattle.co_sdo_laws.specs.Undisturbed.{IsCalm, AreCalm, IsUndisturbed, arrived, on_their_way, rounds_after, IsOver, GoesInTurns, is_short, is_expedited_download, is_segmented_download, is_plain_upload, is_block_download, is_block_upload, GoesInBlocks, HaveSent, block_frames, block_upload_frames, upload_requests, block_download_requests, block_download_answers, block_upload_requests, block_upload_answers}
 use Rattle.co_sdo_laws.proofs.Permits.{value, is_download, may_send, IsDownload, IsUpload, Goes, in_segments, at_once, short_bytes}
 use Rattle.co_sdo_laws.proofs.Permits as protocols
-use Rattle.co_sdo_laws.proofs.Pasts.{unopened}
+use Rattle.co_sdo_laws.proofs.Channel.{unopened, stays_lawful}
 use Rattle.co_sdo_laws.proofs.Progress.{rounds_calm, all_arrive, AllThere, all_there, have_sent}
-use Rattle.co_sdo_laws.proofs.Channel.{stays_lawful}
 use Rattle.co_sdo_laws.proofs.Turns.{InTurns as Turned, IsAt, always, goes_in_turns, when_done, channel_at, either}
 use Rattle.co_sdo_laws.proofs.StopAndWait.{Parts, StopAndWait, turns_of}
 use Rattle.co_sdo_laws.proofs.SegmentedDownloads as downloads
