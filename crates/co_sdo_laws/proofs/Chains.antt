@@ -41,7 +41,7 @@ passes s k lawful = record {
       let over = is_over s k lawful events calm none in
       let end = k.ends events calm over.done in
       record { over = over; gives = end.gives; leaves = end.leaves };
-  rests = rests s k [] tt;
+  rests = rests s _ k [] tt;
 }
 
 plain_passes : (key : Key) (client_time : ℕ) (bytes : List ℕ) (tells : Bool) (time : ℕ) (d : Description)

@@ -53,21 +53,16 @@ pub record Kind (s : Setup) (needed frames requests answers : ℕ) (value : List
       → on_their_way (world_after s events) ≡ 0 → open_transfer (world_after s events).log ≡ None
 
 -- as many rounds as there are frames bring them all
-blocks_rest : (s : Setup) (needed frames : ℕ) (events : List WorldEvent) → AreCalm s events
-    → ((later : List WorldEvent) → AreCalm s later → GoesInBlocks s.call needed frames (world_after s later))
-    → on_their_way (world_after s (rounds_after frames events)) ≡ 0
-blocks_rest s needed frames events calm goes =
-    let end = goes (rounds_after frames events) (rounds_calm s frames events calm) in
-    let all = all_arrive s frames events calm (λ later still less. (goes later still).moves less) in
-    last (world_after s (rounds_after frames events)) end all
-  where
-    last : (w : World) → GoesInBlocks s.call needed frames w → frames ≤ arrived w → on_their_way w ≡ 0
-    last w g all = let within = g.within in g.rests (omega arith)
-
-pub rests : {needed frames requests answers : ℕ} {value : List ℕ} {left : Contents} (s : Setup)
+pub rests : {needed requests answers : ℕ} {value : List ℕ} {left : Contents} (s : Setup) (frames : ℕ)
     → Kind s needed frames requests answers value left → (events : List WorldEvent) → AreCalm s events
     → on_their_way (world_after s (rounds_after frames events)) ≡ 0
-rests s k events calm = blocks_rest s _ _ events calm k.goes
+rests s frames k events calm =
+    let end = k.goes (rounds_after frames events) (rounds_calm s frames events calm) in
+    let all = all_arrive s frames events calm (λ later still less. (k.goes later still).moves less) in
+    last (world_after s (rounds_after frames events)) end all
+  where
+    last : {needed : ℕ} (w : World) → GoesInBlocks s.call needed frames w → frames ≤ arrived w → on_their_way w ≡ 0
+    last w g all = let within = g.within in g.rests (omega arith)
 
 blocks_done : (s : Setup) (needed frames : ℕ) (w : World) → needed ≤ frames → GoesInBlocks s.call needed frames w
     → on_their_way w ≡ 0 → outcome s.call w.events ≡ Done
@@ -92,7 +87,7 @@ done s k events calm none = blocks_done s _ _ (world_after s events) k.few (k.go
 pub is_done : {needed requests answers : ℕ} {value : List ℕ} {left : Contents} (s : Setup) (frames : ℕ)
     → Kind s needed frames requests answers value left → (events : List WorldEvent) → AreCalm s events
     → outcome s.call (world_after s (rounds_after frames events)).events ≡ Done
-is_done s frames k events calm = done s k (rounds_after frames events) (rounds_calm s frames events calm) (rests s k events calm)
+is_done s frames k events calm = done s k (rounds_after frames events) (rounds_calm s frames events calm) (rests s frames k events calm)
 
 pub is_over : {needed frames requests answers : ℕ} {value : List ℕ} {left : Contents} (s : Setup)
     → Kind s needed frames requests answers value left → IsDictionary s.description left

@@ -9,5 +9,5 @@ returns c = record {
   frames = λ s events u t done. ((sent_in_blocks s events u t).ends events u.calm done).sends;
   over = λ s events u t small. is_over s (sent_in_blocks s events u t) (lawful s events u (in_blocks s.call.mode s.call.job t).sends small) events u.calm;
   ends = λ s events u t. is_done s _ (sent_in_blocks s events u t) events u.calm;
-  rests = λ s events u t. rests s (sent_in_blocks s events u t) events u.calm;
+  rests = λ s events u t. rests s _ (sent_in_blocks s events u t) events u.calm;
 }

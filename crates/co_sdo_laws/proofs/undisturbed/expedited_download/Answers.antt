@@ -9,5 +9,5 @@ returns c = record {
   frames = λ s events u t done. ((expedited s events u t).kind.ends events u.calm done).sends;
   over = λ s events u t small. is_over s (expedited s events u t).kind (lawful s events u (at_once s.call.mode s.call.job t).sends small) events u.calm;
   ends = λ s events u t. is_done s _ (expedited s events u t).kind events u.calm;
-  rests = λ s events u t. rests s (expedited s events u t).kind events u.calm;
+  rests = λ s events u t. rests s _ (expedited s events u t).kind events u.calm;
 }

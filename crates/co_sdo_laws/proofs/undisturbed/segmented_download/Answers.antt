@@ -9,5 +9,5 @@ returns c = record {
   frames = λ s events u t done. ((segmented s events u t).kind.ends events u.calm done).sends;
   over = λ s events u t small. is_over s (segmented s events u t).kind (lawful s events u (in_segments s.call.mode s.call.job t).sends small) events u.calm;
   ends = λ s events u t. is_done s _ (segmented s events u t).kind events u.calm;
-  rests = λ s events u t. rests s (segmented s events u t).kind events u.calm;
+  rests = λ s events u t. rests s _ (segmented s events u t).kind events u.calm;
 }

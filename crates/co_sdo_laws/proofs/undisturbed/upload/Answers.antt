@@ -10,5 +10,5 @@ returns c = record {
   frames = λ s events u t room done. ((uploaded s events u t room).kind.ends events u.calm done).sends;
   over = λ s events u t room. is_over s (uploaded s events u t room).kind u.dictionary events u.calm;
   ends = λ s events u t room. is_done s _ (uploaded s events u t room).kind events u.calm;
-  rests = λ s events u t room. rests s (uploaded s events u t room).kind events u.calm;
+  rests = λ s events u t room. rests s _ (uploaded s events u t room).kind events u.calm;
 }
