@@ -32,8 +32,7 @@ use Rattle.co_sdo_laws.proofs.Failures.{is_aborted, has_failed, failed_more}
 use Rattle.co_sdo_laws.proofs.Blocks.{is_live, live, kept_both, kept_first, kept_one, kept_drop, kept_drop_one, IsDone, over_event, cut_fails, cut_read, Count, Moment, disturbed, heard, no_answer, cons≢nil, tail_is, calm_asks, calm_waits, same_requests, waits_at, done_at}
 use Rattle.co_sdo_laws.proofs.GoneChannels.{is_awaited, is_awaited_frame, awaited, aborted_other, IsGone, gone_ticks, gone_ends}
 use Rattle.co_sdo_laws.proofs.BlockSegments.{total, size_after, blocks, segments, IsWhole, full, full_count, last_count}
-use Rattle.co_sdo_laws.proofs.BlockDownloads.{confirmation, acknowledgement, client_end, all_done, HasBegun, Took, Lawful, taking, complete, May, Closed, IsSet, Last, Stands, asking, confirmed, unconfirmed, sending, unheard, acknowledging, finishing, ending, ended, quiet, over, failed, waiting, finished, gave_up, standing}
-use Rattle.co_sdo_laws.proofs.BlockDownloadRequests.{loses_request, request_comes}
+use Rattle.co_sdo_laws.proofs.BlockDownloads.{confirmation, acknowledgement, client_end, all_done, HasBegun, Took, Lawful, taking, complete, May, Closed, IsSet, Last, Stands, asking, confirmed, unconfirmed, sending, unheard, acknowledging, finishing, ending, ended, quiet, over, failed, waiting, finished, gave_up, standing, loses_request, request_comes}
 use Rattle.co_sdo_laws.proofs.Progress.{AllThere, have_sent}
 use Rattle.co_sdo_laws.proofs.Turns.{waiting≢done}
 

@@ -28,8 +28,7 @@ use Rattle.co_sdo_laws.proofs.Failures.{has_failed, failed_more, failed_front}
 use Rattle.co_sdo_laws.proofs.Permits.{value, IsUpload, small_value, not_above, below_itself}
 use Rattle.co_sdo_laws.proofs.Blocks.{is_live, live, kept_both, cut_fails, cut_is_more, Count, Moment, disturbed, heard, no_request, no_answer, cons≢nil, head_is, tail_is, dropped, front_came, nothing_came, IsDone, over_event, calm_asks, calm_waits, same_requests, some_on_way, waits_at, done_at}
 use Rattle.co_sdo_laws.proofs.BlockSegments.{all_is, total, blocks, unused, segment_at, segments}
-use Rattle.co_sdo_laws.proofs.BlockUploads.{confirmation, server_end, client_end, HasBegun, Took, TookAll, Lawful, Idle, begun, sending, at_end, May, Last, sent_end, end_came, Stands, asking, confirmed, starting, taking, acknowledging, finishing, ending, quiet, over, failed, waiting, finished, gave_up, standing}
-use Rattle.co_sdo_laws.proofs.BlockUploadRequests.{initiate_comes, start_comes, acknowledgement_comes, last_acknowledgement_comes, end_comes}
+use Rattle.co_sdo_laws.proofs.BlockUploads.{confirmation, server_end, client_end, HasBegun, Took, TookAll, Lawful, Idle, begun, sending, at_end, May, Last, sent_end, end_came, Stands, asking, confirmed, starting, taking, acknowledging, finishing, ending, quiet, over, failed, waiting, finished, gave_up, standing, initiate_comes, start_comes, acknowledgement_comes, last_acknowledgement_comes, end_comes}
 use Rattle.co_sdo_laws.proofs.BlockUploadSegments.{fails_by, segment_comes}
 use Rattle.co_sdo_laws.proofs.Progress.{AllThere, have_sent}
 use Rattle.co_sdo_laws.proofs.Turns.{waiting≢done}

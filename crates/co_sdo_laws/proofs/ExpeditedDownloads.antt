@@ -70,11 +70,9 @@ begins s p m current contents outside lawful (Some code) e =
     (record {
       key = s.call.key;
       code = code;
-      steps = record {
-        replies = rw (outside, read, e) refl;
-        opens = rw (outside, read) refl;
-        sets = rw (outside, read, e) refl;
-      };
+      replies = rw (outside, read, e) refl;
+      opens = rw (outside, read) refl;
+      sets = rw (outside, read, e) refl;
     })
 
 confirmed : (s : Setup) (p : Type 0) → IsDownload s p → (xs : List (List ℕ)) (held : List ℕ) → length xs ≡ 0

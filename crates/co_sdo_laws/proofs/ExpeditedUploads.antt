@@ -62,11 +62,9 @@ begins s p m n current contents outside kept (Some code) e =
     refuses (λ x same. none≢some _ code (m.may_read x) (ap (λ (c : Contents). reading_refusal s.description c s.call.key) (sym kept) ∙ e)) (record {
       key = s.call.key;
       code = code;
-      steps = record {
-        replies = rw (outside, read, e) refl;
-        opens = rw (outside, read, e) refl;
-        sets = rw (outside, read) refl;
-      };
+      replies = rw (outside, read, e) refl;
+      opens = rw (outside, read, e) refl;
+      sets = rw (outside, read) refl;
     })
 
 -- the answer, where there is room for the value or not

@@ -15,12 +15,10 @@ pub mod ExpeditedUploads
 pub mod Blocks
 pub mod BlockSegments
 pub mod BlockUploads
-pub mod BlockUploadRequests
 pub mod BlockUploadSegments
 pub mod BlockUploadEvents
 pub mod GoneChannels
 pub mod BlockDownloads
-pub mod BlockDownloadRequests
 pub mod BlockDownloadEvents
 pub mod Progress
 pub mod Transfers

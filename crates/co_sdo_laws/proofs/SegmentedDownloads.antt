@@ -88,11 +88,9 @@ begins s p m current contents outside (Some code) e =
     refuses (λ x same. none≢some _ code (m.may_begin x) e) (record {
       key = s.call.key;
       code = code;
-      steps = record {
-        replies = rw (outside, read, e) refl;
-        opens = rw (outside, read, e) refl;
-        sets = rw (outside, read) refl;
-      };
+      replies = rw (outside, read, e) refl;
+      opens = rw (outside, read, e) refl;
+      sets = rw (outside, read) refl;
     })
 
 -- segment k + 1, as it is read
@@ -119,11 +117,9 @@ refused : (s : Setup) (contents : Contents) (j k : ℕ) (code : ℕ) → refusal
 refused s contents j k code e = record {
   key = s.call.key;
   code = code;
-  steps = record {
-    replies = rw (is_read s k _ refl, e) refl;
-    opens = rw (is_read s k _ refl, e) refl;
-    sets = rw (is_read s k _ refl, e) refl;
-  };
+  replies = rw (is_read s k _ refl, e) refl;
+  opens = rw (is_read s k _ refl, e) refl;
+  sets = rw (is_read s k _ refl, e) refl;
 }
 
 has_room : (s : Setup) (p : Type 0) → IsDownload s p Segmented → p → (k : ℕ)
@@ -169,11 +165,9 @@ refuses_idle : (s : Setup) (k : ℕ) (contents : Contents) → IsRefused s (part
 refuses_idle s k contents = record {
   key = record { index = 0; sub = 0 };
   code = 0x05040001;
-  steps = record {
-    replies = rw (is_read s k _ refl) refl;
-    opens = rw (is_read s k _ refl) refl;
-    sets = rw (is_read s k _ refl) refl;
-  };
+  replies = rw (is_read s k _ refl) refl;
+  opens = rw (is_read s k _ refl) refl;
+  sets = rw (is_read s k _ refl) refl;
 }
 
 -- the toggle of the segment before

@@ -102,11 +102,9 @@ begins s p m long current contents outside kept (Some code) e =
     refuses (λ x same. none≢some _ code (m.may_read x) (ap (λ (c : Contents). reading_refusal s.description c s.call.key) (sym kept) ∙ e)) (record {
       key = s.call.key;
       code = code;
-      steps = record {
-        replies = rw (outside, read, e) refl;
-        opens = rw (outside, read, e) refl;
-        sets = rw (outside, read) refl;
-      };
+      replies = rw (outside, read, e) refl;
+      opens = rw (outside, read, e) refl;
+      sets = rw (outside, read) refl;
     })
 
 is_long : (s : Setup) (k : ℕ) → length (request s k) ≡ 8
@@ -132,11 +130,9 @@ refuses_idle : (s : Setup) (k : ℕ) (contents : Contents) → IsRefused s (part
 refuses_idle s k contents = record {
   key = record { index = 0; sub = 0 };
   code = 0x05040001;
-  steps = record {
-    replies = rw (next_read (is_odd k)) refl;
-    opens = rw (next_read (is_odd k)) refl;
-    sets = rw (next_read (is_odd k)) refl;
-  };
+  replies = rw (next_read (is_odd k)) refl;
+  opens = rw (next_read (is_odd k)) refl;
+  sets = rw (next_read (is_odd k)) refl;
 }
 
 other_toggle : (b : Bool) → toggle_refusal b (not b) ≡ Some 0x05030000
@@ -149,11 +145,9 @@ refuses_again s k contents =
     record {
       key = s.call.key;
       code = 0x05030000;
-      steps = record {
-        replies = rw (next_read (is_odd k), wrong) refl;
-        opens = rw (next_read (is_odd k), wrong) refl;
-        sets = rw (next_read (is_odd k)) refl;
-      };
+      replies = rw (next_read (is_odd k), wrong) refl;
+      opens = rw (next_read (is_odd k), wrong) refl;
+      sets = rw (next_read (is_odd k)) refl;
     }
 
 -- ---- the client

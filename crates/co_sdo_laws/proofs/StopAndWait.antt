@@ -18,7 +18,9 @@ use Rattle.co_sdo.specs.declared.stage.Stage.TheVariants.{Upload as Uploading}
 use Rattle.co_sdo.specs.Log.{Answer, answer_bytes, Log, Ticked, TimedOut}
 use Rattle.co_sdo.specs.OpenTransfers.{open_transfer}
 use Rattle.co_sdo.specs.Opened.{OpenTransfer, opened_after, is_time_over}
-use Rattle.co_sdo.specs.Replies.{aborted, is_in_sub_block, open_key, time_out_reply}
+use Rattle.co_sdo.specs.Completed.{contents_with}
+use Rattle.co_sdo.specs.Steps.{opened_next, set_next}
+use Rattle.co_sdo.specs.Replies.{answers_to, aborted, is_in_sub_block, open_key, time_out_reply}
 use Rattle.co_sdo_laws.specs.World.{Setup, World, Queue, Requests, Answers, WorldEvent, Delivered, Lost, Repeated, ClientTicked, ChannelTicked, first_world, at_client, at_channel, timed_out, ticked, without_front, front_arrives, after_event, world_after}
 use Rattle.co_sdo_laws.proofs.Client.{follows, stays, tick_verdict}
 use Rattle.co_sdo_laws.proofs.Channel.{Serves, serves_first, serves_ticked, IsServing, serving_ticks, serving_ends, Steps, is_served, takes_it, refuses_it}
@@ -54,7 +56,9 @@ nothing_open = record { key = record { index = 0; sub = 0 }; stage = Uploading 0
 pub record IsRefused (s : Setup) (t : Parts s) (k : ℕ) (current : Option OpenTransfer) (contents : Contents) : Type 0 where
   pub key : Key
   pub code : ℕ
-  pub steps : Steps s.description contents current (t.request k) (aborted key code) None contents
+  pub replies : answers_to s.description contents current (t.request k) ≡ aborted key code
+  pub opens : opened_next s.description contents current (t.request k) ≡ None
+  pub sets : contents_with contents (set_next s.description contents current (t.request k)) ≡ contents
 
 -- it takes request k, which is the last one or not, or refuses it, which it doesn't where that is permitted
 pub data Reacts (s : Setup) (p : Type 0) (t : Parts s) (k : ℕ) (current : Option OpenTransfer) (contents : Contents) : Type 0 where
@@ -111,7 +115,8 @@ refused_by : (s : Setup) {p : Type 0} (t : Parts s) → StopAndWait s p t → (k
     → Refuses s log contents (t.request k) (Idle s t)
 refused_by s t m k current log contents h refused =
     refuses_it s t.Lawful log contents (t.request k) refused.key refused.code h.lawful
-    (is_served s log contents current (t.request k) _ _ _ h.serves (m.dictionary contents h.lawful) (m.long k) refused.steps)
+    (is_served s log contents current (t.request k) _ _ _ h.serves (m.dictionary contents h.lawful) (m.long k)
+    (record { replies = refused.replies; opens = refused.opens; sets = refused.sets }))
 
 pub reacts : (s : Setup) {p : Type 0} (t : Parts s) → StopAndWait s p t → (k : ℕ) (current : Option OpenTransfer) (log : Log)
     (contents : Contents) → IsServing s t.Lawful current log contents → Reacts s p t k current contents
