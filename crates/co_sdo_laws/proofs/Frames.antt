@@ -25,10 +25,10 @@ four_bytes x h = omega arith
 -- ---- segments
 
 -- the command byte of a segment with m unused bytes
-abbrev segment_command : Bool → ℕ → Bool → ℕ
+abbrev pub segment_command : Bool → ℕ → Bool → ℕ
 segment_command toggle m last = cond toggle 16 0 + 2 * m + cond last 1 0
 
-top_of : (toggle last : Bool) (m : ℕ) → m ≤ 7 → segment_command toggle m last / 32 ≡ 0
+pub top_of : (toggle last : Bool) (m : ℕ) → m ≤ 7 → segment_command toggle m last / 32 ≡ 0
 top_of true true m h = omega arith
 top_of true false m h = omega arith
 top_of false true m h = omega arith

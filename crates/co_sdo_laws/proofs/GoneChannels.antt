@@ -31,6 +31,7 @@ use Rattle.co_sdo.specs.Opened.{OpenTransfer, opened, opened_by, opened_after}
 use Rattle.co_sdo.specs.Replies.{aborted, unless_refused, toggle_refusal, block_size_refusal, segment_refusal, request_answers, answers_to, reply_to}
 use Rattle.co_sdo.proofs.Initiations.{exchange}
 use Rattle.co_sdo.proofs.Logs.{after_initiates, after_open, after_nothing}
+use Rattle.co_sdo_laws.proofs.Frames.{top_of}
 use Rattle.co_sdo_laws.proofs.Channel.{tick_opens, ended}
 use Rattle.co_sdo_laws.proofs.Blocks.{kept}
 
@@ -55,15 +56,9 @@ by_row frame h = by (eqb (length frame) 8)
     by true = h
     by false = refl
 
-segment_top : (toggle last : Bool) (m : ℕ) → m ≤ 7 → eqb ((cond toggle 16 0 + 2 * m + cond last 1 0) / 32) 0 ≡ true
-segment_top true true m h = grind (arith, nat_tests)
-segment_top true false m h = grind (arith, nat_tests)
-segment_top false true m h = grind (arith, nat_tests)
-segment_top false false m h = grind (arith, nat_tests)
-
 segment_row : (toggle last : Bool) (part : ArrayVec ℕ) → is_awaited (response_row_in (response_bytes (SegmentSent toggle part last))) ≡ false
 unfolding response_row_in
-segment_row toggle last part = rw (segment_top toggle last (7 - length part.items) (omega arith)) refl
+segment_row toggle last part = rw (top_of toggle last (7 - length part.items) (omega arith)) refl
 
 -- the answers of an upload or a download that isn't in blocks, or of a begin
 abbrev pub AreOthers : List Answer → Type 0

@@ -10,8 +10,7 @@ pub mod Segments
 pub mod StopAndWait
 pub mod SegmentedDownloads
 pub mod ExpeditedDownloads
-pub mod SegmentedUploads
-pub mod ExpeditedUploads
+pub mod Uploads
 pub mod Blocks
 pub mod BlockSegments
 pub mod BlockUploads

@@ -27,8 +27,7 @@ use Rattle.co_sdo_laws.proofs.Turns.{InTurns as Turned, IsAt, always, goes_in_tu
 use Rattle.co_sdo_laws.proofs.StopAndWait.{Parts, StopAndWait, turns_of}
 use Rattle.co_sdo_laws.proofs.SegmentedDownloads as downloads
 use Rattle.co_sdo_laws.proofs.ExpeditedDownloads as short_downloads
-use Rattle.co_sdo_laws.proofs.SegmentedUploads as long_uploads
-use Rattle.co_sdo_laws.proofs.ExpeditedUploads as short_uploads
+use Rattle.co_sdo_laws.proofs.Uploads as uploading
 use Rattle.co_sdo_laws.proofs.BlockDownloads as sent
 use Rattle.co_sdo_laws.proofs.BlockDownloadEvents.{always as sent_blocks}
 use Rattle.co_sdo_laws.proofs.BlockDownloadEvents as blocks_outcome
@@ -242,9 +241,9 @@ uploads : (s : Setup) → IsUpload s (Unit {0}) Segmented → (short : Bool) →
     → InTurns s (upload_requests (length (value s))) (value s) s.contents
 uploads s m true e =
     let n = short_bytes (length (value s)) e in
-    let short : short_uploads.IsShort s = record { short = e; some = n.0; few = n.1 } in
-    rw e (in_turns s (short_uploads.parts s) (short_uploads.stop_and_wait s (Unit {0}) m short))
-uploads s m false e = rw e (in_turns s (long_uploads.parts s) (long_uploads.stop_and_wait s (Unit {0}) m e))
+    let short : uploading.IsShort s = record { short = e; some = n.0; few = n.1 } in
+    rw e (in_turns s (uploading.short_parts s) (uploading.short_stop_and_wait s (Unit {0}) m short))
+uploads s m false e = rw e (in_turns s (uploading.parts s) (uploading.stop_and_wait s (Unit {0}) m e))
 
 pub uploaded : (s : Setup) (events : List WorldEvent) → IsUndisturbed s events → is_plain_upload s.call.mode s.call.job ≡ true
     → length (value_at s.contents s.call.key) ≤ cap_of s.call.job

@@ -16,8 +16,7 @@ use Rattle.co_sdo_laws.proofs.Permits as protocols
 use Rattle.co_sdo_laws.proofs.StopAndWait.{Parts, IsOver, StopAndWait, always, when_done}
 use Rattle.co_sdo_laws.proofs.SegmentedDownloads as in_segments
 use Rattle.co_sdo_laws.proofs.ExpeditedDownloads as at_once
-use Rattle.co_sdo_laws.proofs.SegmentedUploads as read_in_segments
-use Rattle.co_sdo_laws.proofs.ExpeditedUploads as read_at_once
+use Rattle.co_sdo_laws.proofs.Uploads as reading
 use Rattle.co_sdo_laws.proofs.BlockUploadEvents as read_in_blocks
 use Rattle.co_sdo_laws.proofs.BlockUploadEvents.{value_is}
 use Rattle.co_sdo_laws.proofs.BlockDownloadEvents as written_in_blocks
@@ -88,10 +87,10 @@ upload_by : (s : Setup) (events : List WorldEvent) → IsUpload s ⊥ Segmented
     → result s.call (world_after s events).events ≡ value_at s.contents s.call.key
 upload_by s events m done true e =
     let n = short_bytes (length (value_at s.contents s.call.key)) e in
-    let short : read_at_once.IsShort s = record { short = e; some = n.0; few = n.1 } in
-    (ends s events (read_at_once.parts s) (read_at_once.stop_and_wait s ⊥ m short) tt done).value
+    let short : reading.IsShort s = record { short = e; some = n.0; few = n.1 } in
+    (ends s events (reading.short_parts s) (reading.short_stop_and_wait s ⊥ m short) tt done).value
 upload_by s events m done false e =
-    (ends s events (read_in_segments.parts s) (read_in_segments.stop_and_wait s ⊥ m e) tt done).value
+    (ends s events (reading.parts s) (reading.stop_and_wait s ⊥ m e) tt done).value
 
 pub upload_gives : (s : Setup) (events : List WorldEvent) → IsAlone s → is_plain_upload s.call.mode s.call.job ≡ true
     → outcome s.call (world_after s events).events ≡ Done → result s.call (world_after s events).events ≡ value_at s.contents s.call.key

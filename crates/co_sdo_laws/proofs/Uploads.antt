@@ -1,11 +1,11 @@
--- An upload in segments, whatever the dictionary permits and the client has room for: what its client and its channel make of
--- each frame that may come.
-use Rattle.std.proofs.Common.{◌≡◌, ℕ, zero, suc, ◌+◌, ◌*◌, ◌<◌, Bool, true, false, not, List, [], ◌∷◌, length, take, Option, Some, None, refl, sym, ap, ◌∙◌, arith, length-take, ◌⊎◌, inl, inr}
+-- Uploads at once and in segments, whatever the dictionary permits and the client has room for: what the client and the channel
+-- make of each frame that may come.
+use Rattle.std.proofs.Common.{◌≡◌, ℕ, zero, suc, ◌+◌, ◌*◌, ◌<◌, Bool, true, false, not, List, [], ◌∷◌, length, take, Option, Some, None, refl, sym, ap, ◌∙◌, arith, length-take, ◌⊎◌, inl, inr, ◌≤◌}
 use Rattle.std.specs.Prelude.{nat_le, nat_lt, ◌&&◌}
 use Rattle.std.proofs.lemmas.Bool.Decides.{nat_tests}
 use Rattle.co_value.specs.Keys.{same_key-refl}
 use Rattle.co_frame.specs.declared.sdo_request.SdoRequest.TheVariants.{Upload as UploadRequest, UploadSegment as NextSegment}
-use Rattle.co_frame.specs.declared.sdo_response.SdoResponse.TheVariants.{UploadInitiated, UploadSegment}
+use Rattle.co_frame.specs.declared.sdo_response.SdoResponse.TheVariants.{UploadInitiated, UploadSegment, UploadExpedited}
 use Rattle.co_frame.specs.SdoRequests.{request_bytes}
 use Rattle.co_frame.specs.SdoResponses.{response_in}
 use Rattle.co_sdo_client.specs.declared.stage.Stage.TheVariants.{Begun, Upload as Receiving}
@@ -24,13 +24,14 @@ use Rattle.co_sdo.specs.Opened.{OpenTransfer}
 use Rattle.co_sdo.specs.Replies.{is_in_sub_block, toggle_refusal}
 use Rattle.co_sdo.proofs.Continuations.{not_odd}
 use Rattle.co_sdo_laws.specs.World.{Setup}
-use Rattle.co_sdo_laws.proofs.Frames.{upload_read, next_read, upload_initiated_read, segment_sent_read}
+use Rattle.co_sdo_laws.proofs.Frames.{upload_read, next_read, upload_initiated_read, segment_sent_read, expedited_sent_read}
 use Rattle.co_sdo_laws.proofs.Segments.{same, joined, taken_all, part_small, not_end, is_end}
 use Rattle.co_sdo_laws.proofs.Permits.{value, small_value, IsUpload, lawful_of, none≢some, not_above, below_itself}
 use Rattle.co_sdo_laws.proofs.Client.{verdict_since}
 use Rattle.co_sdo_laws.proofs.Turns.{GoesOnWith}
 use Rattle.co_sdo_laws.proofs.Failures.{Fails, IsAbort, has_failed, aborted_fails, toggles_differ}
-use Rattle.co_sdo_laws.proofs.StopAndWait.{Parts, IsRefused, Reacts, takes, takes_last, refuses, StopAndWait}
+use Rattle.co_sdo_laws.proofs.StopAndWait.{Parts, IsRefused, Reacts, takes, takes_last, refuses, StopAndWait, answer as nth_answer, nothing_open}
+use Rattle.co_frame.specs.declared.sdo_request.ExpeditedData.TheVariants.{Indicated}
 
 abbrev request : Setup → ℕ → List ℕ
 request s zero = request_bytes (UploadRequest s.call.key)
@@ -266,6 +267,81 @@ stop_and_wait s p m long = record {
   client_goes_on = λ k events l h. client_goes_on s p m k events l h _ refl;
   client_ends = λ k events l h. client_ends s p m k events l h _ refl;
   client_stale = λ k events l h. fails_since s events (answer s k) (taken_at s (suc k)) h (stale s p m k);
+  client_aborted = λ k events frame h abort. abort_comes s m.transfer events frame abort;
+  client_ticks = λ k events h. h;
+}
+
+-- ---- at once: one request, which may come again, and its answer
+
+-- it has 1 to 4 bytes
+pub record IsShort (s : Setup) : Type 0 where
+  pub short : nat_le 1 (length (value s)) && nat_le (length (value s)) 4 ≡ true
+  pub some : 1 ≤ length (value s)
+  pub few : length (value s) ≤ 4
+
+abbrev pub short_parts : (s : Setup) → Parts s
+short_parts s = record {
+  last = 0;
+  value = value s;
+  request = λ k. request_bytes (UploadRequest s.call.key);
+  reply = λ k. Response (UploadExpedited s.call.key (Indicated (record { items = value s })));
+  open_at = λ k. nothing_open;
+  Lawful = λ contents. contents ≡ s.contents;
+  left = λ contents. contents;
+  Sound = Unit {0};
+  IsSet = λ contents. Unit {0};
+  Client = λ k events. length (answers_of events) ≡ k;
+}
+
+short_begins : (s : Setup) (p : Type 0) → IsUpload s p Segmented → IsShort s → (current : Option OpenTransfer) (contents : Contents)
+    → is_in_sub_block current ≡ false → contents ≡ s.contents → (refusal : Option ℕ)
+    → reading_refusal s.description contents s.call.key ≡ refusal → Reacts s p (short_parts s) 0 current contents
+short_begins s p m n current contents outside kept None e =
+    let read = upload_read s.call.key m.key in
+    let is : value_at contents s.call.key ≡ value s = ap (λ (c : Contents). value_at c s.call.key) kept in
+    takes_last refl (record {
+      replies = rw (outside, read, e, is, n.short) refl;
+      opens = rw (outside, read, e, is, n.short) refl;
+      sets = rw (outside, read) refl;
+    }) (λ sound. kept)
+short_begins s p m n current contents outside kept (Some code) e =
+    let read = upload_read s.call.key m.key in
+    refuses (λ x same. none≢some _ code (m.may_read x) (ap (λ (c : Contents). reading_refusal s.description c s.call.key) (sym kept) ∙ e)) (record {
+      key = s.call.key;
+      code = code;
+      replies = rw (outside, read, e) refl;
+      opens = rw (outside, read, e) refl;
+      sets = rw (outside, read) refl;
+    })
+
+-- the answer, where there is room for the value or not
+short_sent : (s : Setup) (p : Type 0) → IsUpload s p Segmented → IsShort s → (xs : List (List ℕ)) → length xs ≡ 0 → (above : Bool)
+    → nat_lt (cap_of s.call.job) (length (value s)) ≡ above
+    → (answer_verdict s.call (stage_since s.call (since_first xs)) (held_since s.call (since_first xs)) (nth_answer s (short_parts s) 0) ≡ Ends [] (value s))
+    ⊎ ((p → ⊥) × (has_failed (state_by (answer_verdict s.call (stage_since s.call (since_first xs)) (held_since s.call (since_first xs)) (nth_answer s (short_parts s) 0))) ≡ true))
+short_sent s p m n [] h false e =
+    inl (rw (expedited_sent_read s.call.key (value s) m.key n.some n.few, m.transfer, same_key-refl s.call.key, e) refl)
+short_sent s p m n [] h true e =
+    inr ((λ x. not_above (cap_of s.call.job) _ (m.fits x) e), rw (expedited_sent_read s.call.key (value s) m.key n.some n.few, m.transfer, same_key-refl s.call.key, e) refl)
+short_sent s p m n (x ∷ xs) h above e = absurd (omega arith)
+
+pub short_stop_and_wait : (s : Setup) (p : Type 0) → IsUpload s p Segmented → IsShort s → StopAndWait s p (short_parts s)
+short_stop_and_wait s p m n = record {
+  first_request = rw m.transfer refl;
+  first_client = refl;
+  first_lawful = refl;
+  idle = m.idle;
+  long = λ k. refl;
+  outside = refl;
+  dictionary = lawful_of s m.dictionary;
+  sets = λ contents h. tt;
+  begins = λ current contents outside h. short_begins s p m n current contents outside h _ refl;
+  client_ends = λ k events e h. short_sent s p m n (answers_of events) (h ∙ e) _ refl;
+  goes_on = λ k contents less h. absurd (omega arith);
+  refuses_idle = λ k contents less. absurd (omega arith);
+  refuses_again = λ k contents less. absurd (omega arith);
+  client_goes_on = λ k events less h. absurd (omega arith);
+  client_stale = λ k events less h. absurd (omega arith);
   client_aborted = λ k events frame h abort. abort_comes s m.transfer events frame abort;
   client_ticks = λ k events h. h;
 }
