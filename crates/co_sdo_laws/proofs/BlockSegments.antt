@@ -148,11 +148,11 @@ last_count b a u n h e under all = omega arith
 
 -- ---- what a receiver has taken
 
--- what a receiver has with one more frame, the next segment
-pub record Grows (later : List (List ℕ)) (frame : List ℕ) (segment : BlockSegment) (taken : ℕ) : Type 0 where
-  pub last : has_last (frame ∷ later) ≡ segment.last
-  pub bytes : block_bytes (frame ∷ later) ≡ block_bytes later ++ segment.bytes
-  pub inside : segment.last || eqb segment.sequence 127 ≡ false → length (taken_segments (sub_block (frame ∷ later))) ≡ taken + 1
+-- what a receiver has with one more frame: whether the last segment was taken, the bytes, and how many segments of the sub-block
+pub record Receives (later : List (List ℕ)) (frame : List ℕ) (segment : BlockSegment) (end : Bool) (held : List ℕ) (taken : ℕ) : Type 0 where
+  pub last : has_last (frame ∷ later) ≡ end
+  pub bytes : block_bytes (frame ∷ later) ≡ held
+  pub inside : segment.last || eqb segment.sequence 127 ≡ false → length (taken_segments (sub_block (frame ∷ later))) ≡ taken
   pub ended : segment.last || eqb segment.sequence 127 ≡ true → length (taken_segments (sub_block (frame ∷ later))) ≡ 0
 
 pub one_more : (frame : List ℕ) (older : List (List ℕ)) (segment : BlockSegment) → segment_taken (length (taken_segments older)) (block_segment_in frame) ≡ Some segment
@@ -162,8 +162,10 @@ one_more frame older segment t = rw t (omega arith)
 pub no_more : (frame : List ℕ) (older : List (List ℕ)) → segment_taken (length (taken_segments older)) (block_segment_in frame) ≡ None → length (taken_segments (frame ∷ older)) ≡ length (taken_segments older)
 no_more frame older t = rw t refl
 
+-- it is the next segment
 pub grows : (later : List (List ℕ)) (frame : List ℕ) (segment : BlockSegment) (taken : ℕ) → block_segment_in frame ≡ Some segment → eqb segment.sequence (taken + 1) ≡ true
-    → has_last later ≡ false → length (taken_segments (sub_block later)) ≡ taken → Grows later frame segment taken
+    → has_last later ≡ false → length (taken_segments (sub_block later)) ≡ taken
+    → Receives later frame segment segment.last (block_bytes later ++ segment.bytes) (taken + 1)
 grows later frame segment taken read number inside n =
     let t : segment_taken (length (taken_segments (sub_block later))) (block_segment_in frame) ≡ Some segment = rw (read, n, number) refl in
     record {
@@ -178,14 +180,9 @@ grows later frame segment taken read number inside n =
     }
 
 -- and with one that isn't the next
-pub record Stays (later : List (List ℕ)) (frame : List ℕ) (segment : BlockSegment) (taken : ℕ) : Type 0 where
-  pub last : has_last (frame ∷ later) ≡ false
-  pub bytes : block_bytes (frame ∷ later) ≡ block_bytes later
-  pub inside : segment.last || eqb segment.sequence 127 ≡ false → length (taken_segments (sub_block (frame ∷ later))) ≡ taken
-  pub ended : segment.last || eqb segment.sequence 127 ≡ true → length (taken_segments (sub_block (frame ∷ later))) ≡ 0
-
 pub passes : (later : List (List ℕ)) (frame : List ℕ) (segment : BlockSegment) (taken : ℕ) → block_segment_in frame ≡ Some segment → eqb segment.sequence (taken + 1) ≡ false
-    → has_last later ≡ false → length (taken_segments (sub_block later)) ≡ taken → Stays later frame segment taken
+    → has_last later ≡ false → length (taken_segments (sub_block later)) ≡ taken
+    → Receives later frame segment false (block_bytes later) taken
 passes later frame segment taken read number inside n =
     let t : segment_taken (length (taken_segments (sub_block later))) (block_segment_in frame) ≡ None = rw (read, n, number) refl in
     record {

@@ -1,7 +1,7 @@
 -- Uploads at once and in segments, whatever the dictionary permits and the client has room for: what the client and the channel
 -- make of each frame that may come.
 use Rattle.std.proofs.Common.{◌≡◌, ℕ, zero, suc, ◌+◌, ◌*◌, ◌<◌, Bool, true, false, not, List, [], ◌∷◌, length, take, Option, Some, None, refl, sym, ap, ◌∙◌, arith, length-take, ◌⊎◌, inl, inr, ◌≤◌}
-use Rattle.std.specs.Prelude.{nat_le, nat_lt, ◌&&◌}
+use Rattle.std.specs.Prelude.{nat_le, nat_lt, ◌&&◌, if◌then◌else◌}
 use Rattle.std.proofs.lemmas.Bool.Decides.{nat_tests}
 use Rattle.co_value.specs.Keys.{same_key-refl}
 use Rattle.co_frame.specs.declared.sdo_request.SdoRequest.TheVariants.{Upload as UploadRequest, UploadSegment as NextSegment}
@@ -13,7 +13,7 @@ use Rattle.co_sdo_client.specs.declared.mode.Mode.TheVariants.{Segmented}
 use Rattle.co_sdo_client.specs.Calls.{Request, Event as ClientEvent, Answered, answers as answers_of, Answers, since_first, with_answer, Upload as UploadJob}
 use Rattle.co_sdo_client.specs.Segments.{is_odd, cap_of, transfer_of, transfer_by, part_after, segments_for}
 use Rattle.co_sdo_client.specs.Stages.{stage_since, held_since, size_by, segments_joined}
-use Rattle.co_sdo_client.specs.Verdicts.{Verdict, GoesOn, Ends, verdict, answer_verdict}
+use Rattle.co_sdo_client.specs.Verdicts.{Verdict, GoesOn, Ends, GivesUp, upload_complete, verdict, answer_verdict}
 use Rattle.co_sdo_client.specs.Outcomes.{state_by}
 use Rattle.co_dict.specs.Rows.{Contents}
 use Rattle.co_sdo.specs.declared.stage.Stage.TheVariants.{Upload as Uploading}
@@ -178,26 +178,34 @@ abbrev held_with : Setup → ℕ → ℕ
 held_with s zero = length (value s)
 held_with s (suc k) = length (take (7 * suc k) (value s))
 
+segment_taken : (s : Setup) (p : Type 0) → IsUpload s p Segmented → (k : ℕ) (above : Bool)
+    → nat_lt (cap_of s.call.job) (held_with s (suc k)) ≡ above
+    → given s (taken_at s (suc k)) (answer s (suc k)) ≡ (if above then GivesUp 0x05040005
+    else (if is_last s k then upload_complete (Some (length (value s))) (take (7 * suc k) (value s))
+    else GoesOn (Request (NextSegment (not (is_odd k))) ∷ [])))
+segment_taken s p m k above e =
+    let read = initiate_read s p m in
+    let part = segment_is_read s k in
+    let held = later_joined s k in
+    let count = later_count s k in
+    rw (m.transfer, read, part, held, count, same (is_odd k), joined (value s) k, e) refl
+
 no_room : (s : Setup) (p : Type 0) → IsUpload s p Segmented → (k : ℕ) → nat_lt (cap_of s.call.job) (held_with s k) ≡ true
     → has_failed (state_by (given s (taken_at s k) (answer s k))) ≡ true
 no_room s p m zero above = rw (initiate_read s p m, m.transfer, same_key-refl s.call.key, above) refl
-no_room s p m (suc k) above =
-    rw (m.transfer, initiate_read s p m, segment_is_read s k, later_joined s k, later_count s k, same (is_odd k), joined (value s) k, above) refl
+no_room s p m (suc k) above = rw (segment_taken s p m k true above) refl
 
 more : (s : Setup) (p : Type 0) → IsUpload s p Segmented → (k : ℕ) → k < last s → nat_lt (cap_of s.call.job) (held_with s k) ≡ false
     → given s (taken_at s k) (answer s k) ≡ GoesOn (Request (NextSegment (is_odd k)) ∷ [])
 more s p m zero l room = rw (initiate_read s p m, m.transfer, same_key-refl s.call.key, room) refl
-more s p m (suc k) l room =
-    rw (m.transfer, initiate_read s p m, segment_is_read s k, later_joined s k, later_count s k, same (is_odd k), joined (value s) k, room,
-    not_end k (length (value s)) l, not_odd k) refl
+more s p m (suc k) l room = rw (segment_taken s p m k false room, not_end k (length (value s)) l, not_odd k) refl
 
 all : (s : Setup) (p : Type 0) → IsUpload s p Segmented → (k : ℕ) → k ≡ last s → nat_lt (cap_of s.call.job) (held_with s k) ≡ false
     → given s (taken_at s k) (answer s k) ≡ Ends [] (value s)
 all s p m zero l room = absurd (omega arith)
 all s p m (suc k) l room =
     let e = is_end k (length (value s)) l in
-    rw (m.transfer, initiate_read s p m, segment_is_read s k, later_joined s k, later_count s k, same (is_odd k), joined (value s) k, room, e,
-    taken_all (value s) k e, below_itself (length (value s))) refl
+    rw (segment_taken s p m k false room, e, taken_all (value s) k e, below_itself (length (value s))) refl
 
 -- the answer before it
 stale : (s : Setup) (p : Type 0) → IsUpload s p Segmented → (k : ℕ)
