@@ -1,8 +1,8 @@
 -- A download in blocks: the answers, and every event.
-use Rattle.std.proofs.Common.{◌≡◌, ℕ, suc, ◌+◌, ◌-◌, ◌*◌, ◌/◌, ◌%◌, ◌<◌, Bool, true, false, List, [], ◌∷◌, ◌++◌, length, take, drop, map, Option, Some, None, refl, sym, ap, ◌∙◌, arith, eqb, subst, append-nil, ◌⊎◌, inl, inr}
-use Rattle.std.specs.Prelude.{nat_lt, min, if◌then◌else◌}
+use Rattle.std.proofs.Common.{◌≡◌, ℕ, suc, ◌+◌, ◌-◌, ◌/◌, ◌<◌, Bool, true, false, List, [], ◌∷◌, ◌++◌, length, drop, map, Option, Some, None, refl, sym, ap, ◌∙◌, arith, eqb, subst, append-nil, inl, inr}
+use Rattle.std.specs.Prelude.{nat_lt, if◌then◌else◌}
 use Rattle.std.specs.List.{range_with_len, list_any}
-use Rattle.std.proofs.lemmas.Bool.{false≢true, or_parts}
+use Rattle.std.proofs.lemmas.Bool.{false≢true, not-false, or_parts}
 use Rattle.std.proofs.lemmas.Bool.Decides.{nat_tests}
 use Rattle.std.proofs.lemmas.Simd.{map-map}
 use Rattle.co_value.specs.Keys.{same_key-refl}
@@ -10,36 +10,33 @@ use Rattle.co_frame.specs.BlockSegments.{is_abort_in_sub_block}
 use Rattle.co_frame.specs.declared.sdo_response.SdoResponse.{SdoResponse}
 use Rattle.co_frame.specs.declared.sdo_response.SdoResponse.TheVariants.{Abort as Aborted, BlockDownloadDone, BlockDownloadAcknowledge}
 use Rattle.co_frame.specs.SdoResponses.{response_in}
+use Rattle.co_sdo_client.specs.declared.mode.Mode.TheVariants.{Block}
 use Rattle.co_sdo_client.specs.declared.stage.Stage.TheVariants.{BlockDownload as Sending, BlockDownloadEnded}
-use Rattle.co_sdo_client.specs.declared.state.ClientState.TheVariants.{Waiting}
+use Rattle.co_sdo_client.specs.declared.state.ClientState.TheVariants.{Waiting, Done}
 use Rattle.co_sdo_client.specs.Calls.{Call, Segment, message_bytes, Event as ClientEvent, Answered, Ticked as TickedAtClient, answers as answers_of, Answers, since_first, with_answer, is_time_over as is_client_over}
 use Rattle.co_sdo_client.specs.Segments.{block_segment, sub_block_length, sub_block_sent, block_download_end}
-use Rattle.co_sdo_client.specs.Stages.{stage_since, held_after, block_size_by}
+use Rattle.co_sdo_client.specs.Stages.{stage_since, held_since, held_after, block_size_by}
 use Rattle.co_sdo_client.specs.Verdicts.{Verdict, GoesOn, Ends, GivesUp, verdict, answer_verdict, response_verdict}
-use Rattle.co_sdo_client.specs.Outcomes.{state_by, outcome, asked}
+use Rattle.co_sdo_client.specs.Outcomes.{state_by, outcome, result}
 use Rattle.co_dict.specs.Rows.{Contents}
 use Rattle.co_sdo.specs.Log.{answer_bytes, Ticked}
 use Rattle.co_sdo.specs.Opened.{OpenTransfer, opened_after, is_time_over}
 use Rattle.co_sdo.specs.Replies.{open_key, time_out_reply}
 use Rattle.co_sdo_laws.specs.World.{Setup, World, Requests, Answers as Back, WorldEvent, Delivered, Lost, Repeated, ClientTicked, ChannelTicked, is_repeat, at_client, timed_out, ticked, without_front, front_arrives, after_event, world_after}
-use Rattle.co_sdo_laws.specs.Undisturbed.{IsCalm, AreCalm}
+use Rattle.co_sdo_laws.specs.Undisturbed.{IsCalm, AreCalm, GoesInBlocks, HaveSent, block_frames, block_download_requests, block_download_answers}
 use Rattle.co_sdo_laws.proofs.Frames.{block_initiated_read, block_done_read, acknowledged_read}
-use Rattle.co_sdo_laws.proofs.Server.{serves_first, serves_ticked}
-use Rattle.co_sdo_laws.proofs.Client.{follows, stays}
+use Rattle.co_sdo_laws.proofs.Channel.{serves_first, serves_ticked, IsServing, serving_ticks, serving_ends}
+use Rattle.co_sdo_laws.proofs.Permits.{bytes, IsDownload}
+use Rattle.co_sdo_laws.proofs.Client.{follows, stays, verdict_since}
 use Rattle.co_sdo_laws.proofs.Failures.{is_aborted, has_failed, failed_more}
-use Rattle.co_sdo_laws.proofs.Channel.{IsServing, serving_ticks, serving_ends}
-use Rattle.co_sdo_laws.proofs.Blocks.{live, live_both, cut_fails, cut_read, cut_is_more, Count, Moment, disturbed, heard, no_answer, cons≢nil, head_is, tail_is, calm_asks, calm_waits, same_requests}
-use Rattle.co_sdo_laws.proofs.GoneChannels.{is_awaited, awaited, awaited_both, aborted_other, IsGone, gone_ticks, gone_ends}
-use Rattle.co_sdo_laws.proofs.BlockSegments.{total, size_after, blocks, segments, InTurn, IsWhole}
-use Rattle.co_sdo_laws.proofs.BlockDownloadSegments.{bytes, confirmation, acknowledgement, client_end, all_done}
-use Rattle.co_sdo_laws.proofs.BlockDownloads.{IsDownload, HasBegun, Took, IsDone, Lawful, taking, complete, May, Closed, IsSet, Last, Stands, asking, confirmed, unconfirmed, sending, unheard, acknowledging, finishing, ending, ended, quiet, over, failed}
-use Rattle.co_sdo_laws.proofs.BlockDownloadRequests.{loses_request, request_comes}
+use Rattle.co_sdo_laws.proofs.Blocks.{is_live, live, kept_both, kept_first, kept_one, kept_drop, kept_drop_one, IsDone, over_event, cut_fails, cut_read, Count, Moment, disturbed, heard, no_answer, cons≢nil, tail_is, calm_asks, calm_waits, same_requests, waits_at, done_at}
+use Rattle.co_sdo_laws.proofs.GoneChannels.{is_awaited, is_awaited_frame, awaited, aborted_other, IsGone, gone_ticks, gone_ends}
+use Rattle.co_sdo_laws.proofs.BlockSegments.{total, size_after, blocks, segments, IsWhole, full, full_count, last_count}
+use Rattle.co_sdo_laws.proofs.BlockDownloads.{confirmation, acknowledgement, client_end, all_done, HasBegun, Took, Lawful, taking, complete, May, Closed, IsSet, Last, Stands, asking, confirmed, unconfirmed, sending, unheard, acknowledging, finishing, ending, ended, quiet, over, failed, waiting, finished, gave_up, standing, loses_request, request_comes}
+use Rattle.co_sdo_laws.proofs.Progress.{AllThere, have_sent}
+use Rattle.co_sdo_laws.proofs.Turns.{waiting≢done}
 
 -- ---- an answer at the client
-
-verdict_since : (s : Setup) (events : List ClientEvent) (frame : List ℕ) (a : Option Answers) → since_first (answers_of events) ≡ a
-    → verdict s.call events (Answered frame) ≡ answer_verdict s.call (stage_since s.call a) (held_after s.call events) frame
-verdict_since s events frame a h = ap (λ (x : Option Answers). answer_verdict s.call (stage_since s.call x) (held_after s.call events) frame) h
 
 fails_by : (s : Setup) (p : Type 0) (frame : List ℕ) (w : World) → (p → ⊥) → outcome s.call w.events ≡ Waiting → has_failed (state_by (verdict s.call w.events (Answered frame))) ≡ true → Stands s p (at_client s (Answered frame) w)
 fails_by s p frame w never waits h = failed never (rw waits h)
@@ -55,14 +52,14 @@ ended_fails call held (Some (BlockDownloadAcknowledge sequence size)) h = absurd
 ended_fails call held (Some BlockDownloadDone) h = absurd (false≢true (sym h))
 ended_fails call held _ h = refl
 
-other_verdict : (s : Setup) (p : Type 0) → IsDownload s p → (a : ℕ) (events : List ClientEvent) (c : Took s a events) (frame held : List ℕ) → is_awaited (response_in frame) ≡ false → (all : Bool) → eqb a (total (bytes s)) ≡ all
+other_verdict : (s : Setup) (p : Type 0) → IsDownload s p Block → (a : ℕ) (events : List ClientEvent) (c : Took s a events) (frame held : List ℕ) → is_awaited (response_in frame) ≡ false → (all : Bool) → eqb a (total (bytes s)) ≡ all
     → has_failed (state_by (answer_verdict s.call (stage_since s.call (Some c.taken)) held frame)) ≡ true
 other_verdict s p m a events c frame held other true e = rw (m.transfer, c.total, c.size, e) (ended_fails s.call held (response_in frame) other)
 other_verdict s p m a events c frame held other false e = rw (m.transfer, c.total, c.size, e) (sending_fails s.call a (sub_block_length (bytes s) a 127) held (response_in frame) other)
 
-other_comes : (s : Setup) (p : Type 0) → IsDownload s p → (a : ℕ) (frame : List ℕ) (w : World) → (p → ⊥) → Took s a w.events → is_awaited (response_in frame) ≡ false → Stands s p (at_client s (Answered frame) w)
+other_comes : (s : Setup) (p : Type 0) → IsDownload s p Block → (a : ℕ) (frame : List ℕ) (w : World) → (p → ⊥) → Took s a w.events → is_awaited (response_in frame) ≡ false → Stands s p (at_client s (Answered frame) w)
 other_comes s p m a frame w never c other =
-    fails_by s p frame w never c.waits (ap (λ (v : Verdict). has_failed (state_by v)) (verdict_since s w.events frame (Some c.taken) c.is) ∙ other_verdict s p m a w.events c frame (held_after s.call w.events) other _ refl)
+    fails_by s p frame w never c.waits (ap (λ (v : Verdict). has_failed (state_by v)) (verdict_since s.call w.events frame (Some c.taken) c.is) ∙ other_verdict s p m a w.events c frame (held_since s.call (Some c.taken)) other _ refl)
 
 burst : (v : List ℕ) (a : ℕ) → a < total v → map message_bytes (sub_block_sent v a 127) ≡ segments v a 1 (suc (size_after v a - 1))
 burst v a h =
@@ -88,7 +85,7 @@ live_none (x ∷ xs) e = by _ refl (live_none xs)
 
 -- ---- the awaited answers come
 
-took_confirmation : (s : Setup) (p : Type 0) → IsDownload s p → (events : List ClientEvent) → HasBegun s events → outcome s.call (Answered (confirmation s) ∷ events) ≡ Waiting → Took s 0 (Answered (confirmation s) ∷ events)
+took_confirmation : (s : Setup) (p : Type 0) → IsDownload s p Block → (events : List ClientEvent) → HasBegun s events → outcome s.call (Answered (confirmation s) ∷ events) ≡ Waiting → Took s 0 (Answered (confirmation s) ∷ events)
 took_confirmation s p m events h waits = record {
   waits = waits;
   taken = record { first = confirmation s; later = [] };
@@ -97,10 +94,10 @@ took_confirmation s p m events h waits = record {
   size = ap block_size_by (block_initiated_read s.call.key 127 m.key);
 }
 
-confirmation_comes : (s : Setup) (p : Type 0) → IsDownload s p → (w : World) → HasBegun s w.events → Moment p awaited [] [] 1 0 w → May s p (taking s 0 0) w.log w.contents → Stands s p (at_client s (Answered (confirmation s)) w)
+confirmation_comes : (s : Setup) (p : Type 0) → IsDownload s p Block → (w : World) → HasBegun s w.events → Moment p awaited [] [] 1 0 w → May s p (taking s 0 0) w.log w.contents → Stands s p (at_client s (Answered (confirmation s)) w)
 confirmation_comes s p m w c at h =
     let is : verdict s.call w.events (Answered (confirmation s)) ≡ GoesOn (sub_block_sent (bytes s) 0 127) =
-    verdict_since s w.events _ None c.first ∙ rw (block_initiated_read s.call.key 127 m.key, m.transfer, same_key-refl s.call.key) refl in
+    verdict_since s.call w.events _ None c.first ∙ rw (block_initiated_read s.call.key 127 m.key, m.transfer, same_key-refl s.call.key) refl in
     let f = follows s.call w.events (Answered (confirmation s)) (GoesOn (sub_block_sent (bytes s) 0 127)) c.waits is in
     let sent : Moment p awaited (segments (bytes s) 0 1 (suc (size_after (bytes s) 0 - 1))) [] 1 1 (at_client s (Answered (confirmation s)) w) =
     heard s p awaited (confirmation s) w _ _ _ _ _ _ at f.messages (burst (bytes s) 0 (omega arith)) (λ x. refl) in
@@ -110,18 +107,18 @@ confirmation_comes s p m w c at h =
       | inr gone ↦ unheard 0 1 (size_after (bytes s) 0 - 1) gone.0 took (omega arith) (omega arith) (omega arith) sent.requests sent.answers gone.1
     ]
 
-acknowledged_since : (s : Setup) (p : Type 0) → IsDownload s p → (a t : ℕ) (events : List ClientEvent) (c : Took s a events) (held : List ℕ) → eqb a (total (bytes s)) ≡ false → nat_lt (size_after (bytes s) a) t ≡ false
+acknowledged_since : (s : Setup) (p : Type 0) → IsDownload s p Block → (a t : ℕ) (events : List ClientEvent) (c : Took s a events) (held : List ℕ) → eqb a (total (bytes s)) ≡ false → nat_lt (size_after (bytes s) a) t ≡ false
     → (all : Bool) → eqb (a + t) (total (bytes s)) ≡ all
     → answer_verdict s.call (stage_since s.call (Some c.taken)) held (acknowledgement t) ≡ (if all then GoesOn (block_download_end (bytes s)) else GoesOn (sub_block_sent (bytes s) (a + t) 127))
 acknowledged_since s p m a t events c held more few true l = rw (m.transfer, c.total, c.size, more, acknowledged_read t 127, few, l) refl
 acknowledged_since s p m a t events c held more few false l = rw (m.transfer, c.total, c.size, more, acknowledged_read t 127, few, l) refl
 
 -- more segments are acknowledged than were sent
-too_many : (s : Setup) (p : Type 0) → IsDownload s p → (a t : ℕ) (w : World) → Took s a w.events → (p → IsWhole (bytes s) a t) → eqb a (total (bytes s)) ≡ false → nat_lt (size_after (bytes s) a) t ≡ true → Stands s p (at_client s (Answered (acknowledgement t)) w)
+too_many : (s : Setup) (p : Type 0) → IsDownload s p Block → (a t : ℕ) (w : World) → Took s a w.events → (p → IsWhole (bytes s) a t) → eqb a (total (bytes s)) ≡ false → nat_lt (size_after (bytes s) a) t ≡ true → Stands s p (at_client s (Answered (acknowledgement t)) w)
 too_many s p m a t w c whole more many =
-    let is : answer_verdict s.call (stage_since s.call (Some c.taken)) (held_after s.call w.events) (acknowledgement t) ≡ GivesUp 0x05040003 = rw (m.transfer, c.total, c.size, more, acknowledged_read t 127, many) refl in
+    let is : answer_verdict s.call (stage_since s.call (Some c.taken)) (held_since s.call (Some c.taken)) (acknowledgement t) ≡ GivesUp 0x05040003 = rw (m.transfer, c.total, c.size, more, acknowledged_read t 127, many) refl in
     fails_by s p (acknowledgement t) w (λ x. let size = (whole x).size in absurd (grind (arith, nat_tests))) c.waits
-    (ap (λ (v : Verdict). has_failed (state_by v)) (verdict_since s w.events (acknowledgement t) (Some c.taken) c.is ∙ is))
+    (ap (λ (v : Verdict). has_failed (state_by v)) (verdict_since s.call w.events (acknowledgement t) (Some c.taken) c.is ∙ is))
 
 took_more : (s : Setup) (a t : ℕ) (events : List ClientEvent) → Took s a events → outcome s.call (Answered (acknowledgement t) ∷ events) ≡ Waiting → Took s (a + t) (Answered (acknowledgement t) ∷ events)
 took_more s a t events c waits = record {
@@ -132,16 +129,7 @@ took_more s a t events c waits = record {
   size = ap block_size_by (acknowledged_read t 127);
 }
 
-full : (a u n : ℕ) → a % 127 ≡ 0 → u ≡ min 127 (n - a) → a + u < n → (a + u) % 127 ≡ 0
-full a u n h e under = let f : u ≡ 127 = omega arith in omega arith
-
-full_count : (a u n : ℕ) → a % 127 ≡ 0 → u ≡ min 127 (n - a) → a + u < n → suc (1 + a / 127) ≡ 1 + (a + u) / 127
-full_count a u n h e under = let f : u ≡ 127 = omega arith in omega arith
-
-last_count : (a u n : ℕ) → a % 127 ≡ 0 → u ≡ min 127 (n - a) → a < n → a + u ≡ n → suc (1 + a / 127) ≡ 1 + (n + 126) / 127
-last_count a u n h e under all = omega arith
-
-acknowledgement_comes : (s : Setup) (p : Type 0) → IsDownload s p → (a t : ℕ) (w : World) → Took s a w.events → a + t < total (bytes s) → (p → IsWhole (bytes s) a t) → Moment p awaited [] [] (1 + a + t) (1 + a / 127) w → May s p (taking s (a + t) 0) w.log w.contents
+acknowledgement_comes : (s : Setup) (p : Type 0) → IsDownload s p Block → (a t : ℕ) (w : World) → Took s a w.events → a + t < total (bytes s) → (p → IsWhole (bytes s) a t) → Moment p awaited [] [] (1 + a + t) (1 + a / 127) w → May s p (taking s (a + t) 0) w.log w.contents
     → (many : Bool) → nat_lt (size_after (bytes s) a) t ≡ many → Stands s p (at_client s (Answered (acknowledgement t)) w)
 acknowledgement_comes s p m a t w c under whole at h true e = too_many s p m a t w c whole (grind (arith, nat_tests)) e
 acknowledgement_comes s p m a t w c under whole at h false e =
@@ -149,10 +137,10 @@ acknowledgement_comes s p m a t w c under whole at h false e =
     let more : eqb a (total v) ≡ false = grind (arith, nat_tests) in
     let left : eqb (a + t) (total v) ≡ false = grind (arith, nat_tests) in
     let zero_more : a + t ≡ a + t + 0 = omega arith in
-    let is = verdict_since s w.events (acknowledgement t) (Some c.taken) c.is ∙ acknowledged_since s p m a t w.events c (held_after s.call w.events) more e false left in
+    let is = verdict_since s.call w.events (acknowledgement t) (Some c.taken) c.is ∙ acknowledged_since s p m a t w.events c (held_since s.call (Some c.taken)) more e false left in
     let f = follows s.call w.events (Answered (acknowledgement t)) (GoesOn (sub_block_sent v (a + t) 127)) c.waits is in
     let sent : Moment p awaited (segments v (a + t) 1 (suc (size_after v (a + t) - 1))) [] (1 + a + t) (1 + (a + t) / 127) (at_client s (Answered (acknowledgement t)) w) =
-    heard s p awaited (acknowledgement t) w _ _ _ _ _ _ at f.messages (burst v (a + t) under) (λ x. let g = whole x in full_count a t (total v) g.whole g.size under) in
+    heard s p awaited (acknowledgement t) w _ _ _ _ _ _ at f.messages (burst v (a + t) under) (λ x. let g = whole x in full_count 1 a t (total v) g.whole g.size under) in
     let sum : 1 + a + t ≡ 1 + (a + t) + 0 = omega arith in
     let took = took_more s a t w.events c f.state in
     elim h [
@@ -162,64 +150,30 @@ acknowledgement_comes s p m a t w c under whole at h false e =
       | inr gone ↦ unheard (a + t) 1 (size_after v (a + t) - 1) gone.0 took under (omega arith) (omega arith) sent.requests sent.answers gone.1
     ]
 
-last_acknowledgement_comes : (s : Setup) (p : Type 0) → IsDownload s p → (a t : ℕ) (w : World) → Took s a w.events → a < total (bytes s) → a + t ≡ total (bytes s) → (p → IsWhole (bytes s) a t) → Moment p awaited [] [] (1 + a + t) (1 + a / 127) w
+last_acknowledgement_comes : (s : Setup) (p : Type 0) → IsDownload s p Block → (a t : ℕ) (w : World) → Took s a w.events → a < total (bytes s) → a + t ≡ total (bytes s) → (p → IsWhole (bytes s) a t) → Moment p awaited [] [] (1 + a + t) (1 + a / 127) w
     → May s p (complete s) w.log w.contents → (many : Bool) → nat_lt (size_after (bytes s) a) t ≡ many → Stands s p (at_client s (Answered (acknowledgement t)) w)
 last_acknowledgement_comes s p m a t w c under all whole at h true e = too_many s p m a t w c whole (grind (arith, nat_tests)) e
 last_acknowledgement_comes s p m a t w c under all whole at h false e =
     let v = bytes s in
     let more : eqb a (total v) ≡ false = grind (arith, nat_tests) in
     let done : eqb (a + t) (total v) ≡ true = grind (arith, nat_tests) in
-    let is = verdict_since s w.events (acknowledgement t) (Some c.taken) c.is ∙ acknowledged_since s p m a t w.events c (held_after s.call w.events) more e true done in
+    let is = verdict_since s.call w.events (acknowledgement t) (Some c.taken) c.is ∙ acknowledged_since s p m a t w.events c (held_since s.call (Some c.taken)) more e true done in
     let f = follows s.call w.events (Answered (acknowledgement t)) (GoesOn (block_download_end v)) c.waits is in
     let sum : 1 + a + t ≡ 1 + total v = omega arith in
     ending (subst (λ (j : ℕ). Took s j (Answered (acknowledgement t) ∷ w.events)) all (took_more s a t w.events c f.state))
     (subst (λ (r : ℕ). Moment p awaited (client_end s ∷ []) [] r (1 + blocks v) (at_client s (Answered (acknowledgement t)) w)) sum
-    (heard s p awaited (acknowledgement t) w _ _ _ _ _ _ at f.messages refl (λ x. let g = whole x in last_count a t (total v) g.whole g.size under all))) h
+    (heard s p awaited (acknowledgement t) w _ _ _ _ _ _ at f.messages refl (λ x. let g = whole x in last_count 1 a t (total v) g.whole g.size under all))) h
 
-done_comes : (s : Setup) (p : Type 0) → IsDownload s p → (w : World) → Took s (total (bytes s)) w.events → Moment p awaited [] [] (2 + total (bytes s)) (1 + blocks (bytes s)) w → IsSet s p w → Stands s p (at_client s (Answered all_done) w)
+done_comes : (s : Setup) (p : Type 0) → IsDownload s p Block → (w : World) → Took s (total (bytes s)) w.events → Moment p awaited [] [] (2 + total (bytes s)) (1 + blocks (bytes s)) w → IsSet s p w → Stands s p (at_client s (Answered all_done) w)
 done_comes s p m w c at set =
     let all : eqb (total (bytes s)) (total (bytes s)) ≡ true = grind (arith, nat_tests) in
-    let is : verdict s.call w.events (Answered all_done) ≡ Ends [] [] = verdict_since s w.events _ (Some c.taken) c.is ∙ rw (m.transfer, c.total, c.size, all, block_done_read) refl in
+    let is : verdict s.call w.events (Answered all_done) ≡ Ends [] [] = verdict_since s.call w.events _ (Some c.taken) c.is ∙ rw (m.transfer, c.total, c.size, all, block_done_read) refl in
     let f = follows s.call w.events (Answered all_done) (Ends [] []) c.waits is in
     let next : Moment p awaited [] [] (2 + total (bytes s)) (2 + blocks (bytes s)) (at_client s (Answered all_done) w) = heard s p awaited all_done w _ _ _ _ _ _ at f.messages refl (λ x. omega arith) in
     over (record { done = f.state; gives = f.value }) next.requests
     (record { entry = set.entry; closed = λ x. let k = set.closed x in record { serves = k.serves; sets = k.sets } }) (λ x. record { answers = next.exact x; count = next.count x })
 
 -- ---- the oldest answer comes or is lost
-
-live_first : (x : List ℕ) (later : List (List ℕ)) (cut : Bool) → is_abort_in_sub_block x ≡ cut → live (x ∷ later) ≡ [] → (is_abort_in_sub_block x ≡ true) × (live later ≡ [])
-live_first x later true c e = let same : live (x ∷ later) ≡ live later = rw c refl in (c, sym same ∙ e)
-live_first x later false c e = let some : live (x ∷ later) ≡ x ∷ live later = rw c refl in absurd (cons≢nil x (live later) (sym some ∙ e))
-
-live_one : (x f : List ℕ) (later : List (List ℕ)) (cut : Bool) → is_abort_in_sub_block x ≡ cut → live (x ∷ later) ≡ f ∷ []
-    → ((is_abort_in_sub_block x ≡ true) × (live later ≡ f ∷ [])) ⊎ ((x ≡ f) × (live later ≡ []))
-live_one x f later true c e = let same : live (x ∷ later) ≡ live later = rw c refl in inl (c, sym same ∙ e)
-live_one x f later false c e = let some : live (x ∷ later) ≡ x ∷ live later = rw c refl in inr (head_is x f _ _ (sym some ∙ e), tail_is x f _ _ (sym some ∙ e))
-
-awaited_first : (x : List ℕ) (later : List (List ℕ)) (b : Bool) → is_awaited (response_in x) ≡ b → awaited (x ∷ later) ≡ [] → (is_awaited (response_in x) ≡ false) × (awaited later ≡ [])
-awaited_first x later true c e = let some : awaited (x ∷ later) ≡ x ∷ awaited later = rw c refl in absurd (cons≢nil x (awaited later) (sym some ∙ e))
-awaited_first x later false c e = let same : awaited (x ∷ later) ≡ awaited later = rw c refl in (c, sym same ∙ e)
-
-awaited_one : (x f : List ℕ) (later : List (List ℕ)) (b : Bool) → is_awaited (response_in x) ≡ b → awaited (x ∷ later) ≡ f ∷ []
-    → ((is_awaited (response_in x) ≡ false) × (awaited later ≡ f ∷ [])) ⊎ ((x ≡ f) × (awaited later ≡ []))
-awaited_one x f later true c e = let some : awaited (x ∷ later) ≡ x ∷ awaited later = rw c refl in inr (head_is x f _ _ (sym some ∙ e), tail_is x f _ _ (sym some ∙ e))
-awaited_one x f later false c e = let same : awaited (x ∷ later) ≡ awaited later = rw c refl in inl (c, sym same ∙ e)
-
-live_drop : (xs : List (List ℕ)) → live xs ≡ [] → live (drop 1 xs) ≡ []
-live_drop [] e = refl
-live_drop (x ∷ later) e = (live_first x later _ refl e).1
-
-live_drop_one : (f : List ℕ) (xs : List (List ℕ)) → live xs ≡ f ∷ [] → (live (drop 1 xs) ≡ f ∷ []) ⊎ (live (drop 1 xs) ≡ [])
-live_drop_one f [] e = absurd (cons≢nil f [] (sym e))
-live_drop_one f (x ∷ later) e = elim (live_one x f later _ refl e) [ inl h ↦ inl h.1 | inr h ↦ inr h.1 ]
-
-awaited_drop : (xs : List (List ℕ)) → awaited xs ≡ [] → awaited (drop 1 xs) ≡ []
-awaited_drop [] e = refl
-awaited_drop (x ∷ later) e = (awaited_first x later _ refl e).1
-
-awaited_drop_one : (f : List ℕ) (xs : List (List ℕ)) → awaited xs ≡ f ∷ [] → (awaited (drop 1 xs) ≡ f ∷ []) ⊎ (awaited (drop 1 xs) ≡ [])
-awaited_drop_one f [] e = absurd (cons≢nil f [] (sym e))
-awaited_drop_one f (x ∷ later) e = elim (awaited_one x f later _ refl e) [ inl h ↦ inl h.1 | inr h ↦ inr h.1 ]
 
 set_kept : (s : Setup) (p : Type 0) (w w' : World) → (p → ⊥) → w'.contents ≡ w.contents → IsSet s p w → IsSet s p w'
 set_kept s p w w' never e h = record { entry = ap (λ (x : Contents). x s.call.key) e ∙ h.entry; closed = λ x. absurd (never x) }
@@ -228,35 +182,32 @@ loses_answer : (s : Setup) (p : Type 0) (w : World) → (p → ⊥) → Stands s
 loses_answer s p w never h = by h
   where
     by : Stands s p w → Stands s p (without_front Back w)
-    by (asking b m h) = asking b (disturbed p live _ _ _ _ (without_front Back w) never m.requests (live_drop w.answers m.answers)) h
-    by (confirmed b m h) = elim (live_drop_one (confirmation s) w.answers m.answers) [
+    by (asking b m h) = asking b (disturbed p live _ _ _ _ (without_front Back w) never m.requests (kept_drop is_live w.answers m.answers)) h
+    by (confirmed b m h) = elim (kept_drop_one is_live (confirmation s) w.answers m.answers) [
       | inl e ↦ confirmed b (disturbed p live _ _ _ _ (without_front Back w) never m.requests e) h
       | inr e ↦ unconfirmed never b m.requests e
     ]
-    by (unconfirmed n b e f) = unconfirmed never b e (live_drop w.answers f)
-    by (sending a t n more b under some size turn m h) = sending a t n more b under some size turn (disturbed p awaited _ _ _ _ (without_front Back w) never m.requests (awaited_drop w.answers m.answers)) h
-    by (unheard a n more g b under some size e f h) = unheard a n more never b under some size e (awaited_drop w.answers f) h
-    by (acknowledging a t b under whole m h) = elim (awaited_drop_one (acknowledgement t) w.answers m.answers) [
+    by (unconfirmed n b e f) = unconfirmed never b e (kept_drop is_live w.answers f)
+    by (sending a t n more b under some size turn m h) = sending a t n more b under some size turn (disturbed p awaited _ _ _ _ (without_front Back w) never m.requests (kept_drop is_awaited_frame w.answers m.answers)) h
+    by (unheard a n more g b under some size e f h) = unheard a n more never b under some size e (kept_drop is_awaited_frame w.answers f) h
+    by (acknowledging a t b under whole m h) = elim (kept_drop_one is_awaited_frame (acknowledgement t) w.answers m.answers) [
       | inl e ↦ acknowledging a t b under whole (disturbed p awaited _ _ _ _ (without_front Back w) never m.requests e) h
       | inr e ↦ quiet a never b m.requests e
     ]
-    by (finishing a t b under all whole m h) = elim (awaited_drop_one (acknowledgement t) w.answers m.answers) [
+    by (finishing a t b under all whole m h) = elim (kept_drop_one is_awaited_frame (acknowledgement t) w.answers m.answers) [
       | inl e ↦ finishing a t b under all whole (disturbed p awaited _ _ _ _ (without_front Back w) never m.requests e) h
       | inr e ↦ quiet a never b m.requests e
     ]
-    by (ending b m h) = ending b (disturbed p awaited _ _ _ _ (without_front Back w) never m.requests (awaited_drop w.answers m.answers)) h
-    by (ended b m h) = elim (awaited_drop_one all_done w.answers m.answers) [
+    by (ending b m h) = ending b (disturbed p awaited _ _ _ _ (without_front Back w) never m.requests (kept_drop is_awaited_frame w.answers m.answers)) h
+    by (ended b m h) = elim (kept_drop_one is_awaited_frame all_done w.answers m.answers) [
       | inl e ↦ ended b (disturbed p awaited _ _ _ _ (without_front Back w) never m.requests e) (set_kept s p w (without_front Back w) never refl h)
       | inr e ↦ quiet (total (bytes s)) never b m.requests e
     ]
-    by (quiet a n b e f) = quiet a never b e (awaited_drop w.answers f)
+    by (quiet a n b e f) = quiet a never b e (kept_drop is_awaited_frame w.answers f)
     by (over b e h last) = over b e (set_kept s p w (without_front Back w) never refl h) (λ x. absurd (never x))
     by (failed n h) = failed never h
 
-over_event : (s : Setup) (event : ClientEvent) (w : World) → IsDone s w.events → IsDone s (event ∷ w.events)
-over_event s event w b = let f = stays s.call w.events event b.done in record { done = f.state; gives = f.value ∙ b.gives }
-
-over_requests : (s : Setup) (event : ClientEvent) (w : World) → IsDone s w.events → w.requests ≡ [] → (at_client s event w).requests ≡ []
+over_requests : (s : Setup) (event : ClientEvent) (w : World) → IsDone s [] w.events → w.requests ≡ [] → (at_client s event w).requests ≡ []
 over_requests s event w b e = same_requests w.requests _ (ap (map message_bytes) (stays s.call w.events event b.done).messages) ∙ e
 
 set_at_client : (s : Setup) (p : Type 0) (event : ClientEvent) (w : World) → IsSet s p w → IsSet s p (at_client s event w)
@@ -266,7 +217,7 @@ set_at_client s p event w h = record { entry = h.entry; closed = λ x. let k = h
 only_one : (x f : List ℕ) (later : List (List ℕ)) (kept : List (List ℕ) → List (List ℕ)) → kept [] ≡ [] → x ∷ later ≡ f ∷ [] → kept later ≡ f ∷ [] → ⊥
 only_one x f later kept none e g = cons≢nil f [] (sym g ∙ ap kept (tail_is x f later [] e) ∙ none)
 
-answer_is : (s : Setup) (p : Type 0) → IsDownload s p → (w : World) (x : List ℕ) (later : List (List ℕ)) → w.answers ≡ x ∷ later → Stands s p w → Stands s p (at_client s (Answered x) (without_front Back w))
+answer_is : (s : Setup) (p : Type 0) → IsDownload s p Block → (w : World) (x : List ℕ) (later : List (List ℕ)) → w.answers ≡ x ∷ later → Stands s p w → Stands s p (at_client s (Answered x) (without_front Back w))
 answer_is s p up w x later e h = by h
   where
     rest : (kept : List (List ℕ) → List (List ℕ)) (given : List (List ℕ)) (r q : ℕ) → Moment p kept [] given r q w → awaited later ≡ [] → (p → later ≡ []) → Moment p awaited [] [] r q (without_front Back w)
@@ -277,29 +228,29 @@ answer_is s p up w x later e h = by h
       count = λ y. record { received = (m.count y).received; answered = (m.count y).answered };
     }
 
-    cut_comes : (p → ⊥) → is_abort_in_sub_block x ≡ true → outcome s.call w.events ≡ Waiting → Stands s p (at_client s (Answered x) (without_front Back w))
-    cut_comes never cut waits = fails_by s p x (without_front Back w) never waits (cut_fails s.call (stage_since s.call (since_first (answers_of w.events))) (held_after s.call w.events) x cut)
+    cut_comes : (p → ⊥) → is_live x ≡ false → outcome s.call w.events ≡ Waiting → Stands s p (at_client s (Answered x) (without_front Back w))
+    cut_comes never cut waits = fails_by s p x (without_front Back w) never waits (cut_fails s.call (stage_since s.call (since_first (answers_of w.events))) (held_after s.call w.events) x (not-false (is_abort_in_sub_block x) cut))
 
     -- an answer where none is awaited
     none_comes : (a : ℕ) → (p → ⊥) → Took s a w.events → awaited w.answers ≡ [] → Stands s p (at_client s (Answered x) (without_front Back w))
-    none_comes a never b f = other_comes s p up a x (without_front Back w) never b ((awaited_first x later _ refl (ap awaited (sym e) ∙ f)).0)
+    none_comes a never b f = other_comes s p up a x (without_front Back w) never b ((kept_first is_awaited_frame x later _ refl (ap awaited (sym e) ∙ f)).0)
 
     -- the awaited one, or another
     one_comes : (a r q : ℕ) (f : List ℕ) → Took s a w.events → Moment p awaited [] (f ∷ []) r q w → (Moment p awaited [] [] r q (without_front Back w) → Stands s p (at_client s (Answered f) (without_front Back w)))
         → Stands s p (at_client s (Answered x) (without_front Back w))
-    one_comes a r q f b m comes = elim (awaited_one x f later _ refl (ap awaited (sym e) ∙ m.answers)) [
+    one_comes a r q f b m comes = elim (kept_one is_awaited_frame x f later _ refl (ap awaited (sym e) ∙ m.answers)) [
       | inl other ↦ other_comes s p up a x (without_front Back w) (λ y. only_one x f later awaited refl (sym e ∙ m.exact y) other.1) b other.0
       | inr is ↦ subst (λ (y : List ℕ). Stands s p (at_client s (Answered y) (without_front Back w))) (sym is.0) (comes (rest awaited (f ∷ []) r q m is.1 (λ y. tail_is x f later [] (sym e ∙ m.exact y))))
     ]
 
     by : Stands s p w → Stands s p (at_client s (Answered x) (without_front Back w))
-    by (asking b m h) = cut_comes (λ y. cons≢nil x later (sym e ∙ m.exact y)) ((live_first x later _ refl (ap live (sym e) ∙ m.answers)).0) b.waits
-    by (confirmed b m h) = elim (live_one x (confirmation s) later _ refl (ap live (sym e) ∙ m.answers)) [
+    by (asking b m h) = cut_comes (λ y. cons≢nil x later (sym e ∙ m.exact y)) ((kept_first is_live x later _ refl (ap live (sym e) ∙ m.answers)).0) b.waits
+    by (confirmed b m h) = elim (kept_one is_live x (confirmation s) later _ refl (ap live (sym e) ∙ m.answers)) [
       | inl cut ↦ cut_comes (λ y. only_one x (confirmation s) later live refl (sym e ∙ m.exact y) cut.1) cut.0 b.waits
       | inr is ↦ subst (λ (y : List ℕ). Stands s p (at_client s (Answered y) (without_front Back w))) (sym is.0)
           (confirmation_comes s p up (without_front Back w) b (rest live (confirmation s ∷ []) 1 0 m (live_none later is.1) (λ y. tail_is x (confirmation s) later [] (sym e ∙ m.exact y))) h)
     ]
-    by (unconfirmed n b f g) = cut_comes n ((live_first x later _ refl (ap live (sym e) ∙ g)).0) b.waits
+    by (unconfirmed n b f g) = cut_comes n ((kept_first is_live x later _ refl (ap live (sym e) ∙ g)).0) b.waits
     by (sending a t n more b under some size turn m h) = none_comes a (λ y. cons≢nil x later (sym e ∙ m.exact y)) b m.answers
     by (unheard a n more never b under some size f g h) = none_comes a never b g
     by (acknowledging a t b under whole m h) = one_comes a _ _ (acknowledgement t) b m (λ at. acknowledgement_comes s p up a t (without_front Back w) b under whole at h _ refl)
@@ -311,7 +262,7 @@ answer_is s p up w x later e h = by h
         (record { entry = h.entry; closed = λ y. absurd (cons≢nil x later (sym e ∙ (last y).answers)) }) (λ y. absurd (cons≢nil x later (sym e ∙ (last y).answers)))
     by (failed n h) = failed n (failed_more s (Answered x) w.events h)
 
-answer_comes : (s : Setup) (p : Type 0) → IsDownload s p → (w : World) → Stands s p w → (xs : List (List ℕ)) → w.answers ≡ xs → Stands s p (front_arrives s Back xs (without_front Back w))
+answer_comes : (s : Setup) (p : Type 0) → IsDownload s p Block → (w : World) → Stands s p w → (xs : List (List ℕ)) → w.answers ≡ xs → Stands s p (front_arrives s Back xs (without_front Back w))
 answer_comes s p up w h [] e = subst (Stands s p) (no_answer w e) h
 answer_comes s p up w h (x ∷ later) e = answer_is s p up w x later e h
 
@@ -329,7 +280,7 @@ record Carries (s : Setup) (p : Type 0) (w w' : World) : Type 0 where
   opened : (o : OpenTransfer) → IsServing s (Lawful s) (Some o) w.log w.contents → May s p o w'.log w'.contents
   gone : IsGone w.log → IsGone w'.log
   set : IsSet s p w → IsSet s p w'
-  done : IsDone s w.events → IsDone s w'.events
+  done : IsDone s [] w.events → IsDone s [] w'.events
   fails : has_failed (outcome s.call w.events) ≡ true → has_failed (outcome s.call w'.events) ≡ true
 
 early_moved : (s : Setup) (p : Type 0) (w w' : World) (sent given : List (List ℕ)) (r q : ℕ) → Carries s p w w' → Moment p live sent given r q w → Moment p live sent given r q w'
@@ -382,19 +333,12 @@ time_over s p w e calm waits = failed (λ x. false≢true (sym (calm x waits) �
 
 client_tick : (s : Setup) (p : Type 0) (w : World) (ends : Bool) → is_client_over s.call.time (TickedAtClient ∷ w.events) ≡ ends → (p → IsCalm s ClientTicked w) → Stands s p w → Stands s p (at_client s TickedAtClient w)
 client_tick s p w false e calm h = carry s p w (at_client s TickedAtClient w) (calm_tick s p w e) h
-client_tick s p w true e calm (asking b m h) = time_over s p w e calm b.waits
-client_tick s p w true e calm (confirmed b m h) = time_over s p w e calm b.waits
-client_tick s p w true e calm (unconfirmed n b f g) = time_over s p w e calm b.waits
-client_tick s p w true e calm (sending a t n more b under some size turn m h) = time_over s p w e calm b.waits
-client_tick s p w true e calm (unheard a n more never b under some size f g h) = time_over s p w e calm b.waits
-client_tick s p w true e calm (acknowledging a t b under whole m h) = time_over s p w e calm b.waits
-client_tick s p w true e calm (finishing a t b under all whole m h) = time_over s p w e calm b.waits
-client_tick s p w true e calm (ending b m h) = time_over s p w e calm b.waits
-client_tick s p w true e calm (ended b m h) = time_over s p w e calm b.waits
-client_tick s p w true e calm (quiet a n b f g) = time_over s p w e calm b.waits
-client_tick s p w true e calm (over b f h last) = over (over_event s TickedAtClient w b) (over_requests s TickedAtClient w b f) (set_at_client s p TickedAtClient w h)
-    (λ x. record { answers = (last x).answers; count = let n = (last x).count in record { received = n.received; answered = n.answered } })
-client_tick s p w true e calm (failed n h) = failed n (failed_more s TickedAtClient w.events h)
+client_tick s p w true e calm h = elim (standing s p w h) [
+  | waiting b ↦ time_over s p w e calm b
+  | finished b f set last ↦ over (over_event s TickedAtClient w b) (over_requests s TickedAtClient w b f) (set_at_client s p TickedAtClient w set)
+      (λ x. record { answers = (last x).answers; count = let n = (last x).count in record { received = n.received; answered = n.answered } })
+  | gave_up never f ↦ failed never (failed_more s TickedAtClient w.events f)
+]
 
 channel_tick : (s : Setup) (p : Type 0) (w : World) (ends : Bool) → (p → ends ≡ false) → Carries s p w (if ends then timed_out (ticked w) else ticked w)
 channel_tick s p w false calm = record {
@@ -416,8 +360,8 @@ channel_tick s p w true calm = record {
   begins = λ c. c;
   took = λ a c. c;
   requests = refl;
-  early = live_both w.answers (map answer_bytes (time_out_reply (Ticked ∷ w.log))) ∙ append-nil (live w.answers);
-  answers = awaited_both w.answers (map answer_bytes (time_out_reply (Ticked ∷ w.log)))
+  early = kept_both is_live w.answers (map answer_bytes (time_out_reply (Ticked ∷ w.log))) ∙ append-nil (live w.answers);
+  answers = kept_both is_awaited_frame w.answers (map answer_bytes (time_out_reply (Ticked ∷ w.log)))
       ∙ ap (λ (xs : List (List ℕ)). awaited w.answers ++ xs) (aborted_other (open_key (opened_after (Ticked ∷ w.log))) 0x05040000) ∙ append-nil (awaited w.answers);
   exact = λ x. absurd (false≢true (sym (calm x)));
   count = λ r q x. absurd (false≢true (sym (calm x)));
@@ -431,7 +375,7 @@ channel_tick s p w true calm = record {
 
 -- ---- every event
 
-step : (s : Setup) (p : Type 0) → IsDownload s p → (event : WorldEvent) (w : World) → is_repeat event ≡ false → (p → IsCalm s event w) → Stands s p w → Stands s p (after_event s event w)
+step : (s : Setup) (p : Type 0) → IsDownload s p Block → (event : WorldEvent) (w : World) → is_repeat event ≡ false → (p → IsCalm s event w) → Stands s p w → Stands s p (after_event s event w)
 step s p m (Delivered Requests) w once calm h = request_comes s p m w h
 step s p m (Delivered Back) w once calm h = answer_comes s p m w h w.answers refl
 step s p m (Lost Requests) w once calm h = loses_request s p w calm h
@@ -440,9 +384,59 @@ step s p m (Repeated queue) w once calm h = absurd (false≢true (sym once))
 step s p m ClientTicked w once calm h = client_tick s p w _ refl calm h
 step s p m ChannelTicked w once calm h = carry s p w _ (channel_tick s p w (is_time_over s.time (Ticked ∷ w.log)) calm) h
 
-pub always : (s : Setup) (p : Type 0) → IsDownload s p → (events : List WorldEvent) → list_any is_repeat events ≡ false → (p → AreCalm s events) → Stands s p (world_after s events)
+pub always : (s : Setup) (p : Type 0) → IsDownload s p Block → (events : List WorldEvent) → list_any is_repeat events ≡ false → (p → AreCalm s events) → Stands s p (world_after s events)
 always s p m [] once calm = asking (record { waits = refl; first = refl }) (record { requests = rw m.transfer refl; answers = refl; exact = λ x. refl; count = λ x. record { received = refl; answered = refl } })
     (record { serves = serves_first s.description.rows s.past m.idle; lawful = refl })
 always s p m (event ∷ older) once calm =
     let both = or_parts (is_repeat event) (list_any is_repeat older) once in
     step s p m event (world_after s older) both.0 (λ x. (calm x).0) (always s p m older both.1 (λ x. (calm x).1))
+
+-- ---- what these worlds say of the client and its channel
+
+-- the entry of a client that is done has the bytes
+pub set_is : (s : Setup) (p : Type 0) (w : World) → Stands s p w → outcome s.call w.events ≡ Done → w.contents s.call.key ≡ Some (bytes s)
+set_is s p w h done = elim (standing s p w h) [
+  | waiting b ↦ absurd (waiting≢done (sym b ∙ done))
+  | finished b e set last ↦ set.entry
+  | gave_up n f ↦ absurd (false≢true (ap has_failed (sym done) ∙ f))
+]
+
+-- ---- undisturbed
+
+pub goes_in_blocks : (s : Setup) (w : World) → Stands s (Unit {0}) w → GoesInBlocks s.call (block_frames (length (bytes s))) (block_frames (length (bytes s))) w
+goes_in_blocks s w (asking b m h) = waits_at s _ _ live _ _ _ _ w m b.waits (omega arith) (omega arith) (omega arith)
+goes_in_blocks s w (confirmed b m h) = waits_at s _ _ live _ _ _ _ w m b.waits (omega arith) (omega arith) (omega arith)
+goes_in_blocks s w (unconfirmed n b e f) = absurd (n tt)
+goes_in_blocks s w (sending a t n more b under some size turn m h) = waits_at s _ _ awaited _ _ _ _ w m b.waits (omega arith) (omega arith) (omega arith)
+goes_in_blocks s w (unheard a n more never b under some size e f h) = absurd (never tt)
+goes_in_blocks s w (acknowledging a t b under whole m h) = waits_at s _ _ awaited _ _ _ _ w m b.waits (omega arith) (omega arith) (omega arith)
+goes_in_blocks s w (finishing a t b under all whole m h) = waits_at s _ _ awaited _ _ _ _ w m b.waits (omega arith) (omega arith) (omega arith)
+goes_in_blocks s w (ending b m h) = waits_at s _ _ awaited _ _ _ _ w m b.waits (omega arith) (omega arith) (omega arith)
+goes_in_blocks s w (ended b m h) = waits_at s _ _ awaited _ _ _ _ w m b.waits (omega arith) (omega arith) (omega arith)
+goes_in_blocks s w (quiet a n b e f) = absurd (n tt)
+goes_in_blocks s w (over b e h last) = let l = last tt in done_at s _ _ 0 _ _ w l.count b.done (omega arith) (omega arith) (omega arith) (rw (e, l.answers) refl)
+goes_in_blocks s w (failed n h) = absurd (n tt)
+
+-- a client that is done gives no bytes, its bytes are in the entry, and nothing is open at the channel
+pub record AtEnd (s : Setup) (w : World) : Type 0 where
+  pub gives : result s.call w.events ≡ []
+  pub set : Closed s w
+  pub last : Last s w
+  pub none : w.requests ≡ []
+
+pub ends : (s : Setup) (w : World) → Stands s (Unit {0}) w → outcome s.call w.events ≡ Done → AtEnd s w
+ends s w h done = elim (standing s (Unit {0}) w h) [
+  | waiting b ↦ absurd (waiting≢done (sym b ∙ done))
+  | finished b e set last ↦ record { gives = b.gives; set = set.closed tt; last = last tt; none = e }
+  | gave_up n f ↦ absurd (n tt)
+]
+
+-- a client that is done and its channel have sent all frames
+pub all_sent : (s : Setup) (w : World) → AllThere s w → Stands s (Unit {0}) w → outcome s.call w.events ≡ Done → HaveSent s (block_download_requests (length (bytes s))) (block_download_answers (length (bytes s))) w
+all_sent s w t h done =
+    let end = ends s w h done in
+    let r = end.last.count.received in
+    let q = end.last.count.answered in
+    let e = end.none in
+    let f = end.last.answers in
+    have_sent s w _ _ t (rw e (omega arith)) (rw f (omega arith))

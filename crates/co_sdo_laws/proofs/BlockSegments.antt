@@ -10,7 +10,7 @@ use Rattle.co_frame.specs.declared.block_segment.BlockSegment.{BlockSegment}
 use Rattle.co_sdo_client.specs.Segments.{part_after, segment_count, block_segment, sub_block_length}
 use Rattle.co_sdo_client.specs.SubBlocks.{segment_taken, sub_block, taken_segments, block_bytes, has_last}
 use Rattle.co_sdo.specs.Downloads.{without}
-use Rattle.co_sdo_laws.proofs.Frames.{block_segment_read}
+use Rattle.co_sdo_laws.proofs.Frames.{padded_length, block_segment_read}
 use Rattle.co_sdo_laws.proofs.Segments.{joined, part_small}
 use Rattle.co_sdo_laws.proofs.Blocks.{live}
 
@@ -24,9 +24,6 @@ pub full_joined : (v : List ℕ) (k : ℕ) → suc k < segment_count v → take 
 full_joined v k h =
     let n = full_part v k h in
     rw (n, append-nil (part_after k v)) (joined v k)
-
-pub padded_long : (xs : List ℕ) → length xs ≤ 7 → length (padded 7 xs) ≡ 7
-padded_long xs h = simp (length-append, length-replicate) (omega arith)
 
 part_length : (v : List ℕ) (k : ℕ) → length (part_after k v) ≡ min 7 (length v - 7 * k)
 part_length v k = length-take 7 (drop (7 * k) v) ∙ ap (min 7) (length-drop (7 * k) v)
@@ -86,7 +83,7 @@ abbrev pub frame_with : List ℕ → ℕ → ℕ → Bool → List ℕ
 frame_with v a n last = block_segment_bytes (segment_with last n (data_at v a n))
 
 pub data_long : (v : List ℕ) (a n : ℕ) → length (data_at v a n) ≡ 7
-data_long v a n = padded_long (part_after (a + n - 1) v) (part_small (a + n - 1) v)
+data_long v a n = padded_length (part_after (a + n - 1) v) 7 (part_small (a + n - 1) v)
 
 pub frame_is : (v : List ℕ) (a n : ℕ) (last : Bool) → eqb (a + n) (total v) ≡ last → segment_at v a n ≡ frame_with v a n last
 frame_is v a n last l = rw l refl
@@ -136,13 +133,26 @@ pub record IsWhole (v : List ℕ) (a t : ℕ) : Type 0 where
   pub size : t ≡ size_after v a
   pub within : a < total v
 
+pub not_turn : (n t : ℕ) → eqb n (t + 1) ≡ false → n ≡ t + 1 → ⊥
+not_turn n t e h = absurd (grind (arith, nat_tests))
+
+-- a whole sub-block has 127 segments where others are left; so many have been acknowledged then
+pub full : (a u n : ℕ) → a % 127 ≡ 0 → u ≡ min 127 (n - a) → a + u < n → (a + u) % 127 ≡ 0
+full a u n h e under = let f : u ≡ 127 = omega arith in omega arith
+
+pub full_count : (b a u n : ℕ) → a % 127 ≡ 0 → u ≡ min 127 (n - a) → a + u < n → suc (b + a / 127) ≡ b + (a + u) / 127
+full_count b a u n h e under = let f : u ≡ 127 = omega arith in omega arith
+
+pub last_count : (b a u n : ℕ) → a % 127 ≡ 0 → u ≡ min 127 (n - a) → a < n → a + u ≡ n → suc (b + a / 127) ≡ b + (n + 126) / 127
+last_count b a u n h e under all = omega arith
+
 -- ---- what a receiver has taken
 
--- what a receiver has with one more frame, the next segment
-pub record Grows (later : List (List ℕ)) (frame : List ℕ) (segment : BlockSegment) (taken : ℕ) : Type 0 where
-  pub last : has_last (frame ∷ later) ≡ segment.last
-  pub bytes : block_bytes (frame ∷ later) ≡ block_bytes later ++ segment.bytes
-  pub inside : segment.last || eqb segment.sequence 127 ≡ false → length (taken_segments (sub_block (frame ∷ later))) ≡ taken + 1
+-- what a receiver has with one more frame: whether the last segment was taken, the bytes, and how many segments of the sub-block
+pub record Receives (later : List (List ℕ)) (frame : List ℕ) (segment : BlockSegment) (end : Bool) (held : List ℕ) (taken : ℕ) : Type 0 where
+  pub last : has_last (frame ∷ later) ≡ end
+  pub bytes : block_bytes (frame ∷ later) ≡ held
+  pub inside : segment.last || eqb segment.sequence 127 ≡ false → length (taken_segments (sub_block (frame ∷ later))) ≡ taken
   pub ended : segment.last || eqb segment.sequence 127 ≡ true → length (taken_segments (sub_block (frame ∷ later))) ≡ 0
 
 pub one_more : (frame : List ℕ) (older : List (List ℕ)) (segment : BlockSegment) → segment_taken (length (taken_segments older)) (block_segment_in frame) ≡ Some segment
@@ -152,8 +162,10 @@ one_more frame older segment t = rw t (omega arith)
 pub no_more : (frame : List ℕ) (older : List (List ℕ)) → segment_taken (length (taken_segments older)) (block_segment_in frame) ≡ None → length (taken_segments (frame ∷ older)) ≡ length (taken_segments older)
 no_more frame older t = rw t refl
 
+-- it is the next segment
 pub grows : (later : List (List ℕ)) (frame : List ℕ) (segment : BlockSegment) (taken : ℕ) → block_segment_in frame ≡ Some segment → eqb segment.sequence (taken + 1) ≡ true
-    → has_last later ≡ false → length (taken_segments (sub_block later)) ≡ taken → Grows later frame segment taken
+    → has_last later ≡ false → length (taken_segments (sub_block later)) ≡ taken
+    → Receives later frame segment segment.last (block_bytes later ++ segment.bytes) (taken + 1)
 grows later frame segment taken read number inside n =
     let t : segment_taken (length (taken_segments (sub_block later))) (block_segment_in frame) ≡ Some segment = rw (read, n, number) refl in
     record {
@@ -168,14 +180,9 @@ grows later frame segment taken read number inside n =
     }
 
 -- and with one that isn't the next
-pub record Stays (later : List (List ℕ)) (frame : List ℕ) (segment : BlockSegment) (taken : ℕ) : Type 0 where
-  pub last : has_last (frame ∷ later) ≡ false
-  pub bytes : block_bytes (frame ∷ later) ≡ block_bytes later
-  pub inside : segment.last || eqb segment.sequence 127 ≡ false → length (taken_segments (sub_block (frame ∷ later))) ≡ taken
-  pub ended : segment.last || eqb segment.sequence 127 ≡ true → length (taken_segments (sub_block (frame ∷ later))) ≡ 0
-
 pub passes : (later : List (List ℕ)) (frame : List ℕ) (segment : BlockSegment) (taken : ℕ) → block_segment_in frame ≡ Some segment → eqb segment.sequence (taken + 1) ≡ false
-    → has_last later ≡ false → length (taken_segments (sub_block later)) ≡ taken → Stays later frame segment taken
+    → has_last later ≡ false → length (taken_segments (sub_block later)) ≡ taken
+    → Receives later frame segment false (block_bytes later) taken
 passes later frame segment taken read number inside n =
     let t : segment_taken (length (taken_segments (sub_block later))) (block_segment_in frame) ≡ None = rw (read, n, number) refl in
     record {

@@ -1,59 +1,38 @@
 -- An upload in blocks from which frames may be lost, whatever the dictionary permits and the client has room for. Frames are lost
 -- from the front of a queue alone: what comes of a sub-block is an end of it, and an acknowledgement counts the segments that
 -- were taken in turn. Where it is permitted and undisturbed (`p`), each sub-block is taken whole, and the frames are counted.
-use Rattle.std.proofs.Common.{◌≡◌, ℕ, suc, ◌+◌, ◌-◌, ◌*◌, ◌/◌, ◌<◌, ◌≤◌, true, false, List, [], ◌∷◌, length, take, Option, Some, None, refl, sym, arith, eqb, subst, ◌⊎◌}
+use Rattle.std.proofs.Common.{◌≡◌, ◌∙◌, ℕ, suc, ◌+◌, ◌-◌, ◌*◌, ◌/◌, ◌<◌, ◌≤◌, true, false, List, [], ◌∷◌, length, take, Some, None, refl, sym, eqb, ◌⊎◌, ◌%◌, Bool, map, Option, ap, arith, subst, inl, inr}
 use Rattle.std.specs.Prelude.{nat_lt}
-use Rattle.std.specs.Option.{option_map_or}
 use Rattle.co_value.specs.declared.key.Key.{Key}
 use Rattle.co_frame.specs.declared.sdo_request.SdoRequest.TheVariants.{BlockUploadInitiate, BlockUploadStart, BlockUploadAcknowledge, BlockUploadEnd as UploadEnd}
 use Rattle.co_frame.specs.declared.sdo_response.SdoResponse.TheVariants.{BlockUploadInitiated, BlockUploadEnd as EndSent}
 use Rattle.co_frame.specs.SdoRequests.{request_in, request_bytes}
 use Rattle.co_frame.specs.SdoResponses.{response_in, response_bytes}
-use Rattle.co_sdo_client.specs.declared.mode.Mode.TheVariants.{Block}
-use Rattle.co_sdo_client.specs.declared.state.ClientState.TheVariants.{Waiting, Done}
-use Rattle.co_sdo_client.specs.Calls.{Upload as UploadJob, Event as ClientEvent, answers as answers_of, Answers, since_first}
-use Rattle.co_sdo_client.specs.Segments.{cap_of, transfer_of, transfer_by, segment_count, sub_block_length}
+use Rattle.co_sdo_client.specs.declared.state.ClientState.TheVariants.{Waiting}
+use Rattle.co_sdo_client.specs.Calls.{Event as ClientEvent, answers as answers_of, Answers, since_first}
+use Rattle.co_sdo_client.specs.Segments.{segment_count, sub_block_length, block_segment}
 use Rattle.co_sdo_client.specs.SubBlocks.{sub_block, taken_segments, block_bytes, has_last}
 use Rattle.co_sdo_client.specs.Stages.{size_by}
-use Rattle.co_sdo_client.specs.Outcomes.{outcome, result}
-use Rattle.co_dict.specs.declared.row.Row.{Row}
-use Rattle.co_dict.specs.Rows.{Contents, capacity_at}
-use Rattle.co_dict.specs.Stores.{Description, IsDescription, IsDictionary}
+use Rattle.co_sdo_client.specs.Outcomes.{outcome}
+use Rattle.co_dict.specs.Rows.{Contents}
+use Rattle.co_dict.specs.Stores.{Description}
 use Rattle.co_sdo.specs.declared.stage.Stage.TheVariants.{BlockUploadInitiated as BegunStage, BlockUpload as SendingStage, BlockUploadEnded}
-use Rattle.co_sdo.specs.OpenTransfers.{open_transfer}
 use Rattle.co_sdo.specs.Refused.{reading_refusal}
-use Rattle.co_sdo.specs.Log.{Response, Log}
+use Rattle.co_sdo.specs.Log.{Response, Log, Segment, answer_bytes}
 use Rattle.co_sdo.specs.Uploads.{value_at, sub_block_sent}
 use Rattle.co_sdo.specs.Opened.{OpenTransfer}
 use Rattle.co_sdo.specs.Replies.{aborted}
-use Rattle.co_sdo.proofs.StoreLemmas.{value_fits}
-use Rattle.co_sdo_laws.specs.World.{Setup, World}
-use Rattle.co_sdo_laws.proofs.Frames.{start_read, acknowledge_read, client_end_read}
+use Rattle.co_sdo_laws.specs.World.{Setup, World, at_channel}
+use Rattle.co_sdo_laws.proofs.Frames.{start_read, acknowledge_read, client_end_read, block_upload_read}
 use Rattle.co_sdo_laws.proofs.Failures.{has_failed}
-use Rattle.co_sdo_laws.proofs.Channel.{IsServing, Steps}
-use Rattle.co_sdo_laws.proofs.SegmentedUploads.{value}
-use Rattle.co_sdo_laws.proofs.Blocks.{live, Count, Moment}
-use Rattle.co_sdo_laws.proofs.BlockSegments.{all_held, total, size_after, blocks, unused, segments, InTurn, IsWhole}
-
-pub record IsUpload (s : Setup) (p : Type 0) : Type 0 where
-  pub dictionary : IsDictionary s.description s.contents
-  pub key : s.call.key.index < 65536
-  pub idle : open_transfer s.past ≡ None
-  pub transfer : transfer_of s.call ≡ transfer_by Block (UploadJob 0)
-  pub may_read : p → reading_refusal s.description s.contents s.call.key ≡ None
-  pub fits : p → length (value s) ≤ cap_of s.call.job
-
--- ---- an entry's size
-
-small_row : (d : Description) (key : Key) (row : Option Row) → IsDescription d → d.rows key ≡ row → option_map_or (λ (r : Row). r.capacity) row 0 ≤ 65535
-small_row d key None h e = omega arith
-small_row d key (Some row) h e = h.capacity key row e
-
-pub small_value : (s : Setup) → IsDictionary s.description s.contents → length (value s) ≤ 65535
-small_value s lawful =
-    let fits : length (value s) ≤ capacity_at s.description.rows s.call.key = value_fits s.description s.contents s.call.key lawful in
-    let small : capacity_at s.description.rows s.call.key ≤ 65535 = small_row s.description s.call.key (s.description.rows s.call.key) lawful.description refl in
-    omega arith
+use Rattle.co_sdo_laws.proofs.Channel.{IsServing, Steps, IsServed, is_served}
+use Rattle.co_sdo_laws.proofs.Permits.{value, IsUpload, lawful_of, none≢some}
+use Rattle.co_sdo_laws.proofs.Blocks.{live, Count, Moment, IsDone, is_live, kept_after, replied}
+use Rattle.co_sdo_laws.proofs.BlockSegments.{all_held, total, size_after, blocks, unused, segments, InTurn, IsWhole, live_segments, full, full_count, last_count}
+use Rattle.std.specs.List.{range_with_len}
+use Rattle.std.proofs.lemmas.Bool.Decides.{nat_tests}
+use Rattle.std.proofs.lemmas.Simd.{map-map}
+use Rattle.co_sdo_client.specs.declared.mode.Mode.TheVariants.{Block}
 
 -- ---- frames
 
@@ -101,10 +80,6 @@ pub record TookAll (s : Setup) (events : List ClientEvent) : Type 0 where
   pub last : has_last took.later ≡ true
   pub held : block_bytes took.later ≡ all_held (value s) (total (value s) - 1)
 
-pub record IsDone (s : Setup) (events : List ClientEvent) : Type 0 where
-  pub done : outcome s.call events ≡ Done
-  pub gives : result s.call events ≡ value s
-
 -- ---- the channel
 
 abbrev pub Lawful : Setup → Contents → Type 0
@@ -125,9 +100,6 @@ at_end s = record { key = s.call.key; stage = BlockUploadEnded; bytes = value s 
 -- this is open, or, of a disturbed transfer, nothing any more
 abbrev pub May : Setup → Type 0 → OpenTransfer → Log → Contents → Type 0
 May s p o log contents = ((p → ⊥) × Idle s log contents) ⊎ IsServing s (Lawful s) (Some o) log contents
-
-pub dictionary : (s : Setup) (p : Type 0) → IsUpload s p → (contents : Contents) → contents ≡ s.contents → IsDictionary s.description contents
-dictionary s p m contents e = subst (IsDictionary s.description) (sym e) m.dictionary
 
 pub initiate_taken : (d : Description) (contents : Contents) (key : Key) (v frame : List ℕ) → request_in frame ≡ Some (BlockUploadInitiate key 127 0)
     → reading_refusal d contents key ≡ None → value_at contents key ≡ v
@@ -200,5 +172,116 @@ pub data Stands (s : Setup) (p : Type 0) (w : World) : Type 0 where
   ending : TookAll s w.events → Moment p live [] (server_end s ∷ []) (2 + blocks (value s)) (1 + total (value s)) w → May s p (at_end s) w.log w.contents → Stands s p w
   -- nothing is on its way but aborts
   quiet : (p → ⊥) → outcome s.call w.events ≡ Waiting → w.requests ≡ [] → live w.answers ≡ [] → Stands s p w
-  over : IsDone s w.events → (p → Last s w) → Stands s p w
+  over : IsDone s (value s) w.events → (p → Last s w) → Stands s p w
   failed : (p → ⊥) → has_failed (outcome s.call w.events) ≡ true → Stands s p w
+
+-- how the client stands in it
+pub data Standing (s : Setup) (p : Type 0) (w : World) : Type 0 where
+  waiting : outcome s.call w.events ≡ Waiting → (p → live w.answers ≡ w.answers) → Standing s p w
+  finished : IsDone s (value s) w.events → (p → Last s w) → Standing s p w
+  gave_up : (p → ⊥) → has_failed (outcome s.call w.events) ≡ true → Standing s p w
+
+pub standing : (s : Setup) (p : Type 0) (w : World) → Stands s p w → Standing s p w
+standing s p w (asking b m h) = waiting b.waits (λ x. m.answers ∙ sym (m.exact x))
+standing s p w (confirmed b m h) = waiting b.waits (λ x. m.answers ∙ sym (m.exact x))
+standing s p w (starting b m h) = waiting b.waits (λ x. m.answers ∙ sym (m.exact x))
+standing s p w (taking a t n more b under some size turn m h) = waiting b.waits (λ x. m.answers ∙ sym (m.exact x))
+standing s p w (acknowledging a u b under whole m h) = waiting b.waits (λ x. m.answers ∙ sym (m.exact x))
+standing s p w (finishing a u b e whole m h) = waiting b.waits (λ x. m.answers ∙ sym (m.exact x))
+standing s p w (ending b m h) = waiting b.waits (λ x. m.answers ∙ sym (m.exact x))
+standing s p w (quiet n b e f) = waiting b (λ x. absurd (n x))
+standing s p w (over b last) = finished b last
+standing s p w (failed n h) = gave_up n h
+
+-- ---- a request comes to the channel
+
+-- ---- a request comes, and nothing else is on its way
+
+refused : (s : Setup) (p : Type 0) (w : World) (frame : List ℕ) (r q : ℕ) (key : Key) (code : ℕ) (next : Option OpenTransfer) (after : Contents) → (p → ⊥) → outcome s.call w.events ≡ Waiting → Moment p live [] [] r q w
+    → IsServed s w.log w.contents frame (aborted key code) next after → Stands s p (at_channel s frame w)
+refused s p w frame r q key code next after never waits m h = quiet never waits m.requests (kept_after is_live w.answers _ [] m.answers (rw h.replies refl))
+
+pub initiate_comes : (s : Setup) (p : Type 0) → IsUpload s p Block → (w : World) → HasBegun s w.events → Moment p live [] [] 0 0 w → Idle s w.log w.contents
+    → (refusal : Option ℕ) → reading_refusal s.description w.contents s.call.key ≡ refusal → Stands s p (at_channel s (begin s) w)
+initiate_comes s p m w c at h None e =
+    let made = is_served s w.log w.contents None (begin s) _ _ _ h.serves (lawful_of s m.dictionary w.contents h.lawful) refl
+    (initiate_taken s.description w.contents s.call.key (value s) (begin s) (block_upload_read s.call.key 127 0 m.key) e (ap (λ (x : Contents). value_at x s.call.key) h.lawful)) in
+    confirmed c (replied s p live (kept_after is_live) (begin s) w _ _ _ _ 1 _ at made.replies refl (λ x. refl) (λ x. refl))
+    (inr (record { serves = made.serves; lawful = made.sets ∙ h.lawful }))
+initiate_comes s p m w c at h (Some code) e =
+    refused s p w (begin s) _ _ s.call.key code None w.contents
+    (λ x. none≢some _ code (ap (λ (y : Contents). reading_refusal s.description y s.call.key) h.lawful ∙ m.may_read x) e) c.waits at
+    (is_served s w.log w.contents None (begin s) _ _ _ h.serves (lawful_of s m.dictionary w.contents h.lawful) refl
+    (initiate_refused s.description w.contents s.call.key (begin s) code (block_upload_read s.call.key 127 0 m.key) e))
+
+-- the frames of a sub-block
+burst : (v : List ℕ) (a : ℕ) → a < total v → map answer_bytes (sub_block_sent v a 127) ≡ segments v a 1 (suc (size_after v a - 1))
+burst v a h =
+    let some : size_after v a ≡ suc (size_after v a - 1) = omega arith in
+    map-map answer_bytes (λ n. Segment (block_segment v a n)) (range_with_len 1 (size_after v a)) ∙ ap (segments v a 1) some
+
+sub_block_comes : (s : Setup) (p : Type 0) (w : World) (frame : List ℕ) (a r : ℕ) → a < total (value s) → (p → a % 127 ≡ 0) → (p → suc r ≡ 2 + a / 127) → Took s a 0 w.events → Moment p live [] [] r (1 + a + 0) w
+    → w.contents ≡ s.contents → IsServed s w.log w.contents frame (sub_block_sent (value s) a 127) (Some (sending s a)) w.contents → Stands s p (at_channel s frame w)
+sub_block_comes s p w frame a r h whole count c at same made =
+    let none : a ≡ a + 0 = omega arith in
+    let v = value s in
+    taking a 0 1 (size_after v a - 1) (subst (λ (i : ℕ). Took s i 0 w.events) none c) (omega arith) (omega arith) (omega arith) (λ x. record { whole = whole x; next = refl })
+    (replied s p live (kept_after is_live) frame w _ _ _ _ _ _ at made.replies (ap live (burst v a h) ∙ live_segments v a 1 (suc (size_after v a - 1)) (omega arith) (omega arith)) (λ x. burst v a h) count)
+    (inr (record { serves = made.serves; lawful = made.sets ∙ same }))
+
+pub start_comes : (s : Setup) (p : Type 0) → IsUpload s p Block → (w : World) → Took s 0 0 w.events → Moment p live [] [] 1 1 w → May s p (begun s) w.log w.contents → Stands s p (at_channel s start w)
+start_comes s p m w c at (inl h) =
+    refused s p w start _ _ (record { index = 0; sub = 0 }) 0x05040001 None w.contents h.0 c.waits at
+    (is_served s w.log w.contents None start _ _ _ h.1.serves (lawful_of s m.dictionary w.contents h.1.lawful) refl (start_refused s.description w.contents))
+start_comes s p m w c at (inr h) =
+    sub_block_comes s p w start 0 1 (omega arith) (λ x. refl) (λ x. refl) c at h.lawful
+    (is_served s w.log w.contents (Some (begun s)) start _ _ _ h.serves (lawful_of s m.dictionary w.contents h.lawful) refl (start_taken s.description w.contents s.call.key (value s)))
+
+-- a channel that gave up, or to which more is acknowledged than it sent
+unheard : (s : Setup) (p : Type 0) → IsUpload s p Block → (u r q : ℕ) (w : World) → outcome s.call w.events ≡ Waiting → Moment p live [] [] r q w → (p → ⊥) → Idle s w.log w.contents → Stands s p (at_channel s (acknowledgement u) w)
+unheard s p m u r q w waits at never h =
+    refused s p w (acknowledgement u) _ _ (record { index = 0; sub = 0 }) 0x05040001 None w.contents never waits at
+    (is_served s w.log w.contents None (acknowledgement u) _ _ _ h.serves (lawful_of s m.dictionary w.contents h.lawful) refl (acknowledge_refused s.description w.contents u))
+
+above : (s : Setup) (p : Type 0) → IsUpload s p Block → (a u r q : ℕ) (w : World) → outcome s.call w.events ≡ Waiting → Moment p live [] [] r q w → (p → IsWhole (value s) a u) → IsServing s (λ contents. contents ≡ s.contents) (Some (sending s a)) w.log w.contents
+    → nat_lt (size_after (value s) a) u ≡ true → Stands s p (at_channel s (acknowledgement u) w)
+above s p m a u r q w waits at whole h e =
+    refused s p w (acknowledgement u) _ _ s.call.key 0x05040003 None w.contents (λ x. let size = (whole x).size in absurd (grind (arith, nat_tests))) waits at
+    (is_served s w.log w.contents (Some (sending s a)) (acknowledgement u) _ _ _ h.serves (lawful_of s m.dictionary w.contents h.lawful) refl
+    (too_many s.description w.contents s.call.key (value s) a (size_after (value s) a) u e))
+
+pub acknowledgement_comes : (s : Setup) (p : Type 0) → IsUpload s p Block → (a u : ℕ) (w : World) → Took s (a + u) 0 w.events → a + u < total (value s) → (p → IsWhole (value s) a u) → Moment p live [] [] (2 + a / 127) (1 + a + u) w
+    → May s p (sending s a) w.log w.contents → (many : Bool) → nat_lt (size_after (value s) a) u ≡ many → Stands s p (at_channel s (acknowledgement u) w)
+acknowledgement_comes s p m a u w c under whole at (inl h) many e = unheard s p m u _ _ w c.waits at h.0 h.1
+acknowledgement_comes s p m a u w c under whole at (inr h) true e = above s p m a u _ _ w c.waits at whole h e
+acknowledgement_comes s p m a u w c under whole at (inr h) false e =
+    let more : eqb (a + u) (total (value s)) ≡ false = grind (arith, nat_tests) in
+    let sum : 1 + a + u ≡ 1 + (a + u) + 0 = omega arith in
+    sub_block_comes s p w (acknowledgement u) (a + u) (2 + a / 127) under (λ x. let g = whole x in full a u (total (value s)) g.whole g.size under)
+    (λ x. let g = whole x in full_count 2 a u (total (value s)) g.whole g.size under)
+    c (subst (λ (q : ℕ). Moment p live [] [] (2 + a / 127) q w) sum at) h.lawful
+    (is_served s w.log w.contents (Some (sending s a)) (acknowledgement u) _ _ _ h.serves (lawful_of s m.dictionary w.contents h.lawful) refl
+    (acknowledged s.description w.contents s.call.key (value s) a (size_after (value s) a) u e more))
+
+end_byte : (n : ℕ) → n ≤ 7 → eqb (32 * 6 + (4 * n + 1)) 128 ≡ false
+end_byte n h = grind (arith, nat_tests)
+
+pub last_acknowledgement_comes : (s : Setup) (p : Type 0) → IsUpload s p Block → (a u : ℕ) (w : World) → TookAll s w.events → a + u ≡ total (value s) → (p → IsWhole (value s) a u) → Moment p live [] [] (2 + a / 127) (1 + a + u) w
+    → May s p (sending s a) w.log w.contents → (many : Bool) → nat_lt (size_after (value s) a) u ≡ many → Stands s p (at_channel s (acknowledgement u) w)
+last_acknowledgement_comes s p m a u w c all whole at (inl h) many e = unheard s p m u _ _ w c.waits at h.0 h.1
+last_acknowledgement_comes s p m a u w c all whole at (inr h) true e = above s p m a u _ _ w c.waits at whole h e
+last_acknowledgement_comes s p m a u w c all whole at (inr h) false e =
+    let same : eqb (a + u) (total (value s)) ≡ true = grind (arith, nat_tests) in
+    let made = is_served s w.log w.contents (Some (sending s a)) (acknowledgement u) _ _ _ h.serves (lawful_of s m.dictionary w.contents h.lawful) refl
+    (all_acknowledged s.description w.contents s.call.key (value s) a (size_after (value s) a) u e same) in
+    let sum : 1 + a + u ≡ 1 + total (value s) = omega arith in
+    ending c
+    (replied s p live (kept_after is_live) (acknowledgement u) w _ _ _ _ _ _ (subst (λ (q : ℕ). Moment p live [] [] (2 + a / 127) q w) sum at) made.replies (rw (end_byte (unused (value s)) (omega arith)) refl) (λ x. refl)
+    (λ x. let g = whole x in last_count 2 a u (total (value s)) g.whole g.size g.within all))
+    (inr (record { serves = made.serves; lawful = made.sets ∙ h.lawful }))
+
+-- the client's end comes to a channel that waits for it
+pub end_comes : (s : Setup) (p : Type 0) → IsUpload s p Block → (w : World) → w.answers ≡ [] → IsServing s (λ contents. contents ≡ s.contents) (Some (at_end s)) w.log w.contents
+    → IsServed s w.log w.contents client_end [] None w.contents
+end_comes s p m w none h =
+    is_served s w.log w.contents (Some (at_end s)) client_end _ _ _ h.serves (lawful_of s m.dictionary w.contents h.lawful) refl (end_taken s.description w.contents s.call.key (value s))

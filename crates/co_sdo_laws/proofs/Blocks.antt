@@ -1,8 +1,9 @@
 -- What the block transfers of both directions share: aborts among answers, what is on its way, and how many frames have come. `p`
 -- says that a transfer is permitted and that nothing disturbs it; what holds of every transfer needs no `p`.
-use Rattle.std.proofs.Common.{◌≡◌, ℕ, suc, ◌+◌, ◌≤◌, Bool, true, false, List, [], ◌∷◌, ◌++◌, length, drop, map, refl, sym, ap, ◌∙◌, arith, eqb, append-nil}
-use Rattle.std.specs.Prelude.{if◌then◌else◌, slice_index}
+use Rattle.std.proofs.Common.{◌≡◌, ℕ, suc, ◌+◌, ◌<◌, ◌≤◌, Bool, true, false, List, [], ◌∷◌, ◌++◌, length, drop, map, not, refl, sym, ap, ◌∙◌, arith, eqb, subst, append-nil, ◌⊎◌, inl, inr}
+use Rattle.std.specs.Prelude.{if◌then◌else◌, nat_le, slice_index}
 use Rattle.std.proofs.lemmas.Bool.{eqb-true, and_parts}
+use Rattle.std.proofs.lemmas.Bool.Decides.{nat_tests}
 use Rattle.co_frame.specs.BlockSegments.{is_abort_in_sub_block}
 use Rattle.co_frame.specs.SdoResponses.{response_row_in, response_in}
 use Rattle.co_sdo_client.specs.declared.stage.Stage.{Stage}
@@ -11,30 +12,73 @@ use Rattle.co_sdo_client.specs.declared.state.ClientState.{ClientState}
 use Rattle.co_sdo_client.specs.declared.state.ClientState.TheVariants.{Waiting, Done, Failed}
 use Rattle.co_sdo_client.specs.Calls.{Call, Message, message_bytes, Event as ClientEvent, Answered, Ticked as TickedAtClient, answers as answers_of, is_time_over as is_client_over}
 use Rattle.co_sdo_client.specs.Verdicts.{GoesOn, answer_verdict}
-use Rattle.co_sdo_client.specs.Outcomes.{state_by, while_waiting, outcome, asked}
+use Rattle.co_sdo_client.specs.Outcomes.{state_by, while_waiting, outcome, result, asked}
 use Rattle.co_sdo.specs.Log.{Answer, answer_bytes}
 use Rattle.co_sdo.specs.Replies.{reply_to}
-use Rattle.co_sdo_laws.specs.World.{Setup, World, Requests, Answers as Back, at_client, at_channel, without_front}
-use Rattle.co_sdo_laws.proofs.Client.{follows, tick_verdict}
-use Rattle.co_sdo_laws.proofs.Unawaited.{aborted_fails}
-use Rattle.co_sdo_laws.proofs.Failures.{is_aborted, has_failed}
+use Rattle.co_sdo_laws.specs.World.{Setup, World, Requests, Answers as Back, at_client, at_channel, without_front, front_arrives}
+use Rattle.co_sdo_laws.specs.Undisturbed.{arrived, on_their_way, GoesInBlocks}
+use Rattle.co_sdo_laws.proofs.Client.{follows, stays, tick_verdict}
+use Rattle.co_sdo_laws.proofs.Failures.{aborted_fails, is_aborted, has_failed}
+
+-- ---- the frames among others that pass a test
+
+abbrev pub kept : (List ℕ → Bool) → List (List ℕ) → List (List ℕ)
+kept test [] = []
+kept test (frame ∷ later) = if test frame then frame ∷ kept test later else kept test later
+
+pub kept_both : (test : List ℕ → Bool) (xs ys : List (List ℕ)) → kept test (xs ++ ys) ≡ kept test xs ++ kept test ys
+kept_both test [] ys = refl
+kept_both test (x ∷ xs) ys = by (test x) (kept_both test xs ys)
+  where
+    by : (b : Bool) → kept test (xs ++ ys) ≡ kept test xs ++ kept test ys
+        → (if b then x ∷ kept test (xs ++ ys) else kept test (xs ++ ys)) ≡ (if b then x ∷ kept test xs else kept test xs) ++ kept test ys
+    by true e = ap (λ (zs : List (List ℕ)). x ∷ zs) e
+    by false e = e
+
+pub kept_after : (test : List ℕ → Bool) (xs ys zs : List (List ℕ)) → kept test xs ≡ [] → kept test ys ≡ zs
+    → kept test (xs ++ ys) ≡ zs
+kept_after test xs ys zs e f = kept_both test xs ys ∙ ap (λ (x : List (List ℕ)). x ++ kept test ys) e ∙ f
+
+pub cons≢nil : (x : List ℕ) (xs : List (List ℕ)) → x ∷ xs ≡ [] → ⊥
+cons≢nil x xs e = cc
+
+pub head_is : (x y : List ℕ) (xs ys : List (List ℕ)) → x ∷ xs ≡ y ∷ ys → x ≡ y
+head_is x y xs ys e = cc
+
+pub tail_is : (x y : List ℕ) (xs ys : List (List ℕ)) → x ∷ xs ≡ y ∷ ys → xs ≡ ys
+tail_is x y xs ys e = cc
+
+-- where none passes, or one, the oldest frame is that one or doesn't pass
+pub kept_first : (test : List ℕ → Bool) (x : List ℕ) (later : List (List ℕ)) (b : Bool) → test x ≡ b
+    → kept test (x ∷ later) ≡ [] → (test x ≡ false) × (kept test later ≡ [])
+kept_first test x later true c e =
+    let some : kept test (x ∷ later) ≡ x ∷ kept test later = rw c refl in absurd (cons≢nil x (kept test later) (sym some ∙ e))
+kept_first test x later false c e = let same : kept test (x ∷ later) ≡ kept test later = rw c refl in (c, sym same ∙ e)
+
+pub kept_one : (test : List ℕ → Bool) (x f : List ℕ) (later : List (List ℕ)) (b : Bool) → test x ≡ b
+    → kept test (x ∷ later) ≡ f ∷ []
+    → ((test x ≡ false) × (kept test later ≡ f ∷ [])) ⊎ ((x ≡ f) × (kept test later ≡ []))
+kept_one test x f later true c e =
+    let some : kept test (x ∷ later) ≡ x ∷ kept test later = rw c refl in
+    inr (head_is x f _ _ (sym some ∙ e), tail_is x f _ _ (sym some ∙ e))
+kept_one test x f later false c e = let same : kept test (x ∷ later) ≡ kept test later = rw c refl in inl (c, sym same ∙ e)
+
+pub kept_drop : (test : List ℕ → Bool) (xs : List (List ℕ)) → kept test xs ≡ [] → kept test (drop 1 xs) ≡ []
+kept_drop test [] e = refl
+kept_drop test (x ∷ later) e = (kept_first test x later _ refl e).1
+
+pub kept_drop_one : (test : List ℕ → Bool) (f : List ℕ) (xs : List (List ℕ)) → kept test xs ≡ f ∷ []
+    → (kept test (drop 1 xs) ≡ f ∷ []) ⊎ (kept test (drop 1 xs) ≡ [])
+kept_drop_one test f [] e = absurd (cons≢nil f [] (sym e))
+kept_drop_one test f (x ∷ later) e = elim (kept_one test x f later _ refl e) [ inl h ↦ inl h.1 | inr h ↦ inr h.1 ]
 
 -- ---- answers without aborts
 
+abbrev pub is_live : List ℕ → Bool
+is_live frame = not (is_abort_in_sub_block frame)
+
 abbrev pub live : List (List ℕ) → List (List ℕ)
-live [] = []
-live (frame ∷ later) = if is_abort_in_sub_block frame then live later else frame ∷ live later
-
-pub live_both : (xs ys : List (List ℕ)) → live (xs ++ ys) ≡ live xs ++ live ys
-live_both [] ys = refl
-live_both (x ∷ xs) ys = by (is_abort_in_sub_block x) (live_both xs ys)
-  where
-    by : (b : Bool) → live (xs ++ ys) ≡ live xs ++ live ys → (if b then live (xs ++ ys) else x ∷ live (xs ++ ys)) ≡ (if b then live xs else x ∷ live xs) ++ live ys
-    by true e = e
-    by false e = ap (λ (zs : List (List ℕ)). x ∷ zs) e
-
-pub live_after : (xs ys zs : List (List ℕ)) → live xs ≡ [] → live ys ≡ zs → live (xs ++ ys) ≡ zs
-live_after xs ys zs e f = live_both xs ys ∙ ap (λ (x : List (List ℕ)). x ++ live ys) e ∙ f
+live = kept is_live
 
 -- what an abort makes of a client that waits
 pub cut_read : (frame : List ℕ) → is_abort_in_sub_block frame ≡ true → is_aborted (response_in frame) ≡ true
@@ -50,9 +94,9 @@ cut_fails call stage held frame h = aborted_fails call stage held (response_in f
 
 live_few : (xs : List (List ℕ)) → length (live xs) ≤ length xs
 live_few [] = omega arith
-live_few (x ∷ xs) = by (is_abort_in_sub_block x) (live_few xs)
+live_few (x ∷ xs) = by (is_live x) (live_few xs)
   where
-    by : (b : Bool) → length (live xs) ≤ length xs → length (if b then live xs else x ∷ live xs) ≤ suc (length xs)
+    by : (b : Bool) → length (live xs) ≤ length xs → length (if b then x ∷ live xs else live xs) ≤ suc (length xs)
     by true h = omega arith
     by false h = omega arith
 
@@ -117,19 +161,37 @@ no_request w e = rw e refl
 pub no_answer : (w : World) → w.answers ≡ [] → w ≡ without_front Back w
 no_answer w e = rw e refl
 
-pub cons≢nil : (x : List ℕ) (xs : List (List ℕ)) → x ∷ xs ≡ [] → ⊥
-cons≢nil x xs e = cc
+-- ---- the oldest request comes
 
-pub head_is : (x y : List ℕ) (xs ys : List (List ℕ)) → x ∷ xs ≡ y ∷ ys → x ≡ y
-head_is x y xs ys e = cc
+pub dropped : (p : Type 0) (kept : List (List ℕ) → List (List ℕ)) (x : List ℕ) (later given : List (List ℕ)) (r q : ℕ) (w : World)
+    → Moment p kept (x ∷ later) given r q w → Moment p kept later given r q (without_front Requests w)
+dropped p kept x later given r q w m = record {
+  requests = ap (drop 1) m.requests;
+  answers = m.answers;
+  exact = m.exact;
+  count = λ y. record { received = (m.count y).received; answered = (m.count y).answered };
+}
 
-pub tail_is : (x y : List ℕ) (xs ys : List (List ℕ)) → x ∷ xs ≡ y ∷ ys → xs ≡ ys
-tail_is x y xs ys e = cc
+pub front_came : (s : Setup) (Holds : World → Type 0) (w : World) (xs : List (List ℕ)) → w.requests ≡ xs
+    → Holds (front_arrives s Requests xs (without_front Requests w))
+    → Holds (front_arrives s Requests w.requests (without_front Requests w))
+front_came s Holds w xs e h =
+    subst (λ (ys : List (List ℕ)). Holds (front_arrives s Requests ys (without_front Requests w))) (sym e) h
+
+pub nothing_came : (s : Setup) (Holds : World → Type 0) (w : World) → w.requests ≡ [] → Holds w
+    → Holds (front_arrives s Requests w.requests (without_front Requests w))
+nothing_came s Holds w e h = front_came s Holds w [] e (subst Holds (no_request w e) h)
 
 -- ---- the client
 
-pub waiting≢done : Waiting ≡ Done → ⊥
-waiting≢done e = cc
+-- it is done, and gives these bytes
+pub record IsDone (s : Setup) (given : List ℕ) (events : List ClientEvent) : Type 0 where
+  pub done : outcome s.call events ≡ Done
+  pub gives : result s.call events ≡ given
+
+pub over_event : (s : Setup) (event : ClientEvent) {given : List ℕ} (w : World) → IsDone s given w.events
+    → IsDone s given (event ∷ w.events)
+over_event s event w b = let f = stays s.call w.events event b.done in record { done = f.state; gives = f.value ∙ b.gives }
 
 sends_none : (state : ClientState) → while_waiting {A = List Message} state [] [] ≡ []
 sends_none Waiting = refl
@@ -144,3 +206,38 @@ calm_waits s events e waits = (follows s.call events TickedAtClient (GoesOn []) 
 
 pub same_requests : (xs ys : List (List ℕ)) → ys ≡ [] → xs ++ ys ≡ xs
 same_requests xs ys e = rw e (append-nil xs)
+
+-- ---- how far an undisturbed transfer is, by the frames that have come and those on their way
+
+on_way : (kept : List (List ℕ) → List (List ℕ)) (sent given : List (List ℕ)) (r q : ℕ) (w : World) → Moment (Unit {0}) kept sent given r q w → on_their_way w ≡ length sent + length given
+on_way kept sent given r q w m = rw (m.requests, m.exact tt) refl
+
+-- where a frame is on its way not none is
+pub some_on_way : (kept : List (List ℕ) → List (List ℕ)) (sent given : List (List ℕ)) (r q : ℕ) (w : World) → Moment (Unit {0}) kept sent given r q w → 1 ≤ length sent + length given → on_their_way w ≡ 0 → ⊥
+some_on_way kept sent given r q w m some none = let n : on_their_way w ≡ length sent + length given = on_way kept sent given r q w m in absurd (omega arith)
+
+pub waits_at : (s : Setup) (needed frames : ℕ) (kept : List (List ℕ) → List (List ℕ)) (sent given : List (List ℕ)) (r q : ℕ) (w : World) → Moment (Unit {0}) kept sent given r q w → outcome s.call w.events ≡ Waiting
+    → r + q < needed → needed ≤ frames → 1 ≤ length sent + length given → GoesInBlocks s.call needed frames w
+waits_at s needed frames kept sent given r q w m waits below few some =
+    let a = (m.count tt).received in
+    let b = (m.count tt).answered in
+    let other : nat_le needed (arrived w) ≡ false = grind (arith, nat_tests) in
+    let n : on_their_way w ≡ length sent + length given = on_way kept sent given r q w m in
+    record {
+      within = omega arith;
+      state = rw (other, waits) refl;
+      moves = λ less. omega arith;
+      rests = λ e. absurd (omega arith);
+    }
+
+pub done_at : (s : Setup) (needed frames left r q : ℕ) (w : World) → Count r q w → outcome s.call w.events ≡ Done → needed ≤ r + q → r + q + left ≡ frames → left ≤ 1 → on_their_way w ≡ left → GoesInBlocks s.call needed frames w
+done_at s needed frames left r q w n done some all few way =
+    let a = n.received in
+    let b = n.answered in
+    let enough : nat_le needed (arrived w) ≡ true = grind (arith, nat_tests) in
+    record {
+      within = omega arith;
+      state = rw (enough, done) refl;
+      moves = λ less. omega arith;
+      rests = λ e. omega arith;
+    }

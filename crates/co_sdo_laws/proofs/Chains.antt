@@ -15,7 +15,7 @@ use Rattle.co_sdo.specs.Log.{Log}
 use Rattle.co_sdo_laws.specs.World.{Setup, World, WorldEvent, world_after}
 use Rattle.co_sdo_laws.specs.Undisturbed.{AreCalm, IsUndisturbed, on_their_way, rounds_after, IsOver, is_short}
 use Rattle.co_sdo_laws.specs.Chains.{Server, Transfer, calls, initiate_at, end_of, server_after, server_after_all, outcomes, results, contents_after, contents_after_all, bytes_given, all_bytes_given, Fits, MayCall, MayCallAll, IsWhole, AreWhole, IsReady, IsChain, frames_needed, in_rounds, all_in_rounds}
-use Rattle.co_sdo_laws.proofs.Transfers.{setup, Kind, at_once, at_once_lawful, segmented, segmented_lawful, sent_in_blocks, sent_lawful, uploaded, fetched_in_blocks, is_over, rests}
+use Rattle.co_sdo_laws.proofs.Transfers.{setup, Kind, lawful, expedited, segmented, sent_in_blocks, uploaded, fetched_in_blocks, is_over, rests}
 use Rattle.co_sdo_laws.proofs.Progress.{rounds_calm}
 
 -- ---- one transfer
@@ -41,7 +41,7 @@ passes s k lawful = record {
       let over = is_over s k lawful events calm none in
       let end = k.ends events calm over.done in
       record { over = over; gives = end.gives; leaves = end.leaves };
-  rests = rests s k [] tt;
+  rests = rests s _ k [] tt;
 }
 
 plain_passes : (key : Key) (client_time : ℕ) (bytes : List ℕ) (tells : Bool) (time : ℕ) (d : Description)
@@ -52,10 +52,10 @@ plain_passes : (key : Key) (client_time : ℕ) (bytes : List ℕ) (tells : Bool)
     (if short then 2 else 2 * requests_needed (length bytes))
 plain_passes key client_time bytes tells time d contents past true e u small =
     let s = setup key Plain client_time (Download bytes tells) time d contents past in
-    passes s (at_once s [] u e) (at_once_lawful s [] u e small)
+    passes s (expedited s [] u e).kind (lawful s [] u refl small)
 plain_passes key client_time bytes tells time d contents past false e u small =
     let s = setup key Plain client_time (Download bytes tells) time d contents past in
-    passes s (segmented s [] u (ap not e)) (segmented_lawful s [] u (ap not e) small)
+    passes s (segmented s [] u (ap not e)).kind (lawful s [] u refl small)
 
 passes_by : (key : Key) (mode : Mode) (client_time : ℕ) (job : Job) (time : ℕ) (d : Description) (contents : Contents)
     (past : Log)
@@ -65,10 +65,10 @@ passes_by key Plain client_time (Download bytes tells) time d contents past u fi
     plain_passes key client_time bytes tells time d contents past _ refl u fits
 passes_by key Segmented client_time (Download bytes tells) time d contents past u fits =
     let s = setup key Segmented client_time (Download bytes tells) time d contents past in
-    passes s (segmented s [] u refl) (segmented_lawful s [] u refl fits)
+    passes s (segmented s [] u refl).kind (lawful s [] u refl fits)
 passes_by key Block client_time (Download bytes tells) time d contents past u fits =
     let s = setup key Block client_time (Download bytes tells) time d contents past in
-    passes s (sent_in_blocks s [] u refl) (sent_lawful s [] u refl fits)
+    passes s (sent_in_blocks s [] u refl) (lawful s [] u refl fits)
 passes_by key Plain client_time (Upload cap) time d contents past u fits =
     let s = setup key Plain client_time (Upload cap) time d contents past in
     passes s (uploaded s [] u refl fits).kind u.dictionary
@@ -115,43 +115,29 @@ goes_on server t later ready may whole =
       may = subst (λ (c : Contents). MayCallAll server.description c (calls later)) (sym e.leaves) may.1;
     }
 
-pub all_done : (server : Server) (transfers : List Transfer) → IsReady server
-    → MayCallAll server.description server.contents (calls transfers) → AreWhole server transfers
-    → outcomes server transfers ≡ map (λ t. Done) transfers
-all_done server [] ready may whole = refl
-all_done server (t ∷ later) ready may whole =
-    let g = goes_on server t later ready may whole in
-    let done = g.ends.over.done in
-    let others = all_done (server_after server t) later g.ready g.may whole.1 in
-    rw (done, others) refl
+-- what all of them come to
+pub record AllEnd (server : Server) (transfers : List Transfer) : Type 0 where
+  pub done : outcomes server transfers ≡ map (λ t. Done) transfers
+  pub contents : (server_after_all server transfers).contents ≡ contents_after_all server.contents (calls transfers)
+  pub values : results server transfers ≡ all_bytes_given server.contents (calls transfers)
+  pub ready : IsReady (server_after_all server transfers)
 
-pub all_contents : (server : Server) (transfers : List Transfer) → IsReady server
-    → MayCallAll server.description server.contents (calls transfers) → AreWhole server transfers
-    → (server_after_all server transfers).contents ≡ contents_after_all server.contents (calls transfers)
-all_contents server [] ready may whole = refl
-all_contents server (t ∷ later) ready may whole =
+pub all_end : (server : Server) (transfers : List Transfer) → IsReady server
+    → MayCallAll server.description server.contents (calls transfers) → AreWhole server transfers → AllEnd server transfers
+all_end server [] ready may whole = record { done = refl; contents = refl; values = refl; ready = ready }
+all_end server (t ∷ later) ready may whole =
     let g = goes_on server t later ready may whole in
-    all_contents (server_after server t) later g.ready g.may whole.1
-    ∙ ap (λ (c : Contents). contents_after_all c (calls later)) g.ends.leaves
-
-pub each_gives : (server : Server) (transfers : List Transfer) → IsReady server
-    → MayCallAll server.description server.contents (calls transfers) → AreWhole server transfers
-    → results server transfers ≡ all_bytes_given server.contents (calls transfers)
-each_gives server [] ready may whole = refl
-each_gives server (t ∷ later) ready may whole =
-    let g = goes_on server t later ready may whole in
-    let others = each_gives (server_after server t) later g.ready g.may whole.1
-    ∙ ap (λ (c : Contents). all_bytes_given c (calls later)) g.ends.leaves in
-    ap (λ (xs : List ℕ). xs ∷ results (server_after server t) later) g.ends.gives
-    ∙ ap (λ (xs : List (List ℕ)). bytes_given server.contents t.call.key t.call.job ∷ xs) others
-
-pub all_ready : (server : Server) (transfers : List Transfer) → IsReady server
-    → MayCallAll server.description server.contents (calls transfers) → AreWhole server transfers
-    → IsReady (server_after_all server transfers)
-all_ready server [] ready may whole = ready
-all_ready server (t ∷ later) ready may whole =
-    let g = goes_on server t later ready may whole in
-    all_ready (server_after server t) later g.ready g.may whole.1
+    let is_done = g.ends.over.done in
+    let rest = all_end (server_after server t) later g.ready g.may whole.1 in
+    let others_done = rest.done in
+    let values = rest.values ∙ ap (λ (c : Contents). all_bytes_given c (calls later)) g.ends.leaves in
+    record {
+      done = rw (is_done, others_done) refl;
+      contents = rest.contents ∙ ap (λ (c : Contents). contents_after_all c (calls later)) g.ends.leaves;
+      values = ap (λ (xs : List ℕ). xs ∷ results (server_after server t) later) g.ends.gives
+          ∙ ap (λ (xs : List (List ℕ)). bytes_given server.contents t.call.key t.call.job ∷ xs) values;
+      ready = rest.ready;
+    }
 
 -- ---- in rounds
 

@@ -1,8 +1,9 @@
 -- One more event at a client that waits, by its verdict.
-use Rattle.std.proofs.Common.{◌≡◌, ◌+◌, false, List, [], ◌∷◌, length, refl, arith, length-append}
+use Rattle.std.proofs.Common.{◌≡◌, ℕ, ◌+◌, false, List, [], ◌∷◌, length, Option, refl, ap, arith, length-append}
 use Rattle.co_sdo_client.specs.declared.state.ClientState.TheVariants.{Waiting, Done}
-use Rattle.co_sdo_client.specs.Calls.{Call, Event, Ticked, is_time_over}
-use Rattle.co_sdo_client.specs.Verdicts.{Verdict, GoesOn, verdict}
+use Rattle.co_sdo_client.specs.Calls.{Call, Event, Answered, Ticked, answers, Answers, since_first, is_time_over}
+use Rattle.co_sdo_client.specs.Stages.{stage_since, held_since}
+use Rattle.co_sdo_client.specs.Verdicts.{Verdict, GoesOn, verdict, answer_verdict}
 use Rattle.co_sdo_client.specs.Outcomes.{state_by, messages_by, value_by, outcome, asked, sent, result}
 
 -- what a verdict makes of a client that waits
@@ -38,3 +39,9 @@ stays call older event done = record {
 -- a tick before the time is over
 pub tick_verdict : (call : Call) (older : List Event) → is_time_over call.time (Ticked ∷ older) ≡ false → verdict call older Ticked ≡ GoesOn []
 tick_verdict call older h = rw h refl
+
+-- an answer, by what the client has taken
+pub verdict_since : (call : Call) (events : List Event) (frame : List ℕ) (a : Option Answers) → since_first (answers events) ≡ a
+    → verdict call events (Answered frame) ≡ answer_verdict call (stage_since call a) (held_since call a) frame
+verdict_since call events frame a h =
+    ap (λ (x : Option Answers). answer_verdict call (stage_since call x) (held_since call x) frame) h

@@ -47,10 +47,10 @@ setup key mode job = record { call = record { key = key; mode = mode; time = 3; 
 
 -- ---- what is shown of a world
 
-abbrev digit : ℕ → ℕ
+abbrev pub digit : ℕ → ℕ
 digit code = if nat_lt code 65 then code - 48 else code - 55
 
-abbrev hex : List ℕ → List ℕ
+abbrev pub hex : List ℕ → List ℕ
 hex [] = []
 hex (high ∷ []) = []
 hex (high ∷ low ∷ digits) = (16 * digit high + digit low) ∷ hex digits
@@ -74,6 +74,25 @@ report s events = record {
   value = result s.call (world_after s (reverse events)).events;
 }
 
+-- a client that waits, is done, or has failed, and has sent so many frames; the frames on their way, and the entry's bytes
+abbrev pub waits : ℕ → List (List ℕ) → List (List ℕ) → List ℕ → Report
+waits sent requests answers entry =
+    record { requests = requests; answers = answers; entry = Some entry; state = Waiting; sent = sent; value = [] }
+
+abbrev pub is_done : ℕ → List (List ℕ) → List (List ℕ) → List ℕ → List ℕ → Report
+is_done sent requests answers entry value =
+    record { requests = requests; answers = answers; entry = Some entry; state = Done; sent = sent; value = value }
+
+abbrev pub has_failed : ℕ → ℕ → List (List ℕ) → List (List ℕ) → List ℕ → Report
+has_failed code sent requests answers entry = record {
+  requests = requests;
+  answers = answers;
+  entry = Some entry;
+  state = Failed (record { 0 = code });
+  sent = sent;
+  value = [];
+}
+
 abbrev pub r : WorldEvent
 r = Delivered Requests
 
@@ -85,25 +104,15 @@ a = Delivered Answers
 abbrev pub ten : Setup
 ten = setup string_key Segmented (Download (codes "0123456789") true)
 
-ten_begins : report ten [] ≡ record { requests = hex (codes "210120000A000000") ∷ []; answers = []; entry = Some (codes "ABCDEFGHI"); state = Waiting; sent = 1; value = [] }
+ten_go : map (report ten) ([] ∷ (r ∷ []) ∷ (r ∷ a ∷ []) ∷ (r ∷ a ∷ r ∷ a ∷ r ∷ []) ∷ (r ∷ a ∷ r ∷ a ∷ r ∷ a ∷ []) ∷ [])
+    ≡ waits 1 (hex (codes "210120000A000000") ∷ []) [] (codes "ABCDEFGHI")
+    ∷ waits 1 [] (hex (codes "6001200000000000") ∷ []) (codes "ABCDEFGHI")
+    ∷ waits 2 (hex (codes "0030313233343536") ∷ []) [] (codes "ABCDEFGHI")
+    ∷ waits 3 [] (hex (codes "3000000000000000") ∷ []) (codes "0123456789")
+    ∷ is_done 3 [] [] (codes "0123456789") []
+    ∷ []
 unfolding request_row_in response_row_in reading_refusal initiate_refusal completion_refusal has_object
-ten_begins = refl
-
-ten_confirmed : report ten (r ∷ []) ≡ record { requests = []; answers = hex (codes "6001200000000000") ∷ []; entry = Some (codes "ABCDEFGHI"); state = Waiting; sent = 1; value = [] }
-unfolding request_row_in response_row_in reading_refusal initiate_refusal completion_refusal has_object
-ten_confirmed = refl
-
-ten_goes_on : report ten (r ∷ a ∷ []) ≡ record { requests = hex (codes "0030313233343536") ∷ []; answers = []; entry = Some (codes "ABCDEFGHI"); state = Waiting; sent = 2; value = [] }
-unfolding request_row_in response_row_in reading_refusal initiate_refusal completion_refusal has_object
-ten_goes_on = refl
-
-ten_is_set : report ten (r ∷ a ∷ r ∷ a ∷ r ∷ []) ≡ record { requests = []; answers = hex (codes "3000000000000000") ∷ []; entry = Some (codes "0123456789"); state = Waiting; sent = 3; value = [] }
-unfolding request_row_in response_row_in reading_refusal initiate_refusal completion_refusal has_object
-ten_is_set = refl
-
-ten_is_done : report ten (r ∷ a ∷ r ∷ a ∷ r ∷ a ∷ []) ≡ record { requests = []; answers = []; entry = Some (codes "0123456789"); state = Done; sent = 3; value = [] }
-unfolding request_row_in response_row_in reading_refusal initiate_refusal completion_refusal has_object
-ten_is_done = refl
+ten_go = refl
 
 -- nothing is on its way in the queue: nothing happens
 ten_waits : report ten (a ∷ r ∷ r ∷ a ∷ []) ≡ report ten (r ∷ a ∷ [])
@@ -111,60 +120,37 @@ unfolding request_row_in response_row_in reading_refusal initiate_refusal comple
 ten_waits = refl
 
 -- the first segment is lost
-ten_loses : report ten (r ∷ a ∷ Lost Requests ∷ r ∷ []) ≡ record { requests = []; answers = []; entry = Some (codes "ABCDEFGHI"); state = Waiting; sent = 2; value = [] }
+ten_loses : report ten (r ∷ a ∷ Lost Requests ∷ r ∷ []) ≡ waits 2 [] [] (codes "ABCDEFGHI")
 unfolding request_row_in response_row_in reading_refusal initiate_refusal completion_refusal has_object
 ten_loses = refl
 
 -- the confirmation of its begin comes twice: the second isn't awaited
-ten_is_repeated : report ten (r ∷ Repeated Answers ∷ a ∷ []) ≡ record {
-  requests = hex (codes "0030313233343536") ∷ hex (codes "8001200001000405") ∷ [];
-  answers = [];
-  entry = Some (codes "ABCDEFGHI");
-  state = Failed (record { 0 = 0x05040001 });
-  sent = 3;
-  value = [];
-}
+ten_is_repeated : report ten (r ∷ Repeated Answers ∷ a ∷ [])
+    ≡ has_failed 0x05040001 3 (hex (codes "0030313233343536") ∷ hex (codes "8001200001000405") ∷ []) [] (codes "ABCDEFGHI")
 unfolding request_row_in response_row_in reading_refusal initiate_refusal completion_refusal has_object
 ten_is_repeated = refl
 
 -- the first segment comes twice: the second has the wrong toggle
-ten_repeats : report ten (r ∷ a ∷ Repeated Requests ∷ r ∷ []) ≡ record {
-  requests = [];
-  answers = hex (codes "2000000000000000") ∷ hex (codes "8001200000000305") ∷ [];
-  entry = Some (codes "ABCDEFGHI");
-  state = Waiting;
-  sent = 2;
-  value = [];
-}
+ten_repeats : report ten (r ∷ a ∷ Repeated Requests ∷ r ∷ [])
+    ≡ waits 2 [] (hex (codes "2000000000000000") ∷ hex (codes "8001200000000305") ∷ []) (codes "ABCDEFGHI")
 unfolding request_row_in response_row_in reading_refusal initiate_refusal completion_refusal has_object
 ten_repeats = refl
 
 -- the channel's time is over after two of its ticks, the client's after three of its own
-ten_at_the_channel : report ten (ChannelTicked ∷ ChannelTicked ∷ r ∷ ChannelTicked ∷ ChannelTicked ∷ []) ≡ record {
-  requests = [];
-  answers = hex (codes "6001200000000000") ∷ hex (codes "8001200000000405") ∷ [];
-  entry = Some (codes "ABCDEFGHI");
-  state = Waiting;
-  sent = 1;
-  value = [];
-}
+ten_at_the_channel : report ten (ChannelTicked ∷ ChannelTicked ∷ r ∷ ChannelTicked ∷ ChannelTicked ∷ [])
+    ≡ waits 1 [] (hex (codes "6001200000000000") ∷ hex (codes "8001200000000405") ∷ []) (codes "ABCDEFGHI")
 unfolding request_row_in response_row_in reading_refusal initiate_refusal completion_refusal has_object
 ten_at_the_channel = refl
 
-ten_at_the_client : report ten (r ∷ ClientTicked ∷ ClientTicked ∷ ClientTicked ∷ []) ≡ record {
-  requests = hex (codes "8001200000000405") ∷ [];
-  answers = hex (codes "6001200000000000") ∷ [];
-  entry = Some (codes "ABCDEFGHI");
-  state = Failed (record { 0 = 0x05040000 });
-  sent = 2;
-  value = [];
-}
+ten_at_the_client : report ten (r ∷ ClientTicked ∷ ClientTicked ∷ ClientTicked ∷ [])
+    ≡ has_failed 0x05040000 2 (hex (codes "8001200000000405") ∷ []) (hex (codes "6001200000000000") ∷ []) (codes "ABCDEFGHI")
 unfolding request_row_in response_row_in reading_refusal initiate_refusal completion_refusal has_object
 ten_at_the_client = refl
 
 -- ---- the nine bytes of the string, read in segments
 
-nine_are_done : report (setup string_key Segmented (Upload 9)) (r ∷ a ∷ r ∷ a ∷ r ∷ a ∷ []) ≡ record { requests = []; answers = []; entry = Some (codes "ABCDEFGHI"); state = Done; sent = 3; value = codes "ABCDEFGHI" }
+nine_are_done : report (setup string_key Segmented (Upload 9)) (r ∷ a ∷ r ∷ a ∷ r ∷ a ∷ [])
+    ≡ is_done 3 [] [] (codes "ABCDEFGHI") (codes "ABCDEFGHI")
 unfolding request_row_in response_row_in reading_refusal initiate_refusal completion_refusal has_object
 nine_are_done = refl
 
@@ -173,28 +159,18 @@ nine_are_done = refl
 abbrev pub fourteen : Setup
 fourteen = setup domain_key Block (Download (codes "0123456789ABCD") true)
 
-fourteen_are_sent : report fourteen (r ∷ a ∷ []) ≡ record {
-  requests = hex (codes "0130313233343536") ∷ hex (codes "8237383941424344") ∷ [];
-  answers = [];
-  entry = Some [];
-  state = Waiting;
-  sent = 3;
-  value = [];
-}
+fourteen_go : map (report fourteen) ((r ∷ a ∷ []) ∷ (r ∷ a ∷ r ∷ r ∷ []) ∷ (r ∷ a ∷ r ∷ r ∷ a ∷ r ∷ a ∷ []) ∷ [])
+    ≡ waits 3 (hex (codes "0130313233343536") ∷ hex (codes "8237383941424344") ∷ []) [] []
+    ∷ waits 3 [] (hex (codes "A2027F0000000000") ∷ []) []
+    ∷ is_done 4 [] [] (codes "0123456789ABCD") []
+    ∷ []
 unfolding request_row_in response_row_in reading_refusal initiate_refusal completion_refusal has_object
-fourteen_are_sent = refl
-
-fourteen_are_taken : report fourteen (r ∷ a ∷ r ∷ r ∷ []) ≡ record { requests = []; answers = hex (codes "A2027F0000000000") ∷ []; entry = Some []; state = Waiting; sent = 3; value = [] }
-unfolding request_row_in response_row_in reading_refusal initiate_refusal completion_refusal has_object
-fourteen_are_taken = refl
-
-fourteen_are_done : report fourteen (r ∷ a ∷ r ∷ r ∷ a ∷ r ∷ a ∷ []) ≡ record { requests = []; answers = []; entry = Some (codes "0123456789ABCD"); state = Done; sent = 4; value = [] }
-unfolding request_row_in response_row_in reading_refusal initiate_refusal completion_refusal has_object
-fourteen_are_done = refl
+fourteen_go = refl
 
 -- ---- and read in blocks
 
-nine_in_blocks : report (setup string_key Block (Upload 9)) (r ∷ a ∷ r ∷ a ∷ a ∷ r ∷ a ∷ r ∷ []) ≡ record { requests = []; answers = []; entry = Some (codes "ABCDEFGHI"); state = Done; sent = 4; value = codes "ABCDEFGHI" }
+nine_in_blocks : report (setup string_key Block (Upload 9)) (r ∷ a ∷ r ∷ a ∷ a ∷ r ∷ a ∷ r ∷ [])
+    ≡ is_done 4 [] [] (codes "ABCDEFGHI") (codes "ABCDEFGHI")
 unfolding request_row_in response_row_in reading_refusal initiate_refusal completion_refusal has_object
 nine_in_blocks = refl
 

@@ -1,5 +1,5 @@
 -- Aborts, requests that the channel refuses, and clients that have failed: whatever happens to one, it stays so.
-use Rattle.std.proofs.Common.{◌≡◌, ℕ, Bool, true, false, List, [], ◌∷◌, Option, Some, refl}
+use Rattle.std.proofs.Common.{◌≡◌, ℕ, Bool, true, false, List, [], ◌∷◌, Option, Some, refl, suc, not, length, ap}
 use Rattle.std.proofs.lemmas.Bool.{false≢true}
 use Rattle.std.specs.Prelude.{if◌then◌else◌}
 use Rattle.co_value.specs.declared.key.Key.{Key}
@@ -8,8 +8,8 @@ use Rattle.co_frame.specs.declared.sdo_response.SdoResponse.TheVariants.{Abort}
 use Rattle.co_frame.specs.SdoResponses.{response_row_in, response_in, response_bytes}
 use Rattle.co_sdo_client.specs.declared.state.ClientState.{ClientState}
 use Rattle.co_sdo_client.specs.declared.state.ClientState.TheVariants.{Waiting, Done, Failed}
-use Rattle.co_sdo_client.specs.Calls.{Event as ClientEvent, Answered, Ticked as TickedAtClient}
-use Rattle.co_sdo_client.specs.Verdicts.{verdict}
+use Rattle.co_sdo_client.specs.Calls.{Event as ClientEvent, Answered, Ticked as TickedAtClient, Call, since_first, with_answer}
+use Rattle.co_sdo_client.specs.Verdicts.{verdict, same_bool, response_verdict}
 use Rattle.co_sdo_client.specs.Outcomes.{state_by, while_waiting, outcome}
 use Rattle.co_dict.specs.Rows.{Contents}
 use Rattle.co_sdo.specs.Log.{Log, Ticked}
@@ -17,6 +17,9 @@ use Rattle.co_sdo.specs.Opened.{is_time_over}
 use Rattle.co_sdo.specs.Completed.{set_by, contents_with}
 use Rattle.co_sdo_laws.specs.World.{Setup, World, Queue, Requests, Answers, WorldEvent, Delivered, Lost, Repeated, ClientTicked, ChannelTicked, timed_out, ticked, on_way, without_front, front_arrives, after_event}
 use Rattle.co_sdo_laws.proofs.Turns.{Takes}
+use Rattle.co_sdo_client.specs.declared.stage.Stage.{Stage}
+use Rattle.co_sdo_client.specs.Segments.{is_odd}
+use Rattle.co_sdo.proofs.Continuations.{not_odd}
 
 -- ---- aborts and failures
 
@@ -77,3 +80,23 @@ failed_event s (Lost queue) w h = failed_loses s queue w h
 failed_event s (Repeated queue) w h = failed_front s queue (on_way queue w) w h
 failed_event s ClientTicked w h = failed_more s TickedAtClient w.events h
 failed_event s ChannelTicked w h = failed_tick s w (is_time_over s.time (Ticked ∷ w.log)) h
+
+-- ---- answers that a waiting client doesn't await
+
+-- an abort, outside a sub-block
+pub aborted_fails : (call : Call) (stage : Stage) (held : List ℕ) (r : Option SdoResponse) → is_aborted r ≡ true → has_failed (state_by (response_verdict call stage held r)) ≡ true
+aborted_fails call stage held (Some (Abort key code)) h = refl
+aborted_fails call stage held _ h = absurd (false≢true h)
+
+not_same : (b : Bool) → same_bool b (not b) ≡ false
+not_same true = refl
+not_same false = refl
+
+-- the toggles of two segments, one after the other
+pub toggles_differ : (k : ℕ) → same_bool (is_odd k) (is_odd (suc k)) ≡ false
+toggles_differ k = rw (not_odd k) (not_same (is_odd k))
+
+-- how many answers came after the first
+pub later_count : (x : List ℕ) (xs : List (List ℕ)) → length (with_answer x (since_first xs)).later ≡ length xs
+later_count x [] = refl
+later_count x (y ∷ ys) = ap suc (later_count y ys)

@@ -1,5 +1,5 @@
 -- What is written of a transfer's requests and answers is read again.
-use Rattle.std.proofs.Common.{◌≡◌, ℕ, ◌+◌, ◌-◌, ◌*◌, ◌/◌, ◌%◌, ◌<◌, ◌≤◌, Bool, true, false, cond, List, length, take, drop, Some, None, refl, ap, arith, length-append}
+use Rattle.std.proofs.Common.{◌≡◌, ℕ, ◌+◌, ◌-◌, ◌*◌, ◌/◌, ◌%◌, ◌<◌, ◌≤◌, Bool, true, false, cond, List, length, take, drop, Option, Some, None, refl, ap, arith, length-append}
 use Rattle.std.specs.Prelude.{replicate, ◌==◌, nat_le}
 use Rattle.std.proofs.lemmas.List.{length-replicate, take-append-le, take_all}
 use Rattle.std.proofs.lemmas.Bool.Decides.{nat_tests}
@@ -25,10 +25,10 @@ four_bytes x h = omega arith
 -- ---- segments
 
 -- the command byte of a segment with m unused bytes
-abbrev segment_command : Bool → ℕ → Bool → ℕ
+abbrev pub segment_command : Bool → ℕ → Bool → ℕ
 segment_command toggle m last = cond toggle 16 0 + 2 * m + cond last 1 0
 
-top_of : (toggle last : Bool) (m : ℕ) → m ≤ 7 → segment_command toggle m last / 32 ≡ 0
+pub top_of : (toggle last : Bool) (m : ℕ) → m ≤ 7 → segment_command toggle m last / 32 ≡ 0
 top_of true true m h = omega arith
 top_of true false m h = omega arith
 top_of false true m h = omega arith
@@ -52,7 +52,7 @@ unused_of true false m h = omega arith
 unused_of false true m h = omega arith
 unused_of false false m h = omega arith
 
-padded_length : (xs : List ℕ) (n : ℕ) → length xs ≤ n → length (padded n xs) ≡ n
+pub padded_length : (xs : List ℕ) (n : ℕ) → length xs ≤ n → length (padded n xs) ≡ n
 padded_length xs n h = simp (length-append, length-replicate) (omega arith)
 
 padded_taken : (xs : List ℕ) (n : ℕ) → length xs ≤ n → take (n - (n - length xs)) (padded n xs) ≡ xs
@@ -81,9 +81,23 @@ pub initiate_read : (key : Key) (size : ℕ) → key.index < 65536 → size < 42
 unfolding request_row_in
 initiate_read key size k s = rw (two_bytes key.index k, four_bytes size s) refl
 
-pub bare_initiate_read : (key : Key) → key.index < 65536 → request_in (request_bytes (DownloadInitiate key None)) ≡ Some (DownloadInitiate key None)
+-- the size that an initiate request is read to indicate
+abbrev pub size_read : Option ℕ → Option ℕ
+size_read None = None
+size_read (Some size) = Some (unsigned_of (low_bytes 4 size))
+
+pub small_size : (size : ℕ) → size < 4294967296 → size_read (Some size) ≡ Some size
+small_size size s = ap (λ (n : ℕ). Some n) (four_bytes size s)
+
+pub begin_read : (key : Key) (size : Option ℕ) → key.index < 65536
+    → request_in (request_bytes (DownloadInitiate key size)) ≡ Some (DownloadInitiate key (size_read size))
 unfolding request_row_in
-bare_initiate_read key k = rw (two_bytes key.index k) refl
+begin_read key None k = rw (two_bytes key.index k) refl
+begin_read key (Some size) k = rw (two_bytes key.index k) refl
+
+pub begin_long : (key : Key) (size : Option ℕ) → length (request_bytes (DownloadInitiate key size)) ≡ 8
+begin_long key None = refl
+begin_long key (Some size) = refl
 
 pub done_read : (key : Key) → key.index < 65536 → response_in (response_bytes (DownloadDone key)) ≡ Some (DownloadDone key)
 unfolding response_row_in
@@ -174,13 +188,15 @@ segment_sent_read toggle items last h =
 
 -- ---- block transfers
 
-pub block_initiate_read : (key : Key) (size : ℕ) → key.index < 65536 → size < 4294967296 → request_in (request_bytes (BlockDownloadInitiate key (Some size))) ≡ Some (BlockDownloadInitiate key (Some size))
+pub block_begin_read : (key : Key) (size : Option ℕ) → key.index < 65536
+    → request_in (request_bytes (BlockDownloadInitiate key size)) ≡ Some (BlockDownloadInitiate key (size_read size))
 unfolding request_row_in
-block_initiate_read key size k s = rw (two_bytes key.index k, four_bytes size s) refl
+block_begin_read key None k = rw (two_bytes key.index k) refl
+block_begin_read key (Some size) k = rw (two_bytes key.index k) refl
 
-pub bare_block_initiate_read : (key : Key) → key.index < 65536 → request_in (request_bytes (BlockDownloadInitiate key None)) ≡ Some (BlockDownloadInitiate key None)
-unfolding request_row_in
-bare_block_initiate_read key k = rw (two_bytes key.index k) refl
+pub block_begin_long : (key : Key) (size : Option ℕ) → length (request_bytes (BlockDownloadInitiate key size)) ≡ 8
+block_begin_long key None = refl
+block_begin_long key (Some size) = refl
 
 pub block_initiated_read : (key : Key) (size : ℕ) → key.index < 65536 → response_in (response_bytes (BlockDownloadInitiated key size)) ≡ Some (BlockDownloadInitiated key size)
 unfolding response_row_in

@@ -1,6 +1,6 @@
 -- A channel that gave a block download up, or never heard of it, and hears its segments as requests: it answers nothing that the
 -- client awaits, and none of them but the last, with c, brings it back into a block transfer.
-use Rattle.std.proofs.Common.{◌≡◌, ℕ, ◌+◌, ◌-◌, ◌*◌, ◌/◌, ◌<◌, ◌≤◌, Bool, true, false, cond, not, List, [], ◌∷◌, ◌++◌, length, map, Option, Some, None, refl, sym, ap, ◌∙◌, arith, eqb, subst}
+use Rattle.std.proofs.Common.{◌≡◌, ℕ, ◌+◌, ◌-◌, ◌*◌, ◌/◌, ◌<◌, ◌≤◌, Bool, true, false, cond, not, List, [], ◌∷◌, length, map, Option, Some, None, refl, sym, ap, ◌∙◌, arith, eqb, subst}
 use Rattle.std.specs.Prelude.{◌%◌, ◌||◌, ◌&&◌, if◌then◌else◌, slice_index, nat_le}
 use Rattle.std.specs.List.{list_any}
 use Rattle.std.specs.Option.{option_map_or}
@@ -9,7 +9,7 @@ use Rattle.std.proofs.lemmas.Bool.Decides.{nat_tests}
 use Rattle.arrayvec.specs.ArrayVec.{ArrayVec}
 use Rattle.co_value.specs.declared.key.Key.{Key}
 use Rattle.co_frame.specs.declared.sdo_request.SdoRequest.{SdoRequest}
-use Rattle.co_frame.specs.declared.sdo_request.SdoRequest.TheVariants.{DownloadExpedited, DownloadInitiate, DownloadSegment, Upload, UploadSegment, Abort, BlockUploadInitiate, BlockUploadEnd, BlockUploadAcknowledge, BlockUploadStart, BlockDownloadInitiate, BlockDownloadEnd}
+use Rattle.co_frame.specs.declared.sdo_request.SdoRequest.TheVariants.{DownloadExpedited, DownloadInitiate, DownloadSegment, Upload, UploadSegment, Abort, BlockUploadInitiate, BlockDownloadInitiate}
 use Rattle.co_frame.specs.declared.sdo_request.ExpeditedData.{ExpeditedData}
 use Rattle.co_frame.specs.declared.sdo_request.ExpeditedData.TheVariants.{Indicated}
 use Rattle.co_frame.specs.declared.sdo_response.SdoResponse.{SdoResponse}
@@ -31,8 +31,9 @@ use Rattle.co_sdo.specs.Opened.{OpenTransfer, opened, opened_by, opened_after}
 use Rattle.co_sdo.specs.Replies.{aborted, unless_refused, toggle_refusal, block_size_refusal, segment_refusal, request_answers, answers_to, reply_to}
 use Rattle.co_sdo.proofs.Initiations.{exchange}
 use Rattle.co_sdo.proofs.Logs.{after_initiates, after_open, after_nothing}
-use Rattle.co_sdo_laws.proofs.Server.{tick_opens}
-use Rattle.co_sdo_laws.proofs.Channel.{ended}
+use Rattle.co_sdo_laws.proofs.Frames.{top_of}
+use Rattle.co_sdo_laws.proofs.Channel.{tick_opens, ended}
+use Rattle.co_sdo_laws.proofs.Blocks.{kept}
 
 -- ---- answers that the client of a block download awaits after its begin
 
@@ -42,20 +43,11 @@ is_awaited (Some BlockDownloadDone) = true
 is_awaited _ = false
 
 -- those among frames
+abbrev pub is_awaited_frame : List ℕ → Bool
+is_awaited_frame frame = is_awaited (response_in frame)
+
 abbrev pub awaited : List (List ℕ) → List (List ℕ)
-awaited [] = []
-awaited (frame ∷ later) = if is_awaited (response_in frame) then frame ∷ awaited later else awaited later
-
-pub awaited_both : (xs ys : List (List ℕ)) → awaited (xs ++ ys) ≡ awaited xs ++ awaited ys
-awaited_both [] ys = refl
-awaited_both (x ∷ xs) ys = by (is_awaited (response_in x)) (awaited_both xs ys)
-  where
-    by : (b : Bool) → awaited (xs ++ ys) ≡ awaited xs ++ awaited ys → (if b then x ∷ awaited (xs ++ ys) else awaited (xs ++ ys)) ≡ (if b then x ∷ awaited xs else awaited xs) ++ awaited ys
-    by true e = ap (λ (zs : List (List ℕ)). x ∷ zs) e
-    by false e = e
-
-pub awaited_after : (xs ys zs : List (List ℕ)) → awaited xs ≡ [] → awaited ys ≡ zs → awaited (xs ++ ys) ≡ zs
-awaited_after xs ys zs e f = awaited_both xs ys ∙ ap (λ (x : List (List ℕ)). x ++ awaited ys) e ∙ f
+awaited = kept is_awaited_frame
 
 by_row : (frame : List ℕ) → is_awaited (response_row_in frame) ≡ false → is_awaited (response_in frame) ≡ false
 by_row frame h = by (eqb (length frame) 8)
@@ -64,15 +56,9 @@ by_row frame h = by (eqb (length frame) 8)
     by true = h
     by false = refl
 
-segment_top : (toggle last : Bool) (m : ℕ) → m ≤ 7 → eqb ((cond toggle 16 0 + 2 * m + cond last 1 0) / 32) 0 ≡ true
-segment_top true true m h = grind (arith, nat_tests)
-segment_top true false m h = grind (arith, nat_tests)
-segment_top false true m h = grind (arith, nat_tests)
-segment_top false false m h = grind (arith, nat_tests)
-
 segment_row : (toggle last : Bool) (part : ArrayVec ℕ) → is_awaited (response_row_in (response_bytes (SegmentSent toggle part last))) ≡ false
 unfolding response_row_in
-segment_row toggle last part = rw (segment_top toggle last (7 - length part.items) (omega arith)) refl
+segment_row toggle last part = rw (top_of toggle last (7 - length part.items) (omega arith)) refl
 
 -- the answers of an upload or a download that isn't in blocks, or of a begin
 abbrev pub AreOthers : List Answer → Type 0

@@ -3,34 +3,22 @@ pub mod UndisturbedExamples
 pub mod Client
 pub mod Frames
 pub mod Permits
-pub mod Server
-pub mod Pasts
-mod PastExamples
+pub mod Channel
 pub mod Turns
 pub mod Failures
-pub mod Unawaited
-pub mod Channel
 pub mod Segments
+pub mod StopAndWait
 pub mod SegmentedDownloads
 pub mod ExpeditedDownloads
-pub mod SegmentedUploads
-pub mod ExpeditedUploads
-pub mod SentFrames
+pub mod Uploads
 pub mod Blocks
 pub mod BlockSegments
-pub mod BlockCounts
 pub mod BlockUploads
-pub mod BlockUploadRequests
 pub mod BlockUploadSegments
 pub mod BlockUploadEvents
-pub mod BlockUploadOutcomes
 pub mod GoneChannels
-pub mod BlockDownloadSegments
 pub mod BlockDownloads
-pub mod BlockDownloadRequests
 pub mod BlockDownloadEvents
-pub mod BlockDownloadOutcomes
 pub mod Progress
 pub mod Transfers
 pub mod Chains
-mod ChainExamples

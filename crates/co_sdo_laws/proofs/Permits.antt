@@ -1,19 +1,30 @@
 -- What a permitted download needs on its way: its begin isn't refused, the entry has room, and its size is as indicated.
-use Rattle.std.proofs.Common.{◌≡◌, ℕ, ◌≤◌, Bool, true, false, not, List, [], ◌∷◌, length, Option, Some, None, refl, arith}
-use Rattle.std.specs.Prelude.{nat_lt, nat_le, ◌==◌, ◌||◌, is_none, option_and_then, unwrap_or}
+use Rattle.std.proofs.Common.{◌≡◌, ℕ, ◌<◌, ◌≤◌, Bool, true, false, not, List, [], ◌∷◌, length, Option, Some, None, refl, sym, ap, ◌∙◌, arith, subst}
+use Rattle.std.specs.Prelude.{nat_lt, ◌||◌, is_none, option_and_then, nat_le}
 use Rattle.std.specs.Option.{option_map_or}
+use Rattle.std.proofs.lemmas.Bool.{false≢true, and_parts, not-true}
 use Rattle.std.proofs.lemmas.Bool.Decides.{nat_tests}
 use Rattle.co_value.specs.declared.key.Key.{Key}
+use Rattle.co_value.specs.Keys.{same_key-refl}
 use Rattle.co_dict.specs.declared.row.Row.{Row}
-use Rattle.co_value.specs.Types.{width_of}
-use Rattle.co_dict.specs.Rows.{Contents, fits, takes}
-use Rattle.co_dict.specs.Stores.{Description, IsDescription}
+use Rattle.co_dict.specs.Rows.{Contents, written}
+use Rattle.co_dict.specs.Stores.{Description, IsDescription, IsDictionary}
 use Rattle.co_dict.specs.Refusals.{refused_if, first_of, first_refusal}
 use Rattle.co_dict.specs.Objects.{has_object}
 use Rattle.co_dict.specs.OwnRules.{own_refusal}
 use Rattle.co_dict.specs.WriteRefusals.{is_read_only, is_sdo_parameter, size_refusal, total_refusal, limit_refusal}
-use Rattle.co_sdo.specs.Refused.{capacity_at, initiate_refusal, completion_refusal}
-use Rattle.co_sdo.proofs.RefusalLemmas.{first_none, second_none, not_refused, allowed}
+use Rattle.co_sdo.specs.OpenTransfers.{open_transfer}
+use Rattle.co_sdo.specs.Refused.{capacity_at, reading_refusal, initiate_refusal, completion_refusal}
+use Rattle.co_sdo.specs.Uploads.{value_at}
+use Rattle.co_sdo.proofs.RefusalLemmas.{first_none, second_none, allowed}
+use Rattle.co_sdo.proofs.StoreLemmas.{value_fits}
+use Rattle.co_sdo_client.specs.declared.mode.Mode.{Mode}
+use Rattle.co_sdo_client.specs.Calls.{Job, Download, Upload}
+use Rattle.co_sdo_client.specs.Segments.{bytes_of, cap_of, size_sent, transfer_of, transfer_by}
+use Rattle.co_sdo_laws.specs.World.{Setup}
+use Rattle.co_sdo_laws.specs.Undisturbed.{IsJob, IsPermitted, is_short, is_expedited_download, is_segmented_download, is_plain_upload, is_block_download, is_block_upload}
+use Rattle.co_sdo_laws.proofs.Frames.{size_read, small_size}
+use Rattle.co_sdo_client.specs.declared.mode.Mode.TheVariants.{Plain, Segmented, Block}
 
 total_same : (size : ℕ) → total_refusal size size ≡ None
 total_same size = let same : nat_lt size size ≡ false = grind (arith, nat_tests) in rw same refl
@@ -57,31 +68,141 @@ may_begin d contents key bytes h =
     (λ row. limit_refusal row bytes ∷ own_refusal d contents key bytes ∷ []) 0x06020000 0x06090011 h in
     record { begin = p.begin; initiate_indicated = p.initiate_indicated; complete_indicated = p.indicated; room = (allowed d contents key None bytes h).room }
 
--- ---- what fits
+-- whether it indicates its size or not
+abbrev pub is_download : Job → Bool
+is_download (Download bytes tells) = true
+is_download (Upload cap) = false
 
-fits_by : (row : Row) (size : ℕ) (width : Option ℕ) → ((w : ℕ) → width ≡ Some w → row.capacity ≡ w)
-    → first_refusal (refused_if (nat_lt row.capacity size) 0x06070012 ∷ refused_if (nat_lt size (unwrap_or width 0)) 0x06070013 ∷ []) ≡ None
-    → option_map_or (λ w. size == w) width (nat_le size row.capacity) ≡ true
-fits_by row size None as_wide h =
-    let above : nat_lt row.capacity size ≡ false = not_refused _ _ (first_none _ _ h) in
-    grind (arith, nat_tests)
-fits_by row size (Some w) as_wide h =
-    let above : nat_lt row.capacity size ≡ false = not_refused _ _ (first_none _ _ h) in
-    let below : nat_lt size w ≡ false = not_refused (nat_lt size w) 0x06070013 (first_none _ _ (second_none (refused_if (nat_lt row.capacity size) 0x06070012) _ h)) in
-    let wide : row.capacity ≡ w = as_wide w refl in
-    grind (arith, nat_tests)
+pub record MaySend (d : Description) (contents : Contents) (key : Key) (job : Job) : Type 0 where
+  pub begin : initiate_refusal d key (size_read (size_sent job)) ≡ None
+  pub complete : completion_refusal d contents key (size_read (size_sent job)) (bytes_of job) ≡ None
+  pub at_once : completion_refusal d contents key None (bytes_of job) ≡ None
+  pub room : length (bytes_of job) ≤ capacity_at d.rows key
 
-takes_row : (row : Option Row) (found : Bool) (size : ℕ) (a : Row → Option ℕ) (rest : Row → List (Option ℕ)) (c1 c2 : ℕ) → ((r : Row) → row ≡ Some r → size_refusal r size ≡ None → fits r size ≡ true)
-    → by_row row found (λ r. a r ∷ None ∷ None ∷ first_refusal (size_refusal r size ∷ rest r) ∷ []) c1 c2 ≡ None → option_map_or (λ r. fits r size) row false ≡ true
-takes_row None true size a rest c1 c2 fit h = cc
-takes_row None false size a rest c1 c2 fit h = cc
-takes_row (Some r) false size a rest c1 c2 fit h = cc
-takes_row (Some r) true size a rest c1 c2 fit h = fit r refl (first_none (size_refusal r size) _ (first_none _ _ (second_none (a r) _ h)))
+pub may_send : (d : Description) (contents : Contents) (key : Key) (job : Job) → is_download job ≡ true → IsJob job
+    → IsPermitted d contents key job → MaySend d contents key job
+may_send d contents key (Download bytes true) t few free =
+    let may = may_begin d contents key bytes free in
+    let size = small_size (length bytes) (omega arith) in
+    record {
+      begin = ap (initiate_refusal d key) size ∙ may.initiate_indicated;
+      complete = ap (λ (n : Option ℕ). completion_refusal d contents key n bytes) size ∙ may.complete_indicated;
+      at_once = free;
+      room = may.room;
+    }
+may_send d contents key (Download bytes false) t few free =
+    let may = may_begin d contents key bytes free in
+    record { begin = may.begin; complete = free; at_once = free; room = may.room }
+may_send d contents key (Upload cap) t few free = absurd (false≢true t)
 
--- an entry takes the bytes that may be written to it
-pub takes_bytes : (d : Description) (contents : Contents) (key : Key) (bytes : List ℕ) → IsDescription d → completion_refusal d contents key None bytes ≡ None → takes d.rows key (length bytes) ≡ true
-unfolding completion_refusal
-takes_bytes d contents key bytes described h =
-    takes_row (d.rows key) (has_object d.rows key.index) (length bytes) (λ row. refused_if (is_read_only row.access || is_sdo_parameter key.index) 0x06010002)
-    (λ row. limit_refusal row bytes ∷ own_refusal d contents key bytes ∷ []) 0x06020000 0x06090011
-    (λ r is. fits_by r (length bytes) (width_of r.data_type) (λ w wide. described.width key r w is wide)) h
+-- ---- a download by the protocol of this mode, at an idle channel; where `p` holds it is permitted
+
+abbrev pub bytes : Setup → List ℕ
+bytes s = bytes_of s.call.job
+
+abbrev pub indicated : Setup → Option ℕ
+indicated s = size_read (size_sent s.call.job)
+
+pub record IsDownload (s : Setup) (p : Type 0) (mode : Mode) : Type 0 where
+  pub dictionary : IsDictionary s.description s.contents
+  pub key : s.call.key.index < 65536
+  pub idle : open_transfer s.past ≡ None
+  pub transfer : transfer_of s.call ≡ transfer_by mode (Download [] true)
+  pub may_begin : p → initiate_refusal s.description s.call.key (indicated s) ≡ None
+  pub may_complete : p → completion_refusal s.description s.contents s.call.key (indicated s) (bytes s) ≡ None
+  pub room : p → length (bytes s) ≤ capacity_at s.description.rows s.call.key
+
+pub none≢some : {A : Type 0} (x : Option A) (y : A) → x ≡ None → x ≡ Some y → ⊥
+none≢some x y e f = cc
+
+pub entry_is : (contents : Contents) (key : Key) (v : List ℕ) → written contents key v key ≡ Some v
+entry_is contents key v = rw (same_key-refl key) refl
+
+-- ---- an upload by the protocol of this mode: where `p` holds it is permitted, and the client has room for the value
+
+abbrev pub value : Setup → List ℕ
+value s = value_at s.contents s.call.key
+
+pub record IsUpload (s : Setup) (p : Type 0) (mode : Mode) : Type 0 where
+  pub dictionary : IsDictionary s.description s.contents
+  pub key : s.call.key.index < 65536
+  pub idle : open_transfer s.past ≡ None
+  pub transfer : transfer_of s.call ≡ transfer_by mode (Upload 0)
+  pub may_read : p → reading_refusal s.description s.contents s.call.key ≡ None
+  pub fits : p → length (value s) ≤ cap_of s.call.job
+
+pub not_above : (cap n : ℕ) → n ≤ cap → nat_lt cap n ≡ true → ⊥
+not_above cap n few above = absurd (grind (arith, nat_tests))
+
+pub below_itself : (n : ℕ) → nat_lt n n ≡ false
+below_itself n = grind (arith, nat_tests)
+
+pub lawful_of : (s : Setup) → IsDictionary s.description s.contents → (contents : Contents) → contents ≡ s.contents
+    → IsDictionary s.description contents
+lawful_of s lawful contents e = subst (IsDictionary s.description) (sym e) lawful
+
+small_row : (d : Description) (key : Key) (row : Option Row) → IsDescription d → d.rows key ≡ row
+    → option_map_or (λ (r : Row). r.capacity) row 0 ≤ 65535
+small_row d key None h e = omega arith
+small_row d key (Some row) h e = h.capacity key row e
+
+pub small_value : (s : Setup) → IsDictionary s.description s.contents → length (value s) ≤ 65535
+small_value s lawful =
+    let fits : length (value s) ≤ capacity_at s.description.rows s.call.key = value_fits s.description s.contents s.call.key lawful in
+    let small : capacity_at s.description.rows s.call.key ≤ 65535 =
+    small_row s.description s.call.key (s.description.rows s.call.key) lawful.description refl in
+    omega arith
+
+-- ---- by which protocol a call's transfer goes
+
+-- by the one of this mode, to the entry or not
+abbrev pub job_like : Bool → Job
+job_like true = Download [] true
+job_like false = Upload 0
+
+pub record Goes (mode : Mode) (job : Job) (like : Mode) (to_entry : Bool) : Type 0 where
+  pub by : transfer_by mode job ≡ transfer_by like (job_like to_entry)
+  pub sends : is_download job ≡ to_entry
+
+pub in_segments : (mode : Mode) (job : Job) → is_segmented_download mode job ≡ true → Goes mode job Segmented true
+in_segments Plain (Download bytes tells) h = record { by = rw (not-true (is_short (length bytes)) h) refl; sends = refl }
+in_segments Segmented (Download bytes tells) h = record { by = refl; sends = refl }
+in_segments _ _ h = cc
+
+pub short_bytes : (n : ℕ) → is_short n ≡ true → (1 ≤ n) × (n ≤ 4)
+short_bytes n h =
+    let both = and_parts (nat_le 1 n) (nat_le n 4) h in
+    let low = both.0 in
+    let high = both.1 in
+    (grind (arith, nat_tests), grind (arith, nat_tests))
+
+pub record IsAtOnce (mode : Mode) (job : Job) : Type 0 where
+  pub by : transfer_by mode job ≡ transfer_by Plain (Download (0 ∷ []) true)
+  pub sends : is_download job ≡ true
+  pub bytes : (1 ≤ length (bytes_of job)) × (length (bytes_of job) ≤ 4)
+
+pub at_once : (mode : Mode) (job : Job) → is_expedited_download mode job ≡ true → IsAtOnce mode job
+at_once Plain (Download bytes tells) h =
+    record { by = rw h refl; sends = refl; bytes = short_bytes (length bytes) h }
+at_once _ _ h = cc
+
+pub in_blocks : (mode : Mode) (job : Job) → is_block_download mode job ≡ true → Goes mode job Block true
+in_blocks Block (Download bytes tells) h = record { by = refl; sends = refl }
+in_blocks _ _ h = cc
+
+pub upload : (mode : Mode) (job : Job) → is_plain_upload mode job ≡ true → Goes mode job Segmented false
+upload Plain (Upload cap) h = record { by = refl; sends = refl }
+upload Segmented (Upload cap) h = record { by = refl; sends = refl }
+upload Block (Upload cap) h = cc
+upload Plain (Download bytes tells) h = cc
+upload Segmented (Download bytes tells) h = cc
+upload Block (Download bytes tells) h = cc
+
+pub block_upload : (mode : Mode) (job : Job) → is_block_upload mode job ≡ true → Goes mode job Block false
+block_upload Block (Upload cap) h = record { by = refl; sends = refl }
+block_upload _ _ h = cc
+
+pub may_read : (d : Description) (contents : Contents) (key : Key) (job : Job) → is_download job ≡ false
+    → IsPermitted d contents key job → reading_refusal d contents key ≡ None
+may_read d contents key (Upload cap) t free = free
+may_read d contents key (Download bytes tells) t free = cc

@@ -1,39 +1,278 @@
--- A segmented download in turns: what its client and its channel do, request by request.
-use Rattle.std.proofs.Common.{◌≡◌, ℕ, zero, suc, ◌+◌, ◌*◌, ◌<◌, ◌≤◌, Bool, true, false, cond, List, [], ◌∷◌, length, take, map, Option, Some, None, refl, ap, ◌∙◌, arith, add-one, length-take}
+-- A download in segments, whatever the dictionary permits: what its client and its channel make of each frame that may come.
+use Rattle.std.proofs.Common.{◌≡◌, ℕ, zero, suc, ◌+◌, ◌*◌, ◌<◌, ◌≤◌, Bool, true, false, cond, not, List, [], ◌∷◌, ◌++◌, length, take, Option, Some, None, refl, sym, ap, ◌∙◌, arith, length-take, inl}
 use Rattle.std.specs.Prelude.{nat_lt}
 use Rattle.std.proofs.lemmas.Bool.Decides.{nat_tests}
-use Rattle.co_value.specs.declared.key.Key.{Key}
+use Rattle.arrayvec.specs.ArrayVec.{ArrayVec}
 use Rattle.co_value.specs.Keys.{same_key-refl}
-use Rattle.co_frame.specs.declared.sdo_request.SdoRequest.TheVariants.{DownloadInitiate}
+use Rattle.co_value.specs.Numbers.{AreBytes}
+use Rattle.co_frame.specs.declared.sdo_request.SdoRequest.TheVariants.{DownloadInitiate, DownloadSegment}
 use Rattle.co_frame.specs.declared.sdo_response.SdoResponse.TheVariants.{DownloadDone, DownloadSegmentDone}
 use Rattle.co_frame.specs.SdoRequests.{request_in, request_bytes}
-use Rattle.co_frame.specs.SdoResponses.{response_bytes}
-use Rattle.co_sdo_client.specs.Calls.{message_bytes, Event as ClientEvent, Answered, answers as answers_of, Answers, since_first, with_answer}
+use Rattle.co_frame.specs.SdoResponses.{response_in}
+use Rattle.co_sdo_client.specs.declared.stage.Stage.TheVariants.{Begun, Download as Sending}
 use Rattle.co_sdo_client.specs.declared.mode.Mode.TheVariants.{Segmented}
-use Rattle.co_sdo_client.specs.Calls.{Download as DownloadJob}
-use Rattle.co_sdo_client.specs.Segments.{is_odd, bytes_of, size_sent, transfer_of, transfer_by, part_after, is_last_after, segment_after, requests_needed}
+use Rattle.co_sdo_client.specs.Calls.{Download as DownloadJob, message_bytes, Event as ClientEvent, Answered, answers as answers_of, since_first, with_answer}
+use Rattle.co_sdo_client.specs.Segments.{is_odd, bytes_of, size_sent, transfer_of, transfer_by, part_after, is_last_after, segment_after, segments_for}
 use Rattle.co_sdo_client.specs.Stages.{stage_since, held_after}
-use Rattle.co_sdo_client.specs.Verdicts.{GoesOn, Ends, verdict, answer_verdict}
+use Rattle.co_sdo_client.specs.Verdicts.{Verdict, GoesOn, Ends, verdict, answer_verdict}
+use Rattle.co_sdo_client.specs.Outcomes.{state_by}
 use Rattle.co_dict.specs.Rows.{Contents, written}
-use Rattle.co_dict.specs.Stores.{IsDictionary}
+use Rattle.co_dict.specs.Stores.{Description, IsDictionary}
+use Rattle.co_sdo.specs.declared.stage.Stage.TheVariants.{Download}
 use Rattle.co_sdo.specs.OpenTransfers.{open_transfer}
 use Rattle.co_sdo.specs.Refused.{capacity_at, initiate_refusal, completion_refusal}
-use Rattle.co_sdo.specs.Log.{Response, answer_bytes, Ticked, Log}
+use Rattle.co_sdo.specs.Log.{Answer, Response, answer_bytes}
 use Rattle.co_sdo.specs.Opened.{OpenTransfer}
-use Rattle.co_sdo.specs.Replies.{answers_to, segment_refusal}
-use Rattle.co_sdo.specs.Completed.{set_by, contents_with}
-use Rattle.co_sdo.specs.Steps.{opened_next, set_next}
-use Rattle.co_sdo.specs.Log.{requests}
-use Rattle.co_sdo.proofs.Initiations.{exchange}
-use Rattle.co_sdo.proofs.Continuations.{not_odd, segmented}
+use Rattle.co_sdo.specs.Replies.{is_in_sub_block, toggle_refusal, room_refusal, segment_refusal}
+use Rattle.co_sdo.proofs.Continuations.{not_odd}
+use Rattle.co_sdo.proofs.RefusalLemmas.{first_none, second_none}
 use Rattle.co_sdo_laws.specs.World.{Setup}
-use Rattle.co_sdo_laws.proofs.Frames.{segment_read, done_read, segment_done_read, segment_long}
-use Rattle.co_sdo_laws.proofs.Server.{Serves, serves_first, served, serves_ticked, moved}
-use Rattle.co_sdo_laws.proofs.Segments.{last_is, not_last, needs_none, needs_more, same, joined, taken_all, part_small, some_exchanges}
-use Rattle.co_sdo_laws.proofs.Turns.{Turns, Takes, GoesOnWith}
-use Rattle.co_sdo_laws.proofs.Unawaited.{later_count}
+use Rattle.co_sdo_laws.proofs.Frames.{begin_read, begin_long, segment_read, segment_long, done_read, segment_done_read}
+use Rattle.co_sdo_laws.proofs.Segments.{same, joined, taken_all, part_small, not_end, is_end}
+use Rattle.co_sdo_laws.proofs.Permits.{bytes, indicated, IsDownload, none≢some, entry_is}
+use Rattle.co_sdo_laws.proofs.Channel.{stays_lawful}
+use Rattle.co_sdo_laws.proofs.Turns.{Turns, GoesOnWith}
+use Rattle.co_sdo_laws.proofs.Failures.{Fails, IsAbort, has_failed, aborted_fails, toggles_differ, later_count}
+use Rattle.co_sdo_laws.proofs.StopAndWait.{Parts, IsRefused, Reacts, takes, takes_last, refuses, StopAndWait, turns_of}
 
--- ---- a permitted segmented download
+abbrev pub request : Setup → ℕ → List ℕ
+request s zero = request_bytes (DownloadInitiate s.call.key (size_sent s.call.job))
+request s (suc k) = message_bytes (segment_after k (bytes_of s.call.job))
+
+abbrev reply : Setup → ℕ → Answer
+reply s zero = Response (DownloadDone s.call.key)
+reply s (suc k) = Response (DownloadSegmentDone (is_odd k))
+
+abbrev pub answer : Setup → ℕ → List ℕ
+answer s k = answer_bytes (reply s k)
+
+-- how many segments the bytes have
+abbrev last : Setup → ℕ
+last s = segments_for (length (bytes s))
+
+-- what is open after so many segments
+abbrev open_at : Setup → ℕ → OpenTransfer
+open_at s k = record { key = s.call.key; stage = Download (indicated s) (is_odd k); bytes = take (7 * k) (bytes s) }
+
+abbrev AtClient : ℕ → List ClientEvent → Type 0
+AtClient k events = length (answers_of events) ≡ k
+
+abbrev pub parts : (s : Setup) → Parts s
+parts s = record {
+  last = last s;
+  value = [];
+  request = request s;
+  reply = reply s;
+  open_at = open_at s;
+  Lawful = IsDictionary s.description;
+  left = λ contents. written contents s.call.key (bytes s);
+  Sound = AreBytes (bytes s);
+  IsSet = λ contents. contents s.call.key ≡ Some (bytes s);
+  Client = AtClient;
+}
+
+-- ---- the channel
+
+begins : (s : Setup) (p : Type 0) → IsDownload s p Segmented → (current : Option OpenTransfer) (contents : Contents)
+    → is_in_sub_block current ≡ false → (refusal : Option ℕ)
+    → initiate_refusal s.description s.call.key (indicated s) ≡ refusal → Reacts s p (parts s) 0 current contents
+begins s p m current contents outside None e =
+    let read = begin_read s.call.key (size_sent s.call.job) m.key in
+    takes (omega arith) (record {
+      replies = rw (outside, read, e) refl;
+      opens = rw (outside, read, e) refl;
+      sets = rw (outside, read) refl;
+    })
+begins s p m current contents outside (Some code) e =
+    let read = begin_read s.call.key (size_sent s.call.job) m.key in
+    refuses (λ x same. none≢some _ code (m.may_begin x) e) (record {
+      key = s.call.key;
+      code = code;
+      replies = rw (outside, read, e) refl;
+      opens = rw (outside, read, e) refl;
+      sets = rw (outside, read) refl;
+    })
+
+-- segment k + 1, as it is read
+abbrev part : Setup → ℕ → ArrayVec ℕ
+part s k = record { items = part_after k (bytes s) }
+
+is_read : (s : Setup) (k : ℕ) (end : Bool) → is_last_after k (bytes s) ≡ end
+    → request_in (request s (suc k)) ≡ Some (DownloadSegment (is_odd k) (part s k) end)
+is_read s k end e =
+    segment_read (is_odd k) (part_after k (bytes s)) (is_last_after k (bytes s)) (part_small k (bytes s))
+    ∙ ap (λ b. Some (DownloadSegment (is_odd k) (part s k) b)) e
+
+is_long : (s : Setup) (k : ℕ) → length (request s k) ≡ 8
+is_long s zero = begin_long s.call.key (size_sent s.call.job)
+is_long s (suc k) = segment_long (is_odd k) (part_after k (bytes s)) (is_last_after k (bytes s)) (part_small k (bytes s))
+
+-- why segment k + 1 is refused after j segments
+abbrev refusal_of : Setup → Contents → ℕ → ℕ → Bool → Option ℕ
+refusal_of s contents j k end =
+    segment_refusal s.description contents (open_at s j) (indicated s) (is_odd j) (is_odd k) (part_after k (bytes s)) end
+
+refused : (s : Setup) (contents : Contents) (j k : ℕ) (code : ℕ) → refusal_of s contents j k (is_last_after k (bytes s)) ≡ Some code
+    → IsRefused s (parts s) (suc k) (Some (open_at s j)) contents
+refused s contents j k code e = record {
+  key = s.call.key;
+  code = code;
+  replies = rw (is_read s k _ refl, e) refl;
+  opens = rw (is_read s k _ refl, e) refl;
+  sets = rw (is_read s k _ refl, e) refl;
+}
+
+has_room : (s : Setup) (p : Type 0) → IsDownload s p Segmented → p → (k : ℕ)
+    → nat_lt (capacity_at s.description.rows s.call.key) (length (take (7 * suc k) (bytes s))) ≡ false
+has_room s p m x k = let n = length-take (7 * suc k) (bytes s) in let r = m.room x in grind (arith, nat_tests)
+
+-- where it is permitted, the next one isn't
+not_refused : (s : Setup) (p : Type 0) → IsDownload s p Segmented → p → (k : ℕ) (contents : Contents) (end : Bool)
+    → contents ≡ s.contents → is_last_after k (bytes s) ≡ end → refusal_of s contents k k end ≡ None
+not_refused s p m x k contents true c l =
+    rw (joined (bytes s) k, same (is_odd k), has_room s p m x k, c, taken_all (bytes s) k l, m.may_complete x) refl
+not_refused s p m x k contents false c l = rw (joined (bytes s) k, same (is_odd k), has_room s p m x k) refl
+
+-- a segment that isn't refused, with c: nor is the completion
+completes : (d : Description) (contents : Contents) (o : OpenTransfer) (size : Option ℕ) (expected toggle : Bool) (part : List ℕ)
+    → segment_refusal d contents o size expected toggle part true ≡ None
+    → completion_refusal d contents o.key size (o.bytes ++ part) ≡ None
+completes d contents o size expected toggle part h =
+    first_none _ _ (second_none (room_refusal d.rows o.key (o.bytes ++ part)) _ (second_none (toggle_refusal toggle expected) _ h))
+
+goes_on : (s : Setup) (p : Type 0) → IsDownload s p Segmented → (k : ℕ) (contents : Contents) → k < last s
+    → IsDictionary s.description contents → (end : Bool) → is_last_after k (bytes s) ≡ end
+    → (refusal : Option ℕ) → refusal_of s contents k k end ≡ refusal → Reacts s p (parts s) (suc k) (Some (open_at s k)) contents
+goes_on s p m k contents more lawful end l (Some code) e =
+    refuses (λ x c. none≢some _ code (not_refused s p m x k contents end c l) e) (refused s contents k k code (rw l e))
+goes_on s p m k contents more lawful true l None e =
+    let all : take (7 * k) (bytes s) ++ part_after k (bytes s) ≡ bytes s = joined (bytes s) k ∙ taken_all (bytes s) k l in
+    let free : completion_refusal s.description contents s.call.key (indicated s) (bytes s) ≡ None =
+    ap (completion_refusal s.description contents s.call.key (indicated s)) (sym all)
+    ∙ completes s.description contents (open_at s k) (indicated s) (is_odd k) (is_odd k) (part_after k (bytes s)) e in
+    takes_last (grind (arith, nat_tests)) (record {
+      replies = rw (is_read s k true l, e) refl;
+      opens = rw (is_read s k true l, e) refl;
+      sets = rw (is_read s k true l, e) (ap (written contents s.call.key) all);
+    }) (λ small. stays_lawful s.description contents s.call.key (indicated s) (bytes s) lawful small free)
+goes_on s p m k contents more lawful false l None e = takes (grind (arith, nat_tests)) (record {
+  replies = rw (is_read s k false l, e) refl;
+  opens = rw (is_read s k false l, e) (rw (joined (bytes s) k, not_odd k) refl);
+  sets = rw (is_read s k false l, e) refl;
+})
+
+refuses_idle : (s : Setup) (k : ℕ) (contents : Contents) → IsRefused s (parts s) (suc k) None contents
+refuses_idle s k contents = record {
+  key = record { index = 0; sub = 0 };
+  code = 0x05040001;
+  replies = rw (is_read s k _ refl) refl;
+  opens = rw (is_read s k _ refl) refl;
+  sets = rw (is_read s k _ refl) refl;
+}
+
+-- the toggle of the segment before
+other_toggle : (d : Description) (contents : Contents) (o : OpenTransfer) (size : Option ℕ) (toggle : Bool) (part : List ℕ)
+    (end : Bool) → segment_refusal d contents o size (not toggle) toggle part end ≡ Some 0x05030000
+other_toggle d contents o size true part end = refl
+other_toggle d contents o size false part end = refl
+
+-- what is open after segment k + 1
+abbrev opened : Setup → ℕ → OpenTransfer
+opened s k = record { key = s.call.key; stage = Download (indicated s) (not (is_odd k)); bytes = take (7 * suc k) (bytes s) }
+
+refuses_again : (s : Setup) (k : ℕ) (contents : Contents) → IsRefused s (parts s) (suc k) (Some (open_at s (suc k))) contents
+refuses_again s k contents = refused s contents (suc k) k 0x05030000
+    (rw (not_odd k) (other_toggle s.description contents (opened s k) (indicated s) (is_odd k) (part_after k (bytes s)) (is_last_after k (bytes s))))
+
+-- ---- the client
+
+-- what an answer makes of a client, by the answers that it has taken
+abbrev verdict_of : Setup → List (List ℕ) → List ℕ → List ℕ → Verdict
+verdict_of s xs held frame = answer_verdict s.call (stage_since s.call (since_first xs)) held frame
+
+-- the answer to the begin is awaited, or the one before
+initiate_answered : (s : Setup) (p : Type 0) → IsDownload s p Segmented → (xs : List (List ℕ)) (held : List ℕ)
+    → length xs ≡ 0 → verdict_of s xs held (answer s 0) ≡ GoesOn (segment_after 0 (bytes s) ∷ [])
+initiate_answered s p m [] held h = rw (done_read s.call.key m.key, m.transfer, same_key-refl s.call.key) refl
+initiate_answered s p m (x ∷ xs) held h = absurd (omega arith)
+
+initiate_again : (s : Setup) (p : Type 0) → IsDownload s p Segmented → (xs : List (List ℕ)) (held : List ℕ)
+    → length xs ≡ 1 → has_failed (state_by (verdict_of s xs held (answer s 0))) ≡ true
+initiate_again s p m [] held h = absurd (omega arith)
+initiate_again s p m (x ∷ xs) held h = rw (m.transfer, done_read s.call.key m.key) refl
+
+-- the answer to a segment
+segment_answered : (s : Setup) (p : Type 0) → IsDownload s p Segmented → (xs : List (List ℕ)) (k : ℕ) (held : List ℕ)
+    (last : Bool) → length xs ≡ suc k → is_last_after k (bytes s) ≡ last
+    → verdict_of s xs held (answer s (suc k)) ≡ cond last (Ends [] []) (GoesOn (segment_after (k + 1) (bytes s) ∷ []))
+segment_answered s p m [] k held last h l = absurd (omega arith)
+segment_answered s p m (x ∷ xs) k held last h l =
+    let n : length (with_answer x (since_first xs)).later ≡ k = let c = later_count x xs in omega arith in
+    rw (m.transfer, segment_done_read (is_odd k), n, same (is_odd k), l) refl
+
+segment_again : (s : Setup) (p : Type 0) → IsDownload s p Segmented → (xs : List (List ℕ)) (k : ℕ) (held : List ℕ)
+    → length xs ≡ suc (suc k) → has_failed (state_by (verdict_of s xs held (answer s (suc k)))) ≡ true
+segment_again s p m [] k held h = absurd (omega arith)
+segment_again s p m (x ∷ xs) k held h =
+    let n : length (with_answer x (since_first xs)).later ≡ suc k = let c = later_count x xs in omega arith in
+    rw (m.transfer, segment_done_read (is_odd k), n, toggles_differ k) refl
+
+client_goes_on : (s : Setup) (p : Type 0) → IsDownload s p Segmented → (k : ℕ) (events : List ClientEvent) → k < last s
+    → AtClient k events → GoesOnWith s events (answer s k) (request s (suc k)) (AtClient (suc k))
+client_goes_on s p m zero events more h = record {
+  message = segment_after 0 (bytes s);
+  goes_on = initiate_answered s p m (answers_of events) (held_after s.call events) h;
+  asks = refl;
+  next = ap suc h;
+}
+client_goes_on s p m (suc k) events more h = record {
+  message = segment_after (k + 1) (bytes s);
+  goes_on = segment_answered s p m (answers_of events) k (held_after s.call events) false h (not_end k (length (bytes s)) more);
+  asks = let one : k + 1 ≡ suc k = omega arith in rw one refl;
+  next = ap suc h;
+}
+
+client_ends : (s : Setup) (p : Type 0) → IsDownload s p Segmented → (k : ℕ) (events : List ClientEvent) → k ≡ last s
+    → AtClient k events → verdict s.call events (Answered (answer s k)) ≡ Ends [] []
+client_ends s p m zero events e h = absurd (omega arith)
+client_ends s p m (suc k) events e h =
+    segment_answered s p m (answers_of events) k (held_after s.call events) true h (is_end k (length (bytes s)) e)
+
+client_stale : (s : Setup) (p : Type 0) → IsDownload s p Segmented → (k : ℕ) (events : List ClientEvent)
+    → AtClient (suc k) events → Fails s events (answer s k)
+client_stale s p m zero events h = initiate_again s p m (answers_of events) (held_after s.call events) h
+client_stale s p m (suc k) events h = segment_again s p m (answers_of events) k (held_after s.call events) h
+
+abort_comes : (s : Setup) (p : Type 0) → IsDownload s p Segmented → (xs : List (List ℕ)) (held frame : List ℕ)
+    → IsAbort frame → has_failed (state_by (verdict_of s xs held frame)) ≡ true
+abort_comes s p m [] held frame h = aborted_fails s.call Begun held (response_in frame) h
+abort_comes s p m (x ∷ xs) held frame h =
+    rw m.transfer (aborted_fails s.call (Sending (length (with_answer x (since_first xs)).later)) held (response_in frame) h)
+
+-- ---- the transfer
+
+pub stop_and_wait : (s : Setup) (p : Type 0) → IsDownload s p Segmented → StopAndWait s p (parts s)
+stop_and_wait s p m = record {
+  first_request = rw m.transfer refl;
+  first_client = refl;
+  first_lawful = m.dictionary;
+  idle = m.idle;
+  long = is_long s;
+  outside = refl;
+  dictionary = λ contents h. h;
+  sets = λ contents h. entry_is contents s.call.key (bytes s);
+  begins = λ current contents outside h. begins s p m current contents outside _ refl;
+  goes_on = λ k contents more h. goes_on s p m k contents more h _ refl _ refl;
+  refuses_idle = λ k contents more. refuses_idle s k contents;
+  refuses_again = λ k contents more. refuses_again s k contents;
+  client_goes_on = λ k events more h. inl (client_goes_on s p m k events more h);
+  client_ends = λ k events e h. inl (client_ends s p m k events e h);
+  client_stale = λ k events more h. client_stale s p m k events h;
+  client_aborted = λ k events frame h abort. abort_comes s p m (answers_of events) (held_after s.call events) frame abort;
+  client_ticks = λ k events h. h;
+}
+
+-- ---- where it is permitted and undisturbed it goes in turns
 
 pub record MayDownload (s : Setup) : Type 0 where
   pub transfer : transfer_of s.call ≡ transfer_by Segmented (DownloadJob [] true)
@@ -46,206 +285,20 @@ pub record MayDownload (s : Setup) : Type 0 where
   pub initiate_read : request_in (request_bytes (DownloadInitiate s.call.key (size_sent s.call.job))) ≡ Some (DownloadInitiate s.call.key (size_sent s.call.job))
   pub initiate_long : length (request_bytes (DownloadInitiate s.call.key (size_sent s.call.job))) ≡ 8
 
-abbrev pub request : Setup → ℕ → List ℕ
-request s zero = request_bytes (DownloadInitiate s.call.key (size_sent s.call.job))
-request s (suc k) = message_bytes (segment_after k (bytes_of s.call.job))
-
-abbrev pub answer : Setup → ℕ → List ℕ
-answer s zero = response_bytes (DownloadDone s.call.key)
-answer s (suc k) = response_bytes (DownloadSegmentDone (is_odd k))
-
--- ---- the client
-
-abbrev pub AtClient : ℕ → List ClientEvent → Type 0
-AtClient k events = length (answers_of events) ≡ k
-
--- the answer to the begin is awaited
-pub initiate_answered : (s : Setup) → s.call.key.index < 65536 → transfer_of s.call ≡ transfer_by Segmented (DownloadJob [] true) → (xs : List (List ℕ)) (held : List ℕ) → length xs ≡ 0
-    → answer_verdict s.call (stage_since s.call (since_first xs)) held (answer s 0) ≡ GoesOn (segment_after 0 (bytes_of s.call.job) ∷ [])
-initiate_answered s index transfer [] held h = rw (done_read s.call.key index, transfer, same_key-refl s.call.key) refl
-initiate_answered s index transfer (x ∷ xs) held h = absurd (omega arith)
-
--- the answer to a segment is awaited
-segment_confirmed : (s : Setup) → transfer_of s.call ≡ transfer_by Segmented (DownloadJob [] true) → (a : Answers) (k : ℕ) (held : List ℕ) (last : Bool) → length a.later ≡ k → is_last_after k (bytes_of s.call.job) ≡ last
-    → answer_verdict s.call (stage_since s.call (Some a)) held (answer s (suc k)) ≡ cond last (Ends [] []) (GoesOn (segment_after (k + 1) (bytes_of s.call.job) ∷ []))
-segment_confirmed s transfer a k held last n l = rw (transfer, segment_done_read (is_odd k), n, same (is_odd k), l) refl
-
-pub segment_answered : (s : Setup) → transfer_of s.call ≡ transfer_by Segmented (DownloadJob [] true) → (xs : List (List ℕ)) (k : ℕ) (held : List ℕ) (last : Bool) → length xs ≡ suc k → is_last_after k (bytes_of s.call.job) ≡ last
-    → answer_verdict s.call (stage_since s.call (since_first xs)) held (answer s (suc k)) ≡ cond last (Ends [] []) (GoesOn (segment_after (k + 1) (bytes_of s.call.job) ∷ []))
-segment_answered s transfer [] k held last h l = absurd (omega arith)
-segment_answered s transfer (x ∷ xs) k held last h l = segment_confirmed s transfer (with_answer x (since_first xs)) k held last (let n = later_count x xs in omega arith) l
-
-pub client_goes_on : (s : Setup) → MayDownload s → (k : ℕ) (events : List ClientEvent) → k + 1 < requests_needed (length (bytes_of s.call.job)) → AtClient k events
-    → GoesOnWith s events (answer s k) (request s (k + 1)) (AtClient (k + 1))
-client_goes_on s m zero events more h = record {
-  message = segment_after 0 (bytes_of s.call.job);
-  goes_on = initiate_answered s m.index m.transfer (answers_of events) (held_after s.call events) h;
-  asks = refl;
-  next = omega arith;
-}
-client_goes_on s m (suc k) events more h = record {
-  message = segment_after (k + 1) (bytes_of s.call.job);
-  goes_on = segment_answered s m.transfer (answers_of events) k (held_after s.call events) false h (not_last k (length (bytes_of s.call.job)) more);
-  asks = rw (add-one (suc k), add-one k) refl;
-  next = omega arith;
-}
-
-pub client_ends : (s : Setup) → MayDownload s → (k : ℕ) (events : List ClientEvent) → k + 1 ≡ requests_needed (length (bytes_of s.call.job)) → AtClient k events
-    → verdict s.call events (Answered (answer s k)) ≡ Ends [] []
-client_ends s m zero events last h = absurd (omega arith)
-client_ends s m (suc k) events last h = segment_answered s m.transfer (answers_of events) k (held_after s.call events) true h (last_is k (length (bytes_of s.call.job)) last)
-
--- ---- the channel
-
-count_requests : (k : ℕ) → length (requests (some_exchanges k)) ≡ k
-count_requests zero = refl
-count_requests (suc k) = ap suc (count_requests k)
-
--- an open segmented download after so many segments, with these bytes held
-abbrev downloading : Key → Option ℕ → ℕ → List ℕ → OpenTransfer
-downloading key size k bytes = record (segmented key size (record { begin = exchange [] (λ _. None) []; later = some_exchanges k })) { bytes = bytes }
-
--- after the segments of so many sevens of bytes
-abbrev open_at : Setup → ℕ → OpenTransfer
-open_at s k = downloading s.call.key (size_sent s.call.job) k (take (7 * k) (bytes_of s.call.job))
-
--- after k requests: none, k - 1 segments, or all
-pub record AtChannel (s : Setup) (k : ℕ) (log : Log) (contents : Contents) : Type 0 where
-  pub idle : k ≡ 0 → Serves s.description.rows log None
-  pub opens : (j : ℕ) → k ≡ suc j → k < requests_needed (length (bytes_of s.call.job)) → Serves s.description.rows log (Some (open_at s j))
-  pub same : k < requests_needed (length (bytes_of s.call.job)) → contents ≡ s.contents
-  pub sets : k ≡ requests_needed (length (bytes_of s.call.job)) → contents ≡ written s.contents s.call.key (bytes_of s.call.job)
-  pub closed : k ≡ requests_needed (length (bytes_of s.call.job)) → Serves s.description.rows log None
-
-has_room : (s : Setup) → MayDownload s → (k : ℕ) → nat_lt (capacity_at s.description.rows s.call.key) (length (take (7 * suc k) (bytes_of s.call.job))) ≡ false
-has_room s m k = let n = length-take (7 * suc k) (bytes_of s.call.job) in let r = m.room in grind (arith, nat_tests)
-
--- a segment is not refused
-not_refused : (s : Setup) → MayDownload s → (k : ℕ) (contents : Contents) (last : Bool) → contents ≡ s.contents → is_last_after k (bytes_of s.call.job) ≡ last
-    → segment_refusal s.description contents (open_at s k) (size_sent s.call.job) (is_odd k) (is_odd k) (part_after k (bytes_of s.call.job)) last ≡ None
-not_refused s m k contents true c l = rw (joined (bytes_of s.call.job) k, same (is_odd k), has_room s m k, c, taken_all (bytes_of s.call.job) k l, m.may_complete) refl
-not_refused s m k contents false c l = rw (joined (bytes_of s.call.job) k, same (is_odd k), has_room s m k) refl
-
--- what the channel makes of a segment
-record TakesSegment (s : Setup) (k : ℕ) (contents : Contents) (last : Bool) : Type 0 where
-  replies : answers_to s.description contents (Some (open_at s k)) (request s (suc k)) ≡ Response (DownloadSegmentDone (is_odd k)) ∷ []
-  opens : opened_next s.description contents (Some (open_at s k)) (request s (suc k)) ≡ cond last None (Some (open_at s (suc k)))
-  sets : contents_with contents (set_next s.description contents (Some (open_at s k)) (request s (suc k))) ≡ cond last (written s.contents s.call.key (bytes_of s.call.job)) contents
-
-takes_segment : (s : Setup) → MayDownload s → (k : ℕ) (contents : Contents) (last : Bool) → contents ≡ s.contents → is_last_after k (bytes_of s.call.job) ≡ last → TakesSegment s k contents last
-takes_segment s m k contents true c l =
-    let read = segment_read (is_odd k) (part_after k (bytes_of s.call.job)) (is_last_after k (bytes_of s.call.job)) (part_small k (bytes_of s.call.job)) in
-    let free = not_refused s m k contents true c l in
+pub is_download : (s : Setup) → MayDownload s → IsDownload s (Unit {0}) Segmented
+is_download s m =
+    let read = begin_read s.call.key (size_sent s.call.job) m.index in
+    let written_is = m.initiate_read in
+    let is : indicated s ≡ size_sent s.call.job = cc in
     record {
-      replies = rw (read, count_requests k, l, free) refl;
-      opens = rw (read, count_requests k, l, free) refl;
-      sets = rw (read, count_requests k, l, free) (rw (joined (bytes_of s.call.job) k, taken_all (bytes_of s.call.job) k l, c) refl);
+      dictionary = m.lawful;
+      key = m.index;
+      idle = m.idle;
+      transfer = m.transfer;
+      may_begin = λ x. rw is m.may_begin;
+      may_complete = λ x. rw is m.may_complete;
+      room = λ x. m.room;
     }
-takes_segment s m k contents false c l =
-    let read = segment_read (is_odd k) (part_after k (bytes_of s.call.job)) (is_last_after k (bytes_of s.call.job)) (part_small k (bytes_of s.call.job)) in
-    let free = not_refused s m k contents false c l in
-    record {
-      replies = rw (read, count_requests k, l, free) refl;
-      opens = rw (read, count_requests k, l, free) (rw (joined (bytes_of s.call.job) k, not_odd k) refl);
-      sets = rw (read, count_requests k, l, free) refl;
-    }
-
--- the begin
-channel_begins : (s : Setup) → MayDownload s → (log : Log) (contents : Contents) → AtChannel s 0 log contents → Takes s log contents (request s 0) (answer s 0) (AtChannel s 1)
-channel_begins s m log contents h =
-    let same = h.same (omega arith) in
-    let lawful : IsDictionary s.description contents = rw same m.lawful in
-    let step = served s.description contents log None (request s 0) (h.idle refl) lawful m.initiate_long in
-    let opens : opened_next s.description contents None (request s 0) ≡ Some (open_at s 0) = rw (m.initiate_read, m.may_begin) refl in
-    let sets : contents_with contents (set_next s.description contents None (request s 0)) ≡ contents = rw m.initiate_read refl in
-    let kept : contents_with contents (set_by s.description contents log (request s 0)) ≡ s.contents = ap (contents_with contents) step.sets ∙ sets ∙ same in
-    record {
-      replies = rw (step.replies, m.initiate_read, m.may_begin) refl;
-      next = record {
-        idle = λ e. absurd (omega arith);
-        opens = λ j e more. let first : j ≡ 0 = omega arith in rw (first, ← opens) step.next;
-        same = λ more. kept;
-        sets = λ e. absurd (omega arith);
-        closed = λ e. absurd (omega arith);
-      };
-    }
-
--- a segment
-channel_goes_on : (s : Setup) → MayDownload s → (k : ℕ) (log : Log) (contents : Contents) → suc k < requests_needed (length (bytes_of s.call.job)) → AtChannel s (suc k) log contents
-    → (last : Bool) → is_last_after k (bytes_of s.call.job) ≡ last
-    → Takes s log contents (request s (suc k)) (answer s (suc k)) (AtChannel s (suc k + 1))
-channel_goes_on s m k log contents more h true l =
-    let same = h.same more in
-    let lawful : IsDictionary s.description contents = rw same m.lawful in
-    let long = segment_long (is_odd k) (part_after k (bytes_of s.call.job)) (is_last_after k (bytes_of s.call.job)) (part_small k (bytes_of s.call.job)) in
-    let step = served s.description contents log (Some (open_at s k)) (request s (suc k)) (h.opens k refl more) lawful long in
-    let taken = takes_segment s m k contents true same l in
-    let all : suc k + 1 ≡ requests_needed (length (bytes_of s.call.job)) = needs_none k (length (bytes_of s.call.job)) more l in
-    record {
-      replies = ap (map answer_bytes) (step.replies ∙ taken.replies);
-      next = record {
-        idle = λ e. absurd (omega arith);
-        opens = λ j e under. absurd (omega arith);
-        same = λ under. absurd (omega arith);
-        sets = λ e. ap (contents_with contents) step.sets ∙ taken.sets;
-        closed = λ e. moved _ _ _ _ taken.opens step.next;
-      };
-    }
-channel_goes_on s m k log contents more h false l =
-    let same = h.same more in
-    let lawful : IsDictionary s.description contents = rw same m.lawful in
-    let long = segment_long (is_odd k) (part_after k (bytes_of s.call.job)) (is_last_after k (bytes_of s.call.job)) (part_small k (bytes_of s.call.job)) in
-    let step = served s.description contents log (Some (open_at s k)) (request s (suc k)) (h.opens k refl more) lawful long in
-    let taken = takes_segment s m k contents false same l in
-    let others : suc k + 1 < requests_needed (length (bytes_of s.call.job)) = needs_more k (length (bytes_of s.call.job)) more l in
-    record {
-      replies = ap (map answer_bytes) (step.replies ∙ taken.replies);
-      next = record {
-        idle = λ e. absurd (omega arith);
-        opens = λ j e under. let next : j ≡ suc k = omega arith in rw (next, ← taken.opens) step.next;
-        same = λ under. ap (contents_with contents) step.sets ∙ taken.sets ∙ same;
-        sets = λ e. absurd (omega arith);
-        closed = λ e. absurd (omega arith);
-      };
-    }
-
-pub channel_takes : (s : Setup) → MayDownload s → (k : ℕ) (log : Log) (contents : Contents) → k < requests_needed (length (bytes_of s.call.job)) → AtChannel s k log contents
-    → Takes s log contents (request s k) (answer s k) (AtChannel s (k + 1))
-channel_takes s m zero log contents more h = channel_begins s m log contents h
-channel_takes s m (suc k) log contents more h = channel_goes_on s m k log contents more h _ refl
-
-pub channel_ticks : (s : Setup) (k : ℕ) (log : Log) (contents : Contents) → AtChannel s k log contents → AtChannel s k (Ticked ∷ log) contents
-channel_ticks s k log contents h = record {
-  idle = λ e. serves_ticked _ _ _ (h.idle e);
-  opens = λ j e more. serves_ticked _ _ _ (h.opens j e more);
-  same = h.same;
-  sets = h.sets;
-  closed = λ e. serves_ticked _ _ _ (h.closed e);
-}
-
--- ---- the transfer
 
 unfoldable pub segmented_download : (s : Setup) → MayDownload s → Turns s
-segmented_download s m = record {
-  needed = requests_needed (length (bytes_of s.call.job));
-  value = [];
-  request = request s;
-  answer = answer s;
-  Client = AtClient;
-  Channel = AtChannel s;
-  some = omega arith;
-  first_request = rw m.transfer refl;
-  first_client = refl;
-  first_channel = record {
-    idle = λ e. serves_first s.description.rows s.past m.idle;
-    opens = λ j e more. absurd (omega arith);
-    same = λ more. refl;
-    sets = λ e. absurd (omega arith);
-    closed = λ e. absurd (omega arith);
-  };
-  takes = channel_takes s m;
-  channel_ticks = channel_ticks s;
-  goes_on = client_goes_on s m;
-  ends = client_ends s m;
-  client_ticks = λ k events h. h;
-}
+segmented_download s m = turns_of s (parts s) (stop_and_wait s (Unit {0}) (is_download s m)) tt

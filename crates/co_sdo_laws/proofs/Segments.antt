@@ -1,26 +1,18 @@
 -- The segments of a transfer: seven bytes each, in turn, the last where no bytes remain.
-use Rattle.std.proofs.Common.{◌≡◌, ℕ, zero, suc, ◌+◌, ◌*◌, ◌<◌, ◌≤◌, Bool, true, false, List, [], ◌∷◌, ◌++◌, length, take, drop, None, refl, sym, arith, length-take}
+use Rattle.std.proofs.Common.{◌≡◌, ℕ, suc, ◌+◌, ◌*◌, ◌<◌, ◌≤◌, Bool, true, false, List, ◌++◌, length, take, drop, refl, sym, arith, length-take}
 use Rattle.std.specs.Prelude.{nat_le}
 use Rattle.std.proofs.Math.Seq.{take-add}
 use Rattle.std.proofs.lemmas.List.{take_all}
 use Rattle.std.proofs.lemmas.Bool.Decides.{nat_tests}
-use Rattle.co_sdo_client.specs.Segments.{part_after, is_last_after, requests_needed}
+use Rattle.co_sdo_client.specs.Segments.{part_after, is_last_after, segments_for}
 use Rattle.co_sdo_client.specs.Verdicts.{same_bool}
-use Rattle.co_sdo.specs.Log.{Exchange}
-use Rattle.co_sdo.proofs.Initiations.{exchange}
 
--- of the segments after the first k one is left, and others are
-pub last_is : (k n : ℕ) → suc k + 1 ≡ requests_needed n → nat_le n (7 * k + 7) ≡ true
-last_is k n h = grind (arith, nat_tests)
+-- segment k is the last one, or others follow
+pub is_end : (k n : ℕ) → suc k ≡ segments_for n → nat_le n (7 * k + 7) ≡ true
+is_end k n h = grind (arith, nat_tests)
 
-pub not_last : (k n : ℕ) → suc k + 1 < requests_needed n → nat_le n (7 * k + 7) ≡ false
-not_last k n h = grind (arith, nat_tests)
-
-pub needs_none : (k n : ℕ) → suc k < requests_needed n → nat_le n (7 * k + 7) ≡ true → suc k + 1 ≡ requests_needed n
-needs_none k n h l = grind (arith, nat_tests)
-
-pub needs_more : (k n : ℕ) → suc k < requests_needed n → nat_le n (7 * k + 7) ≡ false → suc k + 1 < requests_needed n
-needs_more k n h l = grind (arith, nat_tests)
+pub not_end : (k n : ℕ) → suc k < segments_for n → nat_le n (7 * k + 7) ≡ false
+not_end k n h = grind (arith, nat_tests)
 
 pub same : (b : Bool) → same_bool b b ≡ true
 same true = refl
@@ -34,8 +26,3 @@ taken_all v k l = take_all (7 * suc k) v (grind (arith, nat_tests))
 
 pub part_small : (k : ℕ) (v : List ℕ) → length (part_after k v) ≤ 7
 part_small k v = let n = length-take 7 (drop (7 * k) v) in omega arith
-
--- so many exchanges, of which only the number matters
-abbrev pub some_exchanges : ℕ → List Exchange
-some_exchanges zero = []
-some_exchanges (suc k) = exchange [] (λ _. None) [] ∷ some_exchanges k

@@ -1,5 +1,5 @@
 -- Transfers in turns: after each request its answer. What holds of an undisturbed world after each list of events.
-use Rattle.std.proofs.Common.{◌≡◌, ℕ, ◌+◌, ◌*◌, ◌<◌, Bool, true, false, List, [], ◌∷◌, length, map, refl, ◌∙◌, arith, eqb, subst, append-nil, ◌⊎◌, inl, inr}
+use Rattle.std.proofs.Common.{◌≡◌, ℕ, ◌+◌, ◌*◌, ◌<◌, ◌≤◌, Bool, true, false, List, [], ◌∷◌, length, map, refl, ◌∙◌, arith, eqb, subst, append-nil, ◌⊎◌, inl, inr}
 use Rattle.std.proofs.lemmas.Bool.{eqb-true}
 use Rattle.std.proofs.lemmas.Bool.Decides.{nat_tests}
 use Rattle.co_sdo_client.specs.declared.state.ClientState.TheVariants.{Waiting, Done}
@@ -13,6 +13,7 @@ use Rattle.co_sdo.specs.Completed.{set_by, contents_with}
 use Rattle.co_sdo.proofs.Initiations.{exchange}
 use Rattle.co_sdo_laws.specs.World.{Setup, World, Requests, Answers, WorldEvent, Delivered, Lost, Repeated, ClientTicked, ChannelTicked, first_world, after_event, world_after}
 use Rattle.co_sdo_laws.specs.Undisturbed.{IsCalm, AreCalm, GoesInTurns}
+use Rattle.co_sdo_laws.proofs.Progress.{no_front}
 use Rattle.co_sdo_laws.proofs.Client.{follows, stays, tick_verdict}
 
 -- the channel takes a request: its only answer, and how it stands then
@@ -139,14 +140,6 @@ last_answer_comes s t k w h last =
       answered = let n = h.answered in omega arith;
     }))
 
--- ---- nothing is on its way in a queue
-
-no_request : (s : Setup) (w : World) → w.requests ≡ [] → w ≡ after_event s (Delivered Requests) w
-no_request s w e = rw e refl
-
-no_answer : (s : Setup) (w : World) → w.answers ≡ [] → w ≡ after_event s (Delivered Answers) w
-no_answer s w e = rw e refl
-
 -- ---- ticks
 
 waits_ticks : (s : Setup) (t : Turns s) (j k : ℕ) (sent given : List (List ℕ)) (w : World) → Waits s t j k sent given w → IsCalm s ClientTicked w
@@ -207,20 +200,20 @@ channel_over s t w h calm = rw calm (record {
 
 -- ---- every event
 
-either : (k n : ℕ) → k < n → (k + 1 < n) ⊎ (k + 1 ≡ n)
-either k n h = by (eqb (k + 1) n) refl
+pub either : (k n : ℕ) → k ≤ n → (k < n) ⊎ (k ≡ n)
+either k n h = by (eqb k n) refl
   where
-    by : (b : Bool) → eqb (k + 1) n ≡ b → (k + 1 < n) ⊎ (k + 1 ≡ n)
-    by true e = inr (eqb-true (k + 1) n e)
+    by : (b : Bool) → eqb k n ≡ b → (k < n) ⊎ (k ≡ n)
+    by true e = inr (eqb-true k n e)
     by false e = inl (grind (arith, nat_tests))
 
 step : (s : Setup) (t : Turns s) (event : WorldEvent) (w : World) → IsCalm s event w → InTurns s t w → InTurns s t (after_event s event w)
 step s t (Delivered Requests) w calm (asking k h) = request_comes s t k w h
-step s t (Delivered Requests) w calm (answering k h) = subst (InTurns s t) (no_request s w h.requests) (answering k h)
-step s t (Delivered Requests) w calm (over h) = subst (InTurns s t) (no_request s w h.requests) (over h)
-step s t (Delivered Answers) w calm (asking k h) = subst (InTurns s t) (no_answer s w h.answers) (asking k h)
-step s t (Delivered Answers) w calm (answering k h) = elim (either k t.needed h.within) [ inl more ↦ answer_comes s t k w h more | inr last ↦ last_answer_comes s t k w h last ]
-step s t (Delivered Answers) w calm (over h) = subst (InTurns s t) (no_answer s w h.answers) (over h)
+step s t (Delivered Requests) w calm (answering k h) = subst (InTurns s t) (no_front s Requests w h.requests) (answering k h)
+step s t (Delivered Requests) w calm (over h) = subst (InTurns s t) (no_front s Requests w h.requests) (over h)
+step s t (Delivered Answers) w calm (asking k h) = subst (InTurns s t) (no_front s Answers w h.answers) (asking k h)
+step s t (Delivered Answers) w calm (answering k h) = elim (either (k + 1) t.needed (let less = h.within in omega arith)) [ inl more ↦ answer_comes s t k w h more | inr last ↦ last_answer_comes s t k w h last ]
+step s t (Delivered Answers) w calm (over h) = subst (InTurns s t) (no_front s Answers w h.answers) (over h)
 step s t (Lost queue) w calm h = absurd calm
 step s t (Repeated queue) w calm h = absurd calm
 step s t ClientTicked w calm (asking k h) = asking k (waits_ticks s t _ _ _ _ w h calm)
@@ -236,7 +229,7 @@ always s t (event ∷ older) calm = step s t event (world_after s older) calm.0 
 
 -- ---- what it says of the world
 
-waiting≢done : Waiting ≡ Done → ⊥
+pub waiting≢done : Waiting ≡ Done → ⊥
 waiting≢done e = cc
 
 waits_in_turns : (s : Setup) (t : Turns s) (j k : ℕ) (sent given : List (List ℕ)) (w : World) → j + k < 2 * t.needed → length sent + length given ≡ 1
@@ -278,9 +271,10 @@ when_done s t w (over h) done = record { value = h.value; channel = h.channel }
 -- the channel, after as many requests as it took
 pub record IsAt (s : Setup) (t : Turns s) (w : World) : Type 0 where
   pub count : ℕ
+  pub within : count ≤ t.needed
   pub channel : t.Channel count w.log w.contents
 
 pub channel_at : (s : Setup) (t : Turns s) (w : World) → InTurns s t w → IsAt s t w
-channel_at s t w (asking k h) = record { count = k; channel = h.channel }
-channel_at s t w (answering k h) = record { count = k + 1; channel = h.channel }
-channel_at s t w (over h) = record { count = t.needed; channel = h.channel }
+channel_at s t w (asking k h) = record { count = k; within = let less = h.within in omega arith; channel = h.channel }
+channel_at s t w (answering k h) = record { count = k + 1; within = let less = h.within in omega arith; channel = h.channel }
+channel_at s t w (over h) = record { count = t.needed; within = omega arith; channel = h.channel }

@@ -1,5 +1,5 @@
 -- Transfers that nothing disturbs over the dictionary of two entries: there are some, and what is none.
-use Rattle.std.proofs.Common.{◌≡◌, ℕ, ◌≤◌, Bool, true, false, List, [], ◌∷◌, length, codes, Some, None, refl, sym, ap, ◌∙◌, arith}
+use Rattle.std.proofs.Common.{◌≡◌, ℕ, ◌≤◌, Bool, true, false, List, [], ◌∷◌, length, codes, Some, None, refl, sym, ap, ◌∙◌, arith, map}
 use Rattle.std.proofs.lemmas.Int.{ints}
 use Rattle.std.specs.Prelude.{is_some}
 use Rattle.std.specs.List.{list_any}
@@ -7,7 +7,6 @@ use Rattle.co_value.specs.declared.key.Key.{Key}
 use Rattle.co_value.specs.Keys.{same_key, same_key-is}
 use Rattle.co_value.specs.Numbers.{AreBytes}
 use Rattle.co_value.specs.declared.data_type.DataType.TheVariants.{VisibleString, Domain}
-use Rattle.co_value.specs.declared.data_type.DataType.{DataType}
 use Rattle.co_profile.specs.FixedTypes.{fixed_type_of}
 use Rattle.co_value.specs.Types.{width_of}
 use Rattle.co_frame.specs.SdoRequests.{request_row_in}
@@ -16,18 +15,23 @@ use Rattle.co_dict.specs.declared.row.Row.{Row}
 use Rattle.co_dict.specs.Rows.{fits}
 use Rattle.co_dict.specs.Objects.{has_object}
 use Rattle.co_dict.specs.Stores.{IsFilled, IsKey, HasLimits, IsDescription, IsDictionary}
-use Rattle.co_sdo_client.specs.declared.mode.Mode.TheVariants.{Segmented, Block}
-use Rattle.co_sdo_client.specs.declared.state.ClientState.TheVariants.{Done}
-use Rattle.co_sdo_client.specs.Calls.{Download, Upload}
+use Rattle.co_sdo_client.specs.declared.mode.Mode.TheVariants.{Segmented, Block, Plain}
+use Rattle.co_sdo_client.specs.declared.state.ClientState.TheVariants.{Done, Waiting}
+use Rattle.co_sdo_client.specs.Calls.{Download, Upload, Call, Job}
 use Rattle.co_sdo_client.specs.Outcomes.{outcome}
 use Rattle.co_sdo.specs.Refused.{reading_refusal, initiate_refusal, completion_refusal}
 use Rattle.co_sdo.specs.Opened.{opened_after}
 use Rattle.co_sdo_laws.specs.World.{Setup, World, WorldEvent, Requests, Answers, Lost, Repeated, ClientTicked, ChannelTicked, world_after}
-use Rattle.co_sdo_laws.specs.Undisturbed.{IsCalm, AreCalm, IsPermitted, IsUndisturbed, rounds_after, GoesInTurns}
-use Rattle.co_sdo_laws.proofs.Server.{tick_opens}
+use Rattle.co_sdo_laws.specs.Undisturbed.{IsCalm, AreCalm, IsPermitted, IsUndisturbed, rounds_after, GoesInTurns, arrived, IsOver}
+use Rattle.co_sdo_laws.proofs.Channel.{tick_opens, is_filled}
 use Rattle.co_sdo_laws.proofs.Progress.{rounds_calm}
-use Rattle.co_sdo_laws.proofs.Transfers.{download_goes}
-use Rattle.co_sdo_laws.proofs.Examples.{string_key, domain_key, row, row_in, bytes_in, dictionary, setup, r, a, ten, fourteen}
+use Rattle.co_sdo_laws.proofs.Transfers.{segmented}
+use Rattle.co_sdo_laws.proofs.Examples.{string_key, domain_key, row, row_in, bytes_in, dictionary, setup, r, a, ten, fourteen, report, waits, is_done}
+use Rattle.co_sdo.specs.Log.{exchanges}
+use Rattle.co_sdo.specs.OpenTransfers.{open_transfer}
+use Rattle.co_sdo_client.specs.declared.mode.Mode.{Mode}
+use Rattle.co_sdo_laws.specs.Chains.{Server, Transfer, outcomes, results, server_after_all, contents_after_all, all_bytes_given, MayCall, MayCallAll, IsWhole, IsReady, IsChain, frames_needed, all_in_rounds}
+use Rattle.co_sdo_laws.proofs.Chains.{all_end, chain_in_rounds}
 
 -- ---- the example's dictionary is one
 
@@ -44,29 +48,28 @@ entry_of key = by (same_key key string_key) (same_key key domain_key) refl refl
     by false true e f = is_domain (same_key-is key domain_key f)
     by false false e f = is_none (rw (e, f) refl) (rw (e, f) refl)
 
--- a row, and where it is
-data Has (key : Key) (held : Row) : Type 0 where
-  has_string : key ≡ string_key → held ≡ row VisibleString 16 → Has key held
-  has_domain : key ≡ domain_key → held ≡ row Domain 20 → Has key held
-
-has_row : (key : Key) (held : Row) → row_in key ≡ Some held → Entry key → Has key held
-has_row key held h (is_string e) = has_string e (taken (ap row_in (sym e) ∙ h))
+-- what holds of both rows holds of each
+at_each : (P : Key → Row → Type 0) → P string_key (row VisibleString 16) → P domain_key (row Domain 20) → (key : Key) (held : Row)
+    → row_in key ≡ Some held → P key held
+at_each P first second key held h = by (entry_of key)
   where
-    taken : row_in string_key ≡ Some held → held ≡ row VisibleString 16
-    taken e = cc
-has_row key held h (is_domain e) = has_domain e (taken (ap row_in (sym e) ∙ h))
-  where
-    taken : row_in domain_key ≡ Some held → held ≡ row Domain 20
-    taken e = cc
-has_row key held h (is_none e f) = cc
-
-row_at : (key : Key) (held : Row) → row_in key ≡ Some held → Has key held
-row_at key held h = has_row key held h (entry_of key)
+    by : Entry key → P key held
+    by (is_string e) =
+        let is : Some (row VisibleString 16) ≡ Some held = ap row_in (sym e) ∙ h in
+        let same : held ≡ row VisibleString 16 = cc in
+        rw (e, same) first
+    by (is_domain e) =
+        let is : Some (row Domain 20) ≡ Some held = ap row_in (sym e) ∙ h in
+        let same : held ≡ row Domain 20 = cc in
+        rw (e, same) second
+    by (is_none e f) = cc
 
 filled : IsFilled row_in bytes_in
 filled = record {
   present = λ key. present key (entry_of key);
-  fitting = λ key held bytes h g. fitting key held bytes (row_at key held h) g;
+  fitting = λ key held bytes h g. at_each (λ k r. bytes_in k ≡ Some bytes → fits r (length bytes) ≡ true)
+      (λ e. let is : Some (codes "ABCDEFGHI") ≡ Some bytes = e in let same : bytes ≡ codes "ABCDEFGHI" = cc in rw same refl)
+      (λ e. let is : Some [] ≡ Some bytes = e in let same : bytes ≡ [] = cc in rw same refl) key held h g;
   bytes = λ key bytes g. small key bytes g (entry_of key);
 }
   where
@@ -74,16 +77,6 @@ filled = record {
     present key (is_string e) = rw e refl
     present key (is_domain e) = rw e refl
     present key (is_none e f) = rw (e, f) refl
-
-    fitting : (key : Key) (held : Row) (bytes : List ℕ) → Has key held → bytes_in key ≡ Some bytes → fits held (length bytes) ≡ true
-    fitting key held bytes (has_string e f) g =
-        let is : Some (codes "ABCDEFGHI") ≡ Some bytes = ap bytes_in (sym e) ∙ g in
-        let is_bytes : bytes ≡ codes "ABCDEFGHI" = cc in
-        rw (f, is_bytes) refl
-    fitting key held bytes (has_domain e f) g =
-        let is : Some [] ≡ Some bytes = ap bytes_in (sym e) ∙ g in
-        let is_bytes : bytes ≡ [] = cc in
-        rw (f, is_bytes) refl
 
     small : (key : Key) (bytes : List ℕ) → bytes_in key ≡ Some bytes → Entry key → AreBytes bytes
     small key bytes g (is_string e) =
@@ -101,12 +94,16 @@ described = record {
   first_node = omega arith;
   last_node = omega arith;
   finite = λ key. finite key (entry_of key);
-  width = λ key held width h. wide key held width (row_at key held h);
-  fixed = λ key held t h. fixed key held t (row_at key held h);
-  key = λ key held h. keyed key held (row_at key held h);
-  from_1000 = λ key held h. high key held (row_at key held h);
-  capacity = λ key held h. small key held (row_at key held h);
-  limits = λ key held h. limits key held (row_at key held h);
+  width = λ key held width h g. at_each (λ k r. width_of r.data_type ≡ Some width → r.capacity ≡ width)
+      (λ e. let none : None ≡ Some width = e in cc) (λ e. let none : None ≡ Some width = e in cc) key held h g;
+  fixed = λ key held t h g. at_each (λ k r. fixed_type_of k ≡ Some t → r.data_type ≡ t)
+      (λ e. let none : None ≡ Some t = e in cc) (λ e. let none : None ≡ Some t = e in cc) key held h g;
+  key = at_each (λ k r. IsKey k) (record { index = omega arith; sub = omega arith }) (record { index = omega arith; sub = omega arith });
+  from_1000 = at_each (λ k r. 0x1000 ≤ k.index) (omega arith) (omega arith);
+  capacity = at_each (λ k r. r.capacity ≤ 65535) (omega arith) (omega arith);
+  limits = at_each (λ k r. HasLimits r)
+      (record { ordered = omega (arith, ints); low = λ width g. cc; high = λ width g. cc })
+      (record { ordered = omega (arith, ints); low = λ width g. cc; high = λ width g. cc });
   dummies = λ index h. cc;
 }
   where
@@ -119,30 +116,6 @@ described = record {
         none true second i j = rw i refl
         none false true i j = rw (i, j) refl
         none false false i j = rw (i, j) refl
-
-    wide : (key : Key) (held : Row) (width : ℕ) → Has key held → width_of held.data_type ≡ Some width → held.capacity ≡ width
-    wide key held width (has_string e f) g = let none : None ≡ Some width = ap (λ (r : Row). width_of r.data_type) (sym f) ∙ g in cc
-    wide key held width (has_domain e f) g = let none : None ≡ Some width = ap (λ (r : Row). width_of r.data_type) (sym f) ∙ g in cc
-
-    fixed : (key : Key) (held : Row) (t : DataType) → Has key held → fixed_type_of key ≡ Some t → held.data_type ≡ t
-    fixed key held t (has_string e f) g = let none : None ≡ Some t = ap fixed_type_of (sym e) ∙ g in cc
-    fixed key held t (has_domain e f) g = let none : None ≡ Some t = ap fixed_type_of (sym e) ∙ g in cc
-
-    keyed : (key : Key) (held : Row) → Has key held → IsKey key
-    keyed key held (has_string e f) = rw e (record { index = omega arith; sub = omega arith })
-    keyed key held (has_domain e f) = rw e (record { index = omega arith; sub = omega arith })
-
-    high : (key : Key) (held : Row) → Has key held → 0x1000 ≤ key.index
-    high key held (has_string e f) = rw e (omega arith)
-    high key held (has_domain e f) = rw e (omega arith)
-
-    small : (key : Key) (held : Row) → Has key held → held.capacity ≤ 65535
-    small key held (has_string e f) = rw f (omega arith)
-    small key held (has_domain e f) = rw f (omega arith)
-
-    limits : (key : Key) (held : Row) → Has key held → HasLimits held
-    limits key held (has_string e f) = rw f (record { ordered = omega (arith, ints); low = λ width g. cc; high = λ width g. cc })
-    limits key held (has_domain e f) = rw f (record { ordered = omega (arith, ints); low = λ width g. cc; high = λ width g. cc })
 
 pub is_dictionary : IsDictionary dictionary bytes_in
 is_dictionary = record { description = described; initially = filled; filled = filled }
@@ -170,7 +143,7 @@ ten_done = refl
 
 -- so that the law says how it goes
 ten_goes : GoesInTurns ten.call 3 (world_after ten ten_events)
-ten_goes = download_goes ten ten_events ten_undisturbed refl
+ten_goes = (segmented ten ten_events ten_undisturbed refl).turns ten_events ten_calm
 
 -- ---- and in blocks: any number of rounds
 
@@ -237,3 +210,234 @@ not_there h = refused 0x06020000 h
 -- so that nothing is an undisturbed transfer of 17 bytes
 never_undisturbed : (events : List WorldEvent) → IsUndisturbed (setup string_key Segmented (Download (codes "0123456789ABCDEFG") true)) events → ⊥
 never_undisturbed events u = too_long u.permitted
+
+-- ---- a channel that has a past
+
+-- another client begins in a world that events, newest first, came to
+abbrev then_call : Setup → List WorldEvent → Call → Setup
+then_call s events call = record {
+  call = call;
+  time = s.time;
+  description = s.description;
+  contents = (world_after s events).contents;
+  past = (world_after s events).log;
+}
+
+-- ---- after a transfer that was finished
+
+-- ten bytes were written to the string in segments, and are read again
+abbrev read_again : Setup
+read_again = then_call ten (rounds_after 3 []) (record { key = string_key; mode = Segmented; time = 3; job = Upload 16 })
+
+three_exchanges : length (exchanges read_again.past) ≡ 3
+unfolding request_row_in response_row_in reading_refusal initiate_refusal completion_refusal has_object
+three_exchanges = refl
+
+idle_again : open_transfer read_again.past ≡ None
+unfolding request_row_in response_row_in reading_refusal initiate_refusal completion_refusal has_object
+idle_again = refl
+
+ten_are_read : report read_again (r ∷ a ∷ r ∷ a ∷ r ∷ a ∷ [])
+    ≡ is_done 3 [] [] (codes "0123456789") (codes "0123456789")
+unfolding request_row_in response_row_in reading_refusal initiate_refusal completion_refusal has_object
+ten_are_read = refl
+
+read_dictionary : IsDictionary dictionary read_again.contents
+unfolding request_row_in response_row_in reading_refusal initiate_refusal completion_refusal has_object
+read_dictionary = record {
+  description = is_dictionary.description;
+  initially = is_dictionary.initially;
+  filled = is_filled row_in bytes_in string_key (codes "0123456789") is_dictionary.filled refl (omega arith);
+}
+
+read_undisturbed : (n : ℕ) → IsUndisturbed read_again (rounds_after n [])
+unfolding request_row_in response_row_in reading_refusal initiate_refusal completion_refusal has_object
+read_undisturbed n = record { dictionary = read_dictionary; key = omega arith; job = omega arith; permitted = refl; idle = idle_again; calm = rounds_calm read_again n [] tt }
+
+-- those that arrived before don't count
+read_arrived : map (λ n. arrived (world_after read_again (rounds_after n []))) (0 ∷ 1 ∷ 2 ∷ 3 ∷ 4 ∷ []) ≡ 0 ∷ 2 ∷ 4 ∷ 6 ∷ 6 ∷ []
+unfolding request_row_in response_row_in reading_refusal initiate_refusal completion_refusal has_object
+read_arrived = refl
+
+-- ---- after a transfer that the channel gave up
+
+-- the first segment of ten bytes was lost, and the channel's time was over
+abbrev lost_events : List WorldEvent
+lost_events = ChannelTicked ∷ ChannelTicked ∷ Lost Requests ∷ a ∷ r ∷ []
+
+-- while the transfer is open the channel isn't idle
+open_before : open_transfer (world_after ten (a ∷ r ∷ [])).log ≡ None → ⊥
+unfolding request_row_in response_row_in reading_refusal initiate_refusal completion_refusal has_object
+open_before e = cc
+
+abbrev write_again : Setup
+write_again = then_call ten lost_events ten.call
+
+-- the channel is idle, and each number of rounds is undisturbed
+write_undisturbed : (n : ℕ) → IsUndisturbed write_again (rounds_after n [])
+unfolding request_row_in response_row_in reading_refusal initiate_refusal completion_refusal has_object
+write_undisturbed n = record { dictionary = is_dictionary; key = omega arith; job = omega arith; permitted = refl; idle = refl; calm = rounds_calm write_again n [] tt }
+
+write_goes : (n : ℕ) → GoesInTurns write_again.call 3 (world_after write_again (rounds_after n []))
+write_goes n = (segmented write_again (rounds_after n []) (write_undisturbed n) refl).turns (rounds_after n []) (write_undisturbed n).calm
+
+ten_are_written : report write_again (r ∷ a ∷ r ∷ a ∷ r ∷ a ∷ []) ≡ is_done 3 [] [] (codes "0123456789") []
+unfolding request_row_in response_row_in reading_refusal initiate_refusal completion_refusal has_object
+ten_are_written = refl
+
+-- ---- a channel that isn't idle
+
+-- fourteen bytes were begun in blocks, and their client is gone: the sub-block takes the next begin for a segment that isn't
+-- awaited, no answer comes, and nothing is on its way
+abbrev inside_blocks : Setup
+inside_blocks = then_call fourteen (a ∷ r ∷ []) ten.call
+
+still_open : open_transfer inside_blocks.past ≡ None → ⊥
+unfolding request_row_in response_row_in reading_refusal initiate_refusal completion_refusal has_object
+still_open e = cc
+
+nothing_comes : report inside_blocks (r ∷ []) ≡ waits 1 [] [] (codes "ABCDEFGHI")
+unfolding request_row_in response_row_in reading_refusal initiate_refusal completion_refusal has_object
+nothing_comes = refl
+
+-- ---- chains of transfers
+
+abbrev server : Server
+server = record { time = 2; description = dictionary; contents = bytes_in; past = [] }
+
+ready : IsReady server
+ready = record { idle = refl; dictionary = is_dictionary }
+
+abbrev call_for : Key → Mode → Job → Call
+call_for key mode job = record { key = key; mode = mode; time = 3; job = job }
+
+-- ---- the string is read, written, and read again
+
+abbrev write_ten : Call
+write_ten = call_for string_key Segmented (Download (codes "0123456789") true)
+
+abbrev read_string : Mode → Call
+read_string mode = call_for string_key mode (Upload 16)
+
+abbrev read_and_write : List Call
+read_and_write = read_string Segmented ∷ write_ten ∷ read_string Block ∷ []
+
+-- the second reading gives what was written, the first what was there before
+by_the_entries : all_bytes_given bytes_in read_and_write ≡ codes "ABCDEFGHI" ∷ [] ∷ codes "0123456789" ∷ []
+by_the_entries = refl
+
+string_after : contents_after_all bytes_in read_and_write string_key ≡ Some (codes "0123456789")
+string_after = refl
+
+domain_after : contents_after_all bytes_in read_and_write domain_key ≡ Some []
+domain_after = refl
+
+abbrev write_three : Call
+write_three = call_for string_key Plain (Download (codes "abc") false)
+
+-- the later of two writings counts
+written_twice : all_bytes_given bytes_in (write_ten ∷ write_three ∷ read_string Plain ∷ []) ≡ [] ∷ [] ∷ codes "abc" ∷ []
+written_twice = refl
+
+-- nothing else is read of what was written
+other_entry : all_bytes_given bytes_in (write_ten ∷ call_for domain_key Plain (Upload 20) ∷ []) ≡ [] ∷ [] ∷ []
+other_entry = refl
+
+-- the same of the worlds
+as_it_goes : results server (all_in_rounds bytes_in read_and_write) ≡ codes "ABCDEFGHI" ∷ [] ∷ codes "0123456789" ∷ []
+unfolding request_row_in response_row_in reading_refusal initiate_refusal completion_refusal has_object
+as_it_goes = refl
+
+all_are_done : outcomes server (all_in_rounds bytes_in read_and_write) ≡ Done ∷ Done ∷ Done ∷ []
+unfolding request_row_in response_row_in reading_refusal initiate_refusal completion_refusal has_object
+all_are_done = refl
+
+string_written : (server_after_all server (all_in_rounds bytes_in read_and_write)).contents string_key
+    ≡ Some (codes "0123456789")
+unfolding request_row_in response_row_in reading_refusal initiate_refusal completion_refusal has_object
+string_written = refl
+
+-- ---- the law is about them
+
+may_read_and_write : MayCallAll dictionary bytes_in read_and_write
+unfolding reading_refusal initiate_refusal completion_refusal has_object
+may_read_and_write = (
+  record { key = omega arith; job = omega arith; permitted = refl; fits = omega arith },
+  (
+    record { key = omega arith; job = omega arith; permitted = refl; fits = omega arith },
+    (record { key = omega arith; job = omega arith; permitted = refl; fits = omega arith }, tt),
+  ),
+)
+
+chain : IsChain server (all_in_rounds bytes_in read_and_write)
+chain = chain_in_rounds server read_and_write ready may_read_and_write
+
+by_the_law : results server (all_in_rounds bytes_in read_and_write)
+    ≡ codes "ABCDEFGHI" ∷ [] ∷ codes "0123456789" ∷ []
+by_the_law = (all_end server (all_in_rounds bytes_in read_and_write) chain.ready chain.permitted chain.whole).values
+
+-- ---- what is no such chain
+
+-- a client without room for the bytes that were written before
+too_little_room : MayCallAll dictionary bytes_in (write_ten ∷ call_for string_key Segmented (Upload 9) ∷ []) → ⊥
+too_little_room may = let fits = may.1.0.fits in omega arith
+
+-- what is no byte, and an index of more than 16 bits
+no_byte : MayCall dictionary bytes_in (call_for domain_key Plain (Download (256 ∷ []) true)) → ⊥
+no_byte may = let fits = may.fits in omega arith
+
+long_index : MayCall dictionary bytes_in (call_for (record { index = 65536; sub = 0 }) Plain (Upload 9)) → ⊥
+long_index may = let key = may.key in omega arith
+
+-- a channel with a download open
+not_ready : IsReady (record server { past = (world_after ten (a ∷ r ∷ [])).log }) → ⊥
+unfolding request_row_in response_row_in reading_refusal initiate_refusal completion_refusal has_object
+not_ready ready = let idle = ready.idle in cc
+
+-- a transfer that is left while a frame is on its way
+abbrev left_early : Transfer
+left_early = record { call = write_ten; events = rounds_after 2 [] }
+
+not_whole : IsWhole server left_early → ⊥
+unfolding request_row_in response_row_in reading_refusal initiate_refusal completion_refusal has_object
+not_whole whole = let rests = whole.rests in cc
+
+-- its client waits
+waits_still : outcomes server (left_early ∷ []) ≡ Waiting ∷ []
+unfolding request_row_in response_row_in reading_refusal initiate_refusal completion_refusal has_object
+waits_still = refl
+
+-- the client of a block upload is done when it has sent its end, and the channel not before that has come
+abbrev nine : Setup
+nine = setup string_key Block (Upload 9)
+
+nine_done : outcome nine.call (world_after nine (a ∷ r ∷ a ∷ a ∷ r ∷ a ∷ r ∷ [])).events ≡ Done
+unfolding request_row_in response_row_in reading_refusal initiate_refusal completion_refusal has_object
+nine_done = refl
+
+nine_not_over : IsOver nine (world_after nine (a ∷ r ∷ a ∷ a ∷ r ∷ a ∷ r ∷ [])) → ⊥
+unfolding request_row_in response_row_in reading_refusal initiate_refusal completion_refusal has_object
+nine_not_over over = let idle = over.idle in cc
+
+nine_over : open_transfer (world_after nine (r ∷ a ∷ r ∷ a ∷ a ∷ r ∷ a ∷ r ∷ [])).log ≡ None
+unfolding request_row_in response_row_in reading_refusal initiate_refusal completion_refusal has_object
+nine_over = refl
+
+-- ---- how many frames a transfer takes
+
+some_frames : map (λ mode. frames_needed mode bytes_in string_key (Download (codes "0123456789") true))
+    (Plain ∷ Segmented ∷ Block ∷ []) ≡ 6 ∷ 6 ∷ 7 ∷ []
+some_frames = refl
+
+short_frames : map (λ mode. frames_needed mode bytes_in string_key (Download (codes "0123") true))
+    (Plain ∷ Segmented ∷ Block ∷ []) ≡ 2 ∷ 4 ∷ 6 ∷ []
+short_frames = refl
+
+-- nine bytes, and none
+upload_frames : map (λ mode. frames_needed mode bytes_in string_key (Upload 16))
+    (Plain ∷ Segmented ∷ Block ∷ []) ≡ 6 ∷ 6 ∷ 8 ∷ []
+upload_frames = refl
+
+empty_frames : map (λ mode. frames_needed mode bytes_in domain_key (Upload 16))
+    (Plain ∷ Segmented ∷ Block ∷ []) ≡ 4 ∷ 4 ∷ 7 ∷ []
+empty_frames = refl

@@ -1,33 +1,21 @@
 -- Worked transfers that are disturbed, computed from the definitions over the dictionary of two entries: the client waits 3 ms
 -- for an answer, the channel 2 ms for a request. The first event stands first.
-use Rattle.std.proofs.Common.{map, ◌≡◌, ℕ, List, [], ◌∷◌, refl, codes, Some, true, false, reverse, arith}
-use Rattle.std.specs.Prelude.{◌+◌, ◌-◌, ◌*◌, nat_lt, if◌then◌else◌}
+use Rattle.std.proofs.Common.{map, ◌≡◌, List, [], ◌∷◌, refl, codes, Some, true, false, reverse, ap, arith}
 use Rattle.co_value.specs.Numbers.{AreBytes}
 use Rattle.co_frame.specs.SdoRequests.{request_row_in}
 use Rattle.co_frame.specs.SdoResponses.{response_row_in}
 use Rattle.co_dict.specs.Objects.{has_object}
 use Rattle.co_sdo_client.specs.declared.mode.Mode.TheVariants.{Plain, Segmented, Block}
-use Rattle.co_sdo_client.specs.declared.state.ClientState.TheVariants.{Waiting, Done, Failed}
 use Rattle.co_sdo_client.specs.Calls.{Download, Upload}
 use Rattle.co_sdo_client.specs.Segments.{bytes_of}
-use Rattle.co_sdo_client.specs.Outcomes.{outcome, result}
+use Rattle.co_sdo_client.specs.Outcomes.{result}
 use Rattle.co_sdo.specs.Refused.{reading_refusal, initiate_refusal, completion_refusal}
 use Rattle.co_sdo_laws.specs.Undisturbed.{IsUndisturbed}
 use Rattle.co_sdo_laws.specs.World.{Setup, WorldEvent, Requests, Answers, Delivered, Lost, Repeated, ClientTicked, ChannelTicked, world_after}
-use Rattle.co_sdo_laws.proofs.Examples.{string_key, setup, report, r, a, ten, fourteen}
+use Rattle.co_sdo_laws.proofs.Examples.{hex, string_key, setup, Report, report, waits, is_done, has_failed, r, a, ten, fourteen}
 use Rattle.co_sdo_laws.proofs.UndisturbedExamples.{is_dictionary, ten_events, ten_undisturbed, fourteen_undisturbed, nine_undisturbed}
 use Rattle.co_sdo_loss_laws.specs.Disturbed.{IsAlone, is_plain_download, is_repeat}
 use Rattle.co_sdo_loss_laws.proofs.Laws.{download_sets, upload_gives, block_upload_gives, block_download_sets}
-
--- ---- frames as their hexadecimal digits
-
-abbrev digit : ℕ → ℕ
-digit code = if nat_lt code 65 then code - 48 else code - 55
-
-abbrev hex : List ℕ → List ℕ
-hex [] = []
-hex (high ∷ []) = []
-hex (high ∷ low ∷ digits) = (16 * digit high + digit low) ∷ hex digits
 
 -- ---- which laws speak of which transfers
 
@@ -41,55 +29,35 @@ no_download = refl
 alone : (s : Setup) (events : List WorldEvent) → IsUndisturbed s events → AreBytes (bytes_of s.call.job) → IsAlone s
 alone s events u small = record { dictionary = u.dictionary; key = u.key; bytes = small; idle = u.idle }
 
+-- its client, of a report
+state_of : {x y : Report} → x ≡ y → x.state ≡ y.state
+state_of e = ap (λ (report : Report). report.state) e
+
 -- ---- ten bytes to the string, in segments
 
 -- the first segment is lost, and the channel's time is over: the client fails, and the entry is as it was
-lost_request : report ten (r ∷ a ∷ Lost Requests ∷ ChannelTicked ∷ ChannelTicked ∷ a ∷ []) ≡ record {
-  requests = [];
-  answers = [];
-  entry = Some (codes "ABCDEFGHI");
-  state = Failed (record { 0 = 0x05040000 });
-  sent = 2;
-  value = [];
-}
+lost_request : report ten (r ∷ a ∷ Lost Requests ∷ ChannelTicked ∷ ChannelTicked ∷ a ∷ [])
+    ≡ has_failed 0x05040000 2 [] [] (codes "ABCDEFGHI")
 unfolding request_row_in response_row_in reading_refusal initiate_refusal completion_refusal has_object
 lost_request = refl
 
 -- the answer to the first segment comes again: its toggle isn't the awaited one
-repeated_answer : report ten (r ∷ a ∷ r ∷ Repeated Answers ∷ a ∷ []) ≡ record {
-  requests = hex (codes "1937383900000000") ∷ hex (codes "8001200000000305") ∷ [];
-  answers = [];
-  entry = Some (codes "ABCDEFGHI");
-  state = Failed (record { 0 = 0x05030000 });
-  sent = 4;
-  value = [];
-}
+repeated_answer : report ten (r ∷ a ∷ r ∷ Repeated Answers ∷ a ∷ [])
+    ≡ has_failed 0x05030000 4 (hex (codes "1937383900000000") ∷ hex (codes "8001200000000305") ∷ []) [] (codes "ABCDEFGHI")
 unfolding request_row_in response_row_in reading_refusal initiate_refusal completion_refusal has_object
 repeated_answer = refl
 
 -- and where the last segment is lost as well, the repeated answer isn't taken for its answer: the abort arrives, and the entry is
 -- as it was
-repeated_answer_for_lost : report ten (r ∷ a ∷ r ∷ Repeated Answers ∷ Lost Requests ∷ a ∷ r ∷ []) ≡ record {
-  requests = [];
-  answers = [];
-  entry = Some (codes "ABCDEFGHI");
-  state = Failed (record { 0 = 0x05030000 });
-  sent = 4;
-  value = [];
-}
+repeated_answer_for_lost : report ten (r ∷ a ∷ r ∷ Repeated Answers ∷ Lost Requests ∷ a ∷ r ∷ [])
+    ≡ has_failed 0x05030000 4 [] [] (codes "ABCDEFGHI")
 unfolding request_row_in response_row_in reading_refusal initiate_refusal completion_refusal has_object
 repeated_answer_for_lost = refl
 
 -- the last answer is lost, and the client's time is over: it fails, though the entry is set. So it is of a client that is done
 -- alone that the law can speak.
-lost_answer : report ten (r ∷ a ∷ r ∷ a ∷ r ∷ Lost Answers ∷ ClientTicked ∷ ClientTicked ∷ ClientTicked ∷ []) ≡ record {
-  requests = hex (codes "8001200000000405") ∷ [];
-  answers = [];
-  entry = Some (codes "0123456789");
-  state = Failed (record { 0 = 0x05040000 });
-  sent = 4;
-  value = [];
-}
+lost_answer : report ten (r ∷ a ∷ r ∷ a ∷ r ∷ Lost Answers ∷ ClientTicked ∷ ClientTicked ∷ ClientTicked ∷ [])
+    ≡ has_failed 0x05040000 4 (hex (codes "8001200000000405") ∷ []) [] (codes "0123456789")
 unfolding request_row_in response_row_in reading_refusal initiate_refusal completion_refusal has_object
 lost_answer = refl
 
@@ -98,27 +66,16 @@ lost_answer = refl
 abbrev disturbed : List WorldEvent
 disturbed = Repeated Requests ∷ r ∷ a ∷ Lost Answers ∷ r ∷ ChannelTicked ∷ a ∷ Repeated Requests ∷ r ∷ a ∷ []
 
-disturbed_ten : report ten disturbed ≡ record {
-  requests = [];
-  answers = hex (codes "8000000001000405") ∷ [];
-  entry = Some (codes "0123456789");
-  state = Done;
-  sent = 3;
-  value = [];
-}
+disturbed_ten : report ten disturbed ≡ is_done 3 [] (hex (codes "8000000001000405") ∷ []) (codes "0123456789") []
 unfolding request_row_in response_row_in reading_refusal initiate_refusal completion_refusal has_object
 disturbed_ten = refl
-
-disturbed_is_done : outcome ten.call (world_after ten (reverse disturbed)).events ≡ Done
-unfolding request_row_in response_row_in reading_refusal initiate_refusal completion_refusal has_object
-disturbed_is_done = refl
 
 -- it is alone, so that the law says what the entry has
 ten_alone : IsAlone ten
 ten_alone = alone ten ten_events ten_undisturbed (omega arith)
 
 disturbed_entry : (world_after ten (reverse disturbed)).contents string_key ≡ Some (codes "0123456789")
-disturbed_entry = download_sets ten (reverse disturbed) ten_alone refl disturbed_is_done
+disturbed_entry = download_sets ten (reverse disturbed) ten_alone refl (state_of disturbed_ten)
 
 -- ---- the nine bytes of the string, read in segments
 
@@ -126,14 +83,8 @@ abbrev nine : Setup
 nine = setup string_key Segmented (Upload 9)
 
 -- the request of the first segment comes twice: the second has the wrong toggle, and nothing is open after it
-repeated_request : report nine (r ∷ a ∷ Repeated Requests ∷ r ∷ a ∷ r ∷ a ∷ []) ≡ record {
-  requests = [];
-  answers = hex (codes "8000000001000405") ∷ [];
-  entry = Some (codes "ABCDEFGHI");
-  state = Failed (record { 0 = 0x05030000 });
-  sent = 3;
-  value = [];
-}
+repeated_request : report nine (r ∷ a ∷ Repeated Requests ∷ r ∷ a ∷ r ∷ a ∷ [])
+    ≡ has_failed 0x05030000 3 [] (hex (codes "8000000001000405") ∷ []) (codes "ABCDEFGHI")
 unfolding request_row_in response_row_in reading_refusal initiate_refusal completion_refusal has_object
 repeated_request = refl
 
@@ -141,20 +92,16 @@ repeated_request = refl
 abbrev disturbed_reading : List WorldEvent
 disturbed_reading = Repeated Requests ∷ Lost Requests ∷ a ∷ r ∷ ClientTicked ∷ a ∷ r ∷ a ∷ []
 
-disturbed_nine : report nine disturbed_reading ≡ record { requests = []; answers = []; entry = Some (codes "ABCDEFGHI"); state = Done; sent = 3; value = codes "ABCDEFGHI" }
+disturbed_nine : report nine disturbed_reading ≡ is_done 3 [] [] (codes "ABCDEFGHI") (codes "ABCDEFGHI")
 unfolding request_row_in response_row_in reading_refusal initiate_refusal completion_refusal has_object
 disturbed_nine = refl
-
-disturbed_is_read : outcome nine.call (world_after nine (reverse disturbed_reading)).events ≡ Done
-unfolding request_row_in response_row_in reading_refusal initiate_refusal completion_refusal has_object
-disturbed_is_read = refl
 
 nine_alone : IsAlone nine
 unfolding reading_refusal initiate_refusal completion_refusal has_object
 nine_alone = alone nine [] (record { dictionary = is_dictionary; key = omega arith; job = omega arith; permitted = refl; idle = refl; calm = tt }) tt
 
 disturbed_value : result nine.call (world_after nine (reverse disturbed_reading)).events ≡ codes "ABCDEFGHI"
-disturbed_value = upload_gives nine (reverse disturbed_reading) nine_alone refl disturbed_is_read
+disturbed_value = upload_gives nine (reverse disturbed_reading) nine_alone refl (state_of disturbed_nine)
 
 -- ---- the nine bytes of the string, read in blocks
 
@@ -165,14 +112,8 @@ abbrev nine_in_blocks : Setup
 nine_in_blocks = setup string_key Block (Upload 9)
 
 -- the first of two segments is lost: the second isn't taken, and the sub-block is acknowledged as of none
-lost_segment : report nine_in_blocks (r ∷ a ∷ r ∷ Lost Answers ∷ a ∷ []) ≡ record {
-  requests = hex (codes "A2007F0000000000") ∷ [];
-  answers = [];
-  entry = Some (codes "ABCDEFGHI");
-  state = Waiting;
-  sent = 3;
-  value = [];
-}
+lost_segment : report nine_in_blocks (r ∷ a ∷ r ∷ Lost Answers ∷ a ∷ [])
+    ≡ waits 3 (hex (codes "A2007F0000000000") ∷ []) [] (codes "ABCDEFGHI")
 unfolding request_row_in response_row_in reading_refusal initiate_refusal completion_refusal has_object
 lost_segment = refl
 
@@ -180,50 +121,27 @@ lost_segment = refl
 abbrev disturbed_blocks : List WorldEvent
 disturbed_blocks = r ∷ a ∷ r ∷ Lost Answers ∷ a ∷ r ∷ ClientTicked ∷ a ∷ a ∷ r ∷ a ∷ []
 
-disturbed_blocks_done : report nine_in_blocks disturbed_blocks ≡ record {
-  requests = hex (codes "A100000000000000") ∷ [];
-  answers = [];
-  entry = Some (codes "ABCDEFGHI");
-  state = Done;
-  sent = 5;
-  value = codes "ABCDEFGHI";
-}
+disturbed_blocks_done : report nine_in_blocks disturbed_blocks
+    ≡ is_done 5 (hex (codes "A100000000000000") ∷ []) [] (codes "ABCDEFGHI") (codes "ABCDEFGHI")
 unfolding request_row_in response_row_in reading_refusal initiate_refusal completion_refusal has_object
 disturbed_blocks_done = refl
-
-blocks_are_read : outcome nine_in_blocks.call (world_after nine_in_blocks (reverse disturbed_blocks)).events ≡ Done
-unfolding request_row_in response_row_in reading_refusal initiate_refusal completion_refusal has_object
-blocks_are_read = refl
 
 nine_in_blocks_alone : IsAlone nine_in_blocks
 nine_in_blocks_alone = alone nine_in_blocks [] (nine_undisturbed 0) tt
 
 disturbed_blocks_value : result nine_in_blocks.call (world_after nine_in_blocks (reverse disturbed_blocks)).events ≡ codes "ABCDEFGHI"
-disturbed_blocks_value = block_upload_gives nine_in_blocks (reverse disturbed_blocks) nine_in_blocks_alone refl refl blocks_are_read
+disturbed_blocks_value = block_upload_gives nine_in_blocks (reverse disturbed_blocks) nine_in_blocks_alone refl refl (state_of disturbed_blocks_done)
 
 -- the last segment is lost: the sub-block doesn't end, and the channel's time is over
-lost_last_segment : report nine_in_blocks (r ∷ a ∷ r ∷ a ∷ Lost Answers ∷ ChannelTicked ∷ ChannelTicked ∷ a ∷ []) ≡ record {
-  requests = [];
-  answers = [];
-  entry = Some (codes "ABCDEFGHI");
-  state = Failed (record { 0 = 0x05040000 });
-  sent = 2;
-  value = [];
-}
+lost_last_segment : report nine_in_blocks (r ∷ a ∷ r ∷ a ∷ Lost Answers ∷ ChannelTicked ∷ ChannelTicked ∷ a ∷ [])
+    ≡ has_failed 0x05040000 2 [] [] (codes "ABCDEFGHI")
 unfolding request_row_in response_row_in reading_refusal initiate_refusal completion_refusal has_object
 lost_last_segment = refl
 
 -- ---- fourteen bytes to the domain, in blocks
 
 -- the first of two segments is lost: the second isn't taken, and the sub-block is acknowledged as of none
-lost_first : report fourteen (r ∷ a ∷ Lost Requests ∷ r ∷ []) ≡ record {
-  requests = [];
-  answers = hex (codes "A2007F0000000000") ∷ [];
-  entry = Some [];
-  state = Waiting;
-  sent = 3;
-  value = [];
-}
+lost_first : report fourteen (r ∷ a ∷ Lost Requests ∷ r ∷ []) ≡ waits 3 [] (hex (codes "A2007F0000000000") ∷ []) []
 unfolding request_row_in response_row_in reading_refusal initiate_refusal completion_refusal has_object
 lost_first = refl
 
@@ -231,35 +149,18 @@ lost_first = refl
 abbrev disturbed_fourteen : List WorldEvent
 disturbed_fourteen = r ∷ a ∷ Lost Requests ∷ r ∷ a ∷ r ∷ ChannelTicked ∷ r ∷ a ∷ r ∷ a ∷ []
 
-fourteen_done : report fourteen disturbed_fourteen ≡ record {
-  requests = [];
-  answers = [];
-  entry = Some (codes "0123456789ABCD");
-  state = Done;
-  sent = 6;
-  value = [];
-}
+fourteen_done : report fourteen disturbed_fourteen ≡ is_done 6 [] [] (codes "0123456789ABCD") []
 unfolding request_row_in response_row_in reading_refusal initiate_refusal completion_refusal has_object
 fourteen_done = refl
-
-fourteen_is_done : outcome fourteen.call (world_after fourteen (reverse disturbed_fourteen)).events ≡ Done
-unfolding request_row_in response_row_in reading_refusal initiate_refusal completion_refusal has_object
-fourteen_is_done = refl
 
 fourteen_alone : IsAlone fourteen
 fourteen_alone = alone fourteen [] (fourteen_undisturbed 0) (omega arith)
 
 fourteen_entry : (world_after fourteen (reverse disturbed_fourteen)).contents fourteen.call.key ≡ Some (codes "0123456789ABCD")
-fourteen_entry = block_download_sets fourteen (reverse disturbed_fourteen) fourteen_alone refl refl fourteen_is_done
+fourteen_entry = block_download_sets fourteen (reverse disturbed_fourteen) fourteen_alone refl refl (state_of fourteen_done)
 
 -- the channel's time is over before the segments come: it hears them as requests, and none of its answers is awaited
-given_up : report fourteen (r ∷ a ∷ ChannelTicked ∷ ChannelTicked ∷ Lost Answers ∷ r ∷ a ∷ []) ≡ record {
-  requests = hex (codes "8237383941424344") ∷ [];
-  answers = [];
-  entry = Some [];
-  state = Failed (record { 0 = 0x05040001 });
-  sent = 3;
-  value = [];
-}
+given_up : report fourteen (r ∷ a ∷ ChannelTicked ∷ ChannelTicked ∷ Lost Answers ∷ r ∷ a ∷ [])
+    ≡ has_failed 0x05040001 3 (hex (codes "8237383941424344") ∷ []) [] []
 unfolding request_row_in response_row_in reading_refusal initiate_refusal completion_refusal has_object
 given_up = refl

@@ -8,6 +8,6 @@ returns c = record {
   contents = block_upload_sets_nothing;
   frames = λ s events u t room done. ((fetched_in_blocks s events u t room).ends events u.calm done).sends;
   over = λ s events u t room. is_over s (fetched_in_blocks s events u t room) u.dictionary events u.calm;
-  ends = λ s events u t room. is_done s (fetched_in_blocks s events u t room) events u.calm;
-  rests = λ s events u t room. rests s (fetched_in_blocks s events u t room) events u.calm;
+  ends = λ s events u t room. is_done s _ (fetched_in_blocks s events u t room) events u.calm;
+  rests = λ s events u t room. rests s _ (fetched_in_blocks s events u t room) events u.calm;
 }

@@ -1,0 +1,708 @@
+-- Transfers in which each request waits for its answer, whatever disturbs them. The client sends nothing twice, and each queue
+-- keeps its order, so both ends see only frames of two steps, one after the other: which of the two, the toggle tells. `p` says
+-- that a transfer is permitted.
+use Rattle.std.proofs.Common.{◌≡◌, ℕ, zero, suc, ◌+◌, ◌<◌, ◌≤◌, Bool, true, false, List, [], ◌∷◌, ◌++◌, length, map, drop, Option, Some, None, refl, sym, ap, ◌∙◌, arith, subst, append-nil, ◌⊎◌, inl, inr}
+use Rattle.std.specs.List.{AllByRecursion}
+use Rattle.std.proofs.lemmas.Bool.{false≢true}
+use Rattle.std.specs.Prelude.{if◌then◌else◌}
+use Rattle.co_value.specs.declared.key.Key.{Key}
+use Rattle.co_frame.specs.declared.sdo_response.SdoResponse.TheVariants.{Abort}
+use Rattle.co_frame.specs.SdoResponses.{response_bytes}
+use Rattle.co_sdo_client.specs.declared.state.ClientState.TheVariants.{Waiting, Done}
+use Rattle.co_sdo_client.specs.Calls.{message_bytes, Event as ClientEvent, Answered, Ticked as TickedAtClient, is_time_over as is_client_over}
+use Rattle.co_sdo_client.specs.Verdicts.{GoesOn, Ends, verdict}
+use Rattle.co_sdo_client.specs.Outcomes.{outcome, asked, result}
+use Rattle.co_dict.specs.Rows.{Contents}
+use Rattle.co_dict.specs.Stores.{IsDictionary}
+use Rattle.co_sdo.specs.declared.stage.Stage.TheVariants.{Upload as Uploading}
+use Rattle.co_sdo.specs.Log.{Answer, answer_bytes, Log, Ticked, TimedOut}
+use Rattle.co_sdo.specs.OpenTransfers.{open_transfer}
+use Rattle.co_sdo.specs.Opened.{OpenTransfer, opened_after, is_time_over}
+use Rattle.co_sdo.specs.Completed.{contents_with}
+use Rattle.co_sdo.specs.Steps.{opened_next, set_next}
+use Rattle.co_sdo.specs.Replies.{answers_to, aborted, is_in_sub_block, open_key, time_out_reply}
+use Rattle.co_sdo_laws.specs.World.{Setup, World, Queue, Requests, Answers, WorldEvent, Delivered, Lost, Repeated, ClientTicked, ChannelTicked, first_world, at_client, at_channel, timed_out, ticked, without_front, front_arrives, after_event, world_after}
+use Rattle.co_sdo_laws.proofs.Client.{follows, stays, tick_verdict}
+use Rattle.co_sdo_laws.proofs.Channel.{Serves, serves_first, serves_ticked, IsServing, serving_ticks, serving_ends, Steps, is_served, takes_it, refuses_it}
+use Rattle.co_sdo_laws.proofs.Turns.{Takes, GoesOnWith, Turns, either, waiting≢done}
+use Rattle.co_sdo_laws.proofs.Failures.{IsAbort, has_failed, Fails, Refuses, abort_read, failed_event}
+
+-- ---- the transfer: requests 0 to `last` and their answers
+
+-- what is open after each request but the last one, what the contents may be, and what the last request makes of them
+pub record Parts (s : Setup) : Type 1 where
+  pub last : ℕ
+  pub value : List ℕ
+  pub request : ℕ → List ℕ
+  pub reply : ℕ → Answer
+  pub open_at : ℕ → OpenTransfer
+  pub Lawful : Contents → Type 0
+  pub left : Contents → Contents
+  -- they stay lawful if this holds
+  pub Sound : Type 0
+  -- the entry has what was written
+  pub IsSet : Contents → Type 0
+  -- the client took the answers before k, and waits for answer k
+  pub Client : ℕ → List ClientEvent → Type 0
+
+abbrev pub answer : (s : Setup) → Parts s → ℕ → List ℕ
+answer s t k = answer_bytes (t.reply k)
+
+-- of a transfer that is over with its first request
+abbrev pub nothing_open : OpenTransfer
+nothing_open = record { key = record { index = 0; sub = 0 }; stage = Uploading 0; bytes = [] }
+
+-- the channel refuses request k while this is open
+pub record IsRefused (s : Setup) (t : Parts s) (k : ℕ) (current : Option OpenTransfer) (contents : Contents) : Type 0 where
+  pub key : Key
+  pub code : ℕ
+  pub replies : answers_to s.description contents current (t.request k) ≡ aborted key code
+  pub opens : opened_next s.description contents current (t.request k) ≡ None
+  pub sets : contents_with contents (set_next s.description contents current (t.request k)) ≡ contents
+
+-- it takes request k, which is the last one or not, or refuses it, which it doesn't where that is permitted
+pub data Reacts (s : Setup) (p : Type 0) (t : Parts s) (k : ℕ) (current : Option OpenTransfer) (contents : Contents) : Type 0 where
+  takes : k < t.last → Steps s.description contents current (t.request k) (t.reply k ∷ []) (Some (t.open_at k)) contents
+      → Reacts s p t k current contents
+  takes_last : k ≡ t.last → Steps s.description contents current (t.request k) (t.reply k ∷ []) None (t.left contents)
+      → (t.Sound → t.Lawful (t.left contents)) → Reacts s p t k current contents
+  refuses : (p → contents ≡ s.contents → ⊥) → IsRefused s t k current contents → Reacts s p t k current contents
+
+pub record StopAndWait (s : Setup) (p : Type 0) (t : Parts s) : Type 0 where
+  pub first_request : map message_bytes (asked s.call []) ≡ t.request 0 ∷ []
+  pub first_client : t.Client 0 []
+  pub first_lawful : t.Lawful s.contents
+  pub idle : open_transfer s.past ≡ None
+  pub long : (k : ℕ) → length (t.request k) ≡ 8
+  pub outside : is_in_sub_block (Some (t.open_at 0)) ≡ false
+  pub dictionary : (contents : Contents) → t.Lawful contents → IsDictionary s.description contents
+  pub sets : (contents : Contents) → t.Lawful contents → t.IsSet (t.left contents)
+  pub begins : (current : Option OpenTransfer) (contents : Contents) → is_in_sub_block current ≡ false → t.Lawful contents
+      → Reacts s p t 0 current contents
+  pub goes_on : (k : ℕ) (contents : Contents) → k < t.last → t.Lawful contents
+      → Reacts s p t (suc k) (Some (t.open_at k)) contents
+  pub refuses_idle : (k : ℕ) (contents : Contents) → k < t.last → IsRefused s t (suc k) None contents
+  pub refuses_again : (k : ℕ) (contents : Contents) → suc k < t.last
+      → IsRefused s t (suc k) (Some (t.open_at (suc k))) contents
+  pub client_goes_on : (k : ℕ) (events : List ClientEvent) → k < t.last → t.Client k events
+      → GoesOnWith s events (answer s t k) (t.request (suc k)) (t.Client (suc k))
+      ⊎ ((p → ⊥) × Fails s events (answer s t k))
+  pub client_ends : (k : ℕ) (events : List ClientEvent) → k ≡ t.last → t.Client k events
+      → (verdict s.call events (Answered (answer s t k)) ≡ Ends [] t.value) ⊎ ((p → ⊥) × Fails s events (answer s t k))
+  pub client_stale : (k : ℕ) (events : List ClientEvent) → k < t.last → t.Client (suc k) events
+      → Fails s events (answer s t k)
+  pub client_aborted : (k : ℕ) (events : List ClientEvent) (frame : List ℕ) → t.Client k events → IsAbort frame
+      → Fails s events frame
+  pub client_ticks : (k : ℕ) (events : List ClientEvent) → t.Client k events → t.Client k (TickedAtClient ∷ events)
+
+-- ---- the channel: nothing is open, or requests 0 to k were taken
+
+abbrev pub Idle : (s : Setup) → Parts s → Log → Contents → Type 0
+Idle s t = IsServing s t.Lawful None
+
+pub record Open (s : Setup) (t : Parts s) (k : ℕ) (log : Log) (contents : Contents) : Type 0 where
+  pub within : k < t.last
+  pub serving : IsServing s t.Lawful (Some (t.open_at k)) log contents
+
+-- after request k was taken, with these contents before: it goes on, or that was the last one
+pub data Reached (s : Setup) (t : Parts s) (before : Contents) (k : ℕ) (log : Log) (contents : Contents) : Type 0 where
+  still : Open s t k log contents → contents ≡ before → Reached s t before k log contents
+  was_last : k ≡ t.last → IsServing s (λ c. t.Sound → t.Lawful c) None log contents → contents ≡ t.left before
+      → t.IsSet contents → Reached s t before k log contents
+
+refused_by : (s : Setup) {p : Type 0} (t : Parts s) → StopAndWait s p t → (k : ℕ) (current : Option OpenTransfer) (log : Log)
+    (contents : Contents) → IsServing s t.Lawful current log contents → IsRefused s t k current contents
+    → Refuses s log contents (t.request k) (Idle s t)
+refused_by s t m k current log contents h refused =
+    refuses_it s t.Lawful log contents (t.request k) refused.key refused.code h.lawful
+    (is_served s log contents current (t.request k) _ _ _ h.serves (m.dictionary contents h.lawful) (m.long k)
+    (record { replies = refused.replies; opens = refused.opens; sets = refused.sets }))
+
+pub reacts : (s : Setup) {p : Type 0} (t : Parts s) → StopAndWait s p t → (k : ℕ) (current : Option OpenTransfer) (log : Log)
+    (contents : Contents) → IsServing s t.Lawful current log contents → Reacts s p t k current contents
+    → Takes s log contents (t.request k) (answer s t k) (Reached s t contents k)
+    ⊎ ((p → contents ≡ s.contents → ⊥) × Refuses s log contents (t.request k) (Idle s t))
+reacts s t m k current log contents h (takes less step) =
+    inl (takes_it s log contents (t.request k) (t.reply k) _ _ _
+    (is_served s log contents current (t.request k) _ _ _ h.serves (m.dictionary contents h.lawful) (m.long k) step)
+    (λ longer set serves kept.
+    still (record { within = less; serving = record { serves = serves; lawful = subst t.Lawful (sym kept) h.lawful } }) kept))
+reacts s t m k current log contents h (takes_last last step lawful) =
+    inl (takes_it s log contents (t.request k) (t.reply k) _ _ _
+    (is_served s log contents current (t.request k) _ _ _ h.serves (m.dictionary contents h.lawful) (m.long k) step)
+    (λ longer set serves left.
+    was_last last (record { serves = serves; lawful = λ sound. subst t.Lawful (sym left) (lawful sound) }) left
+    (subst t.IsSet (sym left) (m.sets contents h.lawful))))
+reacts s t m k current log contents h (refuses never refused) =
+    inr (never, refused_by s t m k current log contents h refused)
+
+-- what holds after request k was taken, whatever the contents were
+abbrev pub Taken : (s : Setup) → Parts s → ℕ → Log → Contents → Type 0
+Taken s t k log contents = (Idle s t log contents ⊎ Open s t k log contents) × (k ≡ t.last → t.IsSet contents)
+
+not_last : (k last : ℕ) → k < last → k ≡ last → ⊥
+not_last k last h e = absurd (omega arith)
+
+taken : (s : Setup) (t : Parts s) → t.Sound → (before : Contents) (k : ℕ) (log : Log) (contents : Contents)
+    → Reached s t before k log contents → Taken s t k log contents
+taken s t sound before k log contents (still h kept) = (inr h, λ e. absurd (not_last k t.last h.within e))
+taken s t sound before k log contents (was_last e h left set) = (inl (record { serves = h.serves; lawful = h.lawful sound }), λ e. set)
+
+-- it takes request k, or refuses it
+abbrev Replies : (s : Setup) → Parts s → ℕ → Log → Contents → Type 0
+Replies s t k log contents =
+    Takes s log contents (t.request k) (answer s t k) (Taken s t k) ⊎ Refuses s log contents (t.request k) (Idle s t)
+
+takes_or_refuses : (s : Setup) {p : Type 0} (t : Parts s) → StopAndWait s p t → t.Sound → (k : ℕ) (current : Option OpenTransfer)
+    (log : Log) (contents : Contents) → IsServing s t.Lawful current log contents → Reacts s p t k current contents
+    → Replies s t k log contents
+takes_or_refuses s t m sound k current log contents h r = elim (reacts s t m k current log contents h r) [
+  | inl took ↦ inl (record { replies = took.replies; next = taken s t sound contents k _ _ took.next })
+  | inr refused ↦ inr refused.1
+]
+
+-- ---- what is on its way while the client waits for answer k
+
+-- to the channel: request k, or nothing
+pub data Newest (s : Setup) (t : Parts s) (k : ℕ) (frames : List (List ℕ)) : Type 0 where
+  none : frames ≡ [] → Newest s t k frames
+  one : frames ≡ t.request k ∷ [] → Newest s t k frames
+
+-- or the request before it too, again
+pub data Sent (s : Setup) (t : Parts s) (k : ℕ) (frames : List (List ℕ)) : Type 0 where
+  few : Newest s t k frames → Sent s t k frames
+  both : (j : ℕ) → k ≡ suc j → frames ≡ t.request j ∷ t.request k ∷ [] → Sent s t k frames
+
+-- to the client: answer k, or an abort
+abbrev pub IsLive : (s : Setup) → Parts s → ℕ → List ℕ → Type 0
+IsLive s t k frame = (frame ≡ answer s t k) ⊎ IsAbort frame
+
+-- or the answer before it, again
+abbrev pub IsStale : (s : Setup) → Parts s → ℕ → List ℕ → Type 0
+IsStale s t zero frame = IsAbort frame
+IsStale s t (suc k) frame = IsLive s t k frame
+
+-- first stale ones, and then live ones
+abbrev pub Mixed : (s : Setup) → Parts s → ℕ → List (List ℕ) → Type 0
+Mixed s t k [] = Unit {0}
+Mixed s t k (frame ∷ later) = (IsLive s t k frame × AllByRecursion (IsLive s t k) later) ⊎ (IsStale s t k frame × Mixed s t k later)
+
+-- ---- both ends
+
+-- the channel before it saw request k
+abbrev pub Before : (s : Setup) → Parts s → ℕ → Log → Contents → Type 0
+Before s t zero log contents = Idle s t log contents
+Before s t (suc k) log contents = Idle s t log contents ⊎ Open s t k log contents
+
+pub record Unseen (s : Setup) (t : Parts s) (k : ℕ) (w : World) : Type 0 where
+  pub requests : Sent s t k w.requests
+  pub channel : Before s t k w.log w.contents
+  pub answers : AllByRecursion (IsStale s t k) w.answers
+
+-- the channel after it took request k
+pub record Seen (s : Setup) (t : Parts s) (k : ℕ) (w : World) : Type 0 where
+  pub requests : Newest s t k w.requests
+  pub channel : Idle s t w.log w.contents ⊎ Open s t k w.log w.contents
+  pub answers : Mixed s t k w.answers
+  pub set : k ≡ t.last → t.IsSet w.contents
+
+pub record Waits (s : Setup) (t : Parts s) (k : ℕ) (w : World) : Type 0 where
+  pub waits : outcome s.call w.events ≡ Waiting
+  pub within : k ≤ t.last
+  pub client : t.Client k w.events
+  pub between : Unseen s t k w ⊎ Seen s t k w
+
+pub record IsOver (s : Setup) (t : Parts s) (w : World) : Type 0 where
+  pub done : outcome s.call w.events ≡ Done
+  pub value : result s.call w.events ≡ t.value
+  pub requests : Newest s t t.last w.requests
+  pub channel : Idle s t w.log w.contents
+  pub set : t.IsSet w.contents
+
+-- what holds after each list of events; of a client that has failed nothing
+pub data Stands (s : Setup) (t : Parts s) (w : World) : Type 0 where
+  waiting : (k : ℕ) → Waits s t k w → Stands s t w
+  over : IsOver s t w → Stands s t w
+  failed : has_failed (outcome s.call w.events) ≡ true → Stands s t w
+
+-- ---- lists
+
+stale_abort : (s : Setup) (t : Parts s) (k : ℕ) (frame : List ℕ) → IsAbort frame → IsStale s t k frame
+stale_abort s t zero frame h = h
+stale_abort s t (suc k) frame h = inr h
+
+all_and : (P : List ℕ → Type 0) (xs : List (List ℕ)) (x : List ℕ) → AllByRecursion P xs → P x → AllByRecursion P (xs ++ x ∷ [])
+all_and P [] x h p = (p, tt)
+all_and P (y ∷ ys) x h p = (h.0, all_and P ys x h.1 p)
+
+all_drop : (P : List ℕ → Type 0) (xs : List (List ℕ)) → AllByRecursion P xs → AllByRecursion P (drop 1 xs)
+all_drop P [] h = tt
+all_drop P (x ∷ xs) h = h.1
+
+then_live : (s : Setup) (t : Parts s) (k : ℕ) (xs : List (List ℕ)) (x : List ℕ) → AllByRecursion (IsStale s t k) xs → IsLive s t k x → Mixed s t k (xs ++ x ∷ [])
+then_live s t k [] x h p = inl (p, tt)
+then_live s t k (y ∷ ys) x h p = inr (h.0, then_live s t k ys x h.1 p)
+
+mixed_and : (s : Setup) (t : Parts s) (k : ℕ) (xs : List (List ℕ)) (x : List ℕ) → Mixed s t k xs → IsLive s t k x → Mixed s t k (xs ++ x ∷ [])
+mixed_and s t k [] x h p = inl (p, tt)
+mixed_and s t k (y ∷ ys) x (inl h) p = inl (h.0, all_and (IsLive s t k) ys x h.1 p)
+mixed_and s t k (y ∷ ys) x (inr h) p = inr (h.0, mixed_and s t k ys x h.1 p)
+
+mixed_live : (s : Setup) (t : Parts s) (k : ℕ) (xs : List (List ℕ)) → AllByRecursion (IsLive s t k) xs → Mixed s t k xs
+mixed_live s t k [] h = tt
+mixed_live s t k (x ∷ xs) h = inl h
+
+mixed_drop : (s : Setup) (t : Parts s) (k : ℕ) (xs : List (List ℕ)) → Mixed s t k xs → Mixed s t k (drop 1 xs)
+mixed_drop s t k [] h = tt
+mixed_drop s t k (x ∷ xs) (inl h) = mixed_live s t k xs h.1
+mixed_drop s t k (x ∷ xs) (inr h) = h.1
+
+newest_drop : (s : Setup) (t : Parts s) (k : ℕ) (xs : List (List ℕ)) → Newest s t k xs → Newest s t k (drop 1 xs)
+newest_drop s t k xs (none e) = none (ap (drop 1) e)
+newest_drop s t k xs (one e) = none (ap (drop 1) e)
+
+sent_drop : (s : Setup) (t : Parts s) (k : ℕ) (xs : List (List ℕ)) → Sent s t k xs → Newest s t k (drop 1 xs)
+sent_drop s t k xs (few h) = newest_drop s t k xs h
+sent_drop s t k xs (both j e h) = one (ap (drop 1) h)
+
+-- the next request follows
+sent_next : (s : Setup) (t : Parts s) (k : ℕ) (xs : List (List ℕ)) → Newest s t k xs → Sent s t (suc k) (xs ++ t.request (suc k) ∷ [])
+sent_next s t k xs (none e) = few (one (ap (λ (ys : List (List ℕ)). ys ++ t.request (suc k) ∷ []) e))
+sent_next s t k xs (one e) = both k refl (ap (λ (ys : List (List ℕ)). ys ++ t.request (suc k) ∷ []) e)
+
+-- ---- a request comes
+
+-- request k for the first time
+first_time : (s : Setup) {p : Type 0} (t : Parts s) → StopAndWait s p t → t.Sound → (k : ℕ) (log : Log) (contents : Contents)
+    → k ≤ t.last → Before s t k log contents → Replies s t k log contents
+first_time s t m sound zero log contents l h =
+    takes_or_refuses s t m sound 0 None log contents h (m.begins None contents refl h.lawful)
+first_time s t m sound (suc k) log contents l (inl h) =
+    inr (refused_by s t m (suc k) None log contents h (m.refuses_idle k contents (omega arith)))
+first_time s t m sound (suc k) log contents l (inr h) =
+    takes_or_refuses s t m sound (suc k) _ log contents h.serving (m.goes_on k contents h.within h.serving.lawful)
+
+-- request k again
+again : (s : Setup) {p : Type 0} (t : Parts s) → StopAndWait s p t → t.Sound → (k : ℕ) (log : Log) (contents : Contents)
+    → k ≤ t.last → Idle s t log contents ⊎ Open s t k log contents → Replies s t k log contents
+again s t m sound zero log contents l (inl h) =
+    takes_or_refuses s t m sound 0 None log contents h (m.begins None contents refl h.lawful)
+again s t m sound zero log contents l (inr h) =
+    takes_or_refuses s t m sound 0 _ log contents h.serving (m.begins _ contents m.outside h.serving.lawful)
+again s t m sound (suc k) log contents l (inl h) =
+    inr (refused_by s t m (suc k) None log contents h (m.refuses_idle k contents (omega arith)))
+again s t m sound (suc k) log contents l (inr h) =
+    inr (refused_by s t m (suc k) _ log contents h.serving (m.refuses_again k contents h.within))
+
+idle_before : (s : Setup) (t : Parts s) (k : ℕ) (log : Log) (contents : Contents) → Idle s t log contents
+    → Before s t k log contents
+idle_before s t zero log contents h = h
+idle_before s t (suc k) log contents h = inl h
+
+refused_unseen : (s : Setup) (t : Parts s) (k : ℕ) (frame : List ℕ) (w : World) → Unseen s t k w
+    → Refuses s w.log w.contents frame (Idle s t) → Unseen s t k (at_channel s frame w)
+refused_unseen s t k frame w u refused = record {
+  requests = u.requests;
+  channel = idle_before s t k _ _ refused.takes.next;
+  answers = rw refused.takes.replies
+      (all_and (IsStale s t k) w.answers refused.answer u.answers (stale_abort s t k refused.answer refused.is_abort));
+}
+
+-- the request before k again: it was taken, and the channel hasn't seen request k
+older_comes : (s : Setup) {p : Type 0} (t : Parts s) → StopAndWait s p t → t.Sound → (k : ℕ) (w : World) → k < t.last
+    → Unseen s t (suc k) w → Unseen s t (suc k) (at_channel s (t.request k) w)
+older_comes s t m sound k w h u = elim (again s t m sound k w.log w.contents (omega arith) u.channel) [
+  | inl took ↦ record {
+    requests = u.requests;
+    channel = took.next.0;
+    answers = rw took.replies (all_and (IsStale s t (suc k)) w.answers (answer s t k) u.answers (inl refl));
+  }
+  | inr refused ↦ refused_unseen s t (suc k) (t.request k) w u refused
+]
+
+-- request k, for the first time
+newer_comes : (s : Setup) {p : Type 0} (t : Parts s) → StopAndWait s p t → t.Sound → (k : ℕ) (w : World) → k ≤ t.last
+    → Newest s t k w.requests → Unseen s t k w
+    → Unseen s t k (at_channel s (t.request k) w) ⊎ Seen s t k (at_channel s (t.request k) w)
+newer_comes s t m sound k w h newest u = elim (first_time s t m sound k w.log w.contents h u.channel) [
+  | inl took ↦ inr (record {
+    requests = newest;
+    channel = took.next.0;
+    answers = rw took.replies (then_live s t k w.answers (answer s t k) u.answers (inl refl));
+    set = took.next.1;
+  })
+  | inr refused ↦ inl (refused_unseen s t k (t.request k) w u refused)
+]
+
+-- request k again
+again_comes : (s : Setup) {p : Type 0} (t : Parts s) → StopAndWait s p t → t.Sound → (k : ℕ) (w : World) → k ≤ t.last
+    → Seen s t k w → Seen s t k (at_channel s (t.request k) w)
+again_comes s t m sound k w l h = elim (again s t m sound k w.log w.contents l h.channel) [
+  | inl took ↦ record {
+    requests = h.requests;
+    channel = took.next.0;
+    answers = rw took.replies (mixed_and s t k w.answers (answer s t k) h.answers (inl refl));
+    set = took.next.1;
+  }
+  | inr refused ↦ record {
+    requests = h.requests;
+    channel = inl refused.takes.next;
+    answers = rw refused.takes.replies (mixed_and s t k w.answers refused.answer h.answers (inr refused.is_abort));
+    set = λ e. subst t.IsSet (sym refused.same) (h.set e);
+  }
+]
+
+-- where that was the last one, nothing is open
+none_open : (s : Setup) (t : Parts s) (k : ℕ) (log : Log) (contents : Contents) → k ≡ t.last
+    → Idle s t log contents ⊎ Open s t k log contents → Idle s t log contents
+none_open s t k log contents e (inl h) = h
+none_open s t k log contents e (inr h) = absurd (not_last k t.last h.within e)
+
+-- and after the end
+over_comes : (s : Setup) {p : Type 0} (t : Parts s) → StopAndWait s p t → t.Sound → (w : World) → IsOver s t w
+    → IsOver s t (at_channel s (t.request t.last) w)
+over_comes s t m sound w h = elim (again s t m sound t.last w.log w.contents (omega arith) (inl h.channel)) [
+  | inl took ↦ record {
+    done = h.done;
+    value = h.value;
+    requests = h.requests;
+    channel = none_open s t t.last _ _ refl took.next.0;
+    set = took.next.1 refl;
+  }
+  | inr refused ↦ record {
+    done = h.done;
+    value = h.value;
+    requests = h.requests;
+    channel = refused.takes.next;
+    set = subst t.IsSet (sym refused.same) h.set;
+  }
+]
+
+-- ---- the oldest request comes, and stays on its way or not
+
+still_waits : (s : Setup) (t : Parts s) (k : ℕ) (frame : List ℕ) (w : World) → Waits s t k w → Unseen s t k (at_channel s frame w) ⊎ Seen s t k (at_channel s frame w)
+    → Stands s t (at_channel s frame w)
+still_waits s t k frame w h between = waiting k (record { waits = h.waits; within = h.within; client = h.client; between = between })
+
+unseen_front : (s : Setup) {p : Type 0} (t : Parts s) → StopAndWait s p t → t.Sound → (k : ℕ) (w : World) → Waits s t k w → Unseen s t k w → (xs : List (List ℕ)) → Sent s t k xs → (Newest s t k xs → Newest s t k w.requests)
+    → Stands s t (front_arrives s Requests xs w)
+unseen_front s t m sound k w h u xs (few (none e)) keeps = subst (λ (ys : List (List ℕ)). Stands s t (front_arrives s Requests ys w)) (sym e) (waiting k h)
+unseen_front s t m sound k w h u xs (few (one e)) keeps =
+    subst (λ (ys : List (List ℕ)). Stands s t (front_arrives s Requests ys w)) (sym e) (still_waits s t k (t.request k) w h (newer_comes s t m sound k w h.within (keeps (one e)) u))
+unseen_front s t m sound k w h u xs (both j next e) keeps =
+    let l = h.within in
+    subst (λ (ys : List (List ℕ)). Stands s t (front_arrives s Requests ys w)) (sym e)
+    (still_waits s t k (t.request j) w h (inl (subst (λ (i : ℕ). Unseen s t i (at_channel s (t.request j) w)) (sym next)
+    (older_comes s t m sound j w (omega arith) (subst (λ (i : ℕ). Unseen s t i w) next u)))))
+
+seen_front : (s : Setup) {p : Type 0} (t : Parts s) → StopAndWait s p t → t.Sound → (k : ℕ) (w : World) → Waits s t k w → Seen s t k w → (xs : List (List ℕ)) → Newest s t k xs → Stands s t (front_arrives s Requests xs w)
+seen_front s t m sound k w h u xs (none e) = subst (λ (ys : List (List ℕ)). Stands s t (front_arrives s Requests ys w)) (sym e) (waiting k h)
+seen_front s t m sound k w h u xs (one e) =
+    subst (λ (ys : List (List ℕ)). Stands s t (front_arrives s Requests ys w)) (sym e) (still_waits s t k (t.request k) w h (inr (again_comes s t m sound k w h.within u)))
+
+over_front : (s : Setup) {p : Type 0} (t : Parts s) → StopAndWait s p t → t.Sound → (w : World) → IsOver s t w → (xs : List (List ℕ)) → Newest s t t.last xs → Stands s t (front_arrives s Requests xs w)
+over_front s t m sound w h xs (none e) = subst (λ (ys : List (List ℕ)). Stands s t (front_arrives s Requests ys w)) (sym e) (over h)
+over_front s t m sound w h xs (one e) = subst (λ (ys : List (List ℕ)). Stands s t (front_arrives s Requests ys w)) (sym e) (over (over_comes s t m sound w h))
+
+-- ---- the oldest frame is lost
+
+unseen_loses : (s : Setup) (t : Parts s) (k : ℕ) (queue : Queue) (w : World) → Unseen s t k w → Unseen s t k (without_front queue w)
+unseen_loses s t k Requests w u = record { requests = few (sent_drop s t k w.requests u.requests); channel = u.channel; answers = u.answers }
+unseen_loses s t k Answers w u = record { requests = u.requests; channel = u.channel; answers = all_drop (IsStale s t k) w.answers u.answers }
+
+seen_loses : (s : Setup) (t : Parts s) (k : ℕ) (queue : Queue) (w : World) → Seen s t k w → Seen s t k (without_front queue w)
+seen_loses s t k Requests w u = record { requests = newest_drop s t k w.requests u.requests; channel = u.channel; answers = u.answers; set = u.set }
+seen_loses s t k Answers w u = record { requests = u.requests; channel = u.channel; answers = mixed_drop s t k w.answers u.answers; set = u.set }
+
+waits_loses : (s : Setup) (t : Parts s) (k : ℕ) (queue : Queue) (w : World) → Waits s t k w → Waits s t k (without_front queue w)
+waits_loses s t k Requests w h = record { waits = h.waits; within = h.within; client = h.client; between = elim h.between [ inl u ↦ inl (unseen_loses s t k Requests w u) | inr u ↦ inr (seen_loses s t k Requests w u) ] }
+waits_loses s t k Answers w h = record { waits = h.waits; within = h.within; client = h.client; between = elim h.between [ inl u ↦ inl (unseen_loses s t k Answers w u) | inr u ↦ inr (seen_loses s t k Answers w u) ] }
+
+over_loses : (s : Setup) (t : Parts s) (queue : Queue) (w : World) → IsOver s t w → IsOver s t (without_front queue w)
+over_loses s t Requests w h = record { done = h.done; value = h.value; requests = newest_drop s t t.last w.requests h.requests; channel = h.channel; set = h.set }
+over_loses s t Answers w h = record { done = h.done; value = h.value; requests = h.requests; channel = h.channel; set = h.set }
+
+-- ---- an answer comes
+
+fails : (s : Setup) (w : World) (frame : List ℕ) → outcome s.call w.events ≡ Waiting → Fails s w.events frame → has_failed (outcome s.call (Answered frame ∷ w.events)) ≡ true
+fails s w frame waits h = rw waits h
+
+stale_fails : (s : Setup) {p : Type 0} (t : Parts s) → StopAndWait s p t → (k : ℕ) (events : List ClientEvent) (frame : List ℕ) → k ≤ t.last → t.Client k events → IsStale s t k frame → Fails s events frame
+stale_fails s t m zero events frame l h stale = m.client_aborted 0 events frame h stale
+stale_fails s t m (suc k) events frame l h (inl e) = subst (Fails s events) (sym e) (m.client_stale k events (omega arith) h)
+stale_fails s t m (suc k) events frame l h (inr abort) = m.client_aborted (suc k) events frame h abort
+
+no_more : (xs ys : List (List ℕ)) → ys ≡ [] → xs ++ ys ≡ xs
+no_more xs ys e = rw e (append-nil xs)
+
+-- the awaited answer, and others are left
+next_comes : (s : Setup) {p : Type 0} (t : Parts s) → StopAndWait s p t → (k : ℕ) (w : World) → k < t.last → Waits s t k w → Seen s t k w → AllByRecursion (IsLive s t k) w.answers → Stands s t (at_client s (Answered (answer s t k)) w)
+next_comes s t m k w more h u live = elim (m.client_goes_on k w.events more h.client) [
+  | inl goes ↦ (let f = follows s.call w.events (Answered (answer s t k)) (GoesOn (goes.message ∷ [])) h.waits goes.goes_on in
+      waiting (suc k) (record {
+        waits = f.state;
+        within = omega arith;
+        client = goes.next;
+        between = inl (record {
+          requests = rw (f.messages, goes.asks) (sent_next s t k w.requests u.requests);
+          channel = u.channel;
+          answers = live;
+        });
+      }))
+  | inr fault ↦ failed (fails s w (answer s t k) h.waits fault.1)
+]
+
+last_comes : (s : Setup) {p : Type 0} (t : Parts s) → StopAndWait s p t → (k : ℕ) (w : World) → k ≡ t.last → Waits s t k w → Seen s t k w → Stands s t (at_client s (Answered (answer s t k)) w)
+last_comes s t m k w last h u = elim (m.client_ends k w.events last h.client) [
+  | inl ends ↦ (let f = follows s.call w.events (Answered (answer s t k)) (Ends [] t.value) h.waits ends in
+      over (record {
+        done = f.state;
+        value = f.value;
+        requests = subst (λ (i : ℕ). Newest s t i (w.requests ++ map message_bytes (asked s.call (Answered (answer s t k) ∷ w.events)))) last
+            (subst (Newest s t k) (sym (no_more w.requests (map message_bytes (asked s.call (Answered (answer s t k) ∷ w.events))) (ap (map message_bytes) f.messages))) u.requests);
+        channel = none_open s t k w.log w.contents last u.channel;
+        set = u.set last;
+      }))
+  | inr fault ↦ failed (fails s w (answer s t k) h.waits fault.1)
+]
+
+live_comes : (s : Setup) {p : Type 0} (t : Parts s) → StopAndWait s p t → (k : ℕ) (w : World) (frame : List ℕ) → Waits s t k w → Seen s t k w → AllByRecursion (IsLive s t k) w.answers → IsLive s t k frame → Stands s t (at_client s (Answered frame) w)
+live_comes s t m k w frame h u live (inl e) =
+    subst (λ (x : List ℕ). Stands s t (at_client s (Answered x) w)) (sym e)
+    (elim (either k t.last h.within) [ inl more ↦ next_comes s t m k w more h u live | inr last ↦ last_comes s t m k w last h u ])
+live_comes s t m k w frame h u live (inr abort) = failed (fails s w frame h.waits (m.client_aborted k w.events frame h.client abort))
+
+unseen_answer : (s : Setup) {p : Type 0} (t : Parts s) → StopAndWait s p t → (k : ℕ) (w : World) → Waits s t k w → (xs : List (List ℕ)) → AllByRecursion (IsStale s t k) xs → Stands s t (front_arrives s Answers xs w)
+unseen_answer s t m k w h [] stale = waiting k h
+unseen_answer s t m k w h (frame ∷ later) stale = failed (fails s w frame h.waits (stale_fails s t m k w.events frame h.within h.client stale.0))
+
+seen_answer : (s : Setup) {p : Type 0} (t : Parts s) → StopAndWait s p t → (k : ℕ) (w : World) → Waits s t k w → Seen s t k w → (xs : List (List ℕ)) → Mixed s t k xs → (AllByRecursion (IsLive s t k) xs → AllByRecursion (IsLive s t k) w.answers)
+    → Stands s t (front_arrives s Answers xs w)
+seen_answer s t m k w h u [] mixed keeps = waiting k h
+seen_answer s t m k w h u (frame ∷ later) (inl live) keeps = live_comes s t m k w frame h u (keeps (live.0, live.1)) live.0
+seen_answer s t m k w h u (frame ∷ later) (inr stale) keeps = failed (fails s w frame h.waits (stale_fails s t m k w.events frame h.within h.client stale.0))
+
+-- a client that is done stays as it is
+over_event : (s : Setup) (t : Parts s) (event : ClientEvent) (w : World) → IsOver s t w → Stands s t (at_client s event w)
+over_event s t event w h =
+    let f = stays s.call w.events event h.done in
+    over (record {
+      done = f.state;
+      value = f.value ∙ h.value;
+      requests = subst (Newest s t t.last) (sym (no_more w.requests (map message_bytes (asked s.call (event ∷ w.events))) (ap (map message_bytes) f.messages))) h.requests;
+      channel = h.channel;
+      set = h.set;
+    })
+
+over_answer : (s : Setup) (t : Parts s) (w : World) → IsOver s t w → (xs : List (List ℕ)) → Stands s t (front_arrives s Answers xs w)
+over_answer s t w h [] = over h
+over_answer s t w h (frame ∷ later) = over_event s t (Answered frame) w h
+
+-- ---- ticks
+
+client_tick : (s : Setup) {p : Type 0} (t : Parts s) → StopAndWait s p t → (k : ℕ) (w : World) → Waits s t k w → (ends : Bool) → is_client_over s.call.time (TickedAtClient ∷ w.events) ≡ ends → Stands s t (at_client s TickedAtClient w)
+client_tick s t m k w h true e = failed (let waits = h.waits in rw (waits, e) refl)
+client_tick s t m k w h false e =
+    let f = follows s.call w.events TickedAtClient (GoesOn []) h.waits (tick_verdict s.call w.events e) in
+    let same = sym (no_more w.requests (map message_bytes (asked s.call (TickedAtClient ∷ w.events))) (ap (map message_bytes) f.messages)) in
+    waiting k (record {
+      waits = f.state;
+      within = h.within;
+      client = m.client_ticks k w.events h.client;
+      between = elim h.between [
+        | inl u ↦ inl (record { requests = subst (Sent s t k) same u.requests; channel = u.channel; answers = u.answers })
+        | inr u ↦ inr (record { requests = subst (Newest s t k) same u.requests; channel = u.channel; answers = u.answers; set = u.set })
+      ];
+    })
+
+after_ticks : (s : Setup) (t : Parts s) (k : ℕ) (log : Log) (contents : Contents)
+    → Idle s t log contents ⊎ Open s t k log contents → Idle s t (Ticked ∷ log) contents ⊎ Open s t k (Ticked ∷ log) contents
+after_ticks s t k log contents (inl h) = inl (serving_ticks s t.Lawful None log contents h)
+after_ticks s t k log contents (inr h) =
+    inr (record { within = h.within; serving = serving_ticks s t.Lawful _ log contents h.serving })
+
+before_ticks : (s : Setup) (t : Parts s) (k : ℕ) (log : Log) (contents : Contents) → Before s t k log contents
+    → Before s t k (Ticked ∷ log) contents
+before_ticks s t zero log contents h = serving_ticks s t.Lawful None log contents h
+before_ticks s t (suc k) log contents h = after_ticks s t k log contents h
+
+after_ends : (s : Setup) (t : Parts s) (k : ℕ) (log : Log) (contents : Contents)
+    → Idle s t log contents ⊎ Open s t k log contents → Idle s t (TimedOut (time_out_reply log) ∷ log) contents
+after_ends s t k log contents (inl h) = serving_ends s t.Lawful None log contents h
+after_ends s t k log contents (inr h) = serving_ends s t.Lawful _ log contents h.serving
+
+before_ends : (s : Setup) (t : Parts s) (k : ℕ) (log : Log) (contents : Contents) → Before s t k log contents
+    → Idle s t (TimedOut (time_out_reply log) ∷ log) contents
+before_ends s t zero log contents h = serving_ends s t.Lawful None log contents h
+before_ends s t (suc k) log contents h = after_ends s t k log contents h
+
+-- the frame that a channel sends when its time is over
+abbrev last_word : Log → List ℕ
+last_word log = response_bytes (Abort (open_key (opened_after log)) (record { 0 = 0x05040000 }))
+
+unseen_tick : (s : Setup) (t : Parts s) (k : ℕ) (w : World) (ends : Bool) → Unseen s t k w → Unseen s t k (if ends then timed_out (ticked w) else ticked w)
+unseen_tick s t k w true u = record {
+  requests = u.requests;
+  channel = idle_before s t k _ _ (before_ends s t k (Ticked ∷ w.log) w.contents (before_ticks s t k w.log w.contents u.channel));
+  answers = all_and (IsStale s t k) w.answers (last_word (Ticked ∷ w.log)) u.answers (stale_abort s t k (last_word (Ticked ∷ w.log)) (abort_read (open_key (opened_after (Ticked ∷ w.log))) 0x05040000));
+}
+unseen_tick s t k w false u = record { requests = u.requests; channel = before_ticks s t k w.log w.contents u.channel; answers = u.answers }
+
+seen_tick : (s : Setup) (t : Parts s) (k : ℕ) (w : World) (ends : Bool) → Seen s t k w → Seen s t k (if ends then timed_out (ticked w) else ticked w)
+seen_tick s t k w true u = record {
+  requests = u.requests;
+  channel = inl (after_ends s t k (Ticked ∷ w.log) w.contents (after_ticks s t k w.log w.contents u.channel));
+  answers = mixed_and s t k w.answers (last_word (Ticked ∷ w.log)) u.answers (inr (abort_read (open_key (opened_after (Ticked ∷ w.log))) 0x05040000));
+  set = u.set;
+}
+seen_tick s t k w false u = record { requests = u.requests; channel = after_ticks s t k w.log w.contents u.channel; answers = u.answers; set = u.set }
+
+waits_tick : (s : Setup) (t : Parts s) (k : ℕ) (w : World) (ends : Bool) → Waits s t k w → Waits s t k (if ends then timed_out (ticked w) else ticked w)
+waits_tick s t k w true h = record { waits = h.waits; within = h.within; client = h.client; between = elim h.between [ inl u ↦ inl (unseen_tick s t k w true u) | inr u ↦ inr (seen_tick s t k w true u) ] }
+waits_tick s t k w false h = record { waits = h.waits; within = h.within; client = h.client; between = elim h.between [ inl u ↦ inl (unseen_tick s t k w false u) | inr u ↦ inr (seen_tick s t k w false u) ] }
+
+over_tick : (s : Setup) (t : Parts s) (w : World) (ends : Bool) → IsOver s t w → IsOver s t (if ends then timed_out (ticked w) else ticked w)
+over_tick s t w true h = record { done = h.done; value = h.value; requests = h.requests; channel = serving_ends s t.Lawful None (Ticked ∷ w.log) w.contents (serving_ticks s t.Lawful None w.log w.contents h.channel); set = h.set }
+over_tick s t w false h = record { done = h.done; value = h.value; requests = h.requests; channel = serving_ticks s t.Lawful None w.log w.contents h.channel; set = h.set }
+
+-- ---- every event
+
+begins_waiting : (s : Setup) {p : Type 0} (t : Parts s) → StopAndWait s p t → Waits s t 0 (first_world s)
+begins_waiting s t m = record {
+  waits = refl;
+  within = omega arith;
+  client = m.first_client;
+  between = inl (record { requests = few (one m.first_request); channel = record { serves = serves_first s.description.rows s.past m.idle; lawful = m.first_lawful }; answers = tt });
+}
+
+waits_event : (s : Setup) {p : Type 0} (t : Parts s) → StopAndWait s p t → t.Sound → (event : WorldEvent) (k : ℕ) (w : World) → Waits s t k w → Unseen s t k w ⊎ Seen s t k w → Stands s t (after_event s event w)
+waits_event s t m sound (Delivered Requests) k w h (inl u) =
+    unseen_front s t m sound k (without_front Requests w) (waits_loses s t k Requests w h) (unseen_loses s t k Requests w u) w.requests u.requests (newest_drop s t k w.requests)
+waits_event s t m sound (Delivered Requests) k w h (inr u) =
+    seen_front s t m sound k (without_front Requests w) (waits_loses s t k Requests w h) (seen_loses s t k Requests w u) w.requests u.requests
+waits_event s t m sound (Delivered Answers) k w h (inl u) = unseen_answer s t m k (without_front Answers w) (waits_loses s t k Answers w h) w.answers u.answers
+waits_event s t m sound (Delivered Answers) k w h (inr u) =
+    seen_answer s t m k (without_front Answers w) (waits_loses s t k Answers w h) (seen_loses s t k Answers w u) w.answers u.answers (all_drop (IsLive s t k) w.answers)
+waits_event s t m sound (Lost queue) k w h u = waiting k (waits_loses s t k queue w h)
+waits_event s t m sound (Repeated Requests) k w h (inl u) = unseen_front s t m sound k w h u w.requests u.requests (λ newest. newest)
+waits_event s t m sound (Repeated Requests) k w h (inr u) = seen_front s t m sound k w h u w.requests u.requests
+waits_event s t m sound (Repeated Answers) k w h (inl u) = unseen_answer s t m k w h w.answers u.answers
+waits_event s t m sound (Repeated Answers) k w h (inr u) = seen_answer s t m k w h u w.answers u.answers (λ live. live)
+waits_event s t m sound ClientTicked k w h u = client_tick s t m k w h _ refl
+waits_event s t m sound ChannelTicked k w h u = waiting k (waits_tick s t k w (is_time_over s.time (Ticked ∷ w.log)) h)
+
+over_world_event : (s : Setup) {p : Type 0} (t : Parts s) → StopAndWait s p t → t.Sound → (event : WorldEvent) (w : World) → IsOver s t w → Stands s t (after_event s event w)
+over_world_event s t m sound (Delivered Requests) w h = over_front s t m sound (without_front Requests w) (over_loses s t Requests w h) w.requests h.requests
+over_world_event s t m sound (Delivered Answers) w h = over_answer s t (without_front Answers w) (over_loses s t Answers w h) w.answers
+over_world_event s t m sound (Lost queue) w h = over (over_loses s t queue w h)
+over_world_event s t m sound (Repeated Requests) w h = over_front s t m sound w h w.requests h.requests
+over_world_event s t m sound (Repeated Answers) w h = over_answer s t w h w.answers
+over_world_event s t m sound ClientTicked w h = over_event s t TickedAtClient w h
+over_world_event s t m sound ChannelTicked w h = over (over_tick s t w (is_time_over s.time (Ticked ∷ w.log)) h)
+
+step : (s : Setup) {p : Type 0} (t : Parts s) → StopAndWait s p t → t.Sound → (event : WorldEvent) (w : World) → Stands s t w → Stands s t (after_event s event w)
+step s t m sound event w (waiting k h) = waits_event s t m sound event k w h h.between
+step s t m sound event w (over h) = over_world_event s t m sound event w h
+step s t m sound event w (failed h) = failed (failed_event s event w h)
+
+pub always : (s : Setup) {p : Type 0} (t : Parts s) → StopAndWait s p t → t.Sound → (events : List WorldEvent) → Stands s t (world_after s events)
+always s t m sound [] = waiting 0 (begins_waiting s t m)
+always s t m sound (event ∷ older) = step s t m sound event (world_after s older) (always s t m sound older)
+
+-- ---- what it says of a client that is done
+
+pub when_done : (s : Setup) (t : Parts s) (w : World) → Stands s t w → outcome s.call w.events ≡ Done → IsOver s t w
+when_done s t w (waiting k h) done = absurd (waiting≢done (sym h.waits ∙ done))
+when_done s t w (over h) done = h
+when_done s t w (failed h) done = absurd (false≢true (ap has_failed (sym done) ∙ h))
+
+-- ---- undisturbed, and permitted: in turns
+
+-- after k requests nothing is open, or what the last of them opened; no entry is changed before the last one
+pub record AtChannel (s : Setup) (t : Parts s) (k : ℕ) (log : Log) (contents : Contents) : Type 0 where
+  pub first : k ≡ 0 → Idle s t log contents
+  pub opens : (j : ℕ) → k ≡ suc j → j < t.last → Open s t j log contents
+  pub closed : k ≡ 1 + t.last → Serves s.description.rows log None
+  pub same : k < 1 + t.last → contents ≡ s.contents
+  pub sets : k ≡ 1 + t.last → contents ≡ t.left s.contents
+
+next_at : (s : Setup) (t : Parts s) (before : Contents) (k : ℕ) (log : Log) (contents : Contents) → before ≡ s.contents
+    → Reached s t before k log contents → AtChannel s t (k + 1) log contents
+next_at s t before k log contents e (still h kept) =
+    let within = h.within in
+    record {
+      first = λ none. absurd (omega arith);
+      opens = λ j is less. let same : k ≡ j = omega arith in subst (λ (i : ℕ). Open s t i log contents) same h;
+      closed = λ all. absurd (omega arith);
+      same = λ less. kept ∙ e;
+      sets = λ all. absurd (omega arith);
+    }
+next_at s t before k log contents e (was_last last h left set) = record {
+  first = λ none. absurd (omega arith);
+  opens = λ j is less. absurd (omega arith);
+  closed = λ all. h.serves;
+  same = λ less. absurd (omega arith);
+  sets = λ all. left ∙ ap t.left e;
+}
+
+takes_next : (s : Setup) {p : Type 0} (t : Parts s) → StopAndWait s p t → p → (k : ℕ) (current : Option OpenTransfer) (log : Log)
+    (contents : Contents) → contents ≡ s.contents → IsServing s t.Lawful current log contents → Reacts s p t k current contents
+    → Takes s log contents (t.request k) (answer s t k) (AtChannel s t (k + 1))
+takes_next s t m x k current log contents e h r = elim (reacts s t m k current log contents h r) [
+  | inl took ↦ record { replies = took.replies; next = next_at s t contents k _ _ e took.next }
+  | inr refused ↦ absurd (refused.0 x e)
+]
+
+pub channel_takes : (s : Setup) {p : Type 0} (t : Parts s) → StopAndWait s p t → p → (k : ℕ) (log : Log) (contents : Contents)
+    → k < 1 + t.last → AtChannel s t k log contents
+    → Takes s log contents (t.request k) (answer s t k) (AtChannel s t (k + 1))
+channel_takes s t m x zero log contents more h =
+    let idle = h.first refl in
+    takes_next s t m x 0 None log contents (h.same more) idle (m.begins None contents refl idle.lawful)
+channel_takes s t m x (suc k) log contents more h =
+    let opened = h.opens k refl (omega arith) in
+    takes_next s t m x (suc k) _ log contents (h.same more) opened.serving (m.goes_on k contents opened.within opened.serving.lawful)
+
+pub channel_ticks : (s : Setup) (t : Parts s) (k : ℕ) (log : Log) (contents : Contents) → AtChannel s t k log contents
+    → AtChannel s t k (Ticked ∷ log) contents
+channel_ticks s t k log contents h = record {
+  first = λ e. serving_ticks s t.Lawful None log contents (h.first e);
+  opens = λ j e less. let o = h.opens j e less in record { within = o.within; serving = serving_ticks s t.Lawful _ log contents o.serving };
+  closed = λ e. serves_ticked _ _ _ (h.closed e);
+  same = h.same;
+  sets = h.sets;
+}
+
+pub one_more : (k : ℕ) → k + 1 ≡ suc k
+one_more k = omega arith
+
+abbrev pub turns_of : {p : Type 0} (s : Setup) (t : Parts s) → StopAndWait s p t → p → Turns s
+turns_of s t m x = record {
+  needed = 1 + t.last;
+  value = t.value;
+  request = t.request;
+  answer = answer s t;
+  Client = t.Client;
+  Channel = AtChannel s t;
+  some = omega arith;
+  first_request = m.first_request;
+  first_client = m.first_client;
+  first_channel = record {
+    first = λ e. record { serves = serves_first s.description.rows s.past m.idle; lawful = m.first_lawful };
+    opens = λ j e less. absurd (omega arith);
+    closed = λ e. absurd (omega arith);
+    same = λ less. refl;
+    sets = λ e. absurd (omega arith);
+  };
+  takes = channel_takes s t m x;
+  channel_ticks = channel_ticks s t;
+  goes_on = λ k events more h. elim (m.client_goes_on k events (omega arith) h) [
+    | inl goes ↦ subst (λ (i : ℕ). GoesOnWith s events (answer s t k) (t.request i) (t.Client i)) (sym (one_more k)) goes
+    | inr fault ↦ absurd (fault.0 x)
+  ];
+  ends = λ k events last h. elim (m.client_ends k events (omega arith) h) [
+    | inl is ↦ is
+    | inr fault ↦ absurd (fault.0 x)
+  ];
+  client_ticks = m.client_ticks;
+}
