@@ -2,6 +2,7 @@
 use Rattle.std.proofs.Common.{◌≡◌, ℕ, List, ◌∷◌, length, Option, Some, None, refl, ap, ◌∙◌, subst, ◌+◌, Bool, true, false, [], sym, arith, ◌==◌, not, map}
 use Rattle.co_dict.specs.Rows.{Rows, Contents, fits, takes, written}
 use Rattle.co_dict.specs.Stores.{Description, IsDictionary, IsFilled}
+use Rattle.co_sdo.specs.declared.stage.Stage.TheVariants.{Upload as Uploading}
 use Rattle.co_sdo.specs.Log.{Exchanged, Ticked, Log, exchanges, Answer, answer_bytes, TimedOut}
 use Rattle.co_sdo.specs.OpenTransfers.{Since, open_since, and_event, since_initiate, open_transfer, Transfer}
 use Rattle.co_sdo.specs.Opened.{OpenTransfer, opened, opened_after, opened_by, is_time_over}
@@ -265,3 +266,7 @@ stays_lawful d contents key indicated bytes lawful small h = record {
   initially = lawful.initially;
   filled = is_filled d.rows contents key bytes lawful.filled (taken_by d contents key indicated bytes lawful h) small;
 }
+
+-- what is open in a transfer that is over with its first request
+abbrev pub nothing_open : OpenTransfer
+nothing_open = record { key = record { index = 0; sub = 0 }; stage = Uploading 0; bytes = [] }

@@ -24,9 +24,9 @@ use Rattle.co_sdo.specs.Replies.{is_in_sub_block}
 use Rattle.co_sdo_laws.specs.World.{Setup}
 use Rattle.co_sdo_laws.proofs.Frames.{expedited_read, expedited_long, done_read}
 use Rattle.co_sdo_laws.proofs.Permits.{bytes, none≢some, entry_is}
-use Rattle.co_sdo_laws.proofs.Channel.{stays_lawful}
+use Rattle.co_sdo_laws.proofs.Channel.{stays_lawful, nothing_open}
 use Rattle.co_sdo_laws.proofs.Failures.{IsAbort, has_failed, aborted_fails}
-use Rattle.co_sdo_laws.proofs.StopAndWait.{Parts, answer, Reacts, takes_last, refuses, StopAndWait, nothing_open}
+use Rattle.co_sdo_laws.proofs.StopAndWait.{Parts, answer, Reacts, takes_last, refuses, StopAndWait}
 
 pub record IsDownload (s : Setup) (p : Type 0) : Type 0 where
   pub dictionary : IsDictionary s.description s.contents

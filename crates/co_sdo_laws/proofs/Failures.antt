@@ -43,6 +43,9 @@ has_failed _ = false
 abbrev pub Fails : Setup → List ClientEvent → List ℕ → Type 0
 Fails s events frame = has_failed (state_by (verdict s.call events (Answered frame))) ≡ true
 
+pub fails : (s : Setup) (w : World) (frame : List ℕ) → outcome s.call w.events ≡ Waiting → Fails s w.events frame → has_failed (outcome s.call (Answered frame ∷ w.events)) ≡ true
+fails s w frame waits h = rw waits h
+
 -- the channel refuses a request: an abort, and nothing is open or set
 pub record Refuses (s : Setup) (log : Log) (contents : Contents) (request : List ℕ) (Idle : Log → Contents → Type 0) : Type 0 where
   pub answer : List ℕ

@@ -8,6 +8,7 @@ pub mod Turns
 pub mod Failures
 pub mod Segments
 pub mod StopAndWait
+pub mod InTurns
 pub mod SegmentedDownloads
 pub mod ExpeditedDownloads
 pub mod Uploads

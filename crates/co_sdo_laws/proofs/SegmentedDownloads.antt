@@ -33,7 +33,8 @@ use Rattle.co_sdo_laws.proofs.Permits.{bytes, indicated, IsDownload, none≢some
 use Rattle.co_sdo_laws.proofs.Channel.{stays_lawful}
 use Rattle.co_sdo_laws.proofs.Turns.{Turns, GoesOnWith}
 use Rattle.co_sdo_laws.proofs.Failures.{Fails, IsAbort, has_failed, aborted_fails, toggles_differ, later_count}
-use Rattle.co_sdo_laws.proofs.StopAndWait.{Parts, IsRefused, Reacts, takes, takes_last, refuses, StopAndWait, turns_of}
+use Rattle.co_sdo_laws.proofs.StopAndWait.{Parts, IsRefused, Reacts, takes, takes_last, refuses, StopAndWait}
+use Rattle.co_sdo_laws.proofs.InTurns.{turns_of}
 
 abbrev pub request : Setup → ℕ → List ℕ
 request s zero = request_bytes (DownloadInitiate s.call.key (size_sent s.call.job))

@@ -1,7 +1,7 @@
 -- Transfers in which each request waits for its answer, whatever disturbs them. The client sends nothing twice, and each queue
 -- keeps its order, so both ends see only frames of two steps, one after the other: which of the two, the toggle tells. `p` says
 -- that a transfer is permitted.
-use Rattle.std.proofs.Common.{◌≡◌, ℕ, zero, suc, ◌+◌, ◌<◌, ◌≤◌, Bool, true, false, List, [], ◌∷◌, ◌++◌, length, map, drop, Option, Some, None, refl, sym, ap, ◌∙◌, arith, subst, append-nil, ◌⊎◌, inl, inr}
+use Rattle.std.proofs.Common.{◌≡◌, ℕ, zero, suc, ◌+◌, ◌<◌, ◌≤◌, Bool, true, false, List, [], ◌∷◌, ◌++◌, length, map, drop, Option, Some, None, refl, sym, ap, ◌∙◌, arith, subst, ◌⊎◌, inl, inr}
 use Rattle.std.specs.List.{AllByRecursion}
 use Rattle.std.proofs.lemmas.Bool.{false≢true}
 use Rattle.std.specs.Prelude.{if◌then◌else◌}
@@ -14,18 +14,18 @@ use Rattle.co_sdo_client.specs.Verdicts.{GoesOn, Ends, verdict}
 use Rattle.co_sdo_client.specs.Outcomes.{outcome, asked, result}
 use Rattle.co_dict.specs.Rows.{Contents}
 use Rattle.co_dict.specs.Stores.{IsDictionary}
-use Rattle.co_sdo.specs.declared.stage.Stage.TheVariants.{Upload as Uploading}
 use Rattle.co_sdo.specs.Log.{Answer, answer_bytes, Log, Ticked, TimedOut}
 use Rattle.co_sdo.specs.OpenTransfers.{open_transfer}
 use Rattle.co_sdo.specs.Opened.{OpenTransfer, opened_after, is_time_over}
 use Rattle.co_sdo.specs.Completed.{contents_with}
 use Rattle.co_sdo.specs.Steps.{opened_next, set_next}
 use Rattle.co_sdo.specs.Replies.{answers_to, aborted, is_in_sub_block, open_key, time_out_reply}
-use Rattle.co_sdo_laws.specs.World.{Setup, World, Queue, Requests, Answers, WorldEvent, Delivered, Lost, Repeated, ClientTicked, ChannelTicked, first_world, at_client, at_channel, timed_out, ticked, without_front, front_arrives, after_event, world_after}
+use Rattle.co_sdo_laws.specs.World.{Setup, World, Queue, Requests, Answers, WorldEvent, Delivered, Lost, Repeated, ClientTicked, ChannelTicked, at_client, at_channel, timed_out, ticked, without_front, front_arrives, after_event, world_after}
 use Rattle.co_sdo_laws.proofs.Client.{follows, stays, tick_verdict}
-use Rattle.co_sdo_laws.proofs.Channel.{Serves, serves_first, serves_ticked, IsServing, serving_ticks, serving_ends, Steps, is_served, takes_it, refuses_it}
-use Rattle.co_sdo_laws.proofs.Turns.{Takes, GoesOnWith, Turns, either, waiting≢done}
-use Rattle.co_sdo_laws.proofs.Failures.{IsAbort, has_failed, Fails, Refuses, abort_read, failed_event}
+use Rattle.co_sdo_laws.proofs.Channel.{serves_first, IsServing, serving_ticks, serving_ends, Steps, is_served, takes_it, refuses_it}
+use Rattle.co_sdo_laws.proofs.Blocks.{same_requests}
+use Rattle.co_sdo_laws.proofs.Turns.{Takes, GoesOnWith, either, not_last, waiting≢done}
+use Rattle.co_sdo_laws.proofs.Failures.{fails, IsAbort, has_failed, Fails, Refuses, abort_read, failed_event}
 
 -- ---- the transfer: requests 0 to `last` and their answers
 
@@ -47,10 +47,6 @@ pub record Parts (s : Setup) : Type 1 where
 
 abbrev pub answer : (s : Setup) → Parts s → ℕ → List ℕ
 answer s t k = answer_bytes (t.reply k)
-
--- of a transfer that is over with its first request
-abbrev pub nothing_open : OpenTransfer
-nothing_open = record { key = record { index = 0; sub = 0 }; stage = Uploading 0; bytes = [] }
 
 -- the channel refuses request k while this is open
 pub record IsRefused (s : Setup) (t : Parts s) (k : ℕ) (current : Option OpenTransfer) (contents : Contents) : Type 0 where
@@ -139,9 +135,6 @@ reacts s t m k current log contents h (refuses never refused) =
 -- what holds after request k was taken, whatever the contents were
 abbrev pub Taken : (s : Setup) → Parts s → ℕ → Log → Contents → Type 0
 Taken s t k log contents = (Idle s t log contents ⊎ Open s t k log contents) × (k ≡ t.last → t.IsSet contents)
-
-not_last : (k last : ℕ) → k < last → k ≡ last → ⊥
-not_last k last h e = absurd (omega arith)
 
 taken : (s : Setup) (t : Parts s) → t.Sound → (before : Contents) (k : ℕ) (log : Log) (contents : Contents)
     → Reached s t before k log contents → Taken s t k log contents
@@ -362,21 +355,13 @@ none_open s t k log contents e (inr h) = absurd (not_last k t.last h.within e)
 over_comes : (s : Setup) {p : Type 0} (t : Parts s) → StopAndWait s p t → t.Sound → (w : World) → IsOver s t w
     → IsOver s t (at_channel s (t.request t.last) w)
 over_comes s t m sound w h = elim (again s t m sound t.last w.log w.contents (omega arith) (inl h.channel)) [
-  | inl took ↦ record {
-    done = h.done;
-    value = h.value;
-    requests = h.requests;
-    channel = none_open s t t.last _ _ refl took.next.0;
-    set = took.next.1 refl;
-  }
-  | inr refused ↦ record {
-    done = h.done;
-    value = h.value;
-    requests = h.requests;
-    channel = refused.takes.next;
-    set = subst t.IsSet (sym refused.same) h.set;
-  }
+  | inl took ↦ still_over (none_open s t t.last _ _ refl took.next.0) (took.next.1 refl)
+  | inr refused ↦ still_over refused.takes.next (subst t.IsSet (sym refused.same) h.set)
 ]
+  where
+    still_over : {log : Log} {contents : Contents} {answers : List (List ℕ)} {received : ℕ}
+        → Idle s t log contents → t.IsSet contents → IsOver s t (record w { log = log; contents = contents; answers = answers; received = received })
+    still_over idle set = record { done = h.done; value = h.value; requests = h.requests; channel = idle; set = set }
 
 -- ---- the oldest request comes, and stays on its way or not
 
@@ -424,16 +409,10 @@ over_loses s t Answers w h = record { done = h.done; value = h.value; requests =
 
 -- ---- an answer comes
 
-fails : (s : Setup) (w : World) (frame : List ℕ) → outcome s.call w.events ≡ Waiting → Fails s w.events frame → has_failed (outcome s.call (Answered frame ∷ w.events)) ≡ true
-fails s w frame waits h = rw waits h
-
 stale_fails : (s : Setup) {p : Type 0} (t : Parts s) → StopAndWait s p t → (k : ℕ) (events : List ClientEvent) (frame : List ℕ) → k ≤ t.last → t.Client k events → IsStale s t k frame → Fails s events frame
 stale_fails s t m zero events frame l h stale = m.client_aborted 0 events frame h stale
 stale_fails s t m (suc k) events frame l h (inl e) = subst (Fails s events) (sym e) (m.client_stale k events (omega arith) h)
 stale_fails s t m (suc k) events frame l h (inr abort) = m.client_aborted (suc k) events frame h abort
-
-no_more : (xs ys : List (List ℕ)) → ys ≡ [] → xs ++ ys ≡ xs
-no_more xs ys e = rw e (append-nil xs)
 
 -- the awaited answer, and others are left
 next_comes : (s : Setup) {p : Type 0} (t : Parts s) → StopAndWait s p t → (k : ℕ) (w : World) → k < t.last → Waits s t k w → Seen s t k w → AllByRecursion (IsLive s t k) w.answers → Stands s t (at_client s (Answered (answer s t k)) w)
@@ -459,7 +438,7 @@ last_comes s t m k w last h u = elim (m.client_ends k w.events last h.client) [
         done = f.state;
         value = f.value;
         requests = subst (λ (i : ℕ). Newest s t i (w.requests ++ map message_bytes (asked s.call (Answered (answer s t k) ∷ w.events)))) last
-            (subst (Newest s t k) (sym (no_more w.requests (map message_bytes (asked s.call (Answered (answer s t k) ∷ w.events))) (ap (map message_bytes) f.messages))) u.requests);
+            (subst (Newest s t k) (sym (same_requests w.requests (map message_bytes (asked s.call (Answered (answer s t k) ∷ w.events))) (ap (map message_bytes) f.messages))) u.requests);
         channel = none_open s t k w.log w.contents last u.channel;
         set = u.set last;
       }))
@@ -489,7 +468,7 @@ over_event s t event w h =
     over (record {
       done = f.state;
       value = f.value ∙ h.value;
-      requests = subst (Newest s t t.last) (sym (no_more w.requests (map message_bytes (asked s.call (event ∷ w.events))) (ap (map message_bytes) f.messages))) h.requests;
+      requests = subst (Newest s t t.last) (sym (same_requests w.requests (map message_bytes (asked s.call (event ∷ w.events))) (ap (map message_bytes) f.messages))) h.requests;
       channel = h.channel;
       set = h.set;
     })
@@ -504,7 +483,7 @@ client_tick : (s : Setup) {p : Type 0} (t : Parts s) → StopAndWait s p t → (
 client_tick s t m k w h true e = failed (let waits = h.waits in rw (waits, e) refl)
 client_tick s t m k w h false e =
     let f = follows s.call w.events TickedAtClient (GoesOn []) h.waits (tick_verdict s.call w.events e) in
-    let same = sym (no_more w.requests (map message_bytes (asked s.call (TickedAtClient ∷ w.events))) (ap (map message_bytes) f.messages)) in
+    let same = sym (same_requests w.requests (map message_bytes (asked s.call (TickedAtClient ∷ w.events))) (ap (map message_bytes) f.messages)) in
     waiting k (record {
       waits = f.state;
       within = h.within;
@@ -567,14 +546,6 @@ over_tick s t w false h = record { done = h.done; value = h.value; requests = h.
 
 -- ---- every event
 
-begins_waiting : (s : Setup) {p : Type 0} (t : Parts s) → StopAndWait s p t → Waits s t 0 (first_world s)
-begins_waiting s t m = record {
-  waits = refl;
-  within = omega arith;
-  client = m.first_client;
-  between = inl (record { requests = few (one m.first_request); channel = record { serves = serves_first s.description.rows s.past m.idle; lawful = m.first_lawful }; answers = tt });
-}
-
 waits_event : (s : Setup) {p : Type 0} (t : Parts s) → StopAndWait s p t → t.Sound → (event : WorldEvent) (k : ℕ) (w : World) → Waits s t k w → Unseen s t k w ⊎ Seen s t k w → Stands s t (after_event s event w)
 waits_event s t m sound (Delivered Requests) k w h (inl u) =
     unseen_front s t m sound k (without_front Requests w) (waits_loses s t k Requests w h) (unseen_loses s t k Requests w u) w.requests u.requests (newest_drop s t k w.requests)
@@ -606,7 +577,16 @@ step s t m sound event w (over h) = over_world_event s t m sound event w h
 step s t m sound event w (failed h) = failed (failed_event s event w h)
 
 pub always : (s : Setup) {p : Type 0} (t : Parts s) → StopAndWait s p t → t.Sound → (events : List WorldEvent) → Stands s t (world_after s events)
-always s t m sound [] = waiting 0 (begins_waiting s t m)
+always s t m sound [] = waiting 0 (record {
+  waits = refl;
+  within = omega arith;
+  client = m.first_client;
+  between = inl (record {
+    requests = few (one m.first_request);
+    channel = record { serves = serves_first s.description.rows s.past m.idle; lawful = m.first_lawful };
+    answers = tt;
+  });
+})
 always s t m sound (event ∷ older) = step s t m sound event (world_after s older) (always s t m sound older)
 
 -- ---- what it says of a client that is done
@@ -615,94 +595,3 @@ pub when_done : (s : Setup) (t : Parts s) (w : World) → Stands s t w → outco
 when_done s t w (waiting k h) done = absurd (waiting≢done (sym h.waits ∙ done))
 when_done s t w (over h) done = h
 when_done s t w (failed h) done = absurd (false≢true (ap has_failed (sym done) ∙ h))
-
--- ---- undisturbed, and permitted: in turns
-
--- after k requests nothing is open, or what the last of them opened; no entry is changed before the last one
-pub record AtChannel (s : Setup) (t : Parts s) (k : ℕ) (log : Log) (contents : Contents) : Type 0 where
-  pub first : k ≡ 0 → Idle s t log contents
-  pub opens : (j : ℕ) → k ≡ suc j → j < t.last → Open s t j log contents
-  pub closed : k ≡ 1 + t.last → Serves s.description.rows log None
-  pub same : k < 1 + t.last → contents ≡ s.contents
-  pub sets : k ≡ 1 + t.last → contents ≡ t.left s.contents
-
-next_at : (s : Setup) (t : Parts s) (before : Contents) (k : ℕ) (log : Log) (contents : Contents) → before ≡ s.contents
-    → Reached s t before k log contents → AtChannel s t (k + 1) log contents
-next_at s t before k log contents e (still h kept) =
-    let within = h.within in
-    record {
-      first = λ none. absurd (omega arith);
-      opens = λ j is less. let same : k ≡ j = omega arith in subst (λ (i : ℕ). Open s t i log contents) same h;
-      closed = λ all. absurd (omega arith);
-      same = λ less. kept ∙ e;
-      sets = λ all. absurd (omega arith);
-    }
-next_at s t before k log contents e (was_last last h left set) = record {
-  first = λ none. absurd (omega arith);
-  opens = λ j is less. absurd (omega arith);
-  closed = λ all. h.serves;
-  same = λ less. absurd (omega arith);
-  sets = λ all. left ∙ ap t.left e;
-}
-
-takes_next : (s : Setup) {p : Type 0} (t : Parts s) → StopAndWait s p t → p → (k : ℕ) (current : Option OpenTransfer) (log : Log)
-    (contents : Contents) → contents ≡ s.contents → IsServing s t.Lawful current log contents → Reacts s p t k current contents
-    → Takes s log contents (t.request k) (answer s t k) (AtChannel s t (k + 1))
-takes_next s t m x k current log contents e h r = elim (reacts s t m k current log contents h r) [
-  | inl took ↦ record { replies = took.replies; next = next_at s t contents k _ _ e took.next }
-  | inr refused ↦ absurd (refused.0 x e)
-]
-
-pub channel_takes : (s : Setup) {p : Type 0} (t : Parts s) → StopAndWait s p t → p → (k : ℕ) (log : Log) (contents : Contents)
-    → k < 1 + t.last → AtChannel s t k log contents
-    → Takes s log contents (t.request k) (answer s t k) (AtChannel s t (k + 1))
-channel_takes s t m x zero log contents more h =
-    let idle = h.first refl in
-    takes_next s t m x 0 None log contents (h.same more) idle (m.begins None contents refl idle.lawful)
-channel_takes s t m x (suc k) log contents more h =
-    let opened = h.opens k refl (omega arith) in
-    takes_next s t m x (suc k) _ log contents (h.same more) opened.serving (m.goes_on k contents opened.within opened.serving.lawful)
-
-pub channel_ticks : (s : Setup) (t : Parts s) (k : ℕ) (log : Log) (contents : Contents) → AtChannel s t k log contents
-    → AtChannel s t k (Ticked ∷ log) contents
-channel_ticks s t k log contents h = record {
-  first = λ e. serving_ticks s t.Lawful None log contents (h.first e);
-  opens = λ j e less. let o = h.opens j e less in record { within = o.within; serving = serving_ticks s t.Lawful _ log contents o.serving };
-  closed = λ e. serves_ticked _ _ _ (h.closed e);
-  same = h.same;
-  sets = h.sets;
-}
-
-pub one_more : (k : ℕ) → k + 1 ≡ suc k
-one_more k = omega arith
-
-abbrev pub turns_of : {p : Type 0} (s : Setup) (t : Parts s) → StopAndWait s p t → p → Turns s
-turns_of s t m x = record {
-  needed = 1 + t.last;
-  value = t.value;
-  request = t.request;
-  answer = answer s t;
-  Client = t.Client;
-  Channel = AtChannel s t;
-  some = omega arith;
-  first_request = m.first_request;
-  first_client = m.first_client;
-  first_channel = record {
-    first = λ e. record { serves = serves_first s.description.rows s.past m.idle; lawful = m.first_lawful };
-    opens = λ j e less. absurd (omega arith);
-    closed = λ e. absurd (omega arith);
-    same = λ less. refl;
-    sets = λ e. absurd (omega arith);
-  };
-  takes = channel_takes s t m x;
-  channel_ticks = channel_ticks s t;
-  goes_on = λ k events more h. elim (m.client_goes_on k events (omega arith) h) [
-    | inl goes ↦ subst (λ (i : ℕ). GoesOnWith s events (answer s t k) (t.request i) (t.Client i)) (sym (one_more k)) goes
-    | inr fault ↦ absurd (fault.0 x)
-  ];
-  ends = λ k events last h. elim (m.client_ends k events (omega arith) h) [
-    | inl is ↦ is
-    | inr fault ↦ absurd (fault.0 x)
-  ];
-  client_ticks = m.client_ticks;
-}

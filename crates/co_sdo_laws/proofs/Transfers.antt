@@ -24,7 +24,8 @@ use Rattle.co_sdo_laws.proofs.Permits as protocols
 use Rattle.co_sdo_laws.proofs.Channel.{unopened, stays_lawful}
 use Rattle.co_sdo_laws.proofs.Progress.{rounds_calm, all_arrive, AllThere, all_there, have_sent}
 use Rattle.co_sdo_laws.proofs.Turns.{InTurns as Turned, IsAt, always, goes_in_turns, when_done, channel_at, either}
-use Rattle.co_sdo_laws.proofs.StopAndWait.{Parts, StopAndWait, turns_of}
+use Rattle.co_sdo_laws.proofs.StopAndWait.{Parts, StopAndWait}
+use Rattle.co_sdo_laws.proofs.InTurns.{turns_of}
 use Rattle.co_sdo_laws.proofs.SegmentedDownloads as downloads
 use Rattle.co_sdo_laws.proofs.ExpeditedDownloads as short_downloads
 use Rattle.co_sdo_laws.proofs.Uploads as uploading

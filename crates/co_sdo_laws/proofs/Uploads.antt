@@ -24,13 +24,14 @@ use Rattle.co_sdo.specs.Opened.{OpenTransfer}
 use Rattle.co_sdo.specs.Replies.{is_in_sub_block, toggle_refusal}
 use Rattle.co_sdo.proofs.Continuations.{not_odd}
 use Rattle.co_sdo_laws.specs.World.{Setup}
+use Rattle.co_sdo_laws.proofs.Channel.{nothing_open}
 use Rattle.co_sdo_laws.proofs.Frames.{upload_read, next_read, upload_initiated_read, segment_sent_read, expedited_sent_read}
 use Rattle.co_sdo_laws.proofs.Segments.{same, joined, taken_all, part_small, not_end, is_end}
 use Rattle.co_sdo_laws.proofs.Permits.{value, small_value, IsUpload, lawful_of, none≢some, not_above, below_itself}
 use Rattle.co_sdo_laws.proofs.Client.{verdict_since}
 use Rattle.co_sdo_laws.proofs.Turns.{GoesOnWith}
 use Rattle.co_sdo_laws.proofs.Failures.{Fails, IsAbort, has_failed, aborted_fails, toggles_differ}
-use Rattle.co_sdo_laws.proofs.StopAndWait.{Parts, IsRefused, Reacts, takes, takes_last, refuses, StopAndWait, answer as nth_answer, nothing_open}
+use Rattle.co_sdo_laws.proofs.StopAndWait.{Parts, IsRefused, Reacts, takes, takes_last, refuses, StopAndWait, answer as nth_answer}
 use Rattle.co_frame.specs.declared.sdo_request.ExpeditedData.TheVariants.{Indicated}
 
 abbrev request : Setup → ℕ → List ℕ
