@@ -1,7 +1,7 @@
 -- What is a difference and what isn't, on both sides of each edge, computed from the definitions.
-use Rattle.std.proofs.Common.{◌≡◌, ℕ, true, false, List, [], ◌∷◌, Some, None, refl}
+use Rattle.std.proofs.Common.{◌≡◌, ℕ, Bool, true, false, List, [], ◌∷◌, Some, None, refl}
 use Rattle.std.specs.Prelude.{pos}
-use Rattle.co_frame.specs.declared.nmt.NmtService.TheVariants.{Start, ResetNode}
+use Rattle.co_frame.specs.declared.nmt.NmtService.TheVariants.{Start, Stop, ResetNode}
 use Rattle.co_profile.specs.declared.access.Access.{Access}
 use Rattle.co_profile.specs.declared.access.Access.TheVariants.{Ro, Wo, Rw, Constant}
 use Rattle.co_sheet.specs.Content.{Row}
@@ -15,13 +15,17 @@ use Rattle.conode_explain_transfers.specs.declared.ended.Ending.TheVariants.{Don
 use Rattle.conode_explain_transfers.specs.declared.kinds.Direction.TheVariants.{Download}
 use Rattle.conode_explain_transfers.specs.declared.kinds.Protocol.{Protocol}
 use Rattle.conode_explain_transfers.specs.declared.kinds.Protocol.TheVariants.{Expedited, Segmented}
+use Rattle.conode_explain_transfers.specs.declared.kinds.What.TheVariants.{Part}
+use Rattle.conode_compare_transfers.specs.declared.breach.Breach.TheVariants.{Toggle}
 use Rattle.conode_compare_rules.specs.declared.dialogue.Dialogue.{Dialogue}
+use Rattle.conode_compare_rules.specs.declared.dialogue.Exchange.{Exchange}
 use Rattle.conode_compare_rules.specs.declared.entries.Entries.{Entries}
-use Rattle.conode_compare_rules.specs.declared.finding.Finding.TheVariants.{BootMissing, SecondBootUp, NoState, WrongState, HeartbeatLate, EmergencyStopped, EmergencyRegister, EmergencyInhibit, ValueLength, ValueConst, ReadRefused, Written}
+use Rattle.conode_compare_rules.specs.declared.finding.Finding.TheVariants.{BootMissing, SecondBootUp, NoState, WrongState, HeartbeatLate, EmergencyStopped, EmergencyRegister, EmergencyInhibit, ValueLength, ValueConst, ReadRefused, Written, AnswerStopped, Transfer}
 use Rattle.conode_compare_rules.specs.declared.finding.NmtState.TheVariants.{Unknown, Initialising, PreOperational, Operational, Stopped}
 use Rattle.conode_compare_rules.specs.declared.heartbeats.Heartbeats.{Heartbeats}
 use Rattle.conode_compare_rules.specs.declared.limits.Limits.{Limits}
 use Rattle.conode_compare_rules.specs.declared.nmt.Nmt.{Nmt}
+use Rattle.conode_compare_rules.specs.Answers.{confirmed_finding, stopped_finding}
 use Rattle.conode_compare_rules.specs.Dialogues.{is_certain, nothing_asked, owes}
 use Rattle.conode_compare_rules.specs.EmergencyRules.{emergency_finding, inhibit_finding}
 use Rattle.conode_compare_rules.specs.EntriesInForce.{ended_entries, facts_of, initial_entries, sheet_entries, shown_inhibit, shown_period}
@@ -468,3 +472,51 @@ not_owed = refl
 
 nothing_owed : owes limits 0 nothing_asked ≡ false
 nothing_owed = refl
+
+-- ---- answers while stopped
+
+abbrev stopped_at : ℕ → Nmt
+stopped_at micros = record {
+  state = Stopped;
+  commanded = Some (record { service = Stop; micros = micros });
+  reset = None;
+  several = false;
+  booted = None;
+}
+
+abbrev answered_in : Bool → Exchange
+answered_in certain = record {
+  heard = record { what = Part; of = None; ended = None };
+  asked = Some (record { key = key 0x1000 0; micros = 110001; writes = false });
+  owed = true;
+  certain = certain;
+  breach = Some (Toggle (key 0x1000 0));
+}
+
+answered_stopped : stopped_finding limits 0 (stopped_at 100000) (answered_in true) ≡ Some (AnswerStopped (key 0x1000 0))
+unfolding stopped_finding is_settled
+answered_stopped = refl
+
+-- requested within the tolerance after the command
+requested_just_now : stopped_finding limits 0 (stopped_at 100001) (answered_in true) ≡ None
+unfolding stopped_finding is_settled
+requested_just_now = refl
+
+-- a request that came before may be answered
+perhaps_earlier : stopped_finding limits 0 (stopped_at 100000) (answered_in false) ≡ None
+unfolding stopped_finding is_settled
+perhaps_earlier = refl
+
+answered_operational : stopped_finding limits 0 (record (stopped_at 100000) { state = Operational }) (answered_in true) ≡ None
+unfolding stopped_finding is_settled
+answered_operational = refl
+
+-- ---- by the client's confirmation
+
+confirmed : confirmed_finding (answered_in true) ≡ Some (Transfer (Toggle (key 0x1000 0)))
+unfolding confirmed_finding
+confirmed = refl
+
+confirmed_in_doubt : confirmed_finding (answered_in false) ≡ None
+unfolding confirmed_finding
+confirmed_in_doubt = refl

@@ -8,17 +8,20 @@ use Rattle.co_value.specs.Keys.{same_key}
 use Rattle.conode_explain_transfers.specs.declared.ended.Ended.{Ended}
 use Rattle.conode_explain_transfers.specs.declared.kinds.What.{What}
 use Rattle.conode_explain_transfers.specs.declared.kinds.What.TheVariants.{Part, Overtaken, Unexpected, Stray}
+use Rattle.conode_compare_transfers.specs.declared.breach.Breach.{Breach}
+use Rattle.conode_compare_transfers.specs.Breaches.{byte_at, key_in}
 use Rattle.conode_compare_rules.specs.declared.dialogue.Asked.{Asked}
 use Rattle.conode_compare_rules.specs.declared.dialogue.Dialogue.{Dialogue}
 use Rattle.conode_compare_rules.specs.declared.dialogue.Exchange.{Exchange}
 use Rattle.conode_compare_rules.specs.declared.finding.Finding.{Finding}
-use Rattle.conode_compare_rules.specs.declared.finding.Finding.TheVariants.{NoAnswer, Unasked, AnswerKey, AnswerForm}
+use Rattle.conode_compare_rules.specs.declared.finding.Finding.TheVariants.{NoAnswer, Unasked, AnswerKey, AnswerForm, AnswerStopped, Transfer}
 use Rattle.conode_compare_rules.specs.declared.finding.NmtState.{NmtState}
 use Rattle.conode_compare_rules.specs.declared.finding.NmtState.TheVariants.{PreOperational, Operational}
 use Rattle.conode_compare_rules.specs.declared.limits.Limits.{Limits}
 use Rattle.conode_compare_rules.specs.declared.limits.Subject.{Subject}
 use Rattle.conode_compare_rules.specs.declared.nmt.Nmt.{Nmt}
-use Rattle.conode_compare_rules.specs.Dialogues.{byte_at, is_certain, key_in}
+use Rattle.conode_compare_rules.specs.Dialogues.{is_certain}
+use Rattle.conode_compare_rules.specs.EmergencyRules.{is_stopped}
 use Rattle.conode_compare_rules.specs.SheetValues.{end_finding}
 use Rattle.conode_compare_rules.specs.States.{is_settled}
 use Rattle.conode_compare_rules.specs.Times.{is_past}
@@ -87,11 +90,31 @@ first_of None other = other
 abbrev pub overdue_answer : Limits → Exchange → ℕ → Option Finding
 overdue_answer limits exchange micros = if exchange.owed then late_answer limits exchange.asked micros else None
 
+-- within the open transfer
+abbrev pub breach_finding : Option Breach → Option Finding
+breach_finding breach = option_map (λ b. Transfer b) breach
+
+abbrev pub known_answer : Subject → List Row → Exchange → FrameContent → Option Finding
+known_answer subject rows exchange frame = first_of (what_finding subject rows exchange frame) (breach_finding exchange.breach)
+
 -- the difference of an answer, where no earlier request can be answered
 unfoldable pub answer_finding : Subject → List Row → ℕ → Exchange → FrameContent → Option Finding
 answer_finding subject rows micros exchange frame =
-    if exchange.certain then first_of (overdue_answer subject.limits exchange micros) (what_finding subject rows exchange frame)
+    if exchange.certain then first_of (overdue_answer subject.limits exchange micros) (known_answer subject rows exchange frame)
     else None
+
+-- `answer-state`: the answer to a request that came when the device was stopped, and the tolerance after the command was over
+abbrev pub stopped_with : Limits → ℕ → Nmt → Option Asked → Option Finding
+stopped_with limits started nmt None = None
+stopped_with limits started nmt (Some asked) =
+    if is_stopped nmt.state && is_settled limits started nmt.commanded asked.micros then Some (AnswerStopped asked.key) else None
+
+unfoldable pub stopped_finding : Limits → ℕ → Nmt → Exchange → Option Finding
+stopped_finding limits started nmt exchange = if exchange.certain then stopped_with limits started nmt exchange.asked else None
+
+-- the client's confirmation shows what the device did in the transfer that ends with it
+unfoldable pub confirmed_finding : Exchange → Option Finding
+confirmed_finding exchange = if exchange.certain then breach_finding exchange.breach else None
 
 -- ---- no answer at all
 

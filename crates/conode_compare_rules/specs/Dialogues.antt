@@ -1,5 +1,5 @@
 -- The default SDO channel of a device (CiA 301, 7.2.4): which request a frame answers. The transfers in it are those of `followed`.
-use Rattle.std.specs.Prelude.{ℕ, ◌+◌, ◌*◌, ◌/◌, ◌==◌, Bool, true, false, not, ◌&&◌, ◌||◌, if◌then◌else◌, List, slice_index, Option, Some, None, is_some}
+use Rattle.std.specs.Prelude.{ℕ, ◌/◌, ◌==◌, Bool, true, false, not, ◌&&◌, ◌||◌, if◌then◌else◌, Option, Some, None, is_some}
 use Rattle.std.specs.Option.{option_map_or}
 use Rattle.co_frame.specs.FrameContent.{FrameContent}
 use Rattle.co_value.specs.declared.key.Key.{Key}
@@ -15,6 +15,8 @@ use Rattle.conode_explain_transfers.specs.declared.kinds.Side.TheVariants.{Clien
 use Rattle.conode_explain_transfers.specs.declared.kinds.What.{What}
 use Rattle.conode_explain_transfers.specs.declared.kinds.What.TheVariants.{Initiate, Part, Segment}
 use Rattle.conode_explain_transfers.specs.Followed.{after_boot, followed, nothing_heard}
+use Rattle.conode_compare_transfers.specs.Breaches.{breach_at, byte_at, key_in}
+use Rattle.conode_compare_transfers.specs.NewestFrames.{newest_after}
 use Rattle.conode_compare_rules.specs.declared.dialogue.Asked.{Asked}
 use Rattle.conode_compare_rules.specs.declared.dialogue.Dialogue.{Dialogue}
 use Rattle.conode_compare_rules.specs.declared.dialogue.Exchange.{Exchange}
@@ -22,16 +24,9 @@ use Rattle.conode_compare_rules.specs.declared.limits.Limits.{Limits}
 use Rattle.conode_compare_rules.specs.Times.{is_past}
 
 abbrev pub nothing_asked : Dialogue
-nothing_asked = record { channel = nothing_heard; asked = None; doubted = None }
+nothing_asked = record { channel = nothing_heard; asked = None; doubted = None; newest = None }
 
 -- ---- initiate requests
-
-abbrev pub byte_at : FrameContent → ℕ → ℕ
-byte_at frame place = slice_index frame.bytes place
-
--- the multiplexer
-abbrev pub key_in : FrameContent → Key
-key_in frame = record { index = byte_at frame 1 + byte_at frame 2 * 256; sub = byte_at frame 3 }
 
 -- initiate of a download, ccs = 1, or of a block download, ccs = 6
 abbrev pub asks_to_write : FrameContent → Bool
@@ -87,13 +82,14 @@ owes limits started dialogue = option_map_or (λ a. is_certain limits started di
 
 -- ---- a frame
 
--- what a frame is, by an end, with these bytes
-unfoldable pub exchange_in : Limits → ℕ → Dialogue → ℕ → Side → List ℕ → Exchange
-exchange_in limits started dialogue micros side bytes = record {
-  heard = (followed dialogue.channel micros side bytes).says;
+-- what a frame is, by an end
+unfoldable pub exchange_in : Limits → ℕ → Dialogue → ℕ → Side → FrameContent → Exchange
+exchange_in limits started dialogue micros side frame = record {
+  heard = (followed dialogue.channel micros side frame.bytes).says;
   asked = dialogue.asked;
   owed = owes limits started dialogue;
   certain = is_certain limits started dialogue.doubted micros;
+  breach = breach_at dialogue.newest side (followed dialogue.channel micros side frame.bytes).says frame;
 }
 
 abbrev pub doubted_after : Side → Heard → FrameContent → Option ℕ → ℕ → Option ℕ
@@ -106,11 +102,12 @@ dialogue_heard dialogue micros side frame =
       channel = f.next;
       asked = asked_after f.says.what micros frame;
       doubted = doubted_after side f.says frame dialogue.doubted micros;
+      newest = newest_after side f.says.what dialogue.newest;
     }
 
 -- what was asked isn't answered in time
 abbrev pub given_up : Dialogue → ℕ → Dialogue
-given_up dialogue micros = record { channel = dialogue.channel; asked = None; doubted = Some micros }
+given_up dialogue micros = record { channel = dialogue.channel; asked = None; doubted = Some micros; newest = None }
 
 -- after a reset, a boot-up or an error frame nothing is open any more; what was may be answered all the same
 abbrev pub interrupted : Dialogue → ℕ → Dialogue
@@ -118,4 +115,5 @@ interrupted dialogue micros = record {
   channel = after_boot dialogue.channel;
   asked = None;
   doubted = if is_some dialogue.channel.transfer then Some micros else dialogue.doubted;
+  newest = None;
 }

@@ -28,7 +28,7 @@ use Rattle.conode_compare_rules.specs.declared.limits.Subject.{Subject}
 use Rattle.conode_compare_rules.specs.declared.kind.FrameKind.{FrameKind}
 use Rattle.conode_compare_rules.specs.declared.kind.FrameKind.TheVariants.{Command, Guarding, Control, OddControl, Emergency, OddEmergency, Sdo, Process, Polled, Fault, Other}
 use Rattle.conode_compare_rules.specs.declared.verdict.Findings.{Findings}
-use Rattle.conode_compare_rules.specs.Answers.{answer_finding, silence_finding}
+use Rattle.conode_compare_rules.specs.Answers.{answer_finding, confirmed_finding, first_of, silence_finding, stopped_finding}
 use Rattle.conode_compare_rules.specs.Dialogues.{dialogue_heard, given_up, interrupted, nothing_asked, exchange_in}
 use Rattle.conode_compare_rules.specs.EmergencyRules.{emergency_finding, length_finding}
 use Rattle.conode_compare_rules.specs.EntriesInForce.{asked_to_write, ended_entries, reset_entries, shown_period}
@@ -229,7 +229,7 @@ abbrev pub pdos_heard : Pdos → Option Ended → Option Asked → ℕ → Pdos
 pdos_heard pdos ended asked micros = pdos_asked (pdos_ended pdos ended micros) asked micros
 
 unfoldable pub exchange_at : Subject → Progress → ℕ → Side → FrameContent → Exchange
-exchange_at subject progress micros side frame = exchange_in subject.limits progress.started progress.dialogue micros side frame.bytes
+exchange_at subject progress micros side frame = exchange_in subject.limits progress.started progress.dialogue micros side frame
 
 unfoldable pub after_sdo : Progress → ℕ → Side → FrameContent → Progress
 after_sdo progress micros side frame =
@@ -262,12 +262,22 @@ is_judged exchange = exchange.certain && (is_some exchange.asked && is_part exch
 
 unfoldable pub answer_findings : Subject → List Row → Progress → ℕ → FrameContent → Findings
 answer_findings subject rows progress micros frame =
-    let exchange = exchange_at subject (answer_noted subject progress micros) micros Server frame in
+    let noted = answer_noted subject progress micros in
+    let exchange = exchange_at subject noted micros Server frame in
     found (boot_finding subject.limits progress.nmt micros) (late_at subject progress micros) None
-    (answer_finding subject rows micros exchange frame) (is_judged exchange)
+    (first_of (stopped_finding subject.limits noted.started noted.nmt exchange) (answer_finding subject rows micros exchange frame))
+    (is_judged exchange)
 
 unfoldable pub after_answer : Subject → Progress → ℕ → FrameContent → Progress
 after_answer subject progress micros frame = after_sdo (answer_noted subject progress micros) micros Server frame
+
+-- a request, or another frame of the client: with one that ends a block upload the device's end of it counts
+abbrev pub confirmed_findings : Option Finding → Findings
+confirmed_findings None = nothing_found
+confirmed_findings (Some finding) = found None None None (Some finding) false
+
+unfoldable pub request_findings : Subject → Progress → ℕ → FrameContent → Findings
+request_findings subject progress micros frame = confirmed_findings (confirmed_finding (exchange_at subject progress micros Client frame))
 
 -- ---- PDOs
 
@@ -316,6 +326,7 @@ findings_in subject rows progress micros (OddControl length) = odd_control_findi
 findings_in subject rows progress micros (Emergency code register) = emergency_findings subject progress micros code register
 findings_in subject rows progress micros (OddEmergency length) = odd_emergency_findings progress length
 findings_in subject rows progress micros (Sdo Server frame) = answer_findings subject rows progress micros frame
+findings_in subject rows progress micros (Sdo Client frame) = request_findings subject progress micros frame
 findings_in subject rows progress micros (Process id length) = process_findings subject progress micros id length
 findings_in subject rows progress micros _ = nothing_found
 

@@ -6,21 +6,26 @@ ghost use Rattle.co_sheet.specs.SheetViews.{row_view};
 ghost use Rattle.co_value.specs.Keys.{is_key_before};
 ghost use Rattle.conode_compare_rules.specs.Answers.{
   answer_finding,
+  breach_finding,
+  confirmed_finding,
   ended_finding,
+  first_of,
   form_finding,
   is_abort,
   is_indicated,
   is_timed,
   key_finding,
+  known_answer,
   late_answer,
   overdue_answer,
   refuses_other,
   silence_finding,
+  stopped_finding,
   unasked_finding,
   what_finding,
 };
 
-use crate::dialogue::{Asked, Dialogue, Exchange, byte_at, key_in};
+use crate::dialogue::{Asked, Dialogue, Exchange};
 use crate::finding::{Finding, NmtState};
 use crate::limits::{Limits, Subject, is_past};
 use crate::nmt::Nmt;
@@ -29,6 +34,7 @@ use co_frame::Frame;
 use co_profile::{RESTORE_PARAMETERS, STORE_PARAMETERS};
 use co_sheet::EntryRow;
 use co_value::Key;
+use conode_compare_transfers::{Breach, byte_at, key_in};
 use conode_explain_transfers::{Ended, What};
 
 // Storing, restoring, and what a program is loaded by (1F00h to 1FFFh, CiA 302) may take long.
@@ -149,6 +155,74 @@ fn overdue_answer(limits: &Limits, exchange: &Exchange, micros: u64) -> Option<F
     }
 }
 
+/// The first of the two.
+pub(crate) fn first_of(first: Option<Finding>, second: Option<Finding>) -> Option<Finding>
+    ensures { result ≡ first_of first second }
+{
+    match first {
+        Some(first) => Some(first),
+        None => second,
+    }
+}
+
+fn breach_finding(breach: Option<Breach>) -> Option<Finding>
+    ensures { result ≡ breach_finding breach }
+{
+    match breach {
+        Some(breach) => Some(Finding::Transfer(breach)),
+        None => None,
+    }
+}
+
+// the difference of an answer that comes in time
+fn known_answer(
+    subject: &Subject,
+    rows: &[EntryRow<'_>],
+    exchange: &Exchange,
+    frame: &Frame,
+) -> Option<Finding>
+    requires { AllPairs (λ e f. is_key_before e.key f.key ≡ true) rows.now }
+    ensures { result ≡ known_answer subject.now (map row_view rows.now) exchange.now frame.now }
+{
+    first_of(
+        what_finding(subject, rows, exchange, frame),
+        breach_finding(exchange.breach),
+    )
+}
+
+/// The difference of an answer while stopped, to a request that came after the command and the tolerance.
+#[tactic(auto, unfolding(crate::specs::Answers::stopped_finding))]
+pub(crate) fn stopped_finding(
+    limits: &Limits,
+    started: u64,
+    nmt: &Nmt,
+    exchange: &Exchange,
+) -> Option<Finding>
+    ensures { result ≡ stopped_finding limits.now started nmt.now exchange.now }
+{
+    if !exchange.certain {
+        return None;
+    }
+    let asked = exchange.asked?;
+    if matches!(nmt.state, NmtState::Stopped) && nmt.is_settled(limits, started, asked.micros) {
+        Some(Finding::AnswerStopped(asked.key))
+    } else {
+        None
+    }
+}
+
+/// The difference that the client's confirmation shows.
+#[tactic(auto, unfolding(crate::specs::Answers::confirmed_finding))]
+pub(crate) fn confirmed_finding(exchange: &Exchange) -> Option<Finding>
+    ensures { result ≡ confirmed_finding exchange.now }
+{
+    if exchange.certain {
+        breach_finding(exchange.breach)
+    } else {
+        None
+    }
+}
+
 /// The difference of an answer, where no earlier request can be answered.
 #[tactic(auto, unfolding(crate::specs::Answers::answer_finding))]
 pub(crate) fn answer_finding(
@@ -166,7 +240,7 @@ pub(crate) fn answer_finding(
     }
     match overdue_answer(&subject.limits, exchange, micros) {
         Some(late) => Some(late),
-        None => what_finding(subject, rows, exchange, frame),
+        None => known_answer(subject, rows, exchange, frame),
     }
 }
 

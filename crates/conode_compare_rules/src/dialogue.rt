@@ -5,7 +5,6 @@ ghost use Rattle.conode_explain_transfers.specs.Followed.{followed};
 ghost use Rattle.conode_compare_rules.specs.Dialogues.{
   asked_after,
   asks_to_write,
-  byte_at,
   leaves_request_open,
   dialogue_heard,
   doubted_after,
@@ -14,7 +13,6 @@ ghost use Rattle.conode_compare_rules.specs.Dialogues.{
   given_up,
   interrupted,
   is_certain,
-  key_in,
   nothing_asked,
   owes,
   continues,
@@ -24,6 +22,7 @@ ghost use Rattle.conode_compare_rules.specs.Dialogues.{
 use crate::limits::{Limits, is_past};
 use co_frame::Frame;
 use co_value::Key;
+use conode_compare_transfers::{Breach, Newest, breach_at, byte_at, key_in, newest_after};
 use conode_explain_transfers::{Channel, Ended, Ending, Heard, Protocol, Side, What};
 
 /// An initiate request that is not answered yet.
@@ -43,6 +42,8 @@ pub(crate) struct Dialogue {
     pub(crate) asked: Option<Asked>,
     /// The stamp of the newest frame by which an earlier request may still be answered.
     pub(crate) doubted: Option<u64>,
+    /// Whose frame the newest one of the open transfer is, where each of its frames came in its turn.
+    pub(crate) newest: Option<Newest>,
 }
 
 /// What a frame of the channel is in it.
@@ -55,26 +56,8 @@ pub(crate) struct Exchange {
     pub(crate) owed: bool,
     /// Whether no earlier request can be answered here.
     pub(crate) certain: bool,
-}
-
-/// A byte of a frame, 0 where it has none there.
-pub(crate) fn byte_at(frame: &Frame, place: usize) -> u8
-    ensures { result ≡ byte_at frame.now place }
-{
-    match frame.bytes().get(place) {
-        Some(byte) => *byte,
-        None => 0,
-    }
-}
-
-/// The multiplexer of an initiate request, of its response, and of an abort.
-pub(crate) fn key_in(frame: &Frame) -> Key
-    ensures { result ≡ key_in frame.now }
-{
-    Key {
-        index: u16::from(byte_at(frame, 1)) + u16::from(byte_at(frame, 2)) * 256,
-        sub: byte_at(frame, 3),
-    }
+    /// What is different in the open transfer.
+    pub(crate) breach: Option<Breach>,
 }
 
 // whether an initiate request is one of a download, by its command specifier
@@ -153,6 +136,7 @@ impl Dialogue {
             channel: Channel::new(),
             asked: None,
             doubted: None,
+            newest: None,
         }
     }
 
@@ -192,22 +176,25 @@ impl Dialogue {
         side: Side,
         frame: &Frame,
     ) -> Exchange
-        ensures exchange { result ≡ exchange_in limits.now started self.old micros side frame.now.bytes }
+        ensures exchange { result ≡ exchange_in limits.now started self.old micros side frame.now }
         ensures next { self.new ≡ dialogue_heard self.old micros side frame.now }
     {
         let owed = self.owes(limits, started);
         let certain = self.is_certain(limits, started, micros);
         let asked = self.asked;
         let heard = self.channel.take(micros, side, frame);
+        let breach = breach_at(self.newest, side, &heard, frame);
         self.asked = asked_after(heard.what, micros, frame);
         if leaves_request_open(side, &heard, frame) {
             self.doubted = Some(micros);
         }
+        self.newest = newest_after(side, heard.what, self.newest);
         Exchange {
             heard,
             asked,
             owed,
             certain,
+            breach,
         }
     }
 
@@ -217,6 +204,7 @@ impl Dialogue {
     {
         self.asked = None;
         self.doubted = Some(micros);
+        self.newest = None;
     }
 
     /// The device is reset, booted up, or an error frame came: nothing is open any more. Where something was, it may be
@@ -228,5 +216,6 @@ impl Dialogue {
             self.doubted = Some(micros);
         }
         self.asked = None;
+        self.newest = None;
     }
 }

@@ -3,6 +3,7 @@
 use co_frame::AbortCode;
 use co_value::Key;
 use conode_compare_pdos::Deviation;
+use conode_compare_transfers::Breach;
 
 /// The NMT state that a device is in, as commands and its own frames have it (CiA 301, 7.3.2.2).
 #[derive(Clone, Copy)]
@@ -47,6 +48,10 @@ pub enum Finding {
     AnswerKey(Key),
     /// `answer-form`: the answer to the request for this entry is of no form that its protocol has there.
     AnswerForm(Key),
+    /// `answer-state`: the request for this entry is answered while stopped.
+    AnswerStopped(Key),
+    /// A difference in an open transfer.
+    Transfer(Breach),
     /// `value-length`: an upload of this entry has so many bytes, and its type has so many.
     ValueLength(Key, u8, u8),
     /// `value-const`: an upload of this entry gives the first number, and the data sheet has the second.

@@ -4,6 +4,7 @@ ghost use Rattle.std.specs.Prelude.{◌≡◌, true, map};
 ghost use Rattle.std.specs.List.{AllPairs};
 ghost use Rattle.co_sheet.specs.SheetViews.{row_view};
 ghost use Rattle.co_value.specs.Keys.{is_key_before};
+ghost use Rattle.conode_explain_transfers.specs.declared.kinds.Side.TheVariants.{Client};
 ghost use Rattle.conode_compare_rules.specs.Progresses.{
   after_answer,
   after_command,
@@ -18,6 +19,7 @@ ghost use Rattle.conode_compare_rules.specs.Progresses.{
   begun,
   boot_findings,
   booted,
+  confirmed_findings,
   control_findings,
   control_judged,
   progress_with,
@@ -38,6 +40,7 @@ ghost use Rattle.conode_compare_rules.specs.Progresses.{
   moment_at,
   pdos_heard,
   process_findings,
+  request_findings,
   settled_when_free,
   sighting_findings,
   exchange_at,
@@ -45,7 +48,9 @@ ghost use Rattle.conode_compare_rules.specs.Progresses.{
   was_quiet,
 };
 
-use crate::answers::{answer_finding, silence_finding};
+use crate::answers::{
+    answer_finding, confirmed_finding, first_of, silence_finding, stopped_finding,
+};
 use crate::dialogue::{Asked, Dialogue, Exchange};
 use crate::emergencies::{emergency_finding, length_finding};
 use crate::entries::{Entries, shown_period};
@@ -137,6 +142,16 @@ fn sighting_findings(sighting: Option<Sighting>) -> Findings
             };
             Findings::of(None, None, None, frame, sighting.judged)
         }
+        None => Findings::none(),
+    }
+}
+
+// what the client's frame shows of the transfer that ends with it
+fn confirmed_findings(finding: Option<Finding>) -> Findings
+    ensures { result ≡ confirmed_findings finding }
+{
+    match finding {
+        Some(finding) => Findings::of(None, None, None, Some(finding), false),
         None => Findings::none(),
     }
 }
@@ -442,9 +457,24 @@ impl Progress {
             .heartbeats
             .late_finding(&subject.limits, &self.entries, self.free, micros);
         self.note_answer(subject, heartbeat.is_some(), micros);
+        let nmt = self.nmt;
+        let started = self.started;
         let exchange = self.hear(subject, micros, Side::Server, frame);
-        let difference = answer_finding(subject, rows, micros, &exchange, frame);
+        let difference = first_of(
+            stopped_finding(&subject.limits, started, &nmt, &exchange),
+            answer_finding(subject, rows, micros, &exchange, frame),
+        );
         Findings::of(boot, heartbeat, None, difference, is_judged(&exchange))
+    }
+
+    // a request, or another frame of the client
+    #[tactic(auto, unfolding(crate::specs::Progresses::request_findings))]
+    fn take_request(&mut self, subject: &Subject, micros: u64, frame: &Frame) -> Findings
+        ensures findings { result ≡ request_findings subject.now self.old micros frame.now }
+        ensures progress { self.new ≡ after_sdo self.old micros Client frame.now }
+    {
+        let exchange = self.hear(subject, micros, Side::Client, frame);
+        confirmed_findings(confirmed_finding(&exchange))
     }
 
     // whether the tolerance was over when the bus was free last
@@ -508,9 +538,7 @@ impl Progress {
                 return self.take_emergency(subject, micros, *code, *register);
             }
             FrameKind::OddEmergency(length) => return self.take_odd_emergency(micros, *length),
-            FrameKind::Sdo(Side::Client, frame) => {
-                let _ = self.hear(subject, micros, Side::Client, frame);
-            }
+            FrameKind::Sdo(Side::Client, frame) => return self.take_request(subject, micros, frame),
             FrameKind::Process(id, length) => {
                 return self.take_process(subject, micros, *id, *length);
             }

@@ -4,9 +4,10 @@ use Rattle.std.specs.Fmt.{digits}
 use Rattle.co_text.specs.Printed.{digits_text}
 use Rattle.co_value.specs.declared.key.Key.{Key}
 use Rattle.conode_compare_pdos.specs.declared.deviation.Deviation.TheVariants.{Length, NotOperational, WithoutSync, Inhibit, Timer}
-use Rattle.conode_compare_rules.specs.declared.finding.Finding.TheVariants.{BootMissing, SecondBootUp, HeartbeatLength, NoState, WrongState, HeartbeatLate, EmergencyLength, EmergencyStopped, EmergencyRegister, EmergencyInhibit, NoAnswer, Unasked, AnswerKey, AnswerForm, ValueLength, ValueConst, ReadRefused, Written, Pdo}
+use Rattle.conode_compare_transfers.specs.declared.breach.Breach.TheVariants.{Toggle, Form, AbortKey, Size, Crc}
+use Rattle.conode_compare_rules.specs.declared.finding.Finding.TheVariants.{BootMissing, SecondBootUp, HeartbeatLength, NoState, WrongState, HeartbeatLate, EmergencyLength, EmergencyStopped, EmergencyRegister, EmergencyInhibit, NoAnswer, Unasked, AnswerKey, AnswerForm, ValueLength, ValueConst, ReadRefused, Written, AnswerStopped, Transfer, Pdo}
 use Rattle.conode_compare_rules.specs.declared.finding.NmtState.TheVariants.{PreOperational, Operational}
-use Rattle.conode_compare_text.specs.FindingTexts.{coded, finding_line, finding_text, hexadecimal, keyed, keyed_code, keyed_codes, keyed_numbers, keyed_time, millis_text, named, numbered, numbered_time, numbered_times, pdo_text, three_numbers, timed, timed_number, two_codes, two_times}
+use Rattle.conode_compare_text.specs.FindingTexts.{coded, finding_line, finding_text, hexadecimal, keyed, keyed_code, keyed_codes, keyed_numbers, keyed_time, millis_text, named, numbered, numbered_time, numbered_times, pdo_text, three_numbers, timed, timed_number, transfer_text, two_codes, two_times}
 use Rattle.conode_compare_text.specs.Tallies.{summary}
 
 abbrev key : Key
@@ -102,3 +103,29 @@ pdo_inhibit = refl
 pdo_late : finding_text (Pdo 1 (Timer 1020001 1000)) ≡ codes "pdo-late: TPDO1 1020.001 ms since the last one, its event timer has 1000 ms"
 unfolding finding_text pdo_text numbered_time millis_text digits_text digits
 pdo_late = refl
+
+-- ---- transfers
+
+answer_stopped : finding_text (AnswerStopped key) ≡ codes "answer-state: 1018:01 is answered while stopped"
+unfolding finding_text keyed digits_text
+answer_stopped = refl
+
+toggle : finding_text (Transfer (Toggle key)) ≡ codes "answer-toggle: 1018:01 is transferred, a segment has the wrong toggle bit"
+unfolding finding_text transfer_text keyed digits_text
+toggle = refl
+
+form : finding_text (Transfer (Form key)) ≡ codes "answer-form: 1018:01 is transferred, which has no such answer here"
+unfolding finding_text transfer_text keyed digits_text
+form = refl
+
+abort_key : finding_text (Transfer (AbortKey key)) ≡ codes "abort-key: 1018:01 is transferred, the abort is of another entry"
+unfolding finding_text transfer_text keyed digits_text
+abort_key = refl
+
+size : finding_text (Transfer (Size key 10 9)) ≡ codes "answer-size: 1018:01 has 9 bytes, its response to initiate has 10"
+unfolding finding_text transfer_text keyed_numbers digits_text digits
+size = refl
+
+crc : finding_text (Transfer (Crc key 0x1234 0xABC)) ≡ codes "answer-crc: 1018:01 has the CRC 00001234h, that of its bytes is 00000ABCh"
+unfolding finding_text transfer_text keyed_codes hexadecimal digits_text
+crc = refl

@@ -5,8 +5,10 @@ use Rattle.co_value.specs.declared.key.Key.{Key}
 use Rattle.co_value.specs.KeyTexts.{key_text}
 use Rattle.conode_compare_pdos.specs.declared.deviation.Deviation.{Deviation}
 use Rattle.conode_compare_pdos.specs.declared.deviation.Deviation.TheVariants.{Length, NotOperational, WithoutSync, Inhibit, Timer}
+use Rattle.conode_compare_transfers.specs.declared.breach.Breach.{Breach}
+use Rattle.conode_compare_transfers.specs.declared.breach.Breach.TheVariants.{Toggle, Form, AbortKey, Size, Crc}
 use Rattle.conode_compare_rules.specs.declared.finding.Finding.{Finding}
-use Rattle.conode_compare_rules.specs.declared.finding.Finding.TheVariants.{BootMissing, SecondBootUp, HeartbeatLength, NoState, WrongState, HeartbeatLate, EmergencyLength, EmergencyStopped, EmergencyRegister, EmergencyInhibit, NoAnswer, Unasked, AnswerKey, AnswerForm, ValueLength, ValueConst, ReadRefused, Written, Pdo}
+use Rattle.conode_compare_rules.specs.declared.finding.Finding.TheVariants.{BootMissing, SecondBootUp, HeartbeatLength, NoState, WrongState, HeartbeatLate, EmergencyLength, EmergencyStopped, EmergencyRegister, EmergencyInhibit, NoAnswer, Unasked, AnswerKey, AnswerForm, ValueLength, ValueConst, ReadRefused, Written, AnswerStopped, Transfer, Pdo}
 use Rattle.conode_compare_rules.specs.declared.finding.NmtState.{NmtState}
 use Rattle.conode_compare_rules.specs.declared.finding.NmtState.TheVariants.{Unknown, Initialising, PreOperational, Operational, Stopped}
 
@@ -84,6 +86,16 @@ pdo_text number (Inhibit passed inhibit) =
 pdo_text number (Timer passed timer) =
     numbered_time (codes "pdo-late: TPDO") number (codes " ") passed (codes " since the last one, its event timer has ") timer (codes " ms")
 
+-- in an open transfer
+unfoldable pub transfer_text : Breach → List ℕ
+transfer_text (Toggle key) = keyed (codes "answer-toggle: ") key (codes " is transferred, a segment has the wrong toggle bit")
+transfer_text (Form key) = keyed (codes "answer-form: ") key (codes " is transferred, which has no such answer here")
+transfer_text (AbortKey key) = keyed (codes "abort-key: ") key (codes " is transferred, the abort is of another entry")
+transfer_text (Size key indicated bytes) =
+    keyed_numbers (codes "answer-size: ") key (codes " has ") bytes (codes " bytes, its response to initiate has ") indicated
+transfer_text (Crc key came computed) =
+    keyed_codes (codes "answer-crc: ") key (codes " has the CRC ") came (codes ", that of its bytes is ") computed
+
 -- the name of the kind, and what is different
 unfoldable pub finding_text : Finding → List ℕ
 finding_text (BootMissing passed) = timed (codes "boot-missing: no boot-up ") passed (codes " after the reset command")
@@ -110,6 +122,8 @@ finding_text (ValueConst key shown held) = keyed_codes (codes "value-const: ") k
 finding_text (ReadRefused key code) =
     keyed_code (codes "access-read: ") key (codes " refused with ") code.0 (codes ", the sheet has it as readable")
 finding_text (Written key) = keyed (codes "access-write: ") key (codes " was written, the sheet has it as read only")
+finding_text (AnswerStopped key) = keyed (codes "answer-state: ") key (codes " is answered while stopped")
+finding_text (Transfer breach) = transfer_text breach
 finding_text (Pdo number deviation) = pdo_text number deviation
 
 -- `recording.log:123: heartbeat-late: ..`

@@ -6,6 +6,7 @@ ghost use Rattle.conode_compare_text.specs.FindingTexts.{
   finding_text,
   pdo_text,
   state_name,
+  transfer_text,
 };
 
 use crate::parts::{
@@ -15,6 +16,7 @@ use crate::parts::{
 };
 use conode_compare_pdos::Deviation;
 use conode_compare_rules::{Finding, NmtState};
+use conode_compare_transfers::Breach;
 use std::alloc::AllocError;
 
 fn state_name(state: NmtState) -> &'static str
@@ -75,6 +77,52 @@ fn push_pdo(text: &mut String, number: u8, deviation: Deviation) -> Result<(), A
             " since the last one, its event timer has ",
             u64::from(timer),
             " ms",
+        ),
+    }
+}
+
+// what is different in an open transfer
+#[tactic(auto, unfolding(crate::specs::FindingTexts::transfer_text))]
+fn push_transfer(text: &mut String, breach: Breach) -> Result<(), AllocError>
+    ensures { OnOk result (string_bytes text.new
+        ≡ string_bytes text.old ++ transfer_text breach) }
+{
+    match breach {
+        Breach::Toggle(key) => push_key(
+            text,
+            "answer-toggle: ",
+            key,
+            " is transferred, a segment has the wrong toggle bit",
+        ),
+        Breach::Form(key) => push_key(
+            text,
+            "answer-form: ",
+            key,
+            " is transferred, which has no such answer here",
+        ),
+        Breach::AbortKey(key) => push_key(
+            text,
+            "abort-key: ",
+            key,
+            " is transferred, the abort is of another entry",
+        ),
+        Breach::Size(key, indicated, bytes) => push_key_numbers(
+            text,
+            "answer-size: ",
+            key,
+            " has ",
+            bytes,
+            " bytes, its response to initiate has ",
+            u64::from(indicated),
+        ),
+        Breach::Crc(key, came, computed) => push_key_codes(
+            text,
+            "answer-crc: ",
+            key,
+            " has the CRC ",
+            u64::from(came),
+            ", that of its bytes is ",
+            u64::from(computed),
         ),
     }
 }
@@ -192,6 +240,10 @@ fn push_finding(text: &mut String, finding: Finding) -> Result<(), AllocError>
             key,
             " was written, the sheet has it as read only",
         ),
+        Finding::AnswerStopped(key) => {
+            push_key(text, "answer-state: ", key, " is answered while stopped")
+        }
+        Finding::Transfer(breach) => push_transfer(text, breach),
         Finding::Pdo(number, deviation) => push_pdo(text, number, deviation),
     }
 }

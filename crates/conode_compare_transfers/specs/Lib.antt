@@ -1,0 +1,2 @@
+pub mod NewestFrames
+pub mod Breaches

@@ -1,0 +1,94 @@
+//! Whose frame the newest one of an open transfer is.
+
+ghost use Rattle.std.specs.Prelude.{◌≡◌};
+ghost use Rattle.conode_compare_transfers.specs.NewestFrames.{
+  answers_after,
+  asks_after,
+  client_newest,
+  goes_on,
+  newest_after,
+  server_newest,
+};
+
+use conode_explain_transfers::{Side, What};
+
+/// The newest frame of an open transfer, each frame of which came in its turn.
+#[derive(Clone, Copy)]
+pub enum Newest {
+    /// The client's: a request, or a segment of a block download.
+    Request,
+    /// An answer of the device.
+    Answer,
+    /// A segment of a block upload.
+    Data,
+}
+
+// another frame in a row
+fn goes_on(newest: Option<Newest>, next: Newest) -> Option<Newest>
+    ensures { result ≡ goes_on newest next }
+{
+    match newest {
+        Some(_) => Some(next),
+        None => None,
+    }
+}
+
+// the client's next frame: after an answer, or after the segments of a block
+fn asks_after(newest: Option<Newest>) -> Option<Newest>
+    ensures { result ≡ asks_after newest }
+{
+    match newest {
+        Some(Newest::Answer | Newest::Data) => Some(Newest::Request),
+        _ => None,
+    }
+}
+
+// the device's answer, after a request
+fn answers_after(newest: Option<Newest>) -> Option<Newest>
+    ensures { result ≡ answers_after newest }
+{
+    match newest {
+        Some(Newest::Request) => Some(Newest::Answer),
+        _ => None,
+    }
+}
+
+fn client_newest(what: What, newest: Option<Newest>) -> Option<Newest>
+    ensures { result ≡ client_newest what newest }
+{
+    match what {
+        What::Initiate => Some(Newest::Request),
+        What::Part => asks_after(newest),
+        What::Segment { number: _ }
+        | What::OutOfSequence {
+            number: _,
+            awaited: _,
+        } => goes_on(newest, Newest::Request),
+        _ => None,
+    }
+}
+
+fn server_newest(what: What, newest: Option<Newest>) -> Option<Newest>
+    ensures { result ≡ server_newest what newest }
+{
+    match what {
+        What::Part => answers_after(newest),
+        What::Segment { number: _ }
+        | What::OutOfSequence {
+            number: _,
+            awaited: _,
+        } => goes_on(newest, Newest::Data),
+        _ => None,
+    }
+}
+
+/// The newest frame of the open transfer after one by an end; none where one came out of its turn.
+#[tactic(auto, unfolding(crate::specs::NewestFrames::newest_after))]
+pub fn newest_after(side: Side, what: What, newest: Option<Newest>) -> Option<Newest>
+    ensures { result ≡ newest_after side what newest }
+{
+    match side {
+        Side::Client => client_newest(what, newest),
+        Side::Server => server_newest(what, newest),
+    }
+}
