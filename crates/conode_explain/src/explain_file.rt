@@ -7,7 +7,7 @@ use crate::explained::explain;
 use crate::progress::{Layout, LineFormat};
 use crate::writes::Settings;
 use co_sheet::{FaultKind, GREATEST_SIZE, Sheet, SheetFault, read};
-use co_sheet_originals::Originals;
+use co_sheet_changes::Originals;
 use co_text::decimal_in;
 use conode_decode::Names;
 use conode_explain_filter::{Filter, FilterFault, FilterWords};
