@@ -18,7 +18,7 @@ mod words;
 mod zeros;
 
 pub use change::{Change, ChangeKind, Mended, Piece};
-pub use digits::hexadecimal;
+pub use digits::{hexadecimal, push_number};
 pub use fault::AdaptFault;
 pub use group::{Group, before_sections, groups_in, without_blanks};
 pub use limits::{
@@ -26,7 +26,7 @@ pub use limits::{
 };
 pub use line::{Line, lines_in};
 pub use originals::Originals;
-pub use pieces::{assigned, piece_of, push_kept, push_pieces, with_value};
+pub use pieces::{assigned, joined, piece_of, push_kept, push_pieces, with_value};
 pub use request::{LeadingZeros, Request};
 pub use requested::{Requested, on_request};
 pub use words::change_name;
