@@ -16,7 +16,7 @@ use Rattle.bafokun.specs.declared.build.Fault.{Fault}
 use Rattle.bafokun.specs.Faults.{device_fault, sheet_fault}
 use Rattle.bafokun.specs.declared.held.Held.{Held}
 use Rattle.bafokun.specs.declared.handle.Handle.{Handle}
-use Rattle.co_sheet_originals.specs.Originals.{original_at}
+use Rattle.co_sheet_changes.specs.Originals.{original_at}
 use Rattle.co_dict_table.specs.Entries.{EntryContent, contents_of_rows}
 use Rattle.co_dict_table.specs.Known.{Known, blank_of}
 

@@ -1,7 +1,7 @@
 //! How C builds a device.
 
 ghost use Rattle.std.specs.Prelude.{◌≡◌, ◌≤◌, None, true, false, length, map, IfErr, IfOk};
-ghost use Rattle.co_sheet_originals.specs.Originals.{original_at};
+ghost use Rattle.co_sheet_changes.specs.Originals.{original_at};
 ghost use Rattle.co_dict_build.specs.BuildFaults.{build_fault};
 ghost use Rattle.co_dict_build.specs.Built.{Plan};
 ghost use Rattle.co_dict_table.specs.Entries.{contents_of_rows};

@@ -1,7 +1,7 @@
 -- Original types as numbers, evaluated.
 use Rattle.std.proofs.Common.{◌≡◌, ℕ, List, [], ◌∷◌, refl, codes, map}
 use Rattle.co_value.specs.declared.data_type.DataType.TheVariants.{Unsigned32}
-use Rattle.co_sheet_originals.specs.Originals.{original_at}
+use Rattle.co_sheet_changes.specs.Originals.{original_at}
 use Rattle.co_dict_table.specs.Entries.{code_or}
 
 abbrev original_of : List ℕ → ℕ

@@ -137,10 +137,11 @@ abbrev pub group_pieces : (Key → Option (List ℕ)) → (Key → Option (List 
 group_pieces names values pdos g =
     own_pieces pdos (facts_of g) g ++ added names values (facts_of g) g ++ pdo_added pdos g
 
+abbrev pub sections_pieces : List Group → List Piece
+sections_pieces groups =
+    flat_map
+    (group_pieces (λ k. text_in_groups (codes "Name") k groups)
+    (λ k. text_in_groups (codes "Value") k groups) (pdo_form groups)) groups
+
 abbrev pub all_pieces : List Line → List Piece
-all_pieces lines =
-    map kept_piece (before_sections lines)
-    ++ flat_map
-    (group_pieces (λ k. text_in_groups (codes "Name") k (groups_of lines))
-    (λ k. text_in_groups (codes "Value") k (groups_of lines)) (pdo_form (groups_of lines)))
-    (groups_of lines)
+all_pieces lines = map kept_piece (before_sections lines) ++ sections_pieces (groups_of lines)

@@ -8,8 +8,6 @@ ghost use Rattle.co_sheet.specs.Content.{objects_of, rows_of};
 ghost use Rattle.co_sheet_adapt.specs.Pieces.{all_pieces};
 ghost use Rattle.co_sheet_adapt.specs.Adapted.{
   shown_byte,
-  comment_front,
-  comment_end,
   comment_line,
   pieces_in,
   body_in,
@@ -60,20 +58,6 @@ fn shown_byte(byte: u8) -> u8
 // how many bytes of a name the comment has
 const LONGEST_NAME: usize = 256;
 
-#[tactic(auto, unfolding(crate::specs::Adapted::comment_front))]
-fn comment_front() -> &'static [u8]
-    ensures { result.now ≡ comment_front }
-{
-    b"; adapted by "
-}
-
-#[tactic(auto, unfolding(crate::specs::Adapted::comment_end))]
-fn comment_end() -> &'static [u8]
-    ensures { result.now ≡ comment_end }
-{
-    b": not for configuration tools"
-}
-
 fn first_bytes(text: &[u8]) -> &[u8]
     ensures { result.now ≡ take 256 text.now }
 {
@@ -93,13 +77,14 @@ fn push_shown(text: &mut Vec<u8>, bytes: &[u8]) -> Result<(), AllocError>
 }
 
 // the first line: who adapted what
+#[tactic(auto, unfolding(crate::specs::Adapted::comment_front, crate::specs::Adapted::comment_end))]
 fn comment_line(alloc: Global, by: &[u8]) -> Result<Vec<u8>, AllocError>
     ensures { IfOk result (λ made. made.items ≡ comment_line by.now) }
 {
     let mut made = Vec::new(alloc);
-    made.extend_from_slice(comment_front())?;
+    made.extend_from_slice(b"; adapted by ")?;
     push_shown(&mut made, first_bytes(by))?;
-    made.extend_from_slice(comment_end())?;
+    made.extend_from_slice(b": not for configuration tools")?;
     made.push(b'\n')?;
     Ok(made)
 }
@@ -112,6 +97,26 @@ fn rewritten<'a>(alloc: Global, text: &'a [u8]) -> Result<Vec<Piece<'a>>, AdaptF
 {
     let lines = lines_in(alloc, text)?;
     pieces_of(alloc, lines.as_slice())
+}
+
+// appends a text, as it is where it is accepted, else by its pieces; those, and whether it stays
+fn push_body<'a>(
+    alloc: Global,
+    made: &mut Vec<u8>,
+    text: &'a [u8],
+) -> Result<(Vec<Piece<'a>>, bool), AdaptFault>
+    requires { length text.now ≤ 1048576 }
+    ensures pieces { IfOk result (λ body. map piece_view body.0.items ≡ pieces_in text.entry.now) }
+    ensures stays { IfOk result (λ body. body.1 ≡ is_none (first_fault text.entry.now)) }
+    ensures text { OnOk result (made.new.items ≡ made.old.items ++ body_in text.entry.now) }
+{
+    if is_accepted(alloc, text)? {
+        made.extend_from_slice(without_mark(text))?;
+        return Ok((Vec::new(alloc), true));
+    }
+    let pieces = rewritten(alloc, text)?;
+    push_pieces(made, pieces.as_slice())?;
+    Ok((pieces, false))
 }
 
 /// Rewrites a data sheet (CiA 306) to one that is accepted, as far as rules say how; `by` is who does so and what it is
@@ -131,15 +136,7 @@ pub fn adapt<'a>(alloc: Global, text: &'a [u8], by: &[u8]) -> Result<Adapted<'a>
         return Err(AdaptFault::TooLarge);
     }
     let mut made = comment_line(alloc, by)?;
-    let stays = is_accepted(alloc, text)?;
-    let pieces = if stays {
-        made.extend_from_slice(without_mark(text))?;
-        Vec::new(alloc)
-    } else {
-        let pieces = rewritten(alloc, text)?;
-        push_pieces(&mut made, pieces.as_slice())?;
-        pieces
-    };
+    let (pieces, stays) = push_body(alloc, &mut made, text)?;
     let is_accepted = is_accepted(alloc, made.as_slice())?;
     Ok(Adapted {
         text: made,

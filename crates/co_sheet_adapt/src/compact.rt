@@ -15,8 +15,6 @@ ghost use Rattle.co_sheet_adapt.specs.Compact.{
   name_line,
   value_line,
   first_section,
-  first_keys,
-  last_keys,
   type_line,
   sub_section,
   sub_sections,
@@ -29,9 +27,9 @@ ghost use Rattle.co_sheet_adapt.specs.private.Named.{texts_at};
 use crate::entry::entry_change;
 use crate::facts::Facts;
 use crate::named::Texts;
-use co_sheet_changes::{Group, Line, assigned};
+use co_sheet_changes::{Group, Line, assigned, joined, push_number};
 use co_sheet_text::same_name;
-use co_text::{push_byte, push_decimal, push_digit, push_u16};
+use co_text::{push_byte, push_digit, push_u16};
 use co_value::Key;
 use std::alloc::{AllocError, Global};
 
@@ -47,16 +45,16 @@ fn push_sub(text: &mut String, sub: u8) -> Result<(), AllocError>
 
 // the section line of a sub-index
 #[tactic(auto, unfolding(crate::specs::Compact::sub_head))]
-pub(crate) fn sub_head(alloc: Global, key: Key) -> Result<Vec<u8>, AllocError>
-    ensures { IfOk result (λ made. made.items ≡ sub_head key) }
+pub(crate) fn push_head(alloc: Global, text: &mut Vec<u8>, key: Key) -> Result<(), AllocError>
+    ensures { OnOk result (text.new.items ≡ text.old.items ++ sub_head key) }
 {
-    let mut text = String::new(alloc);
-    text.push('[')?;
-    push_u16(&mut text, key.index)?;
-    text.push_str("sub")?;
-    push_sub(&mut text, key.sub)?;
-    text.push_str("]\n")?;
-    Ok(text.into_bytes())
+    let mut head = String::new(alloc);
+    head.push('[')?;
+    push_u16(&mut head, key.index)?;
+    head.push_str("sub")?;
+    push_sub(&mut head, key.sub)?;
+    head.push_str("]\n")?;
+    text.extend_from_slice(head.as_bytes())
 }
 
 // whether a key of the object's section is one of each sub-index
@@ -126,12 +124,8 @@ fn copied_lines(alloc: Global, facts: &Facts, group: &Group) -> Result<Vec<u8>, 
 fn default_name(alloc: Global, name: &[u8], sub: u8) -> Result<Vec<u8>, AllocError>
     ensures { IfOk result (λ made. made.items ≡ default_name name.now sub) }
 {
-    let mut digits = String::new(alloc);
-    push_decimal(&mut digits, u64::from(sub))?;
-    let mut made = Vec::new(alloc);
-    made.extend_from_slice(name)?;
-    made.push(b' ')?;
-    made.extend_from_slice(digits.as_bytes())?;
+    let mut made = joined(alloc, name, b" ", b"")?;
+    push_number(alloc, &mut made, u64::from(sub))?;
     Ok(made)
 }
 
@@ -142,22 +136,8 @@ fn type_line() -> &'static [u8]
     b"ObjectType=0x7\n"
 }
 
-#[tactic(auto, unfolding(crate::specs::Compact::first_keys))]
-fn first_keys() -> &'static [u8]
-    ensures { result.now ≡ first_keys }
-{
-    b"ParameterName=Number of entries\nObjectType=0x7\nDataType=0x0005\nAccessType=ro\nDefaultValue="
-}
-
-#[tactic(auto, unfolding(crate::specs::Compact::last_keys))]
-fn last_keys() -> &'static [u8]
-    ensures { result.now ≡ last_keys }
-{
-    b"\nPDOMapping=0\n\n"
-}
-
 /// Appends the section of sub-index 0.
-#[tactic(auto, unfolding(crate::specs::Compact::first_section))]
+#[tactic(auto, unfolding(crate::specs::Compact::first_section, crate::specs::Compact::first_keys, crate::specs::Compact::last_keys))]
 pub(crate) fn push_first_section(
     alloc: Global,
     text: &mut Vec<u8>,
@@ -166,14 +146,12 @@ pub(crate) fn push_first_section(
 ) -> Result<(), AllocError>
     ensures { OnOk result (text.new.items ≡ text.old.items ++ first_section index count) }
 {
-    let head = sub_head(alloc, Key { index, sub: 0 })?;
-    let mut digits = String::new(alloc);
-    push_decimal(&mut digits, u64::from(count))?;
-    text.extend_from_slice(head.as_slice())?;
-    text.extend_from_slice(first_keys())?;
-    text.extend_from_slice(digits.as_bytes())?;
-    text.extend_from_slice(last_keys())?;
-    Ok(())
+    push_head(alloc, text, Key { index, sub: 0 })?;
+    text.extend_from_slice(
+        b"ParameterName=Number of entries\nObjectType=0x7\nDataType=0x0005\nAccessType=ro\nDefaultValue=",
+    )?;
+    push_number(alloc, text, u64::from(count))?;
+    text.extend_from_slice(b"\nPDOMapping=0\n\n")
 }
 
 /// What an object in compact form says of its sub-indices.
@@ -208,14 +186,10 @@ impl Compact<'_, '_, '_> {
     fn kept_value(&self, alloc: Global, value: &[u8]) -> Result<Vec<u8>, AllocError>
         ensures { IfOk result (λ made. made.items ≡ kept_value self.now.facts.now value.now) }
     {
-        let mut kept = Vec::new(alloc);
-        if let Some(left_out) = self.facts.left_out {
-            if left_out.value_in_place(alloc, value)?.is_none() {
-                kept.push(b'?')?;
-            }
+        match self.facts.left_out {
+            Some(left_out) if !left_out.converts(value) => joined(alloc, b"?", value, b""),
+            _ => joined(alloc, value, b"", b""),
         }
-        kept.extend_from_slice(value)?;
-        Ok(kept)
     }
 
     // appends the value of a sub-index, if one is given
@@ -251,8 +225,7 @@ impl Compact<'_, '_, '_> {
             index: self.index,
             sub,
         };
-        let head = sub_head(alloc, key)?;
-        text.extend_from_slice(head.as_slice())?;
+        push_head(alloc, text, key)?;
         self.push_name(alloc, text, key)?;
         text.extend_from_slice(type_line())?;
         text.extend_from_slice(copied)?;

@@ -3,7 +3,6 @@
 ghost use Rattle.std.specs.Prelude.{◌≡◌, ◌≤◌, ◌+◌, ◌++◌, ◌∷◌, [], codes, decimal, map, option_and_then, option_map, IfOk, IfSome, OnOk};
 ghost use Rattle.std.specs.List.{flat_map, list_any};
 ghost use Rattle.std.specs.Option.{option_copied};
-ghost use Rattle.co_sheet_text.specs.declared.section_kind.SectionKind.TheVariants.{DeviceInfo, OptionalObjects};
 ghost use Rattle.co_text.specs.Printed.{digits_text};
 ghost use Rattle.co_sheet_changes.specs.Pieces.{mended_view, piece_view};
 ghost use Rattle.co_sheet_changes.specs.Views.{group_view};
@@ -39,8 +38,10 @@ ghost use Rattle.co_sheet_adapt.specs.CompactPdo.{
 };
 ghost use Rattle.co_sheet_adapt.specs.private.Pdos.{form_view};
 
-use crate::compact::{push_first_section, sub_head};
-use co_sheet_changes::{ChangeKind, Group, Mended, Piece, assigned, hexadecimal};
+use crate::compact::{push_first_section, push_head};
+use co_sheet_changes::{
+    ChangeKind, Group, Mended, Piece, assigned, hexadecimal, joined, push_number,
+};
 use co_sheet_text::{SectionKind, same_name};
 use co_text::{push_decimal, push_u16};
 use co_value::Key;
@@ -90,36 +91,35 @@ fn absent_of(
         .collect(alloc)
 }
 
-fn is_info(group: &Group) -> bool
-    ensures { result ≡ is_kind DeviceInfo (group_view group.now) }
+// adds them
+fn push_absent(
+    alloc: Global,
+    indices: &mut Vec<u16>,
+    groups: &[Group],
+    first: u16,
+    count: u16,
+) -> Result<(), AllocError>
+    requires first { first ≤ 0x1A00 }
+    requires few { count ≤ 512 }
+    ensures { OnOk result (indices.new.items
+        ≡ indices.old.items ++ absent_of (map group_view groups.now) first count) }
 {
-    group.kind == SectionKind::DeviceInfo
+    let absent = absent_of(alloc, groups, first, count)?;
+    indices.extend_from_slice(absent.as_slice())
 }
 
-fn is_list(group: &Group) -> bool
-    ensures { result ≡ is_kind OptionalObjects (group_view group.now) }
+fn is_kind(kind: SectionKind, group: &Group) -> bool
+    ensures { result ≡ is_kind kind (group_view group.now) }
 {
-    group.kind == SectionKind::OptionalObjects
+    group.kind == kind
 }
 
-fn info_in<'g, 's, 'a>(groups: &'g [Group<'s, 'a>]) -> Option<&'g Group<'s, 'a>>
+fn group_at<'g, 's, 'a>(kind: SectionKind, groups: &'g [Group<'s, 'a>]) -> Option<&'g Group<'s, 'a>>
     ensures { option_map group_view (option_copied result)
-        ≡ group_at DeviceInfo (map group_view groups.entry.now) }
+        ≡ group_at kind (map group_view groups.entry.now) }
 {
     for group in groups {
-        if is_info(group) {
-            return Some(group);
-        }
-    }
-    None
-}
-
-fn list_in<'g, 's, 'a>(groups: &'g [Group<'s, 'a>]) -> Option<&'g Group<'s, 'a>>
-    ensures { option_map group_view (option_copied result)
-        ≡ group_at OptionalObjects (map group_view groups.entry.now) }
-{
-    for group in groups {
-        if is_list(group) {
+        if is_kind(kind, group) {
             return Some(group);
         }
     }
@@ -183,10 +183,10 @@ fn absent_objects(
         made.items ≡ absent_objects (map group_view groups.now) receive transmit) }
 {
     let mut indices = Vec::new(alloc);
-    indices.extend_from_slice(absent_of(alloc, groups, 0x1400, receive)?.as_slice())?;
-    indices.extend_from_slice(absent_of(alloc, groups, 0x1600, receive)?.as_slice())?;
-    indices.extend_from_slice(absent_of(alloc, groups, 0x1800, transmit)?.as_slice())?;
-    indices.extend_from_slice(absent_of(alloc, groups, 0x1A00, transmit)?.as_slice())?;
+    push_absent(alloc, &mut indices, groups, 0x1400, receive)?;
+    push_absent(alloc, &mut indices, groups, 0x1600, receive)?;
+    push_absent(alloc, &mut indices, groups, 0x1800, transmit)?;
+    push_absent(alloc, &mut indices, groups, 0x1A00, transmit)?;
     Ok(indices)
 }
 
@@ -222,7 +222,10 @@ impl PdoForm {
         ensures { IfOk result (λ form.
             option_map form_view form ≡ pdo_form (map group_view groups.now)) }
     {
-        match (info_in(groups), list_in(groups)) {
+        match (
+            group_at(SectionKind::DeviceInfo, groups),
+            group_at(SectionKind::OptionalObjects, groups),
+        ) {
             (Some(info), Some(list)) => PdoForm::within(alloc, groups, info, list),
             _ => Ok(None),
         }
@@ -415,12 +418,11 @@ fn push_communication(
     )
 }
 
-// the section of a mapping's sub-index
+// the section of a sub-index
 fn push_part(alloc: Global, text: &mut Vec<u8>, key: Key, part: Part) -> Result<(), AllocError>
     ensures { OnOk result (text.new.items ≡ text.old.items ++ sub_head key ++ keys_of part) }
 {
-    let head = sub_head(alloc, key)?;
-    text.extend_from_slice(head.as_slice())?;
+    push_head(alloc, text, key)?;
     text.extend_from_slice(part.keys())
 }
 
@@ -462,14 +464,14 @@ fn push_object(alloc: Global, text: &mut Vec<u8>, subs: u64, index: u16) -> Resu
 }
 
 // a place in the list
+#[tactic(auto, unfolding(co_sheet_changes::specs::Pieces::assigned))]
 fn push_place(text: &mut Vec<u8>, alloc: Global, place: u64, index: u16) -> Result<(), AllocError>
     ensures { OnOk result (text.new.items ≡ text.old.items ++ place_line place index) }
 {
-    let mut digits = String::new(alloc);
-    push_decimal(&mut digits, place)?;
+    push_number(alloc, text, place)?;
     let index = hexadecimal(alloc, 4, u64::from(index))?;
-    let line = assigned(alloc, digits.as_bytes(), index.as_slice())?;
-    text.extend_from_slice(line.as_slice())
+    let end = joined(alloc, b"=", index.as_slice(), b"\n")?;
+    text.extend_from_slice(end.as_slice())
 }
 
 impl PdoForm {

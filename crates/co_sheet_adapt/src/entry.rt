@@ -15,9 +15,7 @@ ghost use Rattle.co_sheet_changes.specs.Pieces.{assigned, mended, mended_view};
 use crate::facts::Facts;
 use crate::left_out::LeftOut;
 use crate::values::{pairs_without_blanks, sign_extended};
-use co_sheet_changes::{
-    ChangeKind, Mended, assigned, hexadecimal, is_limit, is_preset, with_value,
-};
+use co_sheet_changes::{ChangeKind, Mended, assigned, is_limit, is_preset, with_value};
 use co_sheet_text::same_name;
 use co_value::DataType;
 use std::alloc::{AllocError, Global};
@@ -35,11 +33,9 @@ fn dropped(alloc: Global, kind: ChangeKind) -> Mended
 fn type_lines(alloc: Global, left_out: LeftOut, name: &[u8]) -> Result<Vec<u8>, AllocError>
     ensures { IfOk result (λ made. made.items ≡ type_lines left_out name.now) }
 {
-    let in_place = hexadecimal(alloc, 4, u64::from(left_out.code_in_place()))?;
-    let original = hexadecimal(alloc, 4, u64::from(left_out.code()))?;
-    let mut made = assigned(alloc, name, in_place.as_slice())?;
-    let second = assigned(alloc, b"OriginalDataType", original.as_slice())?;
-    made.extend_from_slice(second.as_slice())?;
+    let mut made = assigned(alloc, name, left_out.code_in_place())?;
+    let original = assigned(alloc, b"OriginalDataType", left_out.code())?;
+    made.extend_from_slice(original.as_slice())?;
     Ok(made)
 }
 

@@ -1,6 +1,6 @@
 //! What a section says of its entry, as far as its lines are changed by it.
 
-ghost use Rattle.std.specs.Prelude.{◌≡◌, codes, option_map, IfOk};
+ghost use Rattle.std.specs.Prelude.{◌≡◌};
 ghost use Rattle.std.specs.Option.{option_copied};
 ghost use Rattle.co_sheet_adapt.specs.Facts.{
   object_code,
@@ -18,7 +18,6 @@ use crate::left_out::LeftOut;
 use co_sheet_changes::{Group, data_type_of, has_unsigned_limits};
 use co_sheet_text::{SectionKind, unsigned_number};
 use co_value::DataType;
-use std::alloc::{AllocError, Global};
 
 /// What the lines of a section are changed by.
 #[derive(Clone, Copy)]
@@ -75,50 +74,44 @@ fn is_entry(group: &Group) -> bool
     }
 }
 
-fn converts(alloc: Global, left_out: LeftOut, value: Option<&[u8]>) -> Result<bool, AllocError>
-    ensures { IfOk result (λ is. is ≡ converts left_out (option_copied value.entry)) }
+fn converts(left_out: LeftOut, value: Option<&[u8]>) -> bool
+    ensures { result ≡ converts left_out (option_copied value.entry) }
 {
     match value {
-        Some(value) => Ok(left_out.value_in_place(alloc, value)?.is_some()),
-        None => Ok(true),
+        Some(value) => left_out.converts(value),
+        None => true,
     }
 }
 
-fn is_convertible(alloc: Global, left_out: LeftOut, group: &Group) -> Result<bool, AllocError>
-    ensures { IfOk result (λ is. is ≡ is_convertible left_out (group_view group.now)) }
+fn is_convertible(left_out: LeftOut, group: &Group) -> bool
+    ensures { result ≡ is_convertible left_out (group_view group.now) }
 {
-    let default = converts(alloc, left_out, group.value(b"DefaultValue"))?;
-    let parameter = converts(alloc, left_out, group.value(b"ParameterValue"))?;
-    Ok(default && parameter)
+    converts(left_out, group.value(b"DefaultValue"))
+        && converts(left_out, group.value(b"ParameterValue"))
 }
 
-fn left_out_of(alloc: Global, group: &Group) -> Result<Option<LeftOut>, AllocError>
-    ensures { IfOk result (λ t. t ≡ left_out_of (group_view group.now)) }
+fn left_out_of(group: &Group) -> Option<LeftOut>
+    ensures { result ≡ left_out_of (group_view group.now) }
 {
-    let Some(code) = group.number(b"DataType") else {
-        return Ok(None);
-    };
-    let Some(left_out) = LeftOut::with(code) else {
-        return Ok(None);
-    };
-    if is_convertible(alloc, left_out, group)? {
-        Ok(Some(left_out))
+    let left_out = LeftOut::with(group.number(b"DataType")?)?;
+    if is_convertible(left_out, group) {
+        Some(left_out)
     } else {
-        Ok(None)
+        None
     }
 }
 
 impl Facts {
     /// What a section says.
-    pub(crate) fn of(alloc: Global, group: &Group) -> Result<Facts, AllocError>
-        ensures { IfOk result (λ facts. facts ≡ facts_of (group_view group.now)) }
+    pub(crate) fn of(group: &Group) -> Facts
+        ensures { result ≡ facts_of (group_view group.now) }
     {
-        Ok(Facts {
+        Facts {
             compact: compact_count(group),
             is_entry: is_entry(group),
-            left_out: left_out_of(alloc, group)?,
+            left_out: left_out_of(group),
             data_type: data_type_of(group),
             has_unsigned_limits: has_unsigned_limits(group),
-        })
+        }
     }
 }

@@ -1,12 +1,14 @@
 //! Data types that are left out, and the types of as many bytes that stand for them (CiA 301, 7.4.7.1).
 
-ghost use Rattle.std.specs.Prelude.{◌≡◌, nat_lt, IfOk, option_map};
+ghost use Rattle.std.specs.Prelude.{◌≡◌, is_some, nat_lt, IfOk, option_map};
 ghost use Rattle.std.specs.List.{list_all};
 ghost use Rattle.co_sheet_adapt.specs.LeftOut.{
   left_out_with,
   left_out_code,
   code_in_place,
+  hexadecimal,
   is_real,
+  number_text,
   real32_bits,
   real64_bits,
   utf16_text,
@@ -43,27 +45,29 @@ impl LeftOut {
         }
     }
 
-    pub(crate) fn code(self) -> u16
-        ensures { result ≡ left_out_code self }
+    #[tactic(auto, unfolding(co_text::specs::Printed::digits_text))]
+    pub(crate) fn code(self) -> &'static [u8]
+        ensures { result.now ≡ hexadecimal 4 (left_out_code self) }
     {
         match self {
-            LeftOut::Real32 => 0x08,
-            LeftOut::UnicodeString => 0x0B,
-            LeftOut::TimeOfDay => 0x0C,
-            LeftOut::TimeDifference => 0x0D,
-            LeftOut::Real64 => 0x11,
+            LeftOut::Real32 => b"0x0008",
+            LeftOut::UnicodeString => b"0x000B",
+            LeftOut::TimeOfDay => b"0x000C",
+            LeftOut::TimeDifference => b"0x000D",
+            LeftOut::Real64 => b"0x0011",
         }
     }
 
     /// The code of the type that stands for it: UNSIGNED32, OCTET_STRING, UNSIGNED48 or UNSIGNED64.
-    pub(crate) fn code_in_place(self) -> u16
-        ensures { result ≡ code_in_place self }
+    #[tactic(auto, unfolding(co_text::specs::Printed::digits_text))]
+    pub(crate) fn code_in_place(self) -> &'static [u8]
+        ensures { result.now ≡ hexadecimal 4 (code_in_place self) }
     {
         match self {
-            LeftOut::Real32 => 0x07,
-            LeftOut::UnicodeString => 0x0A,
-            LeftOut::TimeOfDay | LeftOut::TimeDifference => 0x19,
-            LeftOut::Real64 => 0x1B,
+            LeftOut::Real32 => b"0x0007",
+            LeftOut::UnicodeString => b"0x000A",
+            LeftOut::TimeOfDay | LeftOut::TimeDifference => b"0x0019",
+            LeftOut::Real64 => b"0x001B",
         }
     }
 
@@ -71,6 +75,18 @@ impl LeftOut {
         ensures { result ≡ is_real self }
     {
         matches!(self, LeftOut::Real32 | LeftOut::Real64)
+    }
+
+    /// Whether a value of the type can be written at the type that stands for it.
+    pub(crate) fn converts(self, value: &[u8]) -> bool
+        ensures { result ≡ is_some (value_in_place self value.now) }
+    {
+        match self {
+            LeftOut::Real32 => real32_bits(value).is_some(),
+            LeftOut::Real64 => real64_bits(value).is_some(),
+            LeftOut::UnicodeString => is_ascii(value),
+            LeftOut::TimeOfDay | LeftOut::TimeDifference => unsigned_number(value).is_ok(),
+        }
     }
 
     /// A value of the type as it is written at the type that stands for it: bits of a REAL, bytes of a UNICODE_STRING in
@@ -83,30 +99,21 @@ impl LeftOut {
         ensures { IfOk result (λ made. option_map (λ v. v.items) made ≡ value_in_place self value.now) }
     {
         match self {
-            LeftOut::Real32 => match real32_bits(value) {
-                Some(bits) => Ok(Some(hexadecimal(alloc, 8, u64::from(bits))?)),
-                None => Ok(None),
-            },
-            LeftOut::Real64 => match real64_bits(value) {
-                Some(bits) => Ok(Some(hexadecimal(alloc, 16, bits)?)),
-                None => Ok(None),
-            },
+            LeftOut::Real32 => bits_text(alloc, 8, real32_bits(value)),
+            LeftOut::Real64 => bits_text(alloc, 16, real64_bits(value)),
             LeftOut::UnicodeString => utf16(alloc, value),
-            LeftOut::TimeOfDay | LeftOut::TimeDifference => match unsigned_number(value) {
-                Ok(_) => Ok(Some(copied(alloc, value)?)),
-                Err(_) => Ok(None),
-            },
+            LeftOut::TimeOfDay | LeftOut::TimeDifference => number_text(alloc, value),
         }
     }
 }
 
 // the bits of the nearest REAL32
-fn real32_bits(value: &[u8]) -> Option<u32>
+fn real32_bits(value: &[u8]) -> Option<u64>
     ensures { result ≡ real32_bits value.now }
 {
     let number: f32 = fast_float::parse(value).ok()?;
     if number.is_finite() {
-        Some(number.to_bits())
+        Some(u64::from(number.to_bits()))
     } else {
         None
     }
@@ -124,12 +131,26 @@ fn real64_bits(value: &[u8]) -> Option<u64>
     }
 }
 
-fn copied(alloc: Global, text: &[u8]) -> Result<Vec<u8>, AllocError>
-    ensures { IfOk result (λ made. made.items ≡ text.now) }
+// bits in so many hexadecimal digits, where there are some
+fn bits_text(alloc: Global, count: u8, bits: Option<u64>) -> Result<Option<Vec<u8>>, AllocError>
+    ensures { IfOk result (λ made.
+        option_map (λ v. v.items) made ≡ option_map (hexadecimal count) bits) }
 {
+    match bits {
+        Some(bits) => Ok(Some(hexadecimal(alloc, count, bits)?)),
+        None => Ok(None),
+    }
+}
+
+fn number_text(alloc: Global, text: &[u8]) -> Result<Option<Vec<u8>>, AllocError>
+    ensures { IfOk result (λ made. option_map (λ v. v.items) made ≡ number_text text.now) }
+{
+    if unsigned_number(text).is_err() {
+        return Ok(None);
+    }
     let mut made = Vec::new(alloc);
     made.extend_from_slice(text)?;
-    Ok(made)
+    Ok(Some(made))
 }
 
 fn is_ascii(text: &[u8]) -> bool

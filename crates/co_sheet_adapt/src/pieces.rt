@@ -1,6 +1,6 @@
 //! A text in pieces: the lines that stay, the lines that are changed, and what is added.
 
-ghost use Rattle.std.specs.Prelude.{◌≡◌, ◌++◌, ◌∷◌, [], codes, map, option_map, IfOk, OnOk};
+ghost use Rattle.std.specs.Prelude.{◌≡◌, ◌++◌, ◌∷◌, [], codes, if◌then◌else◌, map, option_map, IfOk, OnOk};
 ghost use Rattle.std.specs.List.{flat_map, list_all};
 ghost use Rattle.std.specs.Option.{option_copied};
 ghost use Rattle.co_sheet_adapt.specs.Pieces.{
@@ -10,7 +10,6 @@ ghost use Rattle.co_sheet_adapt.specs.Pieces.{
   is_renamed,
   head_text,
   is_written_first,
-  missing_key,
   missing_lines,
   head_change,
   compact_change,
@@ -20,8 +19,8 @@ ghost use Rattle.co_sheet_adapt.specs.Pieces.{
   own_pieces,
   added,
   group_pieces,
+  sections_pieces,
   all_pieces,
-  access_line,
 };
 ghost use Rattle.co_sheet_adapt.specs.Named.{text_in_groups};
 ghost use Rattle.co_sheet_adapt.specs.private.Named.{texts_at, IsTablesOf};
@@ -37,7 +36,7 @@ use crate::named::Texts;
 use co_sheet::GREATEST_SIZE;
 use co_sheet_changes::{
     AdaptFault, ChangeKind, Group, Line, Mended, Piece, assigned, before_sections, groups_in,
-    piece_of, push_kept, without_blanks,
+    joined, piece_of, push_kept, without_blanks,
 };
 use co_sheet_text::{SectionKind, all_digits, same_name};
 use std::alloc::{AllocError, Global};
@@ -87,17 +86,13 @@ fn is_renamed(group: &Group) -> bool
 fn head_text(alloc: Global, group: &Group) -> Result<Vec<u8>, AllocError>
     ensures { IfOk result (λ made. made.items ≡ head_text (group_view group.now)) }
 {
-    let mut made = Vec::new(alloc);
     if is_renamed(group) {
         let name = without_blanks(alloc, group.name)?;
-        made.push(b'[')?;
-        made.extend_from_slice(name.as_slice())?;
-        made.push(b']')?;
-    } else {
-        made.extend_from_slice(group.head.bytes)?;
+        let mut made = joined(alloc, b"[", name.as_slice(), b"]")?;
+        made.push(b'\n')?;
+        return Ok(made);
     }
-    made.push(b'\n')?;
-    Ok(made)
+    joined(alloc, group.head.bytes, b"\n", b"")
 }
 
 // whether sub-index 0 of an object is written
@@ -107,47 +102,41 @@ fn is_written_first(index: u16) -> bool
     matches!(index, 0x1003 | 0x1600..=0x17FF | 0x1A00..=0x1BFF)
 }
 
-// a line where the section has no value at a name
-fn missing_key(group: &Group, name: &[u8], line: &'static [u8]) -> &'static [u8]
-    ensures { result.now ≡ missing_key name.now line.now (group_view group.now) }
+// the lines of a type and an access that a section lacks
+fn lines_lacked(no_type: bool, no_access: bool, is_written: bool) -> &'static [u8]
+    ensures { result.now ≡ (if no_type then codes "DataType=0x0005\n" else [])
+        ++ (if no_access then (if is_written then codes "AccessType=rw\n"
+        else codes "AccessType=ro\n") else []) }
 {
-    if group.value(name).is_none() {
-        line
-    } else {
-        b""
-    }
-}
-
-fn access_line(index: u16) -> &'static [u8]
-    ensures { result.now ≡ access_line index }
-{
-    if is_written_first(index) {
-        b"AccessType=rw\n"
-    } else {
-        b"AccessType=ro\n"
+    match (no_type, no_access, is_written) {
+        (false, false, _) => b"",
+        (true, false, _) => b"DataType=0x0005\n",
+        (false, true, false) => b"AccessType=ro\n",
+        (false, true, true) => b"AccessType=rw\n",
+        (true, true, false) => b"DataType=0x0005\nAccessType=ro\n",
+        (true, true, true) => b"DataType=0x0005\nAccessType=rw\n",
     }
 }
 
 // what the section of a sub-index 0 lacks
-fn missing_lines(alloc: Global, group: &Group) -> Result<Vec<u8>, AllocError>
-    ensures { IfOk result (λ made. made.items ≡ missing_lines (group_view group.now)) }
+fn missing_lines(group: &Group) -> &'static [u8]
+    ensures { result.now ≡ missing_lines (group_view group.now) }
 {
-    let mut made = Vec::new(alloc);
     match group.kind {
         SectionKind::SubIndex(key) if key.sub == 0 && group.number(b"ObjectType") != Some(2) => {
-            made.extend_from_slice(missing_key(group, b"DataType", b"DataType=0x0005\n"))?;
-            made.extend_from_slice(missing_key(group, b"AccessType", access_line(key.index)))?;
+            let no_type = group.value(b"DataType").is_none();
+            let no_access = group.value(b"AccessType").is_none();
+            lines_lacked(no_type, no_access, is_written_first(key.index))
         }
-        _ => {}
+        _ => b"",
     }
-    Ok(made)
 }
 
 fn head_change(alloc: Global, group: &Group) -> Result<Option<Mended>, AllocError>
     ensures { IfOk result (λ made.
         option_map mended_view made ≡ head_change (group_view group.now)) }
 {
-    let missing = missing_lines(alloc, group)?;
+    let missing = missing_lines(group);
     if missing.is_empty() && !is_renamed(group) {
         return Ok(None);
     }
@@ -157,7 +146,7 @@ fn head_change(alloc: Global, group: &Group) -> Result<Option<Mended>, AllocErro
         ChangeKind::SubIndex0
     };
     let mut new = head_text(alloc, group)?;
-    new.extend_from_slice(missing.as_slice())?;
+    new.extend_from_slice(missing)?;
     Ok(Some(Mended { kind, new }))
 }
 
@@ -216,21 +205,25 @@ fn line_change(
     }
 }
 
-fn line_piece<'a>(
+// adds the piece of a line of a section
+fn push_line<'a>(
     alloc: Global,
+    pieces: &mut Vec<Piece<'a>>,
     pdos: Option<&PdoForm>,
     kind: SectionKind,
     facts: &Facts,
     line: &Line<'a>,
-) -> Result<Piece<'a>, AllocError>
-    ensures { IfOk result (λ piece. piece_view piece
-        ≡ line_piece (option_map (λ f. form_view f.now) pdos.entry) kind facts.now (line_view line.now)) }
+) -> Result<(), AllocError>
+    ensures { OnOk result (map piece_view pieces.new.items ≡ map piece_view pieces.old.items
+        ++ line_piece (option_map (λ f. form_view f.now) pdos.entry) kind facts.now
+        (line_view line.now) ∷ []) }
 {
     let mended = match line.property() {
         Some((name, value)) => line_change(alloc, pdos, kind, facts, name, value)?,
         None => None,
     };
-    Ok(piece_of(line, mended))
+    pieces.push(piece_of(line, mended))?;
+    Ok(())
 }
 
 /// The names and the values that the sections of a text give sub-indices, and what they say of PDOs in compact form.
@@ -246,9 +239,9 @@ impl<'a> Tables<'a> {
         ensures { IfOk result (IsTablesOf (map group_view groups.now)) }
     {
         Ok(Tables {
+            pdos: PdoForm::of(alloc, groups)?,
             names: Texts::of(alloc, groups, b"Name")?,
             values: Texts::of(alloc, groups, b"Value")?,
-            pdos: PdoForm::of(alloc, groups)?,
         })
     }
 
@@ -315,7 +308,7 @@ impl<'a> Tables<'a> {
             (texts_at self.now.values) (option_map form_view self.now.pdos) (group_view group.now)) }
     {
         let pdos = self.pdos.as_ref();
-        let facts = Facts::of(alloc, group)?;
+        let facts = Facts::of(group);
         push_own(alloc, pieces, pdos, &facts, group)?;
         self.push_added(alloc, pieces, &facts, group)?;
         push_pdos(alloc, pieces, pdos, group)
@@ -352,7 +345,7 @@ fn push_lines<'a>(
         (map line_view lines.now)) }
 {
     for line in lines {
-        pieces.push(line_piece(alloc, pdos, kind, facts, line)?)?;
+        push_line(alloc, pieces, pdos, kind, facts, line)?;
     }
     Ok(())
 }
@@ -365,15 +358,27 @@ fn added_bytes(pieces: &[Piece]) -> usize {
     }
 }
 
+// adds the pieces of all sections
+fn push_sections<'a>(
+    alloc: Global,
+    pieces: &mut Vec<Piece<'a>>,
+    groups: &[Group<'_, 'a>],
+) -> Result<(), AdaptFault>
+    ensures { OnOk result (map piece_view pieces.new.items
+        ≡ map piece_view pieces.old.items ++ sections_pieces (map group_view groups.now)) }
+{
+    let tables = Tables::of(alloc, groups)?;
+    tables.push_groups(alloc, pieces, groups)
+}
+
 /// The pieces of a text of lines. It fails out of memory, and where what is added alone is too large for a data sheet.
 pub(crate) fn pieces_of<'a>(alloc: Global, lines: &[Line<'a>]) -> Result<Vec<Piece<'a>>, AdaptFault>
     ensures { IfOk result (λ pieces.
         map piece_view pieces.items ≡ all_pieces (map line_view lines.now)) }
 {
     let mut pieces = Vec::new(alloc);
-    let groups = groups_in(alloc, lines)?;
-    let tables = Tables::of(alloc, groups.as_slice())?;
     push_kept(&mut pieces, before_sections(lines))?;
-    tables.push_groups(alloc, &mut pieces, groups.as_slice())?;
+    let groups = groups_in(alloc, lines)?;
+    push_sections(alloc, &mut pieces, groups.as_slice())?;
     Ok(pieces)
 }

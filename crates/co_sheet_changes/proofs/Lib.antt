@@ -1,2 +1,4 @@
 pub mod LineLemmas
+mod OriginalLemmas
+mod OriginalExamples
 mod RequestExamples

@@ -1,6 +1,7 @@
 pub mod Forced
 pub mod Groups
 pub mod Limits
+pub mod Originals
 pub mod Pieces
 pub mod Requested
 pub mod Views

@@ -9,6 +9,9 @@ use Rattle.co_sheet_text.specs.Numerals.{is_number_in, unsigned_number}
 use Rattle.co_sheet_text.specs.Text.{trim}
 use Rattle.co_sheet.specs.Limits.{is_node_id, is_plus}
 use Rattle.co_sheet_changes.specs.declared.request.LeadingZeros.{LeadingZeros}
+use Rattle.co_sheet_changes.specs.declared.zeros.Anew.{Anew}
+use Rattle.co_sheet_changes.specs.declared.zeros.Beside.{Beside}
+use Rattle.co_sheet_changes.specs.declared.zeros.Beside.TheVariants.{Nothing, Minus, Left, Right}
 use Rattle.co_sheet_changes.specs.declared.request.LeadingZeros.TheVariants.{Octal, Decimal}
 
 abbrev pub base_of : LeadingZeros → ℕ
@@ -56,3 +59,14 @@ value_anew zeros value =
     if list_any is_plus value
     then sum_anew zeros (trim (before_first is_plus value)) (trim (after_first is_plus value))
     else number_anew zeros value
+
+-- ---- a value anew, without where its parts lie in memory
+
+abbrev pub text_beside : Beside → List ℕ → List ℕ
+text_beside Nothing digits = digits
+text_beside Minus digits = after_minus digits
+text_beside (Left left) digits = sum_of left.now digits
+text_beside (Right right) digits = sum_of digits right.now
+
+abbrev pub anew_text : Anew → List ℕ
+anew_text anew = text_beside anew.beside (decimal anew.number)

@@ -1,9 +1,9 @@
 //! Numbers in hexadecimal digits.
 
-ghost use Rattle.std.specs.Prelude.{◌≡◌, ◌++◌, OnOk, IfOk, string_bytes, codes};
+ghost use Rattle.std.specs.Prelude.{◌≡◌, ◌++◌, OnOk, IfOk, string_bytes, codes, decimal};
 ghost use Rattle.co_text.specs.Printed.{digits_text};
 
-use co_text::push_digit;
+use co_text::{push_decimal, push_digit};
 use std::alloc::{AllocError, Global};
 
 // appends the last digits of a number, as many as are asked for
@@ -27,4 +27,13 @@ pub fn hexadecimal(alloc: Global, count: u8, number: u64) -> Result<Vec<u8>, All
     text.push_str("0x")?;
     push_hexadecimal(&mut text, count, number)?;
     Ok(text.into_bytes())
+}
+
+/// Appends a number in decimal digits.
+pub fn push_number(alloc: Global, text: &mut Vec<u8>, number: u64) -> Result<(), AllocError>
+    ensures { OnOk result (text.new.items ≡ text.old.items ++ decimal number) }
+{
+    let mut digits = String::new(alloc);
+    push_decimal(&mut digits, number)?;
+    text.extend_from_slice(digits.as_bytes())
 }

@@ -22,7 +22,7 @@ use crate::change::{ChangeKind, Mended};
 use crate::digits::hexadecimal;
 use crate::group::Group;
 use crate::limits::{data_type_of, has_unsigned_limits, is_limit, is_preset};
-use crate::pieces::{assigned, with_value};
+use crate::pieces::{assigned, joined, with_value};
 use co_sheet::is_in_type;
 use co_sheet_text::{NumeralFault, SectionKind, signed_numeral, unsigned_number};
 use co_value::DataType;
@@ -65,10 +65,7 @@ fn as_comment(alloc: Global, name: &[u8], value: &[u8]) -> Result<Vec<u8>, Alloc
     ensures { IfOk result (λ made. made.items ≡ as_comment name.now value.now) }
 {
     let line = assigned(alloc, name, value)?;
-    let mut made = Vec::new(alloc);
-    made.push(b';')?;
-    made.extend_from_slice(line.as_slice())?;
-    Ok(made)
+    joined(alloc, b";", line.as_slice(), b"")
 }
 
 // the COB-ID of the SYNC without bit 30

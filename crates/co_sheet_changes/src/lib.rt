@@ -1,5 +1,6 @@
-//! The lines and sections of a data sheet's text (CiA 306), what becomes of them where the text is rewritten, and what is
-//! changed only on request: numbers with a leading zero, and what has to be forced.
+//! The lines and sections of a data sheet's text (CiA 306), what becomes of them where the text is rewritten, what is
+//! changed only on request (numbers with a leading zero, and what has to be forced), and the original types of a text that
+//! was adapted.
 #![tactic(auto)]
 
 mod change;
@@ -9,6 +10,7 @@ mod forced;
 mod group;
 mod limits;
 mod line;
+mod originals;
 mod pieces;
 mod request;
 mod requested;
@@ -16,14 +18,15 @@ mod words;
 mod zeros;
 
 pub use change::{Change, ChangeKind, Mended, Piece};
-pub use digits::hexadecimal;
+pub use digits::{hexadecimal, push_number};
 pub use fault::AdaptFault;
 pub use group::{Group, before_sections, groups_in, without_blanks};
 pub use limits::{
     data_type_of, has_unsigned_limits, is_limit, is_preset, power_of_two, signed_width,
 };
 pub use line::{Line, lines_in};
-pub use pieces::{assigned, piece_of, push_kept, push_pieces, with_value};
+pub use originals::Originals;
+pub use pieces::{assigned, joined, piece_of, push_kept, push_pieces, with_value};
 pub use request::{LeadingZeros, Request};
 pub use requested::{Requested, on_request};
 pub use words::change_name;

@@ -9,15 +9,28 @@ use crate::change::{Change, ChangeKind, Mended, Piece};
 use crate::line::Line;
 use std::alloc::{AllocError, Global};
 
+/// Three texts, one after another.
+pub fn joined(
+    alloc: Global,
+    first: &[u8],
+    second: &[u8],
+    third: &[u8],
+) -> Result<Vec<u8>, AllocError>
+    ensures { IfOk result (λ made. made.items ≡ first.now ++ second.now ++ third.now) }
+{
+    let mut made = Vec::new(alloc);
+    made.extend_from_slice(first)?;
+    made.extend_from_slice(second)?;
+    made.extend_from_slice(third)?;
+    Ok(made)
+}
+
 /// A line with a name and a value.
 #[tactic(auto, unfolding(crate::specs::Pieces::assigned))]
 pub fn assigned(alloc: Global, name: &[u8], value: &[u8]) -> Result<Vec<u8>, AllocError>
     ensures { IfOk result (λ made. made.items ≡ assigned name.now value.now) }
 {
-    let mut made = Vec::new(alloc);
-    made.extend_from_slice(name)?;
-    made.push(b'=')?;
-    made.extend_from_slice(value)?;
+    let mut made = joined(alloc, name, b"=", value)?;
     made.push(b'\n')?;
     Ok(made)
 }

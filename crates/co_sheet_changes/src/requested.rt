@@ -93,20 +93,23 @@ fn change_in(
     }
 }
 
-fn line_piece<'a>(
+// adds a line of a section
+fn push_line<'a>(
     alloc: Global,
+    pieces: &mut Vec<Piece<'a>>,
     request: Request<'_>,
     facts: &Facts,
     line: &Line<'a>,
-) -> Result<Piece<'a>, AllocError>
-    ensures { IfOk result (λ piece. piece_view piece
-        ≡ line_piece (request_view request.entry) facts.now (line_view line.now)) }
+) -> Result<(), AllocError>
+    ensures { OnOk result (map piece_view pieces.new.items ≡ map piece_view pieces.old.items
+        ++ line_piece (request_view request.entry) facts.now (line_view line.now) ∷ []) }
 {
     let mended = match line.property() {
         Some((name, value)) => change_in(alloc, request, facts, name, value)?,
         None => None,
     };
-    Ok(piece_of(line, mended))
+    pieces.push(piece_of(line, mended))?;
+    Ok(())
 }
 
 // adds the lines of a section
@@ -121,7 +124,7 @@ fn push_lines<'a>(
         ++ map (line_piece (request_view request.entry) facts.now) (map line_view lines.now)) }
 {
     for line in lines {
-        pieces.push(line_piece(alloc, request, facts, line)?)?;
+        push_line(alloc, pieces, request, facts, line)?;
     }
     Ok(())
 }
@@ -155,6 +158,21 @@ fn push_groups<'a>(
     Ok(())
 }
 
+// adds lines, those before the first section and the others by their sections
+fn push_all<'a>(
+    alloc: Global,
+    pieces: &mut Vec<Piece<'a>>,
+    request: Request<'_>,
+    lines: &[Line<'a>],
+) -> Result<(), AllocError>
+    ensures { OnOk result (map piece_view pieces.new.items ≡ map piece_view pieces.old.items
+        ++ pieces_on (request_view request.entry) (map line_view lines.now)) }
+{
+    push_kept(pieces, before_sections(lines))?;
+    let groups = groups_in(alloc, lines)?;
+    push_groups(alloc, pieces, request, groups.as_slice())
+}
+
 // the lines of a text
 fn pieces_on<'a>(
     alloc: Global,
@@ -166,10 +184,8 @@ fn pieces_on<'a>(
         ≡ pieces_on (request_view request.entry) (lines_of text.entry.now)) }
 {
     let lines = lines_in(alloc, text)?;
-    let groups = groups_in(alloc, lines.as_slice())?;
     let mut pieces = Vec::new(alloc);
-    push_kept(&mut pieces, before_sections(lines.as_slice()))?;
-    push_groups(alloc, &mut pieces, request, groups.as_slice())?;
+    push_all(alloc, &mut pieces, request, lines.as_slice())?;
     Ok(pieces)
 }
 

@@ -1,18 +1,19 @@
 //! Numbers with a leading zero (CiA 306, numerals).
 
-ghost use Rattle.std.specs.Prelude.{◌≡◌, ◌++◌, ◌∷◌, [], codes, decimal, option_map, IfOk};
+ghost use Rattle.std.specs.Prelude.{◌≡◌, codes, decimal, false, option_map, IfOk};
+ghost use Rattle.std.specs.Option.{option_map_or};
+ghost use Rattle.std.specs.Result.{result_ok};
 ghost use Rattle.co_sheet.specs.Limits.{is_node_id};
 ghost use Rattle.co_sheet_text.specs.Numerals.{unsigned_number};
 ghost use Rattle.co_sheet_changes.specs.Pieces.{mended_view};
 ghost use Rattle.co_sheet_changes.specs.Views.{group_view};
 ghost use Rattle.co_sheet_changes.specs.Zeros.{
-  after_minus,
+  anew_text,
   digits_anew,
   is_ambiguous,
   number_anew,
   number_of,
   sum_anew,
-  sum_of,
   value_anew,
 };
 ghost use Rattle.co_sheet_changes.specs.ZeroNames.{
@@ -29,7 +30,7 @@ ghost use Rattle.co_sheet_changes.specs.ZeroNames.{
 use crate::change::{ChangeKind, Mended};
 use crate::group::Group;
 use crate::limits::{is_limit, is_preset};
-use crate::pieces::with_value;
+use crate::pieces::{assigned, joined};
 use crate::request::LeadingZeros;
 use co_sheet::data_type_with;
 use co_sheet_text::{
@@ -55,53 +56,44 @@ fn number_of(zeros: LeadingZeros, text: &[u8]) -> Option<u64>
     }
 }
 
-// the number that digits with a leading zero are, in decimal digits
-fn digits_anew(
-    alloc: Global,
-    zeros: LeadingZeros,
-    text: &[u8],
-) -> Result<Option<Vec<u8>>, AllocError>
-    ensures { IfOk result (λ made. option_map (λ v. v.items) made ≡ digits_anew zeros text.now) }
+// the number that digits with a leading zero are
+fn digits_anew(zeros: LeadingZeros, text: &[u8]) -> Option<u64>
+    ensures { option_map decimal result ≡ digits_anew zeros text.now }
 {
-    if !is_ambiguous(text) {
-        return Ok(None);
+    if is_ambiguous(text) {
+        number_of(zeros, text)
+    } else {
+        None
     }
-    let Some(number) = number_of(zeros, text) else {
-        return Ok(None);
-    };
-    let mut digits = String::new(alloc);
-    push_decimal(&mut digits, number)?;
-    Ok(Some(digits.into_bytes()))
 }
 
-// a text after `-`, where there is one
-fn after_minus(alloc: Global, text: Option<Vec<u8>>) -> Result<Option<Vec<u8>>, AllocError>
-    ensures { IfOk result (λ made. option_map (λ v. v.items) made
-        ≡ option_map (λ v. after_minus v.items) text) }
-{
-    let Some(text) = text else {
-        return Ok(None);
-    };
-    let mut made = Vec::new(alloc);
-    made.push(b'-')?;
-    made.extend_from_slice(text.as_slice())?;
-    Ok(Some(made))
+/// What is beside a number.
+#[derive(Clone, Copy)]
+pub(crate) enum Beside<'v> {
+    Nothing,
+    Minus,
+    /// In a sum, what is in front of `+`.
+    Left(&'v [u8]),
+    /// In a sum, what comes after `+`.
+    Right(&'v [u8]),
 }
 
-fn number_anew(
-    alloc: Global,
-    zeros: LeadingZeros,
-    value: &[u8],
-) -> Result<Option<Vec<u8>>, AllocError>
-    ensures { IfOk result (λ made. option_map (λ v. v.items) made ≡ number_anew zeros value.now) }
+/// A value without its leading zero.
+#[derive(Clone, Copy)]
+pub(crate) struct Anew<'v> {
+    pub(crate) number: u64,
+    pub(crate) beside: Beside<'v>,
+}
+
+fn number_anew(zeros: LeadingZeros, value: &[u8]) -> Option<Anew<'_>>
+    ensures { option_map anew_text result ≡ number_anew zeros value.now }
 {
-    match value {
-        [b'-', digits @ ..] => {
-            let digits = digits_anew(alloc, zeros, digits)?;
-            after_minus(alloc, digits)
-        }
-        _ => digits_anew(alloc, zeros, value),
-    }
+    let (digits, beside) = match value {
+        [b'-', digits @ ..] => (digits, Beside::Minus),
+        _ => (value, Beside::Nothing),
+    };
+    let number = digits_anew(zeros, digits)?;
+    Some(Anew { number, beside })
 }
 
 fn is_node_id(part: &[u8]) -> bool
@@ -110,77 +102,42 @@ fn is_node_id(part: &[u8]) -> bool
     same_name(part, b"$NODEID")
 }
 
-fn sum_of(alloc: Global, left: &[u8], right: &[u8]) -> Result<Vec<u8>, AllocError>
-    ensures { IfOk result (λ made. made.items ≡ sum_of left.now right.now) }
+fn sum_anew<'v>(zeros: LeadingZeros, left: &'v [u8], right: &'v [u8]) -> Option<Anew<'v>>
+    ensures { option_map anew_text result ≡ sum_anew zeros left.entry.now right.entry.now }
 {
-    let mut made = Vec::new(alloc);
-    made.extend_from_slice(left)?;
-    made.push(b'+')?;
-    made.extend_from_slice(right)?;
-    Ok(made)
-}
-
-// a sum with digits after `+`, where there are some
-fn sum_with(
-    alloc: Global,
-    left: &[u8],
-    digits: Option<Vec<u8>>,
-) -> Result<Option<Vec<u8>>, AllocError>
-    ensures { IfOk result (λ made. option_map (λ v. v.items) made
-        ≡ option_map (λ v. sum_of left.now v.items) digits) }
-{
-    match digits {
-        Some(digits) => Ok(Some(sum_of(alloc, left, digits.as_slice())?)),
-        None => Ok(None),
-    }
-}
-
-// a sum with digits in front of `+`, where there are some
-fn sum_to(
-    alloc: Global,
-    digits: Option<Vec<u8>>,
-    right: &[u8],
-) -> Result<Option<Vec<u8>>, AllocError>
-    ensures { IfOk result (λ made. option_map (λ v. v.items) made
-        ≡ option_map (λ v. sum_of v.items right.now) digits) }
-{
-    match digits {
-        Some(digits) => Ok(Some(sum_of(alloc, digits.as_slice(), right)?)),
-        None => Ok(None),
-    }
-}
-
-fn sum_anew(
-    alloc: Global,
-    zeros: LeadingZeros,
-    left: &[u8],
-    right: &[u8],
-) -> Result<Option<Vec<u8>>, AllocError>
-    ensures { IfOk result (λ made.
-        option_map (λ v. v.items) made ≡ sum_anew zeros left.now right.now) }
-{
-    if is_node_id(left) {
-        let digits = digits_anew(alloc, zeros, right)?;
-        sum_with(alloc, left, digits)
+    let (digits, beside) = if is_node_id(left) {
+        (right, Beside::Left(left))
     } else if is_node_id(right) {
-        let digits = digits_anew(alloc, zeros, left)?;
-        sum_to(alloc, digits, right)
+        (left, Beside::Right(right))
     } else {
-        Ok(None)
-    }
+        return None;
+    };
+    let number = digits_anew(zeros, digits)?;
+    Some(Anew { number, beside })
 }
 
 // a value without its leading zero; `None`: it has none, or a digit that the base hasn't
-fn value_anew(
-    alloc: Global,
-    zeros: LeadingZeros,
-    value: &[u8],
-) -> Result<Option<Vec<u8>>, AllocError>
-    ensures { IfOk result (λ made. option_map (λ v. v.items) made ≡ value_anew zeros value.now) }
+fn value_anew(zeros: LeadingZeros, value: &[u8]) -> Option<Anew<'_>>
+    ensures { option_map anew_text result ≡ value_anew zeros value.now }
 {
     match split_at_first(value, b'+') {
-        Some((left, right)) => sum_anew(alloc, zeros, trim(left), trim(right)),
-        None => number_anew(alloc, zeros, value),
+        Some((left, right)) => sum_anew(zeros, trim(left), trim(right)),
+        None => number_anew(zeros, value),
+    }
+}
+
+// a value without its leading zero as it is written
+fn anew_text(alloc: Global, anew: Anew<'_>) -> Result<Vec<u8>, AllocError>
+    ensures { IfOk result (λ made. made.items ≡ anew_text anew.entry) }
+{
+    let mut digits = String::new(alloc);
+    push_decimal(&mut digits, anew.number)?;
+    let digits = digits.as_bytes();
+    match anew.beside {
+        Beside::Nothing => joined(alloc, b"", b"", digits),
+        Beside::Minus => joined(alloc, b"", b"-", digits),
+        Beside::Left(left) => joined(alloc, left, b"+", digits),
+        Beside::Right(right) => joined(alloc, digits, b"+", right),
     }
 }
 
@@ -211,17 +168,22 @@ fn is_number_code(code: u64) -> bool
     }
 }
 
+// whether a text is the code of such a type
+fn is_number_text(text: &[u8]) -> bool
+    ensures { result ≡ option_map_or is_number_code (result_ok (unsigned_number text.now)) false }
+{
+    match unsigned_number(text) {
+        Ok(code) => is_number_code(code),
+        Err(_) => false,
+    }
+}
+
 fn is_number_type(alloc: Global, zeros: LeadingZeros, value: &[u8]) -> Result<bool, AllocError>
     ensures { IfOk result (λ is. is ≡ is_number_type zeros value.now) }
 {
-    let anew = value_anew(alloc, zeros, value)?;
-    let code = match &anew {
-        Some(anew) => unsigned_number(anew.as_slice()),
-        None => unsigned_number(value),
-    };
-    match code {
-        Ok(code) => Ok(is_number_code(code)),
-        Err(_) => Ok(false),
+    match value_anew(zeros, value) {
+        Some(anew) => Ok(is_number_text(anew_text(alloc, anew)?.as_slice())),
+        None => Ok(is_number_text(value)),
     }
 }
 
@@ -266,6 +228,11 @@ pub(crate) fn zero_change(
     if !is_number_of(kind, numbers, name) {
         return Ok(None);
     }
-    let anew = value_anew(alloc, zeros, value)?;
-    with_value(alloc, ChangeKind::LeadingZero, name, anew)
+    let Some(anew) = value_anew(zeros, value) else {
+        return Ok(None);
+    };
+    let value = anew_text(alloc, anew)?;
+    let new = assigned(alloc, name, value.as_slice())?;
+    let kind = ChangeKind::LeadingZero;
+    Ok(Some(Mended { kind, new }))
 }

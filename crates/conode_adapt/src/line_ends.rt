@@ -12,7 +12,7 @@ ghost use Rattle.conode_adapt.specs.Listing.{
 };
 
 use crate::listing::push_place;
-use co_text::push_decimal;
+use co_sheet_changes::push_number;
 use std::alloc::{AllocError, Global};
 
 /// Appends the line of a byte order mark, if there is one.
@@ -65,11 +65,9 @@ fn push_ends(
     let [first, ..] = lines else {
         return Ok(());
     };
-    let mut count = String::new(alloc);
-    push_decimal(&mut count, lines.len() as u64)?;
     push_place(alloc, text, name, *first)?;
     text.extend_from_slice(b"ends of lines, ")?;
-    text.extend_from_slice(count.as_bytes())?;
+    push_number(alloc, text, lines.len() as u64)?;
     text.extend_from_slice(b" in all: CR LF -> LF\n")
 }
 

@@ -9,7 +9,6 @@ ghost use Rattle.conode_adapt.specs.Listing.{
   shown,
   new_byte,
   front_of,
-  invented,
   new_text,
   objects_text,
   sections_text,
@@ -22,7 +21,7 @@ ghost use Rattle.conode_adapt.specs.Listing.{
   piece_line,
 };
 
-use co_sheet_changes::{Change, ChangeKind, Piece, change_name};
+use co_sheet_changes::{Change, ChangeKind, Piece, change_name, push_number};
 use co_sheet_text::trim;
 use co_text::{push_decimal, push_u16};
 use std::alloc::{AllocError, Global};
@@ -96,13 +95,6 @@ fn push_sections(words: &mut String, index: u16, count: u8) -> Result<(), AllocE
     words.push_str(" more")
 }
 
-#[tactic(auto, unfolding(crate::specs::Listing::invented))]
-fn invented() -> &'static str
-    ensures { result.now ≡ invented }
-{
-    "; invented: not valid, type 255, timers 0, mappings of 0 entries"
-}
-
 fn push_if(words: &mut String, is: bool, word: &str) -> Result<(), AllocError>
     ensures { OnOk result (string_bytes words.new ≡ string_bytes words.old ++ word_if is word.now) }
 {
@@ -120,6 +112,7 @@ fn push_subs(words: &mut String, subs: u64) -> Result<(), AllocError>
 }
 
 // the objects that PDOs in compact form get
+#[tactic(auto, unfolding(crate::specs::Listing::invented))]
 fn push_objects(words: &mut String, count: u64, subs: u64) -> Result<(), AllocError>
     ensures { OnOk result
         (string_bytes words.new ≡ string_bytes words.old ++ objects_text count subs) }
@@ -128,7 +121,7 @@ fn push_objects(words: &mut String, count: u64, subs: u64) -> Result<(), AllocEr
     push_decimal(words, count)?;
     words.push_str(" objects, sub-indices 0 1 2")?;
     push_subs(words, subs)?;
-    words.push_str(invented())
+    words.push_str("; invented: not valid, type 255, timers 0, mappings of 0 entries")
 }
 
 // what comes with a change
@@ -155,13 +148,10 @@ pub(crate) fn push_place(
 ) -> Result<(), AllocError>
     ensures { OnOk result (text.new.items ≡ text.old.items ++ place_text name.now line) }
 {
-    let mut number = String::new(alloc);
-    push_decimal(&mut number, line as u64)?;
     push_shown(text, name)?;
     text.push(b':')?;
-    text.extend_from_slice(number.as_bytes())?;
-    text.extend_from_slice(b": ")?;
-    Ok(())
+    push_number(alloc, text, line as u64)?;
+    text.extend_from_slice(b": ")
 }
 
 // what it was, and what it is

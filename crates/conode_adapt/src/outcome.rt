@@ -16,7 +16,7 @@ use crate::listing::push_changes;
 use crate::orders::Orders;
 use crate::remaining::remaining;
 use co_sheet_adapt::{Adapted, adapt};
-use co_sheet_changes::{AdaptFault, Piece, on_request};
+use co_sheet_changes::{AdaptFault, Piece, joined, on_request};
 use std::alloc::{AllocError, Global};
 
 /// What becomes of a text.
@@ -36,10 +36,7 @@ pub(crate) struct Outcome {
 fn by_line(alloc: Global, version: &str, name: &str) -> Result<Vec<u8>, AllocError>
     ensures { IfOk result (λ made. made.items ≡ by_line version.now name.now) }
 {
-    let mut made = Vec::new(alloc);
-    made.extend_from_slice(b"conode ")?;
-    made.extend_from_slice(version.as_bytes())?;
-    made.extend_from_slice(b" from ")?;
+    let mut made = joined(alloc, b"conode ", version.as_bytes(), b" from ")?;
     made.extend_from_slice(name.as_bytes())?;
     Ok(made)
 }

@@ -126,6 +126,52 @@ fn push_both(report: &mut String, line: &[u8]) -> Result<(), AllocError> {
     Ok(())
 }
 
+// the line of the source that a line of the text comes from
+fn source_of(sources: &[usize], line: usize) -> usize {
+    match line.checked_sub(1) {
+        Some(place) => sources.get(place).copied().unwrap_or(0),
+        None => 0,
+    }
+}
+
+fn push_fault(
+    alloc: Global,
+    report: &mut String,
+    file: &[char],
+    text: &[u8],
+    fault: SheetFault,
+) -> Result<(), AllocError> {
+    push_finding(alloc, report, false, file, &finding_of(fault, text))?;
+    if fault.kind == FaultKind::AmbiguousNumber {
+        push_both(report, text)?;
+    }
+    Ok(())
+}
+
+// appends faults of a file with these lines
+fn push_all(
+    alloc: Global,
+    report: &mut String,
+    file: &[char],
+    lines: &[&[u8]],
+    sources: &[usize],
+    faults: &[SheetFault],
+) -> Result<(), AllocError> {
+    let (first, more) = faults.split_at(faults.len().min(MOST));
+    for fault in first {
+        let line = source_of(sources, fault.line);
+        let fault = SheetFault {
+            kind: fault.kind,
+            line,
+        };
+        push_fault(alloc, report, file, line_at(lines, line), fault)?;
+    }
+    if !more.is_empty() {
+        push_more(report, file, more.len())?;
+    }
+    Ok(())
+}
+
 /// Appends these faults of a file as `lint` prints them, with the lines of the source.
 pub(crate) fn push_faults(
     alloc: Global,
@@ -137,32 +183,14 @@ pub(crate) fn push_faults(
 ) -> Result<(), AllocError> {
     let file = characters_of(alloc, name.as_bytes())?;
     let lines = lines_of(alloc, source)?;
-    let (first, more) = faults.split_at(faults.len().min(MOST));
-    for fault in first {
-        let line = match fault.line.checked_sub(1) {
-            Some(place) => sources.get(place).copied().unwrap_or(0),
-            None => 0,
-        };
-        let fault = SheetFault {
-            kind: fault.kind,
-            line,
-        };
-        let text = line_at(lines.as_slice(), line);
-        push_finding(
-            alloc,
-            report,
-            false,
-            file.as_slice(),
-            &finding_of(fault, text),
-        )?;
-        if fault.kind == FaultKind::AmbiguousNumber {
-            push_both(report, text)?;
-        }
-    }
-    if !more.is_empty() {
-        push_more(report, file.as_slice(), more.len())?;
-    }
-    Ok(())
+    push_all(
+        alloc,
+        report,
+        file.as_slice(),
+        lines.as_slice(),
+        sources,
+        faults,
+    )
 }
 
 /// What remains of a text that was rewritten, as `lint` prints it.

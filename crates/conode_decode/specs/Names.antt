@@ -5,8 +5,8 @@ use Rattle.std.specs.Str.{is_utf8}
 use Rattle.co_value.specs.declared.key.Key.{Key}
 use Rattle.co_value.specs.Keys.{same_key}
 use Rattle.co_sheet.specs.Content.{Row, SheetContent}
-use Rattle.co_sheet_originals.specs.declared.originals.Originals.{Originals}
-use Rattle.co_sheet_originals.specs.Views.{text_at}
+use Rattle.co_sheet_changes.specs.declared.originals.Originals.{Originals}
+use Rattle.co_sheet_changes.specs.Views.{text_at}
 use Rattle.conode_decode.specs.declared.names.Names.{Names as NamesOfCode}
 
 -- the codes of original data types, by the line of an entry's section; none where a sheet wasn't adapted

@@ -8,7 +8,7 @@ ghost use Rattle.conode_decode.specs.Names.{names_view, entry_of, if_utf8, origi
 
 use crate::numbers::push_words;
 use co_sheet::{EntryRow, Sheet};
-use co_sheet_originals::Originals;
+use co_sheet_changes::Originals;
 use co_value::Key;
 use std::alloc::AllocError;
 use std::str;

@@ -9,7 +9,7 @@ use crate::sheet_word::{SheetWord, SheetWordFault, sheet_words};
 use crate::sheets::{ReadSheet, known_sheets};
 use crate::writes::Settings;
 use co_sheet::{FaultKind, GREATEST_SIZE, SheetFault, read};
-use co_sheet_originals::Originals;
+use co_sheet_changes::Originals;
 use conode_explain_filter::{Filter, FilterFault, FilterWords};
 use conode_explain_text::StampForm;
 use conode_io::{CmdFault, cannot_read, faulty_sheet, file_text, flushed, no_text, stopped};

@@ -7,7 +7,7 @@ ghost use Rattle.conode_explain.specs.Sheets.{in_order, is_kind, node_for, of_ki
 
 use crate::sheet_word::SheetWord;
 use co_sheet::Sheet;
-use co_sheet_originals::Originals;
+use co_sheet_changes::Originals;
 use conode_decode::Names;
 use conode_explain_pdo::KnownSheet;
 use std::alloc::{AllocError, Global};

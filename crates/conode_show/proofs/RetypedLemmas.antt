@@ -3,7 +3,7 @@ use Rattle.std.proofs.Common.{◌≡◌, ℕ, List, map, ◌∙◌, ap}
 use Rattle.std.specs.Prelude.{Option}
 use Rattle.co_sheet_text.specs.LinesAtFault.{sections_read}
 use Rattle.co_sheet_text.specs.Text.{lines_of}
-use Rattle.co_sheet_originals.specs.Originals.{original_at}
+use Rattle.co_sheet_changes.specs.Originals.{original_at}
 use Rattle.co_sheet_text.specs.Sections.{TextSection}
 use Rattle.conode_show.specs.Shown.{retyped, sections_of}
 

@@ -8,7 +8,7 @@ use Rattle.co_sheet.specs.Faults.{fault_at}
 use Rattle.co_sheet_text.specs.LinesAtFault.{sections_read}
 use Rattle.co_sheet_text.specs.Sections.{Property, TextSection}
 use Rattle.co_sheet_text.specs.Text.{lines_of, same_name}
-use Rattle.co_sheet_originals.specs.Originals.{original_at}
+use Rattle.co_sheet_changes.specs.Originals.{original_at}
 use Rattle.conode_show.specs.declared.form.Form.{Form}
 use Rattle.conode_show.specs.declared.form.Form.TheVariants.{Lines, Json}
 use Rattle.conode_show_text.specs.Document.{document, node_for, ordered}

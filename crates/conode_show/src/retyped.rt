@@ -2,13 +2,13 @@
 
 ghost use Rattle.std.specs.Prelude.{◌≡◌, map, IfOk, OnOk};
 ghost use Rattle.std.specs.Option.{option_copied};
-ghost use Rattle.co_sheet_originals.specs.Originals.{original_at};
-ghost use Rattle.co_sheet_originals.specs.Views.{text_at};
+ghost use Rattle.co_sheet_changes.specs.Originals.{original_at};
+ghost use Rattle.co_sheet_changes.specs.Views.{text_at};
 ghost use Rattle.co_sheet_text.specs.Views.{property_view, section_view};
 ghost use Rattle.conode_show.specs.Shown.{properties_with, retyped, retyped_property};
 ghost use Rattle.conode_show.specs.Retyped.{retyped_view};
 
-use co_sheet_originals::Originals;
+use co_sheet_changes::Originals;
 use co_sheet_text::{Property, SectionKind, TextSection, same_name};
 use std::alloc::{AllocError, Global};
 

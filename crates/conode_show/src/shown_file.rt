@@ -14,7 +14,7 @@ use crate::form::Form;
 use crate::json_form::{json_document, json_fault};
 use crate::retyped::{all_retyped, sections_in as retyped_sections};
 use co_sheet::GREATEST_SIZE;
-use co_sheet_originals::Originals;
+use co_sheet_changes::Originals;
 use co_sheet_rows::{FaultKind, SheetFault};
 use co_sheet_text::{ParsedText, TextSection, all_sections_in};
 use conode_io::{CmdFault, file_text, flushed, hand_over, no_text, out_of_memory, stopped};

@@ -1,5 +1,5 @@
 use Rattle.std.proofs.Common.{ap, ◌∙◌}
-use Rattle.co_sheet_originals.specs.Originals.{original_at}
+use Rattle.co_sheet_changes.specs.Originals.{original_at}
 use Rattle.co_dict_table.specs.Entries.{contents_of_rows}
 use Rattle.co_dict_table.proofs.Faultless.{faultless_ready}
 use Rattle.bafokun.specs.Builds.{ByMemory, limits_for, plan_for}

@@ -8,6 +8,4 @@ pub returns : goal.returns
 returns c =
     let lines = map line_view c.args.lines.now in
     let given = ap (map group_view) c.as_slice.ensures.value ∙ c.in_ok-groups.ensures in
-    let again = ap (map group_view) c.as_slice-2.ensures.value ∙ c.in_ok-groups.ensures in
-    put-together lines _ _ _ _ _ _ _ _ given again c.in_ok-tables.ensures.names c.in_ok-tables.ensures.values c.in_ok-tables.ensures.pdos
-    (ap (map piece_view) c.new-pieces.ensures.items) c.before_sections.ensures c.in_ok-push_kept.ensures c.in_ok-push_groups.ensures
+    put-together lines _ _ _ _ given (ap (map piece_view) c.new-pieces.ensures.items) c.before_sections.ensures c.in_ok-push_kept.ensures c.in_ok-push_sections.ensures

@@ -1,5 +1,5 @@
 use Rattle.std.proofs.Common.{◌≡◌, map, take}
-use Rattle.co_sheet_originals.specs.Views.{text_at}
+use Rattle.co_sheet_changes.specs.Views.{text_at}
 use Rattle.co_sheet_text.specs.Views.{section_view}
 use Rattle.conode_show.specs.Retyped.{retyped_view}
 use Rattle.conode_show.specs.Shown.{retyped}

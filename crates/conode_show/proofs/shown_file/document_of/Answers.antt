@@ -1,6 +1,6 @@
 use Rattle.std.proofs.Common.{ℕ, List, Option, ap, ◌∙◌, map}
 use Rattle.std.proofs.lemmas.Result.{IfOk-weaker}
-use Rattle.co_sheet_originals.specs.Views.{text_at}
+use Rattle.co_sheet_changes.specs.Views.{text_at}
 use Rattle.co_sheet_text.specs.Sections.{TextSection}
 use Rattle.co_sheet_text.specs.Views.{section_view}
 use Rattle.conode_show_text.specs.Document.{node_for, ordered}

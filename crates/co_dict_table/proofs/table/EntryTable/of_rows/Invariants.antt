@@ -2,7 +2,7 @@
 use Rattle.std.proofs.Common.{◌≡◌, take, length}
 use Rattle.std.specs.Prelude.{map}
 use Rattle.co_sheet.specs.SheetViews.{row_view}
-use Rattle.co_sheet_originals.specs.Views.{text_at}
+use Rattle.co_sheet_changes.specs.Views.{text_at}
 use Rattle.co_dict_build.specs.Capacities.{limits_view}
 use Rattle.co_dict_table.specs.Entries.{contents_of_rows}
 use Rattle.co_dict_table.specs.Tables.{AreWithin, in_table}

@@ -3,7 +3,7 @@ use Rattle.co_sheet_adapt.proofs.pieces.Tables.of.Goals as goal
 -- two tables that give the same at each key are the same function
 pub returns : goal.returns
 returns c = record {
-  names = λ i k. c.in_ok-of.ensures k i;
-  values = λ i k. c.in_ok-of-2.ensures k i;
-  pdos = c.in_ok-of-3.ensures;
+  names = λ i k. c.in_ok-of-2.ensures k i;
+  values = λ i k. c.in_ok-of-3.ensures k i;
+  pdos = c.in_ok-of.ensures;
 }

@@ -1,6 +1,6 @@
 -- Original data types, evaluated.
 use Rattle.std.proofs.Common.{◌≡◌, ℕ, List, [], ◌∷◌, Option, Some, None, refl, codes, map}
-use Rattle.co_sheet_originals.specs.Originals.{original_at}
+use Rattle.co_sheet_changes.specs.Originals.{original_at}
 
 abbrev originals : List ℕ → List (Option (List ℕ))
 originals text = map (original_at text) (1 ∷ 2 ∷ 4 ∷ [])

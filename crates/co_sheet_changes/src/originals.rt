@@ -2,11 +2,11 @@
 
 ghost use Rattle.std.specs.Prelude.{◌≡◌, ◌≤◌, length, map, option_map, IfOk, OnOk};
 ghost use Rattle.std.specs.Option.{option_copied, option_or};
-ghost use Rattle.co_sheet_changes.specs.Views.{group_view};
-ghost use Rattle.co_sheet_originals.specs.Originals.{original_among, original_at, original_here, original_of, original_text};
-ghost use Rattle.co_sheet_originals.specs.Views.{text_at};
+ghost use Rattle.co_sheet_changes.specs.Originals.{original_among, original_at, original_here, original_of, original_text};
+ghost use Rattle.co_sheet_changes.specs.Views.{group_view, text_at};
 
-use co_sheet_changes::{Group, groups_in, lines_in};
+use crate::group::{Group, groups_in};
+use crate::line::lines_in;
 use indexmap::IndexMap;
 use std::alloc::{AllocError, Global};
 

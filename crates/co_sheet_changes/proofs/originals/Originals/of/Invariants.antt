@@ -1,9 +1,9 @@
 use Rattle.std.proofs.Common.{◌≡◌, drop, map}
 use Rattle.std.specs.Option.{option_or}
 use Rattle.co_sheet_changes.specs.Views.{group_view}
-use Rattle.co_sheet_originals.specs.Originals.{original_among}
-use Rattle.co_sheet_originals.specs.Views.{text_at}
-use Rattle.co_sheet_originals.proofs.originals.Originals.of.Given as goal
+use Rattle.co_sheet_changes.specs.Originals.{original_among}
+use Rattle.co_sheet_changes.specs.Views.{text_at}
+use Rattle.co_sheet_changes.proofs.originals.Originals.of.Given as goal
 
 -- what there is so far, and what the rest of the sections give
 abbrev pub invariant-loop-group : goal.invariant-loop-group

@@ -1,2 +1,0 @@
-mod OriginalLemmas
-mod Examples

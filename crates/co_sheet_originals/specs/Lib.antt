@@ -1,2 +1,0 @@
-pub mod Originals
-pub mod Views
