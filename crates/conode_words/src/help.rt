@@ -1,7 +1,7 @@
 //! The longer texts of help, in lines of at most 80 columns.
 
 /// What `--version` prints after the program's name: its version, and the kit that proves it.
-pub const VERSION: &str = "0.9.0, proved with rattle-kit-13f logic dac8208d650f15bf";
+pub const VERSION: &str = "0.10.0, proved with rattle-kit-13f logic dac8208d650f15bf";
 
 /// What the program does without a command.
 pub const TRACES: &str = "\
@@ -292,8 +292,8 @@ off by --tolerance and --drift together; --answer and --boot bound a wait.
 
   conode compare sensor.eds drive.log --node 5
 
-Status: 0 if nothing differs, 1 if something does or the recording can't be
-read; 2 if the words are wrong.";
+Status: 0 if nothing differs, 1 if something does, 2 if nothing can be compared
+or the words are wrong.";
 
 /// What `convert` prints.
 pub const CONVERTED: &str = "\
