@@ -209,8 +209,12 @@ perhaps_two : (after_boot_up limits (after_command nothing_commanded ResetNode 0
 unfolding after_command after_boot_up
 perhaps_two = refl
 
--- with another frame of the device none is due
-none_due : (after_other limits (after_command (reset_at 0) ResetNode 1) 5).several ≡ false
+-- another frame of the device doesn't say that none is due any more; that the newest reset is old does
+two_still_due : (after_other limits (after_command (reset_at 0) ResetNode 1) 10000001).several ≡ true
+unfolding after_command after_other awaits_boot_up
+two_still_due = refl
+
+none_due : (after_other limits (after_command (reset_at 0) ResetNode 1) 10000002).several ≡ false
 unfolding after_command after_other awaits_boot_up
 none_due = refl
 

@@ -92,13 +92,17 @@ after_boot_up limits nmt micros = record {
   booted = if nmt.several then None else Some micros;
 }
 
+-- more than one boot-up may still come: the newest reset isn't so old that its boot-up would be overdue
+abbrev pub several_left : Limits → Nmt → ℕ → Bool
+several_left limits nmt micros = option_map_or (λ reset. nmt.several && not (is_past reset limits.boot micros)) nmt.reset false
+
 -- another frame of the device; after a boot-up that is missing its state is unknown
 unfoldable pub after_other : Limits → Nmt → ℕ → Nmt
 after_other limits nmt micros = record {
   state = if is_some (awaits_boot_up limits nmt micros) then Unknown else nmt.state;
   commanded = nmt.commanded;
   reset = nmt.reset;
-  several = false;
+  several = several_left limits nmt micros;
   booted = None;
 }
 

@@ -20,6 +20,7 @@ ghost use Rattle.conode_compare_rules.specs.States.{
   state_of,
   nothing_commanded,
   second_boot_up,
+  several_left,
   state_finding,
 };
 
@@ -279,12 +280,23 @@ impl Nmt {
         }
     }
 
+    // whether more than one boot-up may still come
+    fn several_left(&self, limits: &Limits, micros: u64) -> bool
+        ensures { result ≡ several_left limits.now self.now micros }
+    {
+        match self.reset {
+            Some(reset) => self.several && !is_past(reset, limits.boot, micros),
+            None => false,
+        }
+    }
+
     /// Another frame of the device came.
     #[tactic(auto, unfolding(crate::specs::States::after_other))]
     pub(crate) fn after_other(self, limits: &Limits, micros: u64) -> Nmt
         ensures { result ≡ after_other limits.now self micros }
     {
         let overdue = self.awaits_boot_up(limits, micros).is_some();
+        let several = self.several_left(limits, micros);
         Nmt {
             state: if overdue {
                 NmtState::Unknown
@@ -293,7 +305,7 @@ impl Nmt {
             },
             commanded: self.commanded,
             reset: self.reset,
-            several: false,
+            several,
             booted: None,
         }
     }
