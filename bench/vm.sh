@@ -220,6 +220,7 @@ is "a recording with $(wc -l < sent) frames of the device, against conode replay
 ./conode compare io-module.eds recording --node 8 > compared
 status=$?
 is "conode compare of it: $(tail -n 1 compared)" "$status $(head -n 1 compared)" "0 $(tail -n 1 compared)"
+[ $status -eq 0 ] || { cat compared; grep -n -e ' 000#' -e ' 708#' recording; }
 echo "$failed failed"
 MACHINE
 
