@@ -14,7 +14,7 @@ ghost use Rattle.conode_explain_json.specs.JsonLines.{
   text_member,
 };
 
-use conode_lint_text::{characters_of, push_utf8};
+use conode_lint_text::utf8_of;
 use json::Writer;
 use std::alloc::{AllocError, Global};
 use std::marker::Model;
@@ -124,9 +124,7 @@ impl JsonWriter {
     ) -> Result<(), AllocError>
         ensures { OnOk result (self.new ≡ self.old ++ text_member name.now (utf8_of bytes.now)) }
     {
-        let characters = characters_of(alloc, bytes)?;
-        let mut text = String::new(alloc);
-        push_utf8(&mut text, characters.as_slice())?;
+        let text = utf8_of(alloc, bytes)?;
         self.put_text(name, text.as_str())
     }
 

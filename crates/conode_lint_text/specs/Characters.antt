@@ -1,5 +1,5 @@
 -- The characters of a line, and how they are shown.
-use Rattle.std.specs.Prelude.{ℕ, ◌+◌, ◌-◌, ◌==◌, nat_lt, Bool, ◌||◌, not, if◌then◌else◌, List, [], ◌∷◌, ◌++◌, map, codes}
+use Rattle.std.specs.Prelude.{ℕ, ◌-◌, ◌==◌, nat_lt, if◌then◌else◌, List, [], ◌∷◌, ◌++◌, map, codes}
 use Rattle.std.specs.List.{flat_map, prefix_len, slice_index}
 use Rattle.std.specs.Char.{encode_utf8, is_control}
 use Rattle.std.specs.Str.{chars, is_utf8}

@@ -1,5 +1,5 @@
 -- What a finding is made of, in texts.
-use Rattle.std.specs.Prelude.{ℕ, ◌+◌, ◌==◌, nat_lt, Bool, not, if◌then◌else◌, List, [], ◌∷◌, ◌++◌, length, drop, codes, decimal}
+use Rattle.std.specs.Prelude.{ℕ, ◌+◌, ◌==◌, nat_lt, if◌then◌else◌, List, [], ◌++◌, length, drop, codes, decimal}
 use Rattle.std.specs.List.{position_or_len}
 use Rattle.co_text.specs.Printed.{digits_text}
 use Rattle.conode_lint_text.specs.Characters.{blanks, characters_of}

@@ -1,10 +1,12 @@
 -- Findings as one document of JSON, in tokens (RFC 8259).
-use Rattle.std.specs.Prelude.{ℕ, Bool, List, [], ◌∷◌, ◌++◌, map, codes, decimal}
+use Rattle.std.specs.Prelude.{ℕ, Bool, List, [], ◌∷◌, ◌++◌, codes, decimal}
 use Rattle.std.specs.List.{flat_map}
 use Rattle.json.specs.Token.{Token, begin_object, end_object, begin_array, end_array, key, string, number, boolean}
 use Rattle.conode_lint_text.specs.Characters.{characters_of, in_utf8}
 use Rattle.conode_lint_text.specs.Findings.{column_of, message_of, severity_name}
 use Rattle.conode_lint_text.specs.declared.finding.Finding.{Finding}
+use Rattle.conode_lint_text.specs.declared.parts.Part.{Part}
+use Rattle.conode_lint_text.specs.declared.parts.Part.TheVariants.{BeginObject, EndObject, EndArray, Object, Array, Text, Message, Number, Flag, Severity}
 
 -- a line in UTF-8
 abbrev pub utf8_of : List ℕ → List ℕ
@@ -26,6 +28,23 @@ object_begin name = key name ∷ begin_object ∷ []
 
 unfoldable pub array_begin : List ℕ → List Token
 array_begin name = key name ∷ begin_array ∷ []
+
+-- a member that is an object with a text
+unfoldable pub message_member : List ℕ → List ℕ → List Token
+message_member name text = object_begin name ++ text_member (codes "text") text ++ end_object ∷ []
+
+-- the tokens of a part
+abbrev pub part_tokens : Part → List Token
+part_tokens BeginObject = begin_object ∷ []
+part_tokens EndObject = end_object ∷ []
+part_tokens EndArray = end_array ∷ []
+part_tokens (Object name) = object_begin name.now
+part_tokens (Array name) = array_begin name.now
+part_tokens (Text name text) = text_member name.now text.now
+part_tokens (Message name text) = message_member name.now text.now
+part_tokens (Number name count) = number_member name.now count
+part_tokens (Flag name is) = flag_member name.now is
+part_tokens (Severity name severity) = text_member name.now (severity_name severity)
 
 unfoldable pub place_members : Finding → List Token
 place_members finding =

@@ -3,14 +3,10 @@ use Rattle.std.specs.Prelude.{ℕ, ◌==◌, if◌then◌else◌, List, [], ◌�
 use Rattle.std.specs.List.{flat_map}
 use Rattle.json.specs.Token.{Token, begin_object, end_object, end_array}
 use Rattle.conode_lint_text.specs.Findings.{column_of, help_of, message_of, severity_name}
-use Rattle.conode_lint_text.specs.JsonForm.{array_begin, number_member, object_begin, text_member, utf8_of}
+use Rattle.conode_lint_text.specs.JsonForm.{array_begin, message_member, number_member, object_begin, text_member, utf8_of}
 use Rattle.conode_lint_text.specs.declared.finding.Finding.{Finding}
 use Rattle.conode_lint_text.specs.declared.finding.Rule.{Rule}
 use Rattle.conode_lint_text.specs.declared.finding.Severity.{Severity}
-
--- a member that is a message: an object with a text
-unfoldable pub message_member : List ℕ → List ℕ → List Token
-message_member name text = object_begin name ++ text_member (codes "text") text ++ end_object ∷ []
 
 -- the level of a rule's results
 unfoldable pub level_member : Severity → List Token
@@ -50,33 +46,36 @@ unfoldable pub locations_member : List ℕ → Finding → List Token
 locations_member uri finding =
     array_begin (codes "locations") ++ location_tokens uri finding ++ end_array ∷ []
 
--- a result
-unfoldable pub result_tokens : List ℕ → Finding → List Token
-result_tokens uri finding =
+-- a result: the name of its kind, its level and what is wrong, and where it is
+unfoldable pub said_tokens : Finding → List Token
+said_tokens finding =
     begin_object ∷ (text_member (codes "ruleId") finding.name.now
     ++ text_member (codes "level") (severity_name finding.severity)
-    ++ message_member (codes "message") (message_of finding)
-    ++ locations_member uri finding ++ end_object ∷ [])
+    ++ message_member (codes "message") (message_of finding))
 
--- the rules
-unfoldable pub rules_member : List Rule → List Token
-rules_member rules = array_begin (codes "rules") ++ flat_map rule_tokens rules ++ end_array ∷ []
+unfoldable pub result_tokens : List ℕ → Finding → List Token
+result_tokens uri finding = said_tokens finding ++ locations_member uri finding ++ end_object ∷ []
 
--- the tool that made the log: its name, its version and its rules
-unfoldable pub driver_member : List ℕ → List Rule → List Token
-driver_member version rules =
-    object_begin (codes "driver") ++ text_member (codes "name") (codes "conode")
-    ++ text_member (codes "version") version ++ rules_member rules ++ end_object ∷ []
+-- the tool that made the log, its name and its version, before its rules
+unfoldable pub tool_begin : List ℕ → List Token
+tool_begin version =
+    begin_object
+    ∷ (object_begin (codes "tool") ++ object_begin (codes "driver")
+    ++ text_member (codes "name") (codes "conode") ++ text_member (codes "version") version
+    ++ array_begin (codes "rules"))
 
-unfoldable pub tool_member : List ℕ → List Rule → List Token
-tool_member version rules = object_begin (codes "tool") ++ driver_member version rules ++ end_object ∷ []
+-- its end, and what follows before the results
+unfoldable pub tool_end : List Token
+tool_end =
+    end_array ∷ end_object ∷ end_object
+    ∷ (text_member (codes "columnKind") (codes "unicodeCodePoints") ++ array_begin (codes "results"))
 
 -- what comes before the results, and what after them
 unfoldable pub log_head : List ℕ → List Rule → List Token
 log_head version rules =
     begin_object
-    ∷ (text_member (codes "version") (codes "2.1.0") ++ array_begin (codes "runs") ++ begin_object ∷ (tool_member version rules
-    ++ text_member (codes "columnKind") (codes "unicodeCodePoints") ++ array_begin (codes "results")))
+    ∷ (text_member (codes "version") (codes "2.1.0") ++ array_begin (codes "runs") ++ tool_begin version
+    ++ flat_map rule_tokens rules ++ tool_end)
 
 abbrev pub log_end : List Token
 log_end = end_array ∷ end_object ∷ end_array ∷ end_object ∷ []

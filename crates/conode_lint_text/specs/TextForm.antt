@@ -1,10 +1,13 @@
 -- Findings as compilers print them.
 use Rattle.std.specs.Prelude.{ℕ, ◌==◌, Bool, if◌then◌else◌, List, [], ◌∷◌, ◌++◌, codes, decimal}
+use Rattle.co_text.specs.Printed.{digits_text}
 use Rattle.conode_lint_text.specs.Characters.{characters_of, shown_all}
 use Rattle.conode_lint_text.specs.Findings.{column_of, help_of, message_of, severity_name}
 use Rattle.conode_lint_text.specs.declared.finding.Finding.{Finding}
-use Rattle.conode_lint_text.specs.declared.finding.Severity.{Severity}
+use Rattle.conode_lint_text.specs.declared.finding.Severity.{Severity as HowSevere}
 use Rattle.conode_lint_text.specs.declared.finding.Severity.TheVariants.{Error, Warning}
+use Rattle.conode_lint_text.specs.declared.pieces.Piece.{Piece}
+use Rattle.conode_lint_text.specs.declared.pieces.Piece.TheVariants.{Text, Shown, Decimal, Counted, Severity, Word, Byte}
 
 -- what begins a colour on a terminal (ECMA-48, SGR), by its numbers, and what ends it; without colours nothing
 unfoldable pub begin_colour : Bool → List ℕ → List ℕ
@@ -17,16 +20,19 @@ unfoldable pub coloured : Bool → List ℕ → List ℕ → List ℕ
 coloured colours numbers text = begin_colour colours numbers ++ text ++ end_colour colours
 
 -- red for errors, magenta for warnings
-abbrev pub severity_colour : Severity → List ℕ
+abbrev pub severity_colour : HowSevere → List ℕ
 severity_colour Error = codes "1;31"
 severity_colour Warning = codes "1;35"
 
--- the file, and where a line is to blame its number and the column
+-- where a line is to blame, its number and the column
+unfoldable pub position_text : Finding → List ℕ
+position_text finding =
+    if finding.line == 0 then []
+    else decimal finding.line ++ codes ":" ++ decimal (column_of finding) ++ codes ":"
+
+-- the file, and the position
 unfoldable pub place_text : List ℕ → Finding → List ℕ
-place_text file finding =
-    shown_all file ++ codes ":"
-    ++ (if finding.line == 0 then []
-    else decimal finding.line ++ codes ":" ++ decimal (column_of finding) ++ codes ":")
+place_text file finding = shown_all file ++ codes ":" ++ position_text finding
 
 -- `error[BadList]:`
 unfoldable pub label_text : Finding → List ℕ
@@ -70,6 +76,16 @@ more_line file count = shown_all file ++ codes ": " ++ decimal count ++ codes " 
 -- a number of things, as `1 error`, `2 errors`
 unfoldable pub counted : ℕ → List ℕ → List ℕ
 counted count thing = decimal count ++ codes " " ++ thing ++ (if count == 1 then [] else codes "s")
+
+-- the text of a piece
+abbrev pub piece_text : Piece → List ℕ
+piece_text (Text text) = text.now
+piece_text (Shown characters) = shown_all characters.now
+piece_text (Decimal number) = decimal number
+piece_text (Counted number thing) = counted number thing.now
+piece_text (Severity severity) = severity_name severity
+piece_text (Word word) = digits_text 16 4 word
+piece_text (Byte byte) = digits_text 16 2 byte
 
 -- the last line: `2 errors, 1 warning in 3 files`
 unfoldable pub summary_line : ℕ → ℕ → ℕ → List ℕ

@@ -3,6 +3,7 @@
 ghost use Rattle.std.specs.Prelude.{◌≡◌, ◌++◌, OnOk, IfOk, map, string_bytes};
 ghost use Rattle.std.specs.Str.{chars};
 ghost use Rattle.conode_lint_text.specs.Characters.{characters_of, in_utf8, shown, shown_all, windows_1252};
+ghost use Rattle.conode_lint_text.specs.JsonForm.{utf8_of};
 
 use co_text::push_byte;
 use std::alloc::{AllocError, Global};
@@ -56,8 +57,7 @@ pub fn characters_of(alloc: Global, line: &[u8]) -> Result<Vec<char>, AllocError
     }
 }
 
-/// Appends characters. On an `Err` memory ran out, and a part of them may be there.
-pub fn push_utf8(text: &mut String, characters: &[char]) -> Result<(), AllocError>
+fn push_utf8(text: &mut String, characters: &[char]) -> Result<(), AllocError>
     ensures { OnOk result
         (string_bytes text.new ≡ string_bytes text.old ++ in_utf8 characters.now) }
 {
@@ -65,6 +65,16 @@ pub fn push_utf8(text: &mut String, characters: &[char]) -> Result<(), AllocErro
         text.push(*character)?;
     }
     Ok(())
+}
+
+/// A line in UTF-8: as it is, where it is that, else read as Windows-1252. It fails out of memory.
+pub fn utf8_of(alloc: Global, line: &[u8]) -> Result<String, AllocError>
+    ensures { IfOk result (λ text. string_bytes text ≡ utf8_of line.now) }
+{
+    let characters = characters_of(alloc, line)?;
+    let mut text = String::new(alloc);
+    push_utf8(&mut text, characters.as_slice())?;
+    Ok(text)
 }
 
 #[tactic(auto, unfolding(crate::specs::Characters::shown))]

@@ -1,12 +1,14 @@
 //! The column of a finding.
 
-ghost use Rattle.std.specs.Prelude.{◌≡◌, ◌==◌, ◌≤◌, length};
+ghost use Rattle.std.specs.Prelude.{◌≡◌, ◌==◌, ◌≤◌, length, IfOk};
 ghost use Rattle.std.specs.List.{position_or_len};
 ghost use Rattle.co_text.specs.Texts.{is_blank};
 ghost use Rattle.conode_lint_text.specs.Characters.{blanks, characters_of};
 ghost use Rattle.conode_lint_text.specs.Findings.{column_of, place_in, value_place};
 
+use crate::characters::characters_of;
 use crate::finding::{Finding, Place};
+use std::alloc::{AllocError, Global};
 
 fn is_blank(character: char) -> bool
     ensures { result ≡ is_blank character }
@@ -73,4 +75,12 @@ pub(crate) fn column_of(finding: &Finding<'_>, characters: &[char]) -> usize
         Place::Value => value_place(characters),
     };
     before + 1
+}
+
+/// The same, of its line's own characters. It fails out of memory.
+pub(crate) fn own_column(alloc: Global, finding: &Finding<'_>) -> Result<usize, AllocError>
+    ensures { IfOk result (λ column. column ≡ column_of finding.now) }
+{
+    let characters = characters_of(alloc, finding.text)?;
+    Ok(column_of(finding, characters.as_slice()))
 }

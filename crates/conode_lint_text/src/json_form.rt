@@ -3,71 +3,61 @@
 
 ghost use Rattle.std.specs.Prelude.{◌≡◌, ◌++◌, OnOk};
 ghost use Rattle.std.specs.List.{flat_map};
-ghost use Rattle.conode_lint_text.specs.Characters.{characters_of};
-ghost use Rattle.conode_lint_text.specs.JsonForm.{
-  count_members,
-  document_end,
-  document_head,
-  file_members,
-  file_tokens,
-  finding_tokens,
-  place_members,
-  word_members,
-};
+ghost use Rattle.conode_lint_text.specs.Findings.{column_of, message_of};
+ghost use Rattle.conode_lint_text.specs.JsonForm.{document_end, document_head, file_tokens, finding_tokens, utf8_of};
 
-use crate::characters::characters_of;
-use crate::column::column_of;
+use crate::characters::utf8_of;
+use crate::column::own_column;
 use crate::finding::Finding;
-use crate::members::{begin_array, put_characters, put_flag, put_number, put_text};
-use crate::words::{push_message, severity_name};
+use crate::parts::{Part, put_parts, put_text};
+use crate::words::message_of;
 use json::Writer;
 use std::alloc::{AllocError, Global};
 
-#[tactic(auto, unfolding(crate::specs::JsonForm::place_members))]
-fn put_place(
+#[tactic(auto, unfolding(crate::specs::JsonForm::finding_tokens, crate::specs::JsonForm::place_members, crate::specs::JsonForm::word_members))]
+fn put_members(
     writer: &mut Writer,
     finding: &Finding<'_>,
-    characters: &[char],
+    column: usize,
+    message: &str,
+    text: &str,
 ) -> Result<(), AllocError>
-    requires { characters.now ≡ characters_of finding.now.text.now }
+    requires column { column ≡ column_of finding.now }
+    requires message { message.now ≡ message_of finding.now }
+    requires text { text.now ≡ utf8_of finding.now.text.now }
     ensures { OnOk result
-        (writer.new.tokens ≡ writer.old.tokens ++ place_members finding.now) }
+        (writer.new.tokens ≡ writer.old.tokens ++ finding_tokens finding.now) }
 {
-    put_number(writer, "line", finding.line)?;
-    put_number(writer, "column", column_of(finding, characters))?;
-    put_text(writer, "severity", severity_name(finding.severity))
+    put_parts(
+        writer,
+        &[
+            Part::BeginObject,
+            Part::Number("line", finding.line),
+            Part::Number("column", column),
+            Part::Severity("severity", finding.severity),
+            Part::Text("name", finding.name),
+        ],
+    )?;
+    put_text(writer, "meaning", message)?;
+    put_text(writer, "text", text)?;
+    put_parts(
+        writer,
+        &[
+            Part::Text("fix", finding.fix),
+            Part::Text("subject", finding.subject),
+            Part::EndObject,
+        ],
+    )
 }
 
-#[tactic(auto, unfolding(crate::specs::JsonForm::word_members))]
-fn put_words(
-    alloc: Global,
-    writer: &mut Writer,
-    finding: &Finding<'_>,
-    characters: &[char],
-) -> Result<(), AllocError>
-    requires { characters.now ≡ characters_of finding.now.text.now }
-    ensures { OnOk result
-        (writer.new.tokens ≡ writer.old.tokens ++ word_members finding.now) }
-{
-    let mut message = String::new(alloc);
-    push_message(&mut message, finding)?;
-    put_text(writer, "name", finding.name)?;
-    put_text(writer, "meaning", message.as_str())?;
-    put_characters(alloc, writer, "text", finding.text, characters)?;
-    put_text(writer, "fix", finding.fix)?;
-    put_text(writer, "subject", finding.subject)
-}
-
-#[tactic(auto, unfolding(crate::specs::JsonForm::finding_tokens))]
 fn put_finding(alloc: Global, writer: &mut Writer, finding: &Finding<'_>) -> Result<(), AllocError>
     ensures { OnOk result
         (writer.new.tokens ≡ writer.old.tokens ++ finding_tokens finding.now) }
 {
-    let characters = characters_of(alloc, finding.text)?;
-    writer.begin_object()?;
-    put_place(writer, finding, characters.as_slice())?;
-    put_words(alloc, writer, finding, characters.as_slice())?;
-    writer.end_object()
+    let column = own_column(alloc, finding)?;
+    let text = utf8_of(alloc, finding.text)?;
+    let message = message_of(alloc, finding)?;
+    put_members(writer, finding, column, message.as_str(), text.as_str())
 }
 
 fn put_findings(
@@ -84,35 +74,9 @@ fn put_findings(
     Ok(())
 }
 
-#[tactic(auto, unfolding(crate::specs::JsonForm::count_members))]
-fn put_counts(writer: &mut Writer, errors: usize, warnings: usize) -> Result<(), AllocError>
-    ensures { OnOk result
-        (writer.new.tokens ≡ writer.old.tokens ++ count_members errors warnings) }
-{
-    put_number(writer, "errors", errors)?;
-    put_number(writer, "warnings", warnings)
-}
-
-#[tactic(auto, unfolding(crate::specs::JsonForm::file_members))]
-fn put_file_members(
-    writer: &mut Writer,
-    name: &str,
-    is_read: bool,
-    counts: (usize, usize, usize),
-) -> Result<(), AllocError>
-    ensures { OnOk result (writer.new.tokens ≡ writer.old.tokens
-        ++ file_members name.now is_read counts.0 counts.1 counts.2) }
-{
-    let (errors, warnings, more) = counts;
-    put_text(writer, "file", name)?;
-    put_flag(writer, "read", is_read)?;
-    put_counts(writer, errors, warnings)?;
-    put_number(writer, "more", more)
-}
-
 /// Writes a file: its name, whether it could be read, how many errors and warnings it has and how many of them aren't
 /// given, and its findings.
-#[tactic(auto, unfolding(crate::specs::JsonForm::file_tokens))]
+#[tactic(auto, unfolding(crate::specs::JsonForm::file_tokens, crate::specs::JsonForm::file_members, crate::specs::JsonForm::count_members))]
 pub fn put_file(
     alloc: Global,
     writer: &mut Writer,
@@ -124,12 +88,21 @@ pub fn put_file(
     ensures { OnOk result (writer.new.tokens ≡ writer.old.tokens
         ++ file_tokens name.now is_read counts.0 counts.1 counts.2 findings.now) }
 {
-    writer.begin_object()?;
-    put_file_members(writer, name, is_read, counts)?;
-    begin_array(writer, "findings")?;
+    let (errors, warnings, more) = counts;
+    put_parts(
+        writer,
+        &[
+            Part::BeginObject,
+            Part::Text("file", name),
+            Part::Flag("read", is_read),
+            Part::Number("errors", errors),
+            Part::Number("warnings", warnings),
+            Part::Number("more", more),
+            Part::Array("findings"),
+        ],
+    )?;
     put_findings(alloc, writer, findings)?;
-    writer.end_array()?;
-    writer.end_object()
+    put_parts(writer, &[Part::EndArray, Part::EndObject])
 }
 
 /// Writes what comes before the files.
@@ -137,13 +110,18 @@ pub fn put_file(
 pub fn put_document_head(writer: &mut Writer) -> Result<(), AllocError>
     ensures { OnOk result (writer.new.tokens ≡ writer.old.tokens ++ document_head) }
 {
-    writer.begin_object()?;
-    put_number(writer, "version", 1)?;
-    begin_array(writer, "files")
+    put_parts(
+        writer,
+        &[
+            Part::BeginObject,
+            Part::Number("version", 1),
+            Part::Array("files"),
+        ],
+    )
 }
 
 /// Writes what comes after the files: how many errors and warnings they have in all.
-#[tactic(auto, unfolding(crate::specs::JsonForm::document_end))]
+#[tactic(auto, unfolding(crate::specs::JsonForm::document_end, crate::specs::JsonForm::count_members))]
 pub fn put_document_end(
     writer: &mut Writer,
     errors: usize,
@@ -152,7 +130,13 @@ pub fn put_document_end(
     ensures { OnOk result
         (writer.new.tokens ≡ writer.old.tokens ++ document_end errors warnings) }
 {
-    writer.end_array()?;
-    put_counts(writer, errors, warnings)?;
-    writer.end_object()
+    put_parts(
+        writer,
+        &[
+            Part::EndArray,
+            Part::Number("errors", errors),
+            Part::Number("warnings", warnings),
+            Part::EndObject,
+        ],
+    )
 }

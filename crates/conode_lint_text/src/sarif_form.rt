@@ -3,52 +3,56 @@
 
 ghost use Rattle.std.specs.Prelude.{◌≡◌, ◌++◌, OnOk};
 ghost use Rattle.std.specs.List.{flat_map};
-ghost use Rattle.conode_lint_text.specs.Characters.{characters_of};
+ghost use Rattle.conode_lint_text.specs.Findings.{column_of, help_of, message_of};
 ghost use Rattle.conode_lint_text.specs.JsonForm.{utf8_of};
 ghost use Rattle.conode_lint_text.specs.SarifForm.{
-  driver_member,
-  level_member,
-  location_tokens,
   locations_member,
   log_end,
   log_head,
   region_members,
   result_tokens,
   rule_tokens,
-  rules_member,
-  tool_member,
-  uri_member,
+  said_tokens,
 };
 
-use crate::characters::{characters_of, push_utf8};
-use crate::column::column_of;
-use crate::finding::{Finding, Rule, Severity};
-use crate::members::{begin_array, begin_object, put_message, put_number, put_text};
-use crate::words::{push_help, push_message, severity_name};
+use crate::characters::utf8_of;
+use crate::column::own_column;
+use crate::finding::{Finding, Rule};
+use crate::parts::{Part, put_message, put_parts};
+use crate::words::{help_of, message_of};
 use json::Writer;
 use std::alloc::{AllocError, Global};
 
-#[tactic(auto, unfolding(crate::specs::SarifForm::level_member))]
-fn put_level(writer: &mut Writer, severity: Severity) -> Result<(), AllocError>
-    ensures { OnOk result (writer.new.tokens ≡ writer.old.tokens ++ level_member severity) }
+#[tactic(auto, unfolding(crate::specs::SarifForm::rule_tokens, crate::specs::SarifForm::level_member))]
+fn put_rule_members(writer: &mut Writer, rule: &Rule<'_>, help: &str) -> Result<(), AllocError>
+    requires { help.now ≡ help_of rule.now.fix.now rule.now.subject.now }
+    ensures { OnOk result (writer.new.tokens ≡ writer.old.tokens ++ rule_tokens rule.now) }
 {
-    begin_object(writer, "defaultConfiguration")?;
-    put_text(writer, "level", severity_name(severity))?;
-    writer.end_object()
+    put_parts(
+        writer,
+        &[
+            Part::BeginObject,
+            Part::Text("id", rule.name),
+            Part::Message("shortDescription", rule.meaning),
+        ],
+    )?;
+    put_message(writer, "help", help)?;
+    put_parts(
+        writer,
+        &[
+            Part::Object("defaultConfiguration"),
+            Part::Severity("level", rule.severity),
+            Part::EndObject,
+            Part::EndObject,
+        ],
+    )
 }
 
-#[tactic(auto, unfolding(crate::specs::SarifForm::rule_tokens))]
 fn put_rule(alloc: Global, writer: &mut Writer, rule: &Rule<'_>) -> Result<(), AllocError>
     ensures { OnOk result (writer.new.tokens ≡ writer.old.tokens ++ rule_tokens rule.now) }
 {
-    let mut help = String::new(alloc);
-    push_help(&mut help, rule.fix, rule.subject)?;
-    writer.begin_object()?;
-    put_text(writer, "id", rule.name)?;
-    put_message(writer, "shortDescription", rule.meaning)?;
-    put_message(writer, "help", help.as_str())?;
-    put_level(writer, rule.severity)?;
-    writer.end_object()
+    let help = help_of(alloc, rule.fix, rule.subject)?;
+    put_rule_members(writer, rule, help.as_str())
 }
 
 fn put_rules(alloc: Global, writer: &mut Writer, rules: &[Rule<'_>]) -> Result<(), AllocError>
@@ -61,74 +65,102 @@ fn put_rules(alloc: Global, writer: &mut Writer, rules: &[Rule<'_>]) -> Result<(
     Ok(())
 }
 
-#[tactic(auto, unfolding(crate::specs::SarifForm::region_members))]
+// where a line is to blame, its region
+#[tactic(auto, unfolding(crate::specs::SarifForm::region_members, crate::specs::JsonForm::message_member))]
 fn put_region(
     writer: &mut Writer,
     finding: &Finding<'_>,
-    characters: &[char],
+    column: usize,
     snippet: &str,
 ) -> Result<(), AllocError>
-    requires is { characters.now ≡ characters_of finding.now.text.now }
-    requires same { snippet.now ≡ utf8_of finding.now.text.now }
+    requires column { column ≡ column_of finding.now }
+    requires snippet { snippet.now ≡ utf8_of finding.now.text.now }
     ensures { OnOk result
         (writer.new.tokens ≡ writer.old.tokens ++ region_members finding.now) }
 {
     if finding.line == 0 {
         return Ok(());
     }
-    begin_object(writer, "region")?;
-    put_number(writer, "startLine", finding.line)?;
-    put_number(writer, "startColumn", column_of(finding, characters))?;
-    put_message(writer, "snippet", snippet)?;
-    writer.end_object()
+    put_parts(
+        writer,
+        &[
+            Part::Object("region"),
+            Part::Number("startLine", finding.line),
+            Part::Number("startColumn", column),
+            Part::Object("snippet"),
+            Part::Text("text", snippet),
+            Part::EndObject,
+            Part::EndObject,
+        ],
+    )
 }
 
-#[tactic(auto, unfolding(crate::specs::SarifForm::uri_member))]
-fn put_uri(writer: &mut Writer, uri: &str) -> Result<(), AllocError>
-    ensures { OnOk result (writer.new.tokens ≡ writer.old.tokens ++ uri_member uri.now) }
-{
-    begin_object(writer, "artifactLocation")?;
-    put_text(writer, "uri", uri)?;
-    writer.end_object()
-}
-
-#[tactic(auto, unfolding(crate::specs::SarifForm::location_tokens))]
-fn put_location(
-    alloc: Global,
-    writer: &mut Writer,
-    uri: &str,
-    finding: &Finding<'_>,
-) -> Result<(), AllocError>
-    ensures { OnOk result
-        (writer.new.tokens ≡ writer.old.tokens ++ location_tokens uri.now finding.now) }
-{
-    let characters = characters_of(alloc, finding.text)?;
-    let mut snippet = String::new(alloc);
-    push_utf8(&mut snippet, characters.as_slice())?;
-    writer.begin_object()?;
-    begin_object(writer, "physicalLocation")?;
-    put_uri(writer, uri)?;
-    put_region(writer, finding, characters.as_slice(), snippet.as_str())?;
-    writer.end_object()?;
-    writer.end_object()
-}
-
-#[tactic(auto, unfolding(crate::specs::SarifForm::locations_member))]
+// the file, and where a line is to blame the region
+#[tactic(auto, unfolding(crate::specs::SarifForm::locations_member, crate::specs::SarifForm::location_tokens, crate::specs::SarifForm::uri_member))]
 fn put_locations(
-    alloc: Global,
     writer: &mut Writer,
     uri: &str,
     finding: &Finding<'_>,
+    column: usize,
+    snippet: &str,
 ) -> Result<(), AllocError>
+    requires column { column ≡ column_of finding.now }
+    requires snippet { snippet.now ≡ utf8_of finding.now.text.now }
     ensures { OnOk result
         (writer.new.tokens ≡ writer.old.tokens ++ locations_member uri.now finding.now) }
 {
-    begin_array(writer, "locations")?;
-    put_location(alloc, writer, uri, finding)?;
-    writer.end_array()
+    put_parts(
+        writer,
+        &[
+            Part::Array("locations"),
+            Part::BeginObject,
+            Part::Object("physicalLocation"),
+            Part::Object("artifactLocation"),
+            Part::Text("uri", uri),
+            Part::EndObject,
+        ],
+    )?;
+    put_region(writer, finding, column, snippet)?;
+    put_parts(writer, &[Part::EndObject, Part::EndObject, Part::EndArray])
 }
 
-#[tactic(auto, unfolding(crate::specs::SarifForm::result_tokens))]
+// the name of its kind, its level and what is wrong, after the beginning of an object
+#[tactic(auto, unfolding(crate::specs::SarifForm::said_tokens))]
+fn put_said(writer: &mut Writer, finding: &Finding<'_>, message: &str) -> Result<(), AllocError>
+    requires { message.now ≡ message_of finding.now }
+    ensures { OnOk result (writer.new.tokens ≡ writer.old.tokens ++ said_tokens finding.now) }
+{
+    put_parts(
+        writer,
+        &[
+            Part::BeginObject,
+            Part::Text("ruleId", finding.name),
+            Part::Severity("level", finding.severity),
+        ],
+    )?;
+    put_message(writer, "message", message)
+}
+
+#[tactic(auto, unfolding(crate::specs::SarifForm::result_tokens, crate::specs::SarifForm::said_tokens))]
+fn put_result_members(
+    writer: &mut Writer,
+    uri: &str,
+    finding: &Finding<'_>,
+    column: usize,
+    message: &str,
+    snippet: &str,
+) -> Result<(), AllocError>
+    requires column { column ≡ column_of finding.now }
+    requires message { message.now ≡ message_of finding.now }
+    requires snippet { snippet.now ≡ utf8_of finding.now.text.now }
+    ensures { OnOk result
+        (writer.new.tokens ≡ writer.old.tokens ++ result_tokens uri.now finding.now) }
+{
+    put_said(writer, finding, message)?;
+    put_locations(writer, uri, finding, column, snippet)?;
+    writer.end_object()
+}
+
 fn put_result(
     alloc: Global,
     writer: &mut Writer,
@@ -138,14 +170,17 @@ fn put_result(
     ensures { OnOk result
         (writer.new.tokens ≡ writer.old.tokens ++ result_tokens uri.now finding.now) }
 {
-    let mut message = String::new(alloc);
-    push_message(&mut message, finding)?;
-    writer.begin_object()?;
-    put_text(writer, "ruleId", finding.name)?;
-    put_text(writer, "level", severity_name(finding.severity))?;
-    put_message(writer, "message", message.as_str())?;
-    put_locations(alloc, writer, uri, finding)?;
-    writer.end_object()
+    let column = own_column(alloc, finding)?;
+    let snippet = utf8_of(alloc, finding.text)?;
+    let message = message_of(alloc, finding)?;
+    put_result_members(
+        writer,
+        uri,
+        finding,
+        column,
+        message.as_str(),
+        snippet.as_str(),
+    )
 }
 
 /// Writes the results of a file, which has this URI.
@@ -164,53 +199,8 @@ pub fn put_results(
     Ok(())
 }
 
-#[tactic(auto, unfolding(crate::specs::SarifForm::rules_member))]
-fn put_rules_member(
-    alloc: Global,
-    writer: &mut Writer,
-    rules: &[Rule<'_>],
-) -> Result<(), AllocError>
-    ensures { OnOk result (writer.new.tokens ≡ writer.old.tokens ++ rules_member rules.now) }
-{
-    begin_array(writer, "rules")?;
-    put_rules(alloc, writer, rules)?;
-    writer.end_array()
-}
-
-#[tactic(auto, unfolding(crate::specs::SarifForm::driver_member))]
-fn put_driver(
-    alloc: Global,
-    writer: &mut Writer,
-    version: &str,
-    rules: &[Rule<'_>],
-) -> Result<(), AllocError>
-    ensures { OnOk result
-        (writer.new.tokens ≡ writer.old.tokens ++ driver_member version.now rules.now) }
-{
-    begin_object(writer, "driver")?;
-    put_text(writer, "name", "conode")?;
-    put_text(writer, "version", version)?;
-    put_rules_member(alloc, writer, rules)?;
-    writer.end_object()
-}
-
-#[tactic(auto, unfolding(crate::specs::SarifForm::tool_member))]
-fn put_tool(
-    alloc: Global,
-    writer: &mut Writer,
-    version: &str,
-    rules: &[Rule<'_>],
-) -> Result<(), AllocError>
-    ensures { OnOk result
-        (writer.new.tokens ≡ writer.old.tokens ++ tool_member version.now rules.now) }
-{
-    begin_object(writer, "tool")?;
-    put_driver(alloc, writer, version, rules)?;
-    writer.end_object()
-}
-
 /// Writes what comes before the results: the tool with its rules.
-#[tactic(auto, unfolding(crate::specs::SarifForm::log_head))]
+#[tactic(auto, unfolding(crate::specs::SarifForm::log_head, crate::specs::SarifForm::tool_begin, crate::specs::SarifForm::tool_end))]
 pub fn put_log_head(
     alloc: Global,
     writer: &mut Writer,
@@ -220,21 +210,44 @@ pub fn put_log_head(
     ensures { OnOk result
         (writer.new.tokens ≡ writer.old.tokens ++ log_head version.now rules.now) }
 {
-    writer.begin_object()?;
-    put_text(writer, "version", "2.1.0")?;
-    begin_array(writer, "runs")?;
-    writer.begin_object()?;
-    put_tool(alloc, writer, version, rules)?;
-    put_text(writer, "columnKind", "unicodeCodePoints")?;
-    begin_array(writer, "results")
+    put_parts(
+        writer,
+        &[
+            Part::BeginObject,
+            Part::Text("version", "2.1.0"),
+            Part::Array("runs"),
+            Part::BeginObject,
+            Part::Object("tool"),
+            Part::Object("driver"),
+            Part::Text("name", "conode"),
+            Part::Text("version", version),
+            Part::Array("rules"),
+        ],
+    )?;
+    put_rules(alloc, writer, rules)?;
+    put_parts(
+        writer,
+        &[
+            Part::EndArray,
+            Part::EndObject,
+            Part::EndObject,
+            Part::Text("columnKind", "unicodeCodePoints"),
+            Part::Array("results"),
+        ],
+    )
 }
 
 /// Writes what comes after the results.
 pub fn put_log_end(writer: &mut Writer) -> Result<(), AllocError>
     ensures { OnOk result (writer.new.tokens ≡ writer.old.tokens ++ log_end) }
 {
-    writer.end_array()?;
-    writer.end_object()?;
-    writer.end_array()?;
-    writer.end_object()
+    put_parts(
+        writer,
+        &[
+            Part::EndArray,
+            Part::EndObject,
+            Part::EndArray,
+            Part::EndObject,
+        ],
+    )
 }

@@ -1,65 +1,88 @@
 //! Findings as compilers print them. Each function appends a text; on an `Err` memory ran out, and a part of it may be
 //! there.
 
-ghost use Rattle.std.specs.Prelude.{◌≡◌, ◌++◌, OnOk, string_bytes};
+ghost use Rattle.std.specs.Prelude.{◌≡◌, ◌++◌, codes, OnOk, string_bytes};
 ghost use Rattle.conode_lint_text.specs.Characters.{characters_of};
 ghost use Rattle.conode_lint_text.specs.TextForm.{
   begin_colour,
   end_colour,
   severity_colour,
-  place_text,
-  label_text,
-  place_part,
-  label_part,
+  position_text,
   head_line,
   quoted_line,
   help_line,
+  label_part,
+  label_text,
+  place_part,
+  place_text,
   finding_lines,
   more_line,
-  counted,
   summary_line,
 };
 
-use crate::characters::{characters_of, push_all_shown};
+use crate::characters::characters_of;
 use crate::column::column_of;
 use crate::finding::{Finding, Severity};
-use crate::words::{push_help, push_message, severity_name};
-use co_text::push_decimal;
+use crate::pieces::{Piece, push_pieces};
+use crate::words::{push_help, push_message};
 use std::alloc::{AllocError, Global};
 
-// the first bytes of a colour, by its numbers
 #[tactic(auto, unfolding(crate::specs::TextForm::begin_colour))]
-fn begin_colour(text: &mut String, colours: bool, numbers: &str) -> Result<(), AllocError>
-    ensures { OnOk result
-        (string_bytes text.new ≡ string_bytes text.old ++ begin_colour colours numbers.now) }
+fn begin_place(colours: bool) -> &'static str
+    ensures { result.now ≡ begin_colour colours (codes "1") }
+{
+    if colours { "\u{1B}[1m" } else { "" }
+}
+
+#[tactic(auto, unfolding(crate::specs::TextForm::begin_colour))]
+fn begin_label(colours: bool, severity: Severity) -> &'static str
+    ensures { result.now ≡ begin_colour colours (severity_colour severity) }
 {
     if !colours {
-        return Ok(());
+        return "";
     }
-    text.push_str("\u{1B}[")?;
-    text.push_str(numbers)?;
-    text.push_str("m")
+    match severity {
+        Severity::Error => "\u{1B}[1;31m",
+        Severity::Warning => "\u{1B}[1;35m",
+    }
+}
+
+#[tactic(auto, unfolding(crate::specs::TextForm::begin_colour))]
+fn begin_help(colours: bool) -> &'static str
+    ensures { result.now ≡ begin_colour colours (codes "1;36") }
+{
+    if colours { "\u{1B}[1;36m" } else { "" }
 }
 
 #[tactic(auto, unfolding(crate::specs::TextForm::end_colour))]
-fn end_colour(text: &mut String, colours: bool) -> Result<(), AllocError>
-    ensures { OnOk result
-        (string_bytes text.new ≡ string_bytes text.old ++ end_colour colours) }
+fn end_colour(colours: bool) -> &'static str
+    ensures { result.now ≡ end_colour colours }
 {
-    if colours {
-        text.push_str("\u{1B}[0m")
-    } else {
-        Ok(())
-    }
+    if colours { "\u{1B}[0m" } else { "" }
 }
 
-fn severity_colour(severity: Severity) -> &'static str
-    ensures { result.now ≡ severity_colour severity }
+#[tactic(auto, unfolding(crate::specs::TextForm::position_text))]
+fn push_position(
+    text: &mut String,
+    finding: &Finding<'_>,
+    characters: &[char],
+) -> Result<(), AllocError>
+    requires { characters.now ≡ characters_of finding.now.text.now }
+    ensures { OnOk result
+        (string_bytes text.new ≡ string_bytes text.old ++ position_text finding.now) }
 {
-    match severity {
-        Severity::Error => "1;31",
-        Severity::Warning => "1;35",
+    if finding.line == 0 {
+        return Ok(());
     }
+    push_pieces(
+        text,
+        &[
+            Piece::Decimal(finding.line),
+            Piece::Text(":"),
+            Piece::Decimal(column_of(finding, characters)),
+            Piece::Text(":"),
+        ],
+    )
 }
 
 #[tactic(auto, unfolding(crate::specs::TextForm::place_text))]
@@ -73,15 +96,8 @@ fn push_place(
     ensures { OnOk result
         (string_bytes text.new ≡ string_bytes text.old ++ place_text file.now finding.now) }
 {
-    push_all_shown(text, file)?;
-    text.push_str(":")?;
-    if finding.line == 0 {
-        return Ok(());
-    }
-    push_decimal(text, finding.line as u64)?;
-    text.push_str(":")?;
-    push_decimal(text, column_of(finding, characters) as u64)?;
-    text.push_str(":")
+    push_pieces(text, &[Piece::Shown(file), Piece::Text(":")])?;
+    push_position(text, finding, characters)
 }
 
 #[tactic(auto, unfolding(crate::specs::TextForm::label_text))]
@@ -89,10 +105,15 @@ fn push_label(text: &mut String, finding: &Finding<'_>) -> Result<(), AllocError
     ensures { OnOk result
         (string_bytes text.new ≡ string_bytes text.old ++ label_text finding.now) }
 {
-    text.push_str(severity_name(finding.severity))?;
-    text.push_str("[")?;
-    text.push_str(finding.name)?;
-    text.push_str("]:")
+    push_pieces(
+        text,
+        &[
+            Piece::Severity(finding.severity),
+            Piece::Text("["),
+            Piece::Text(finding.name),
+            Piece::Text("]:"),
+        ],
+    )
 }
 
 #[tactic(auto, unfolding(crate::specs::TextForm::place_part, crate::specs::TextForm::coloured))]
@@ -107,9 +128,9 @@ fn push_place_part(
     ensures { OnOk result (string_bytes text.new
         ≡ string_bytes text.old ++ place_part colours file.now finding.now) }
 {
-    begin_colour(text, colours, "1")?;
+    text.push_str(begin_place(colours))?;
     push_place(text, file, finding, characters)?;
-    end_colour(text, colours)
+    text.push_str(end_colour(colours))
 }
 
 #[tactic(auto, unfolding(crate::specs::TextForm::label_part, crate::specs::TextForm::coloured))]
@@ -121,9 +142,9 @@ fn push_label_part(
     ensures { OnOk result
         (string_bytes text.new ≡ string_bytes text.old ++ label_part colours finding.now) }
 {
-    begin_colour(text, colours, severity_colour(finding.severity))?;
+    text.push_str(begin_label(colours, finding.severity))?;
     push_label(text, finding)?;
-    end_colour(text, colours)
+    text.push_str(end_colour(colours))
 }
 
 #[tactic(auto, unfolding(crate::specs::TextForm::head_line))]
@@ -159,9 +180,14 @@ fn push_quoted(
     if finding.line == 0 {
         return Ok(());
     }
-    text.push_str("    ")?;
-    push_all_shown(text, characters)?;
-    text.push_str("\n")
+    push_pieces(
+        text,
+        &[
+            Piece::Text("    "),
+            Piece::Shown(characters),
+            Piece::Text("\n"),
+        ],
+    )
 }
 
 #[tactic(auto, unfolding(crate::specs::TextForm::help_line, crate::specs::TextForm::coloured))]
@@ -169,18 +195,39 @@ fn push_help_line(text: &mut String, colours: bool, finding: &Finding<'_>) -> Re
     ensures { OnOk result
         (string_bytes text.new ≡ string_bytes text.old ++ help_line colours finding.now) }
 {
-    text.push_str("  ")?;
-    begin_colour(text, colours, "1;36")?;
-    text.push_str("help:")?;
-    end_colour(text, colours)?;
-    text.push_str(" ")?;
+    push_pieces(
+        text,
+        &[
+            Piece::Text("  "),
+            Piece::Text(begin_help(colours)),
+            Piece::Text("help:"),
+            Piece::Text(end_colour(colours)),
+            Piece::Text(" "),
+        ],
+    )?;
     push_help(text, finding.fix, finding.subject)?;
     text.push_str("\n")
 }
 
+#[tactic(auto, unfolding(crate::specs::TextForm::finding_lines))]
+fn push_lines(
+    text: &mut String,
+    colours: bool,
+    file: &[char],
+    finding: &Finding<'_>,
+    characters: &[char],
+) -> Result<(), AllocError>
+    requires { characters.now ≡ characters_of finding.now.text.now }
+    ensures { OnOk result (string_bytes text.new
+        ≡ string_bytes text.old ++ finding_lines colours file.now finding.now) }
+{
+    push_head(text, colours, file, finding, characters)?;
+    push_quoted(text, finding, characters)?;
+    push_help_line(text, colours, finding)
+}
+
 /// Appends the lines of a finding: `motor.eds:59:1: error[BadList]:` and what is wrong, the line itself, and how it is
 /// fixed.
-#[tactic(auto, unfolding(crate::specs::TextForm::finding_lines))]
 pub fn push_finding(
     alloc: Global,
     text: &mut String,
@@ -192,9 +239,7 @@ pub fn push_finding(
         ≡ string_bytes text.old ++ finding_lines colours file.now finding.now) }
 {
     let characters = characters_of(alloc, finding.text)?;
-    push_head(text, colours, file, finding, characters.as_slice())?;
-    push_quoted(text, finding, characters.as_slice())?;
-    push_help_line(text, colours, finding)
+    push_lines(text, colours, file, finding, characters.as_slice())
 }
 
 /// Appends the line of a file whose further findings aren't printed, as `motor.eds: 3 more`.
@@ -203,21 +248,15 @@ pub fn push_more(text: &mut String, file: &[char], count: usize) -> Result<(), A
     ensures { OnOk result
         (string_bytes text.new ≡ string_bytes text.old ++ more_line file.now count) }
 {
-    push_all_shown(text, file)?;
-    text.push_str(": ")?;
-    push_decimal(text, count as u64)?;
-    text.push_str(" more\n")
-}
-
-#[tactic(auto, unfolding(crate::specs::TextForm::counted))]
-fn push_counted(text: &mut String, count: usize, thing: &str) -> Result<(), AllocError>
-    ensures { OnOk result
-        (string_bytes text.new ≡ string_bytes text.old ++ counted count thing.now) }
-{
-    push_decimal(text, count as u64)?;
-    text.push_str(" ")?;
-    text.push_str(thing)?;
-    text.push_str(if count == 1 { "" } else { "s" })
+    push_pieces(
+        text,
+        &[
+            Piece::Shown(file),
+            Piece::Text(": "),
+            Piece::Decimal(count),
+            Piece::Text(" more\n"),
+        ],
+    )
 }
 
 /// Appends the last line, as `2 errors, 1 warning in 3 files`.
@@ -231,10 +270,15 @@ pub fn push_summary(
     ensures { OnOk result (string_bytes text.new
         ≡ string_bytes text.old ++ summary_line errors warnings files) }
 {
-    push_counted(text, errors, "error")?;
-    text.push_str(", ")?;
-    push_counted(text, warnings, "warning")?;
-    text.push_str(" in ")?;
-    push_counted(text, files, "file")?;
-    text.push_str("\n")
+    push_pieces(
+        text,
+        &[
+            Piece::Counted(errors, "error"),
+            Piece::Text(", "),
+            Piece::Counted(warnings, "warning"),
+            Piece::Text(" in "),
+            Piece::Counted(files, "file"),
+            Piece::Text("\n"),
+        ],
+    )
 }

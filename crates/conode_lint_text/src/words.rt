@@ -1,9 +1,8 @@
 //! The words of a finding.
 
-ghost use Rattle.std.specs.Prelude.{◌≡◌, ◌++◌, OnOk, string_bytes};
+ghost use Rattle.std.specs.Prelude.{◌≡◌, ◌++◌, IfOk, OnOk, string_bytes};
 ghost use Rattle.conode_lint_text.specs.Findings.{
   about_text,
-  bits_text,
   entry_text,
   help_of,
   message_of,
@@ -11,8 +10,8 @@ ghost use Rattle.conode_lint_text.specs.Findings.{
 };
 
 use crate::finding::{About, Finding, Severity};
-use co_text::{push_byte, push_decimal, push_u16};
-use std::alloc::AllocError;
+use crate::pieces::{Piece, push_pieces};
+use std::alloc::{AllocError, Global};
 
 /// How severe it is, in a word.
 pub(crate) fn severity_name(severity: Severity) -> &'static str
@@ -29,33 +28,31 @@ fn push_entry(text: &mut String, index: u16, sub_index: u8) -> Result<(), AllocE
     ensures { OnOk result
         (string_bytes text.new ≡ string_bytes text.old ++ entry_text index sub_index) }
 {
-    push_u16(text, index)?;
-    text.push_str(":")?;
-    push_byte(text, sub_index)?;
-    text.push_str(": ")
+    push_pieces(
+        text,
+        &[
+            Piece::Word(index),
+            Piece::Text(":"),
+            Piece::Byte(sub_index),
+            Piece::Text(": "),
+        ],
+    )
 }
 
 #[tactic(auto, unfolding(crate::specs::Findings::bits_text))]
-fn push_bits(text: &mut String, bits: u16) -> Result<(), AllocError>
-    ensures { OnOk result (string_bytes text.new ≡ string_bytes text.old ++ bits_text bits) }
-{
-    push_decimal(text, bits as u64)?;
-    text.push_str(" bits in all: ")
-}
-
 fn push_about(text: &mut String, about: About) -> Result<(), AllocError>
     ensures { OnOk result (string_bytes text.new ≡ string_bytes text.old ++ about_text about) }
 {
     match about {
         About::Line => Ok(()),
-        About::Object(index) => {
-            push_u16(text, index)?;
-            text.push_str(": ")
-        }
+        About::Object(index) => push_pieces(text, &[Piece::Word(index), Piece::Text(": ")]),
         About::Entry(index, sub_index) => push_entry(text, index, sub_index),
         About::Bits(index, bits) => {
             push_entry(text, index, 0)?;
-            push_bits(text, bits)
+            push_pieces(
+                text,
+                &[Piece::Decimal(bits as usize), Piece::Text(" bits in all: ")],
+            )
         }
     }
 }
@@ -70,6 +67,15 @@ pub(crate) fn push_message(text: &mut String, finding: &Finding<'_>) -> Result<(
     text.push_str(finding.meaning)
 }
 
+/// What is wrong. It fails out of memory.
+pub(crate) fn message_of(alloc: Global, finding: &Finding<'_>) -> Result<String, AllocError>
+    ensures { IfOk result (λ text. string_bytes text ≡ message_of finding.now) }
+{
+    let mut text = String::new(alloc);
+    push_message(&mut text, finding)?;
+    Ok(text)
+}
+
 /// Appends how it is fixed, and the subject of the standard that says so. On an `Err` memory ran out.
 #[tactic(auto, unfolding(crate::specs::Findings::help_of))]
 pub(crate) fn push_help(text: &mut String, fix: &str, subject: &str) -> Result<(), AllocError>
@@ -80,7 +86,17 @@ pub(crate) fn push_help(text: &mut String, fix: &str, subject: &str) -> Result<(
     if subject.is_empty() {
         return Ok(());
     }
-    text.push_str(" (")?;
-    text.push_str(subject)?;
-    text.push_str(")")
+    push_pieces(
+        text,
+        &[Piece::Text(" ("), Piece::Text(subject), Piece::Text(")")],
+    )
+}
+
+/// How it is fixed, and the subject of the standard that says so. It fails out of memory.
+pub(crate) fn help_of(alloc: Global, fix: &str, subject: &str) -> Result<String, AllocError>
+    ensures { IfOk result (λ text. string_bytes text ≡ help_of fix.now subject.now) }
+{
+    let mut text = String::new(alloc);
+    push_help(&mut text, fix, subject)?;
+    Ok(text)
 }

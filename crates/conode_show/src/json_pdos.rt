@@ -1,6 +1,6 @@
 //! PDOs as objects of JSON. Each function appends tokens; on an `Err` memory ran out, and some of them may be there.
 
-ghost use Rattle.std.specs.Prelude.{◌≡◌, ◌++◌, [], ◌≤◌, map, OnOk};
+ghost use Rattle.std.specs.Prelude.{◌≡◌, ◌++◌, [], ◌≤◌, codes, map, OnOk};
 ghost use Rattle.std.specs.Option.{option_map_or};
 ghost use Rattle.co_sheet_text.specs.Views.{section_view};
 ghost use Rattle.conode_show.specs.JsonForm.{
@@ -12,16 +12,18 @@ ghost use Rattle.conode_show.specs.JsonForm.{
   pdo_members,
   pdo_of,
   pdo_tokens,
+  text_member,
 };
+ghost use Rattle.conode_show_text.specs.Pdos.{pdo_name};
 
 use crate::json_entries::{put_key, put_property};
-use crate::json_words::{put_said, put_said_at};
+use crate::json_words::{put_said, put_said_at, put_words};
 use crate::json_writer::JsonWriter;
 use co_sheet_text::{SectionKind, TextSection};
 use co_value::Key;
 use conode_show_text::{
     Meaning, Word, entry_section, is_counted, is_pdo_cob_id, mapped_key, mapping_count,
-    push_pdo_name, push_said, section_word,
+    push_pdo_name, section_word,
 };
 use std::alloc::{AllocError, Global};
 
@@ -86,9 +88,7 @@ fn put_mapped(
 {
     writer.begin_object()?;
     put_mapped_if(alloc, writer, sections, section_word(node, section))?;
-    let mut words = String::new(alloc);
-    push_said(&mut words, Meaning::Mapped, node, section)?;
-    writer.put_text("words", words.as_str())?;
+    put_words(alloc, writer, Meaning::Mapped, node, section)?;
     writer.end_object()
 }
 
@@ -130,6 +130,14 @@ fn put_mapping(
     Ok(())
 }
 
+fn put_pdo_name(alloc: Global, writer: &mut JsonWriter, index: u16) -> Result<(), AllocError>
+    ensures { OnOk result (writer.new ≡ writer.old ++ text_member (codes "pdo") (pdo_name index)) }
+{
+    let mut name = String::new(alloc);
+    push_pdo_name(&mut name, index)?;
+    writer.put_text("pdo", name.as_str())
+}
+
 // its COB-ID, transmission type and timers
 #[tactic(auto, unfolding(crate::specs::JsonForm::pdo_members))]
 fn put_pdo_members(
@@ -143,9 +151,7 @@ fn put_pdo_members(
     ensures { OnOk result (writer.new ≡ writer.old
         ++ pdo_members node (map section_view sections.now) index (section_view section.now)) }
 {
-    let mut name = String::new(alloc);
-    push_pdo_name(&mut name, index)?;
-    writer.put_text("pdo", name.as_str())?;
+    put_pdo_name(alloc, writer, index)?;
     writer.put_number(alloc, "index", i128::from(index))?;
     put_said(alloc, writer, "cobId", Meaning::PdoCobId, node, section)?;
     let key = Key { index, sub: 2 };

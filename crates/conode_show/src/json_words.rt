@@ -1,9 +1,10 @@
 //! What entries of the communication profile say, as members of JSON. Each function that is given a writer appends tokens;
 //! on an `Err` memory ran out, and some of them may be there.
 
-ghost use Rattle.std.specs.Prelude.{◌≡◌, ◌++◌, map, OnOk};
+ghost use Rattle.std.specs.Prelude.{◌≡◌, ◌++◌, codes, map, OnOk};
 ghost use Rattle.co_sheet_text.specs.Views.{section_view};
-ghost use Rattle.conode_show.specs.JsonForm.{said_at_member, said_member, said_members, word_number};
+ghost use Rattle.conode_show.specs.JsonForm.{said_at_member, said_member, said_members, text_member, word_number};
+ghost use Rattle.conode_show_text.specs.Meanings.{said};
 
 use crate::json_writer::JsonWriter;
 use co_sheet::section_at;
@@ -24,6 +25,22 @@ fn word_number(node: Option<u8>, section: &TextSection<'_, '_>) -> Option<i128>
     }
 }
 
+/// What an entry says, in words.
+pub(crate) fn put_words(
+    alloc: Global,
+    writer: &mut JsonWriter,
+    meaning: Meaning,
+    node: Option<u8>,
+    section: &TextSection<'_, '_>,
+) -> Result<(), AllocError>
+    ensures { OnOk result (writer.new
+        ≡ writer.old ++ text_member (codes "words") (said meaning node (section_view section.now))) }
+{
+    let mut words = String::new(alloc);
+    push_said(&mut words, meaning, node, section)?;
+    writer.put_text("words", words.as_str())
+}
+
 /// What an entry says: its number and its words.
 #[tactic(auto, unfolding(crate::specs::JsonForm::said_members))]
 pub(crate) fn put_said_members(
@@ -37,9 +54,7 @@ pub(crate) fn put_said_members(
         (writer.new ≡ writer.old ++ said_members meaning node (section_view section.now)) }
 {
     writer.put_number_if(alloc, "number", word_number(node, section))?;
-    let mut words = String::new(alloc);
-    push_said(&mut words, meaning, node, section)?;
-    writer.put_text("words", words.as_str())
+    put_words(alloc, writer, meaning, node, section)
 }
 
 /// The same as a member.

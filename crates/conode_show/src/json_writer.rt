@@ -6,7 +6,7 @@ ghost use Rattle.json.specs.Token.{begin_object, end_object, end_array};
 ghost use Rattle.conode_lint_text.specs.JsonForm.{utf8_of};
 ghost use Rattle.conode_show.specs.JsonForm.{array_begin, flag_member, is_exact, number_if, number_member, number_token, object_begin, text_member};
 
-use crate::own_text::own_text;
+use conode_lint_text::utf8_of;
 use conode_show_text::push_decimal_of;
 use json::Writer;
 use std::alloc::{AllocError, Global};
@@ -122,7 +122,7 @@ impl JsonWriter {
     ) -> Result<(), AllocError>
         ensures { OnOk result (self.new ≡ self.old ++ text_member name.now (utf8_of bytes.now)) }
     {
-        let text = own_text(alloc, bytes)?;
+        let text = utf8_of(alloc, bytes)?;
         self.put_text(name, text.as_str())
     }
 

@@ -8,7 +8,6 @@ mod json_pdos;
 mod json_services;
 mod json_words;
 mod json_writer;
-mod own_text;
 mod retyped;
 mod shown_file;
 
