@@ -10,6 +10,10 @@ ghost use Rattle.co_node_model.specs.Moments.{Constants};
 ghost use Rattle.co_node_model.specs.Heartbeats.{boot_up};
 ghost use Rattle.co_node_model.specs.Device.{app_after, contents_of, frame_bound, held_of, room_of, state_of};
 ghost use Rattle.co_node_model.specs.Tpdos.{tpdo_count};
+ghost use Rattle.co_sdo_bank.specs.Banks.{all_settings};
+ghost use Rattle.co_sdo_bank.specs.Channels.{HaveRoom};
+ghost use Rattle.co_node_device.specs.MappingTables.{HaveParts};
+ghost use Rattle.co_node_device.specs.NodeStanding.{NodeStands};
 ghost use Rattle.co_node_device.specs.Standing.{Stands};
 ghost use Rattle.co_node_device.specs.Built.{constants_of};
 
@@ -29,6 +33,46 @@ use co_sdo_bank::Bank;
 use co_value::Key;
 use std::alloc::{AllocError, Global};
 
+// The parts of a device over a dictionary. It is lent, so that no way out has the drop of a store beside that of parts.
+fn parts_of<S: ObjectStore>(
+    alloc: Global,
+    store: &S,
+    greatest: u32,
+    time: u16,
+) -> Result<Parts, AllocError>
+    requires greatest { (key : Key) → capacity_at (S.description store.now).rows key ≤ greatest }
+    ensures stands { IfOk result (λ parts. NodeStands
+        (constants_of (S.description store.now) (S.contents store.now) greatest time)
+        (S.description store.now) (S.contents store.now) parts []) }
+    ensures fits { IfOk result (λ parts.
+        HaveRoom (S.description store.now).rows (all_settings parts.bank)) }
+    ensures rpdos { IfOk result (λ parts.
+        HaveParts (S.description store.now) parts.mappings.rpdos) }
+    ensures tpdos { IfOk result (λ parts.
+        HaveParts (S.description store.now) parts.mappings.tpdos) }
+{
+    let bank = Bank::new(alloc, store, greatest, time)?;
+    let addresses = AddressTable::new(alloc, store)?;
+    let mappings = CompiledMappings::new(alloc, store)?;
+    let emergencies = Emergencies::new(alloc)?;
+    let slots = RpdoSlots::new(alloc, 512)?;
+    let schedule = Schedule::new(alloc, store)?;
+    Ok(Parts {
+        state: NmtState::new(),
+        bank,
+        addresses,
+        mappings,
+        consumers: begun_consumers(store),
+        lost: LostHeartbeats::new(),
+        emergencies,
+        slots,
+        producer: begun_producer(store),
+        schedule,
+        due: Due::new(),
+        last_app: AppAnswer::None,
+    })
+}
+
 impl<S: ObjectStore + Drop> Device<S> {
     /// A device over a dictionary, in NMT state pre-operational and with nothing received. `greatest` is at least the
     /// capacity of each entry, in bytes; `time` the SDO timeout between two requests, in ms, where 0 disables it.
@@ -41,26 +85,7 @@ impl<S: ObjectStore + Drop> Device<S> {
             S.description device.store ≡ S.description store) }
         ensures contents { IfOk result (λ device. S.contents device.store ≡ S.contents store) }
     {
-        let bank = Bank::new(alloc, &store, greatest, time)?;
-        let addresses = AddressTable::new(alloc, &store)?;
-        let mappings = CompiledMappings::new(alloc, &store)?;
-        let emergencies = Emergencies::new(alloc)?;
-        let slots = RpdoSlots::new(alloc, 512)?;
-        let schedule = Schedule::new(alloc, &store)?;
-        let parts = Parts {
-            state: NmtState::new(),
-            bank,
-            addresses,
-            mappings,
-            consumers: begun_consumers(&store),
-            lost: LostHeartbeats::new(),
-            emergencies,
-            slots,
-            producer: begun_producer(&store),
-            schedule,
-            due: Due::new(),
-            last_app: AppAnswer::None,
-        };
+        let parts = parts_of(alloc, &store, greatest, time)?;
         Ok(Device { store, parts })
     }
 }

@@ -3,7 +3,7 @@
 use co_value::Key;
 
 /// An input of a device without its frame, which goes beside it.
-#[derive(Clone, Copy, Debug)]
+#[derive(Clone, Copy)]
 pub enum Given<'a> {
     /// The frame beside it was received, by the one whose address goes beside it as well.
     Frame,

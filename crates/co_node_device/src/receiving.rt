@@ -63,7 +63,7 @@ fn take_frame<S: ObjectStore>(
 }
 
 /// What an input was, and what it is answered where it is an application event.
-#[derive(Clone, Copy, Debug)]
+#[derive(Clone, Copy)]
 pub(crate) struct Received {
     /// What it was to the parts of the device.
     pub(crate) mark: Mark,
