@@ -240,15 +240,15 @@ After the last frame of an SDO transfer a line says how it went:
 With --transfers there are these lines alone. The filters choose which lines are
 printed, not what is followed: --of by nodes, --id by identifiers, --kind by
 services, --from and --to by times, in seconds since the first frame, or after
-`@` as the recording has them. A line has to fit each option that is used. With
---changes a PDO, a heartbeat or a SYNC has a line only where its data or what it
-says aren't those of the last one on its identifier and interface. --format json
-writes each line as an object of JSON.
+`@` as the recording has them. A line is printed if it meets each option that is
+used. With --changes a PDO, a heartbeat or a SYNC has a line only where its data
+or its meaning differ from those of the last one on its identifier and
+interface. --format json writes each line as an object of JSON.
 
 With --sheet entries have their names, and their values in expedited SDO
-transfers and in PDOs, which are taken apart by the sheet's mapping. The option
-may be given again: `--sheet 5=sensor.eds` is for node-ID 5, and `--sheet
-can1:5=other.eds` for node-ID 5 on can1. Without a node-ID a device
+transfers and in PDOs, by the mapping that the recording shows, else by the
+sheet's. The option may be given again: `--sheet 5=sensor.eds` is for node-ID 5,
+and `--sheet can1:5=other.eds` for node-ID 5 on can1. Without a node-ID a device
 configuration file (DCF) is for its own, and any other sheet for every node. A
 node's own sheet counts before one for every node, of those the one for the
 interface, and then the first.
