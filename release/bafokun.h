@@ -37,9 +37,9 @@
 extern "C" {
 #endif
 
-#define BAFOKUN_VERSION "0.9.0"
+#define BAFOKUN_VERSION "0.10.0"
 #define BAFOKUN_VERSION_MAJOR 0
-#define BAFOKUN_VERSION_MINOR 9
+#define BAFOKUN_VERSION_MINOR 10
 #define BAFOKUN_VERSION_PATCH 0
 
 /* No input gives more frames: an array of so many has room for all. */
