@@ -15,6 +15,7 @@ use Rattle.conode_explain_transfers.specs.declared.kinds.Side.TheVariants.{Clien
 use Rattle.conode_explain_transfers.specs.declared.kinds.What.{What}
 use Rattle.conode_explain_transfers.specs.declared.kinds.What.TheVariants.{Initiate, Part, Segment}
 use Rattle.conode_explain_transfers.specs.Followed.{after_boot, followed, nothing_heard}
+use Rattle.conode_compare_transfers.specs.declared.newest.Newest.{Newest}
 use Rattle.conode_compare_transfers.specs.Breaches.{breach_at, byte_at, key_in}
 use Rattle.conode_compare_transfers.specs.NewestFrames.{newest_after}
 use Rattle.conode_compare_rules.specs.declared.dialogue.Asked.{Asked}
@@ -62,9 +63,14 @@ continues Part = true
 continues (Segment number) = true
 continues other = false
 
+abbrev pub is_initiate : What → Bool
+is_initiate Initiate = true
+is_initiate other = false
+
+-- a client's frame that neither begins a transfer nor goes on with one may be answered all the same
 abbrev pub is_odd : Side → What → Bool
 is_odd Server what = not (continues what)
-is_odd Client what = false
+is_odd Client what = not (is_initiate what || continues what)
 
 -- After a frame an earlier request may still be answered: a transfer was left, or the frame goes on with none.
 abbrev pub leaves_request_open : Side → Heard → FrameContent → Bool
@@ -95,14 +101,19 @@ exchange_in limits started dialogue micros side frame = record {
 abbrev pub doubted_after : Side → Heard → FrameContent → Option ℕ → ℕ → Option ℕ
 doubted_after side heard frame doubted micros = if leaves_request_open side heard frame then Some micros else doubted
 
-unfoldable pub dialogue_heard : Dialogue → ℕ → Side → FrameContent → Dialogue
-dialogue_heard dialogue micros side frame =
+-- A transfer isn't judged whose initiate request comes while an earlier request may still be answered.
+abbrev pub newest_heard : Bool → Side → What → Option Newest → Option Newest
+newest_heard certain side what newest = if is_initiate what && not certain then None else newest_after side what newest
+
+unfoldable pub dialogue_heard : Limits → ℕ → Dialogue → ℕ → Side → FrameContent → Dialogue
+dialogue_heard limits started dialogue micros side frame =
     let f = followed dialogue.channel micros side frame.bytes in
+    let doubted = doubted_after side f.says frame dialogue.doubted micros in
     record {
       channel = f.next;
       asked = asked_after f.says.what micros frame;
-      doubted = doubted_after side f.says frame dialogue.doubted micros;
-      newest = newest_after side f.says.what dialogue.newest;
+      doubted = doubted;
+      newest = newest_heard (is_certain limits started doubted micros) side f.says.what dialogue.newest;
     }
 
 -- what was asked isn't answered in time

@@ -231,9 +231,9 @@ pdos_heard pdos ended asked micros = pdos_asked (pdos_ended pdos ended micros) a
 unfoldable pub exchange_at : Subject → Progress → ℕ → Side → FrameContent → Exchange
 exchange_at subject progress micros side frame = exchange_in subject.limits progress.started progress.dialogue micros side frame
 
-unfoldable pub after_sdo : Progress → ℕ → Side → FrameContent → Progress
-after_sdo progress micros side frame =
-    let next = dialogue_heard progress.dialogue micros side frame in
+unfoldable pub after_sdo : Subject → Progress → ℕ → Side → FrameContent → Progress
+after_sdo subject progress micros side frame =
+    let next = dialogue_heard subject.limits progress.started progress.dialogue micros side frame in
     let ended = (followed progress.dialogue.channel micros side frame.bytes).says.ended in
     record progress {
       heartbeats = record progress.heartbeats { since = since_heard progress.heartbeats.since ended micros };
@@ -269,7 +269,7 @@ answer_findings subject rows progress micros frame =
     (is_judged exchange)
 
 unfoldable pub after_answer : Subject → Progress → ℕ → FrameContent → Progress
-after_answer subject progress micros frame = after_sdo (answer_noted subject progress micros) micros Server frame
+after_answer subject progress micros frame = after_sdo subject (answer_noted subject progress micros) micros Server frame
 
 -- a request, or another frame of the client: with one that ends a block upload the device's end of it counts
 abbrev pub confirmed_findings : Option Finding → Findings
@@ -338,7 +338,7 @@ after_frame subject progress micros (OddControl length) = after_odd_control subj
 after_frame subject progress micros (Emergency code register) = after_emergency progress micros
 after_frame subject progress micros (OddEmergency length) = after_emergency progress micros
 after_frame subject progress micros (Sdo Server frame) = after_answer subject progress micros frame
-after_frame subject progress micros (Sdo Client frame) = after_sdo progress micros Client frame
+after_frame subject progress micros (Sdo Client frame) = after_sdo subject progress micros Client frame
 after_frame subject progress micros (Command service) = after_command progress service micros
 after_frame subject progress micros (Process id length) = after_process subject progress micros id
 after_frame subject progress micros (Polled id) = after_poll progress id

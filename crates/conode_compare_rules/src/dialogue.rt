@@ -13,6 +13,8 @@ ghost use Rattle.conode_compare_rules.specs.Dialogues.{
   given_up,
   interrupted,
   is_certain,
+  is_initiate,
+  newest_heard,
   nothing_asked,
   owes,
   continues,
@@ -116,13 +118,30 @@ fn continues(what: What) -> bool
     matches!(what, What::Part | What::Segment { number: _ })
 }
 
+fn is_initiate(what: What) -> bool
+    ensures { result ≡ is_initiate what }
+{
+    matches!(what, What::Initiate)
+}
+
+// whose frame the newest one is; none of a transfer that isn't judged, since its request came while an earlier one could be answered
+fn newest_heard(certain: bool, side: Side, what: What, newest: Option<Newest>) -> Option<Newest>
+    ensures { result ≡ newest_heard certain side what newest }
+{
+    if is_initiate(what) && !certain {
+        None
+    } else {
+        newest_after(side, what, newest)
+    }
+}
+
 // whether after a frame an earlier request may still be answered
 fn leaves_request_open(side: Side, heard: &Heard, frame: &Frame) -> bool
     ensures { result ≡ leaves_request_open side heard.now frame.now }
 {
     let odd = match side {
         Side::Server => !continues(heard.what),
-        Side::Client => false,
+        Side::Client => !(is_initiate(heard.what) || continues(heard.what)),
     };
     odd || ends_in_doubt(&heard.ended, frame)
 }
@@ -177,7 +196,7 @@ impl Dialogue {
         frame: &Frame,
     ) -> Exchange
         ensures exchange { result ≡ exchange_in limits.now started self.old micros side frame.now }
-        ensures next { self.new ≡ dialogue_heard self.old micros side frame.now }
+        ensures next { self.new ≡ dialogue_heard limits.now started self.old micros side frame.now }
     {
         let owed = self.owes(limits, started);
         let certain = self.is_certain(limits, started, micros);
@@ -188,7 +207,8 @@ impl Dialogue {
         if leaves_request_open(side, &heard, frame) {
             self.doubted = Some(micros);
         }
-        self.newest = newest_after(side, heard.what, self.newest);
+        let judged = self.is_certain(limits, started, micros);
+        self.newest = newest_heard(judged, side, heard.what, self.newest);
         Exchange {
             heard,
             asked,

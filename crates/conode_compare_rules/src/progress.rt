@@ -411,7 +411,7 @@ impl Progress {
     #[tactic(auto, unfolding(crate::specs::Progresses::exchange_at, crate::specs::Progresses::after_sdo, crate::specs::Dialogues::exchange_in))]
     fn hear(&mut self, subject: &Subject, micros: u64, side: Side, frame: &Frame) -> Exchange
         ensures exchange { result ≡ exchange_at subject.now self.old micros side frame.now }
-        ensures progress { self.new ≡ after_sdo self.old micros side frame.now }
+        ensures progress { self.new ≡ after_sdo subject.now self.old micros side frame.now }
     {
         let exchange = self
             .dialogue
@@ -471,7 +471,7 @@ impl Progress {
     #[tactic(auto, unfolding(crate::specs::Progresses::request_findings))]
     fn take_request(&mut self, subject: &Subject, micros: u64, frame: &Frame) -> Findings
         ensures findings { result ≡ request_findings subject.now self.old micros frame.now }
-        ensures progress { self.new ≡ after_sdo self.old micros Client frame.now }
+        ensures progress { self.new ≡ after_sdo subject.now self.old micros Client frame.now }
     {
         let exchange = self.hear(subject, micros, Side::Client, frame);
         confirmed_findings(confirmed_finding(&exchange))

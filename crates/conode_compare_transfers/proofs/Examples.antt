@@ -110,6 +110,10 @@ block_number = refl
 block_end : server_breach Data key Unexpected 0xC1 ≡ None
 block_end = refl
 
+-- after an acknowledge too, where the sub-block's last segment is missing in the recording
+block_end_early : server_breach Request key Unexpected 0xD5 ≡ None
+block_end_early = refl
+
 block_gap : server_breach Data key (OutOfSequence 3 2) 3 ≡ None
 block_gap = refl
 
@@ -139,6 +143,19 @@ last direction ending = breach_at (Some Request) Server (ended_by direction endi
 size : last Upload (SizeDiffers 10) ≡ Some (Size key 10 9)
 unfolding breach_at
 size = refl
+
+-- more bytes, where n = 0: up to 6 may be no data
+padded : last Upload (SizeDiffers 3) ≡ None
+unfolding breach_at
+padded = refl
+
+too_many : last Upload (SizeDiffers 2) ≡ Some (Size key 2 9)
+unfolding breach_at
+too_many = refl
+
+not_padded : breach_at (Some Request) Server (ended_by Upload (SizeDiffers 8)) (answer 0x03) ≡ Some (Size key 8 9)
+unfolding breach_at
+not_padded = refl
 
 -- the size of a download is the client's
 size_of_download : last Download (SizeDiffers 10) ≡ None

@@ -1,5 +1,5 @@
 -- What a device does otherwise in an open transfer, by what both ends named (CiA 301, 7.2.4.3).
-use Rattle.std.specs.Prelude.{ℕ, ◌+◌, ◌*◌, ◌/◌, ◌==◌, Bool, ◌||◌, if◌then◌else◌, slice_index, Option, Some, None}
+use Rattle.std.specs.Prelude.{ℕ, ◌+◌, ◌*◌, ◌/◌, ◌%◌, ◌==◌, nat_le, Bool, true, false, ◌&&◌, ◌||◌, if◌then◌else◌, slice_index, Option, Some, None}
 use Rattle.co_frame.specs.AbortCodes.{unknown_command}
 use Rattle.co_frame.specs.FrameContent.{FrameContent}
 use Rattle.co_frame.specs.declared.abort_code.AbortCode.{AbortCode}
@@ -11,6 +11,8 @@ use Rattle.conode_explain_transfers.specs.declared.ended.Ending.{Ending}
 use Rattle.conode_explain_transfers.specs.declared.ended.Ending.TheVariants.{Aborted, SizeDiffers, CrcDiffers}
 use Rattle.conode_explain_transfers.specs.declared.kinds.Direction.{Direction}
 use Rattle.conode_explain_transfers.specs.declared.kinds.Direction.TheVariants.{Upload}
+use Rattle.conode_explain_transfers.specs.declared.kinds.Protocol.{Protocol}
+use Rattle.conode_explain_transfers.specs.declared.kinds.Protocol.TheVariants.{Segmented}
 use Rattle.conode_explain_transfers.specs.declared.kinds.Side.{Side}
 use Rattle.conode_explain_transfers.specs.declared.kinds.Side.TheVariants.{Server}
 use Rattle.conode_explain_transfers.specs.declared.kinds.What.{What}
@@ -35,10 +37,22 @@ key_in frame = record { index = byte_at frame 1 + byte_at frame 2 * 256; sub = b
 abbrev pub abort_breach : Key → Key → AbortCode → Option Breach
 abort_breach named key code = if same_key named key || (code.0 == unknown_command) then None else Some (AbortKey key)
 
+abbrev pub is_segmented : Protocol → Bool
+is_segmented Segmented = true
+is_segmented other = false
+
+-- The last segment of an upload may have n = 0, where its data end within it: so many bytes are no difference.
+abbrev pub is_padded : FrameContent → Ended → ℕ → Bool
+is_padded frame ended indicated =
+    is_segmented ended.protocol && ((byte_at frame 0 / 2 % 8 == 0) && (nat_le indicated ended.bytes && nat_le ended.bytes (indicated + 6)))
+
+abbrev pub size_breach : FrameContent → Ended → ℕ → Option Breach
+size_breach frame ended indicated = if is_padded frame ended indicated then None else Some (Size ended.key indicated ended.bytes)
+
 -- `answer-size`, `answer-crc`: an upload whose bytes aren't those that the device named
 abbrev pub ending_breach : FrameContent → Ended → Direction → Ending → Option Breach
 ending_breach frame ended direction (Aborted Server code) = abort_breach (key_in frame) ended.key code
-ending_breach frame ended Upload (SizeDiffers indicated) = Some (Size ended.key indicated ended.bytes)
+ending_breach frame ended Upload (SizeDiffers indicated) = size_breach frame ended indicated
 ending_breach frame ended Upload (CrcDiffers came computed) = Some (Crc ended.key came computed)
 ending_breach frame ended direction ending = None
 
@@ -48,10 +62,11 @@ ended_breach frame ended = ending_breach frame ended ended.direction ended.endin
 -- ---- another frame of the device
 
 -- `answer-toggle`, `answer-form`, by the first byte: the answer to a request of the open transfer. Among the segments of a block
--- upload one whose number is 0 or above the block size; not what looks like its end, before which frames may be missing.
+-- upload one whose number is 0 or above the block size; not what looks like the end of a block upload, before which segments may
+-- be missing in the recording.
 abbrev pub server_breach : Newest → Key → What → ℕ → Option Breach
 server_breach Request key Repeated first = Some (Toggle key)
-server_breach Request key Unexpected first = Some (Form key)
+server_breach Request key Unexpected first = if first / 32 == 6 then None else Some (Form key)
 server_breach Data key Unexpected first = if first / 32 == 6 then None else Some (Form key)
 server_breach newest key what first = None
 

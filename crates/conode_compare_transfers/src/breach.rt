@@ -6,14 +6,16 @@ ghost use Rattle.conode_compare_transfers.specs.Breaches.{
   breach_at,
   byte_at,
   ended_breach,
+  is_padded,
   key_in,
   server_breach,
+  size_breach,
 };
 
 use crate::newest::Newest;
 use co_frame::{AbortCode, Frame};
 use co_value::Key;
-use conode_explain_transfers::{Direction, Ended, Ending, Heard, Side, What};
+use conode_explain_transfers::{Direction, Ended, Ending, Heard, Protocol, Side, What};
 
 /// A difference in the transfer of an entry.
 #[derive(Clone, Copy)]
@@ -61,6 +63,26 @@ fn abort_breach(named: Key, key: Key, code: AbortCode) -> Option<Breach>
     }
 }
 
+// whether an upload ends with a segment that has n = 0, and in which the data may end where the device indicated it
+fn is_padded(frame: &Frame, ended: &Ended, indicated: u32) -> bool
+    ensures { result ≡ is_padded frame.now ended.now indicated }
+{
+    let indicated = u64::from(indicated);
+    matches!(ended.protocol, Protocol::Segmented)
+        && (byte_at(frame, 0) / 2 % 8 == 0
+            && (indicated <= ended.bytes && ended.bytes <= indicated + 6))
+}
+
+fn size_breach(frame: &Frame, ended: &Ended, indicated: u32) -> Option<Breach>
+    ensures { result ≡ size_breach frame.now ended.now indicated }
+{
+    if is_padded(frame, ended, indicated) {
+        None
+    } else {
+        Some(Breach::Size(ended.key, indicated, ended.bytes))
+    }
+}
+
 // the difference of the end of a transfer
 fn ended_breach(frame: &Frame, ended: &Ended) -> Option<Breach>
     ensures { result ≡ ended_breach frame.now ended.now }
@@ -74,7 +96,7 @@ fn ended_breach(frame: &Frame, ended: &Ended) -> Option<Breach>
             },
         ) => abort_breach(key_in(frame), ended.key, code),
         (Direction::Upload, Ending::SizeDiffers { indicated }) => {
-            Some(Breach::Size(ended.key, indicated, ended.bytes))
+            size_breach(frame, ended, indicated)
         }
         (Direction::Upload, Ending::CrcDiffers { came, computed }) => {
             Some(Breach::Crc(ended.key, came, computed))
@@ -83,15 +105,16 @@ fn ended_breach(frame: &Frame, ended: &Ended) -> Option<Breach>
     }
 }
 
-// The difference of a frame of the device with this first byte that doesn't end the transfer. Where a block upload's frames may be
-// missing in the recording, its end looks like a segment.
+// The difference of a frame of the device with this first byte that doesn't end the transfer. Where segments of a block upload may be
+// missing in the recording, its end comes before its turn.
 fn server_breach(newest: Newest, key: Key, what: What, first: u8) -> Option<Breach>
     ensures { result ≡ server_breach newest key what first }
 {
     match (newest, what) {
         (Newest::Request, What::Repeated) => Some(Breach::Toggle(key)),
-        (Newest::Request, What::Unexpected) => Some(Breach::Form(key)),
-        (Newest::Data, What::Unexpected) if first / 32 != 6 => Some(Breach::Form(key)),
+        (Newest::Request | Newest::Data, What::Unexpected) if first / 32 != 6 => {
+            Some(Breach::Form(key))
+        }
         _ => None,
     }
 }
