@@ -88,11 +88,15 @@ const LINT: [Word; 9] = [
         "Form: text, json or sarif",
     ),
     Word("strict", Flag, "Count warnings as errors"),
-    Word("all", Flag, "Also give the warnings that are of taste"),
+    Word(
+        "all",
+        Flag,
+        "Also print warnings that are a matter of taste",
+    ),
     Word(
         "allow",
         Repeated("NAME"),
-        "Let findings of this name pass; may be given again",
+        "Suppress findings of this name; may be repeated",
     ),
     Word(
         "color",
@@ -244,7 +248,7 @@ const STATS: [Word; 5] = [
     Word(
         "sheet",
         Valued("SHEET"),
-        "A data sheet with its PDOs; 5=SHEET: of node 5",
+        "A data sheet, for its Baudrate; 5=SHEET: of node 5",
     ),
     Word(
         "bitrate",
@@ -263,10 +267,18 @@ const COMPARE: [Word; 9] = [
         Numbered(1, 127),
         "The device's node-ID; if not given, the sheet's",
     ),
-    Word("interface", Valued("NAME"), "The interface that it is on"),
+    Word("interface", Valued("NAME"), "The device's interface"),
     RECORDING_FORM,
-    Word("tolerance", NumberedOr(MOST_MS, "10"), "By so many ms"),
-    Word("drift", NumberedOr(100, "1"), "And so many percent"),
+    Word(
+        "tolerance",
+        NumberedOr(MOST_MS, "10"),
+        "Tolerance of times, in ms",
+    ),
+    Word(
+        "drift",
+        NumberedOr(100, "1"),
+        "Drift of its clock, in percent, added",
+    ),
     Word("answer", NumberedOr(MOST_MS, "1000"), "ms until an answer"),
     Word("boot", NumberedOr(MOST_MS, "10000"), "ms until a boot-up"),
 ];
@@ -328,13 +340,13 @@ const COMMANDS: [Subcommand; 11] = [
     },
     Subcommand {
         name: "stats",
-        about: "Says on one page what a bus does, what looks wrong first",
+        about: "Prints bus statistics on one page, what looks wrong first",
         after_help: help::COUNTED,
         words: &STATS,
     },
     Subcommand {
         name: "compare",
-        about: "Says what a recorded device does otherwise than CiA 301 prescribes",
+        about: "Reports where a recorded device deviates from CiA 301",
         after_help: help::COMPARED,
         words: &COMPARE,
     },

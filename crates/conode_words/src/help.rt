@@ -94,10 +94,10 @@ Build faults, each with an index or an index and a sub-index:
 
 /// What `lint` prints.
 pub const LINTED: &str = "\
-Prints every fault of each sheet, where `check` prints the first, and warnings
-where a sheet is legal and suspicious: file, line and column (in characters),
-what is wrong, the line itself, and how to fix it; at most 1,000 a file. A
-folder stands for its *.eds and *.dcf, `-` for standard input.
+Prints every fault of each sheet (`check` prints only the first), and warnings
+about what is legal but suspicious: file, line and column (in characters), what
+is wrong, the line itself, and how to fix it; at most 1,000 a file. A folder
+stands for its *.eds and *.dcf, `-` for standard input.
 
   conode lint motor.eds io/ --node 5
 
@@ -105,12 +105,12 @@ The last line counts errors and warnings. With --node, faults of the sheet's
 dictionary for that node-ID are errors too; without it the node-ID of a device
 configuration file (DCF) counts.
 
-A finding passes with --allow NAME, or where its sheet has a comment
-`; lint: allow NAME`: NAME is what stands in brackets, as BadList.
+--allow NAME, or a comment `; lint: allow NAME` in the sheet, suppresses the
+findings with that name in brackets, as BadList.
 
-Status: 0 without errors, 1 with an error (with --strict also with a warning)
-or where the output can't be written, 2 if a file can't be read or the words are
-wrong.";
+Status: 0 without errors, 1 with an error (with --strict also with a warning),
+if the output can't be written or memory ran out, 2 if a file can't be read or
+the command line is wrong.";
 
 /// What is said of a format and of colours that are none.
 pub const FORMATS: &str = "invalid value for '--format <FORMAT>': text, json or sarif";
@@ -160,18 +160,19 @@ pub const SHOWN_FORMS: &str = "invalid value for '--format <FORMAT>': text, mark
 pub const SHOWN: &str = "\
 Prints the object dictionary of a sheet: a line for each entry, by index and
 sub-index, with its name, type, access, whether it may be mapped into a PDO, its
-default (of a DCF its value, and the default beside it) and its limits. Then
-each PDO in words, with what it maps, and SDO channels, SYNC, EMCY and
-heartbeats. Numbers are in both bases, as `1000 (3E8h)`. With --node, or in a
-DCF with a node-ID, `$NODEID+600h` has its value beside it.
+default (for a DCF its value, then the default) and its limits. Then each PDO in
+words, with what it maps, and SDO channels, SYNC, EMCY and heartbeats. Numbers
+are in both bases, as `1000 (3E8h)`. With --node, or in a DCF with a node-ID,
+`$NODEID+600h` has its value beside it.
 
   conode show sensor.eds > new.txt; diff old.txt new.txt
 
-A sheet with a fault is shown too, as far as it can be read, and a value that
-can't be read as it is written: `check` and `lint` find faults. --format json
-prints one document.
+A sheet with a fault is shown too, as far as it can be read. A value that can't
+be read is printed as written. To find faults, use `check` or `lint`. --format
+json prints one document.
 
-Status: 0 if the dictionary is shown, 1 if not, 2 if the words are wrong.";
+Status: 0 if the dictionary is shown, 1 if not, 2 if the command line is
+wrong.";
 
 /// What `adapt` prints.
 pub const ADAPTED: &str = "\
@@ -188,17 +189,18 @@ CompactPDO gets the sections that it stands for: PDOs that aren't valid, with
 mappings of 0 entries, since the sheet doesn't say more.
 
 --leading-zeros octal reads 010 as 8, --leading-zeros decimal as 10; without the
-option it stays, and is listed with both. --force also mends what is lost by it:
-a limit that is no number of its type becomes a comment, a mapping at fault, as
-one of single bits, gets 0 entries, and bit 30 of 1005h is cleared.
+option it stays, and is reported with both readings. --force also makes changes
+that lose something: a limit that is no number of its type becomes a comment,
+faulty mappings, such as those of single bits, get 0 entries, and bit 30 of
+1005h is cleared.
 
-Where something remains that no rule mends, nothing is printed but its faults,
-on standard error, as `lint` prints them. A sheet that is accepted already
-stays as it is. The first line says what the sheet was made from: it is for this
-program, not for configuration tools.
+If faults remain that no rule fixes, no sheet is printed, only the faults, on
+standard error, as `lint` prints them. A sheet that is accepted already stays as
+it is. The first line says what the sheet was made from: it is for this program,
+not for configuration tools.
 
 Status: 0 if a sheet is printed, 1 if not or if memory ran out, 2 if the file
-can't be read or the words are wrong.";
+can't be read or the command line is wrong.";
 
 /// What `decode` prints.
 pub const DECODED: &str = "\
@@ -226,9 +228,9 @@ pub const LINES_AS: &str = "invalid value for '--format <FORMAT>': text or json"
 /// What `explain` prints.
 pub const EXPLAINED: &str = "\
 Prints a line for each frame of a recording, of every kind: its stamp, the time
-since the frame before it, its interface (from the first frame of a second one
-on), its identifier, its length and data, and what it says, the code of an SDO
-abort in words:
+since the frame before it, its interface (once a second one appears), its
+identifier, its length and data, and what it says, the code of an SDO abort in
+words:
 
      0.000400  +0.000012  581  [8] 80 00 20 00 11 00 09 06  SDO answer node 1
      abort 2000:00 06090011 (no such sub-index)        (this is one line)
@@ -237,33 +239,35 @@ After the last frame of an SDO transfer a line says how it went:
 
      0.012780  node 5  SDO upload 1008:00 9 bytes in 6 frames, 0.009 s: done
 
-With --transfers there are these lines alone. The filters choose which lines are
-printed, not what is followed: --of by nodes, --id by identifiers, --kind by
-services, --from and --to by times, in seconds since the first frame, or after
-`@` as the recording has them. A line is printed if it meets each option that is
-used. With --changes a PDO, a heartbeat or a SYNC has a line only where its data
-or its meaning differ from those of the last one on its identifier and
-interface. --format json writes each line as an object of JSON.
+With --transfers only these lines are printed. The filters choose which lines
+are printed; all transfers are still followed: --of by nodes, --id by
+identifiers, --kind by services, --from and --to by times, in seconds since the
+first frame, or with a leading `@` as stamps of the recording. A line is printed
+if it meets each option that is used. With --changes a PDO, a heartbeat or a
+SYNC has a line only where its data or its meaning differ from those of the last
+one on its identifier and interface. --format json writes each line as an object
+of JSON.
 
 With --sheet entries have their names, and their values in expedited SDO
 transfers and in PDOs, by the mapping that the recording shows, else by the
 sheet's. The option may be given again: `--sheet 5=sensor.eds` is for node-ID 5,
 and `--sheet can1:5=other.eds` for node-ID 5 on can1. Without a node-ID a device
 configuration file (DCF) is for its own, and any other sheet for every node. A
-node's own sheet counts before one for every node, of those the one for the
-interface, and then the first.
+sheet for the node takes precedence over one for every node; of these, one for
+the interface, then the first that is given.
 
 Empty lines, comments (`;`) and event lines (`!`) print nothing. A bad line is
-named on standard error, with its number and what is wrong, and the rest goes
-on. `-` as TRACE is standard input; each line is out before the next read that
-could wait. The stamps' forms have the letters z, a, d and A too, those of
-candump. Logs of other recorders are read as `convert` reads them: see `conode
-convert --help` for --log.
+named on standard error, with its number and what is wrong, and reading
+continues. `-` as TRACE is standard input; output is flushed before each read
+that could wait. --stamps also takes candump's letters z, a, d and A. Logs of
+other recorders are read as `convert` reads them: see `conode convert --help`
+for --log.
 
   candump -L can0 | conode explain - --sheet 5=sensor.eds --sheet drive.dcf
 
-Status: 0 if all lines are good, or only the last is bad and no line feed ends
-it; 1 if a line is bad or the recording can't be read; 2 if the words are wrong.";
+Status: 0 if all lines are good, or only the last line is bad and has no line
+feed; 1 if a line is bad or the recording can't be read; 2 if the command line
+is wrong.";
 
 /// What is said of a form of logs that is none.
 pub const LOG_FORMS: &str =
@@ -272,47 +276,51 @@ pub const LOG_FORMS: &str =
 /// What `stats` prints.
 pub const COUNTED: &str = "\
 Counts the frames of a recording and prints one page: what looks wrong, the
-load, and the frames by interface and identifier, with their gaps. `-` as TRACE
-is standard input.
+load, and the frames by interface and identifier, with their gaps. Of a sheet
+its Baudrate is taken. `-` as TRACE is standard input.
 
   conode stats drive.log --bitrate 500k
 
 --bitrate is a number of bits per second, also with k (times 1,000) or M (times
 1,000,000), from 1000 to 1000000. --format json writes one object.
 
-Status: 0 if all lines are good, 1 if a line is bad or the recording can't be
-read; 2 if the words are wrong.";
+Status: 0 if all lines are good, or only the last line is bad and has no line
+feed; 1 if a line is bad or the recording can't be read; 2 if the command line
+is wrong.";
 
 /// What `compare` prints.
 pub const COMPARED: &str = "\
 Compares a recorded device with what CiA 301 prescribes for its data sheet, and
 prints what differs. Without --node the device has the node-ID of the sheet, a
-device configuration file (DCF). `-` as TRACE is standard input. Times may be
-off by --tolerance and --drift together; --answer and --boot bound a wait.
+device configuration file (DCF). `-` as TRACE is standard input. Times may
+deviate by --tolerance plus --drift; --answer and --boot limit the wait for an
+answer or a boot-up.
 
   conode compare sensor.eds drive.log --node 5
 
 Status: 0 if nothing differs, 1 if something does, 2 if nothing can be compared
-or the words are wrong.";
+or the command line is wrong.";
 
 /// What `convert` prints.
 pub const CONVERTED: &str = "\
 Prints a line as `candump -L` writes it for each frame of a log, of every kind:
 data, remote, CAN FD and error frames, with the direction where the log has it.
-Which form the log has is seen by its first lines, or said by --log:
+The form of the log is detected from its first lines, or given by --log:
 
   candump       `candump -L`: the lines pass as they are
   screen        what candump shows, with -t a, -t z, -t A or without stamps, -x,
                 -a, -e and colours; without stamps each frame is at 0
-  screen-delta  the same with -t d, which can't be told from -t z
+  screen-delta  the same with -t d, which looks like -t z: it has to be named
   trc           PCAN-View and PCAN-Explorer: version 1.1, 1.3, 2.0 or 2.1
   asc           CANalyzer and CANoe: base hex or dec, absolute or relative
 
   conode convert drive.trc | conode explain - --sheet 5=sensor.eds
 
 Channel or bus 1 is can0. Stamps are those of the log: a .trc and a .asc count
-from the begin of the recording. A bad line is named on standard error, with its
-number and what is wrong, and the rest goes on. `-` as LOG is standard input.
+from the beginning of the recording. A bad line is named on standard error, with
+its number and what is wrong, and reading continues. `-` as LOG is standard
+input.
 
-Status: 0 if all lines are good, or only the last is bad and no line feed ends
-it; 1 if a line is bad or the log can't be read; 2 if the words are wrong.";
+Status: 0 if all lines are good, or only the last line is bad and has no line
+feed; 1 if a line is bad or the log can't be read; 2 if the command line is
+wrong.";
