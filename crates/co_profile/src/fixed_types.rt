@@ -107,7 +107,7 @@ const FIXED_TYPES: [FixedType; 23] = [
     FixedType(Unsigned32, IndexRange::TPDO_MAPPING, 1, 64),
 ];
 
-// most entries of a large data sheet are past it
+// most entries of a large data sheet are past this index, and need no search
 const LAST_FIXED_INDEX: u16 = IndexRange::TPDO_MAPPING.1;
 
 /// The type that the entry of this key has to have, if it is fixed (CiA 301, object dictionary).
