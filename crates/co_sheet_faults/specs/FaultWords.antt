@@ -1,5 +1,5 @@
--- The words of each fault for people: what is wrong, how to fix it, and where the standard says so
--- (by the name of its subject, since the numbers differ by edition).
+-- Each fault in words: what it means, how to fix it, and where the standard says so (by the name of
+-- its subject, since the numbers differ by edition).
 use Rattle.std.specs.Prelude.{ℕ, ◌==◌, if◌then◌else◌, List, [], codes}
 use Rattle.co_sheet_rows.specs.declared.fault.FaultKind.{FaultKind}
 use Rattle.co_sheet_rows.specs.declared.fault.FaultKind.TheVariants.{TooLarge, BadLine, KeyOutsideSection, DuplicateSection, DuplicateKey, MissingSection, BadNumber, AmbiguousNumber, BadList, ListedTwice, MissingKey, BadType, LeftOutType, BadAccess, BadLimits, BadDefault, MissingSub0, CompactForm, MissingMandatory, Memory}
