@@ -11,7 +11,8 @@ use co_sheet_text::{SectionKind, same_name, unsigned_number};
 use co_text::is_blank;
 use std::alloc::{AllocError, Global};
 
-/// A section: what its name says without blanks, its section line, and the lines up to the next one.
+/// A section: what its name says without blanks, its section line, and the lines up to the next
+/// one.
 #[derive(Clone, Copy)]
 pub struct Group<'s, 'a> {
     pub kind: SectionKind,
