@@ -1,5 +1,5 @@
--- A text in pieces: what each line becomes, and what is added (CiA 306, structure of an EDS, object lists, object
--- description, compact storage). A line that isn't changed stays as it is.
+-- A text in pieces: what each line becomes, and what is added (CiA 306, structure of an EDS, object
+-- lists, object description, compact storage). A line that isn't changed stays as it is.
 use Rattle.std.specs.Prelude.{ℕ, Bool, ◌&&◌, ◌||◌, not, ◌==◌, nat_le, nat_lt, if◌then◌else◌, List, [], ◌∷◌, ◌++◌, length, map, flat_map, codes, Option, Some, None, is_none, option_and_then}
 use Rattle.std.specs.List.{list_all}
 use Rattle.std.specs.Option.{option_map_or, option_or}

@@ -75,7 +75,7 @@ fn has_object(groups: &[Group], index: u16) -> bool
     false
 }
 
-// those of so many objects that have no section
+// of this many objects from an index on, those that have no section
 fn absent_of(
     alloc: Global,
     groups: &[Group],
