@@ -14,7 +14,7 @@ use std::marker::Model;
 
 const LINE_FEED: u8 = b'\n';
 
-/// The most bytes without a line feed that may still become a line of 512 bytes: those and a
+/// The most bytes without a line feed that may still become a line of 512 bytes: 512, and a
 /// carriage return.
 const MOST: usize = 513;
 

@@ -21,7 +21,7 @@ pub struct Group<'s, 'a> {
     pub body: &'s [Line<'a>],
 }
 
-/// A text without its blanks.
+/// A text without its blanks. `Err`: out of memory.
 pub fn without_blanks(alloc: Global, text: &[u8]) -> Result<Vec<u8>, AllocError>
     ensures { IfOk result (λ made. made.items ≡ without_blanks text.now) }
 {
@@ -84,7 +84,7 @@ fn push_begun<'s, 'a>(
     Ok(())
 }
 
-/// The sections of lines, in their order.
+/// The sections of lines, in their order. `Err`: out of memory.
 pub fn groups_in<'s, 'a>(
     alloc: Global,
     lines: &'s [Line<'a>],

@@ -44,7 +44,9 @@ fn read_counted<R: Read>(
 
 /// Reads a text: all bytes that the reader gives, or the first 1,048,577 where there are more. At
 /// most 512 are asked for at once, and a read that a signal interrupted is tried again. The vector
-/// is emptied first. After a fault it contains the reader's first bytes.
+/// is emptied first. `Read`: the reader failed. `NeverEnds`: 16,777,216 read calls gave neither its
+/// end nor enough bytes. `Memory`: out of memory. After a fault the vector contains the reader's
+/// first bytes.
 pub fn read_text<R: Read>(reader: &mut R, text: &mut Vec<u8>) -> Result<(), StreamFault>
     ensures text { OnOk result (IfSome (R.remaining reader.old)
         (λ bytes. text.new.items ≡ take 1048577 bytes)) }
