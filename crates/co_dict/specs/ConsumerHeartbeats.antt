@@ -16,7 +16,7 @@ consumer_key sub = record { index = consumer_heartbeat; sub = sub }
 abbrev pub consumer_time : ℕ → ℕ
 consumer_time word = word % 0x1_0000
 
--- the node-ID whose heartbeat is awaited
+-- the node-ID whose heartbeat is consumed
 abbrev pub consumer_node : ℕ → ℕ
 consumer_node word = word / 0x1_0000 % 0x100
 

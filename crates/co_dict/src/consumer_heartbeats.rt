@@ -32,7 +32,7 @@ impl HeartbeatConsumer {
         (self.0 % 0x1_0000) as u16
     }
 
-    /// The node-ID whose heartbeat is awaited.
+    /// The node-ID whose heartbeat is consumed.
     pub fn node(self) -> u8
         ensures { result ≡ consumer_node self.0 }
     {

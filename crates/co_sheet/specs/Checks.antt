@@ -1,5 +1,5 @@
--- What makes a text no data sheet, beside its lines: each check finds the lines at fault
--- (CiA 306, object lists, object description).
+-- What makes a text no data sheet, besides faults of single lines: each check finds the lines at
+-- fault (CiA 306, object lists, object description).
 use Rattle.std.specs.Prelude.{ℕ, Bool, true, false, ◌&&◌, ◌||◌, not, ◌==◌, nat_lt, if◌then◌else◌, List, [], ◌∷◌, ◌++◌, length, filter, map, flat_map, codes, Option, Some, is_none, Result, Ok, Err, ℤ}
 use Rattle.std.specs.List.{list_any, list_all}
 use Rattle.std.specs.Option.{option_map_or, option_or}
@@ -31,7 +31,7 @@ fault_if test kind line = if test then fault_at line kind ∷ [] else []
 abbrev pub at_key : (Property → List SheetFault) → List ℕ → TextSection → List SheetFault
 at_key found name section = option_map_or found (property_at name section) []
 
--- a number that can't be read, and one that has to be unsigned
+-- a number that can't be read, and one that must be unsigned
 abbrev pub numeral_fault : NumeralFault → FaultKind
 numeral_fault Malformed = BadNumber
 numeral_fault Ambiguous = AmbiguousNumber

@@ -23,12 +23,12 @@ use Rattle.co_sheet_adapt.specs.CompactPdo.{PdoForm, pdo_form, pdo_change, pdo_a
 
 -- ---- object lists
 
--- digits without the zeros in front
+-- digits without leading zeros
 abbrev pub stripped : List ℕ → List ℕ
 stripped [] = []
 stripped (b ∷ bs) = if b == 48 then stripped bs else b ∷ bs
 
--- a place in an object list, but for zeros in front
+-- a place in an object list, but for leading zeros
 abbrev pub is_padded : List ℕ → Bool
 is_padded name =
     list_all (λ c. is_digit c 10) name && not (is_empty (stripped name))
@@ -109,7 +109,7 @@ given_change (Object index) facts name value =
     (other_change (Object index) facts name value)
 given_change k facts name value = other_change k facts name value
 
--- PDOs in compact form change lines of two sections beside
+-- PDOs in compact form also change lines of two sections
 abbrev pub line_change : Option PdoForm → SectionKind → Facts → List ℕ → List ℕ → Option Mended
 line_change pdos k facts name value =
     option_or (pdo_change pdos k name) (given_change k facts name value)

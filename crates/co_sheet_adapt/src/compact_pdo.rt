@@ -170,7 +170,7 @@ fn subs_in(info: &Group) -> Option<u64>
     subs_of(number_within(1, 127, b"CompactPDO", info)?)
 }
 
-// the objects of so many PDOs that have no section
+// the objects of this many PDOs that have no section
 fn absent_objects(
     alloc: Global,
     groups: &[Group],

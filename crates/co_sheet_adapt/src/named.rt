@@ -32,7 +32,7 @@ fn object_index(kind: SectionKind) -> Option<u16>
     }
 }
 
-// the index of an object that such a section's name has in front of a word
+// the index of an object that such a section's name has before a word
 fn index_named(name: &[u8], word: &[u8]) -> Option<u16>
     ensures { result ≡ index_named word.now name.now }
 {

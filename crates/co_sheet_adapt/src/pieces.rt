@@ -41,7 +41,7 @@ use co_sheet_changes::{
 use co_sheet_text::{SectionKind, all_digits, same_name};
 use std::alloc::{AllocError, Global};
 
-// digits without the zeros in front
+// digits without leading zeros
 fn stripped(digits: &[u8]) -> &[u8]
     ensures { result.now ≡ stripped digits.now }
 {
@@ -55,7 +55,7 @@ fn stripped(digits: &[u8]) -> &[u8]
     rest
 }
 
-// whether a name is a place in an object list, but for zeros in front
+// whether a name is a place in an object list, but for leading zeros
 fn is_padded(name: &[u8]) -> bool
     ensures { result ≡ is_padded name.now }
 {

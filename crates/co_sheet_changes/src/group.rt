@@ -38,7 +38,7 @@ fn kind_without_blanks(alloc: Global, name: &[u8]) -> Result<SectionKind, AllocE
     Ok(SectionKind::of_name(name.as_slice()))
 }
 
-// how many lines are in front of the next section line
+// the number of lines before the next section line
 fn body_count(lines: &[Line]) -> usize
     ensures count { result ≡ body_count (map line_view lines.now) }
 {

@@ -65,7 +65,7 @@ fix_of CompactForm = codes "have the sheet's editor write each sub-index as a se
 fix_of MissingMandatory = codes "list the three, with their sections"
 fix_of Memory = codes "run it again with more memory"
 
--- the subject of the standard; none of memory
+-- the subject of the standard; none for out of memory
 abbrev pub subject_of : FaultKind → List ℕ
 subject_of TooLarge = codes "CiA 306-1, structure of an EDS"
 subject_of BadLine = codes "CiA 306-1, structure of an EDS"

@@ -83,7 +83,7 @@ abbrev pub is_high_at_fault : DataType → Entry → Bool
 is_high_at_fault t e =
     is_outside t (high_limit t e) || not (at_most (low_limit t e) (high_limit t e))
 
--- the limits that a default is held against
+-- the limits against which a default is checked
 abbrev pub sound_low : DataType → Entry → Option ℤ
 sound_low t e = if is_low_at_fault t e then None else low_limit t e
 

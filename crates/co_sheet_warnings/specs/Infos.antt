@@ -57,7 +57,7 @@ key_at info keys known = find (is_key info known) keys
 
 -- ---- what is missing
 
--- the keys that have to be there
+-- the keys that must be there
 abbrev pub file_keys : List KnownKey
 file_keys =
     key.FileName ∷ key.FileVersion ∷ key.FileRevision ∷ key.Description ∷ key.CreationTime

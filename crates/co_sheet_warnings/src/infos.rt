@@ -58,7 +58,7 @@ fn key_at<'k, 'a>(
     None
 }
 
-/// The keys that FileInfo has to have.
+/// The keys that FileInfo must have.
 pub(crate) const FILE_KEYS: [KnownKey; 10] = [
     KnownKey::FileName,
     KnownKey::FileVersion,
@@ -72,7 +72,7 @@ pub(crate) const FILE_KEYS: [KnownKey; 10] = [
     KnownKey::ModifiedBy,
 ];
 
-/// The keys that DeviceInfo has to have.
+/// The keys that DeviceInfo must have.
 pub(crate) const DEVICE_KEYS: [KnownKey; 22] = [
     KnownKey::VendorName,
     KnownKey::VendorNumber,

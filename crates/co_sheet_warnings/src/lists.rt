@@ -68,7 +68,7 @@ fn first_fall(listings: &[Listing]) -> Option<usize>
     None
 }
 
-/// What is asked of each list.
+/// A check of each object list.
 #[derive(Clone, Copy)]
 pub(crate) enum ListCheck {
     /// The lines that name objects that belong in another list.
