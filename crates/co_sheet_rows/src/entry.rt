@@ -3,8 +3,8 @@
 use co_profile::Access;
 use co_value::{DataType, Key};
 
-/// The value that an entry begins with, by its ParameterValue, or where there is none by its DefaultValue (CiA 306,
-/// object description, device configuration file).
+/// The value that an entry begins with, by its ParameterValue, or where there is none by its
+/// DefaultValue (CiA 306, object description, device configuration file).
 #[derive(Clone, Copy, Debug, PartialEq, Eq, Hash)]
 pub enum Preset<'a> {
     /// There is neither, or the entry is a DOMAIN.

@@ -1,4 +1,4 @@
-//! What is odd in a data sheet, and no fault.
+//! What is odd in a data sheet, but accepted.
 
 use arrayvec::ArrayString;
 use co_text::decimal_digits;

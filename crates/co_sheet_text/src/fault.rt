@@ -5,7 +5,8 @@
 pub enum TextFaultKind {
     /// More than 512 bytes in a line.
     TooLarge,
-    /// A section line without `]`, or in a section that is read a line without `=` or without a name before it.
+    /// A section line without `]`, or in a section that is read a line without `=` or without a
+    /// name before it.
     BadLine,
     /// A line before the first section.
     KeyOutsideSection,
