@@ -1,4 +1,4 @@
--- What the fields of a channel are seen as, and what holds of them.
+-- How contracts see the fields of a channel, and the invariant of these fields.
 use Rattle.std.specs.Prelude.{ℕ, ◌+◌, ◌*◌, ◌≤◌, ◌<◌, List, Option, Some, None}
 use Rattle.co_frame.specs.SegmentSizes.{bytes_per_segment, segments_per_sub_block, bytes_per_sub_block}
 use Rattle.co_sdo.specs.declared.stage.Stage.{Stage}
@@ -11,7 +11,7 @@ abbrev pub opened_in : Option Ongoing → List ℕ → Option OpenTransfer
 opened_in None buffer = None
 opened_in (Some ongoing) buffer = Some (record { key = ongoing.key; stage = ongoing.stage; bytes = buffer })
 
--- the buffer has room for what may still come, and positions are within it
+-- the bytes held leave room for what may still come, and positions are within them
 abbrev pub stage_room : Stage → ℕ → ℕ → Type 0
 stage_room (Download indicated toggle) held greatest = held ≤ greatest
 stage_room (Upload sent) held greatest = (held ≤ greatest) × (bytes_per_segment * sent ≤ held)

@@ -1,4 +1,4 @@
--- What one frame makes of the open transfer, without the log.
+-- What one frame does to the open transfer, without the log.
 use Rattle.std.specs.Prelude.{ℕ, ◌+◌, ◌==◌, ◌&&◌, Bool, false, not, nat_lt, nat_le, List, [], ◌++◌, length, Option, Some, None, if◌then◌else◌}
 use Rattle.co_value.specs.declared.key.Key.{Key}
 use Rattle.co_frame.specs.AbortCodes.{invalid_sequence_number}
@@ -96,7 +96,8 @@ opened_next d contents current frame =
     if is_in_sub_block current then next_on current (λ o stage. after_frame_at d.rows o stage frame)
     else after_request d contents current (request_in frame)
 
--- the room that a channel knows after a request: a segmented download's begin looks up that of its entry
+-- the room of a channel after a request: the capacity of the entry after the initiate of a
+-- segmented download
 abbrev pub room_after : Rows → ℕ → Option SdoRequest → ℕ
 room_after rows room (Some (DownloadInitiate key size)) = capacity_at rows key
 room_after rows room _ = room

@@ -1,5 +1,5 @@
--- What an upload sends of a value: segments, and the sub-blocks of a block upload (CiA 301, 7.2.4.3.6, 7.2.4.3.7 and
--- 7.2.4.3.13 to 7.2.4.3.15).
+-- What an upload sends of a value: segments, and the sub-blocks of a block upload (CiA 301,
+-- 7.2.4.3.6, 7.2.4.3.7 and 7.2.4.3.13 to 7.2.4.3.15).
 use Rattle.std.specs.Prelude.{ℕ, ◌&&◌, Bool, nat_le, List, [], ◌∷◌, length, map, Some, if◌then◌else◌, unwrap_or}
 use Rattle.std.specs.List.{range_with_len}
 use Rattle.co_value.specs.declared.key.Key.{Key}
