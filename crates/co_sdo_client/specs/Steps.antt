@@ -1,4 +1,4 @@
--- What one event makes of a waiting client, without the events before it.
+-- What one event does to a waiting client, without the events before it.
 use Rattle.std.specs.Prelude.{ℕ, ◌+◌, ◌-◌, ◌==◌, ◌&&◌, Bool, false, not, nat_lt, List, [], ◌++◌, length, Option, if◌then◌else◌}
 use Rattle.co_frame.specs.AbortCodes.{timed_out}
 use Rattle.co_frame.specs.SdoResponses.{response_in}
@@ -46,7 +46,7 @@ sub_block_stage size taken frame =
 
 -- ---- the client then
 
--- by a verdict, and by what it goes on with
+-- by a verdict, and by the progress and the bytes held if it goes on
 abbrev pub after : Standing → Verdict → Stage → List ℕ → Standing
 after client (GoesOn messages) stage held = record client { stage = stage; held = held; sent = counted (client.sent + length messages) }
 after client (Ends messages value) stage held = record client { state = Done; held = value; sent = counted (client.sent + length messages) }
