@@ -1,4 +1,4 @@
--- What C is answered: numbers for states and answers, and the bytes of an entry.
+-- Results for C: numbers of states and answers, and the bytes of an entry.
 use Rattle.std.specs.Prelude.{◌≡◌, ℕ, ◌<◌, ◌≤◌, List, length, Option, Some, None, Bool, true, false, slice_index_or}
 use Rattle.co_node_parts.specs.declared.nmt_state.NodeState.{NodeState}
 use Rattle.co_node_parts.specs.declared.nmt_state.NodeState.TheVariants.{PreOperational, Operational, Stopped}
@@ -21,7 +21,7 @@ refusal_code app.None = 0
 refusal_code app.Done = 0
 refusal_code (app.Refused code) = code.0
 
--- the array has the bytes, as many as there is room for, and past them what it had
+-- the array has the bytes, as many as it has room for; the rest is unchanged
 pub record IsCopied (value before after : List ℕ) : Type 0 where
   pub room : length after ≡ length before
   pub copied : (i e : ℕ) → i < length value → i < length before
@@ -38,7 +38,7 @@ pub record IsAbsent (before after : List ℕ) (old_size size : ℕ) (found : Boo
   pub kept : size ≡ old_size
   pub no : found ≡ false
 
--- where there is an entry its bytes are copied, and `size` is how many they are; else nothing changes
+-- if there is an entry its bytes are copied, and `size` is how many they are; else nothing changes
 abbrev pub IsRead : Option (List ℕ) → List ℕ → List ℕ → ℕ → ℕ → Bool → Type 0
 IsRead None before after old_size size found = IsAbsent before after old_size size found
 IsRead (Some value) before after old_size size found = IsFound value before after size found

@@ -1,4 +1,4 @@
--- Faults as C has them.
+-- Faults for C.
 use Rattle.co_value.specs.declared.key.Key.{Key}
 use Rattle.co_sheet_rows.specs.declared.fault.SheetFault.{SheetFault}
 use Rattle.co_sheet_rows.specs.FaultTexts.{fault_number as sheet_number}

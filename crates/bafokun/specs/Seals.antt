@@ -1,4 +1,4 @@
--- What a seal owns.
+-- The memory that a seal owns.
 use Rattle.std.specs.Prelude.{◌≡◌, ◌⊎◌, Option, Some, None}
 use Rattle.std.proofs.Common.{ap, inl, inr}
 use base.Fml.{Fml, ftrue}
@@ -13,7 +13,7 @@ abbrev pub seal_owns : Global → Ptr → Option the_row.Denot → Fml
 seal_owns alloc p None = ftrue
 seal_owns alloc p (Some v) = box_owns (ghosts.dealloc_token alloc) the_row p v
 
--- what tells one device from another, and from none
+-- equality of devices, and of no device
 abbrev as_sum : Option the_row.Denot → Unit {0} ⊎ the_row.Denot
 as_sum None = inl tt
 as_sum (Some v) = inr v
@@ -31,6 +31,6 @@ as_sum_inj (Some v) (Some w) e = ap of_sum e
 abbrev pub seal_coded : Coded (Option the_row.Denot)
 seal_coded = coded_via (coded⊎ coded_unit the_row.coded) as_sum as_sum_inj
 
--- a device is none in one way alone
+-- equality to no device is a proposition
 pub alone : (o : Option the_row.Denot) (e f : o ≡ None) → e ≡ f
 alone o = Coded-set seal_coded o None
