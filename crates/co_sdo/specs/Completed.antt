@@ -13,6 +13,7 @@ use Rattle.co_sdo.specs.Log.{Log, requests}
 use Rattle.co_sdo.specs.Downloads.{Download, whole_download}
 use Rattle.co_sdo.specs.OpenTransfers.{Transfer, is_inside, open_transfer}
 
+-- a request is an expedited download (7.2.4.3.3)
 abbrev pub is_expedited : Option SdoRequest → Bool
 is_expedited (Some (DownloadExpedited key expedited)) = true
 is_expedited _ = false

@@ -29,6 +29,7 @@ abbrev pub expedited_within : ℕ → ExpeditedData → List ℕ
 expedited_within capacity (Indicated counted) = counted.items
 expedited_within capacity (NotIndicated four) = take capacity four
 
+-- the data of an expedited download into an entry
 abbrev pub expedited_part : Rows → Key → ExpeditedData → List ℕ
 expedited_part rows key expedited = expedited_within (capacity_at rows key) expedited
 
@@ -62,6 +63,7 @@ abbrev pub unused_by : Option SdoRequest → ℕ
 unused_by (Some (BlockDownloadEnd unused)) = unused
 unused_by _ = 0
 
+-- a request is the end of a block download (7.2.4.3.11)
 abbrev pub is_block_end : Option SdoRequest → Bool
 is_block_end (Some (BlockDownloadEnd unused)) = true
 is_block_end _ = false
@@ -77,10 +79,12 @@ abbrev pub sub_blocks_joined : List (List ℕ) → List ℕ
 sub_blocks_joined [] = []
 sub_blocks_joined (frame ∷ older) = without (unused_by (request_in frame)) (block_bytes older)
 
+-- no requests
 abbrev pub is_empty : List (List ℕ) → Bool
 is_empty [] = true
 is_empty (frame ∷ older) = false
 
+-- the requests after an initiate, newest first, complete its download
 abbrev pub is_whole_after : Option SdoRequest → List (List ℕ) → Bool
 is_whole_after (Some (DownloadExpedited key expedited)) later = is_empty later
 is_whole_after (Some (DownloadInitiate key size)) later = are_all_segments later && is_as_indicated size (length (segments_joined later))
@@ -91,6 +95,7 @@ is_whole_after _ later = false
 abbrev pub is_whole_download : List ℕ → List (List ℕ) → Bool
 is_whole_download begin later = is_whole_after (request_in begin) later
 
+-- the download of an initiate and the requests after it, newest first
 abbrev pub download_after : Rows → Option SdoRequest → List (List ℕ) → Option Download
 download_after rows (Some (DownloadExpedited key expedited)) later = Some (record { key = key; indicated = None; bytes = expedited_part rows key expedited })
 download_after rows (Some (DownloadInitiate key size)) later = Some (record { key = key; indicated = size; bytes = segments_joined later })

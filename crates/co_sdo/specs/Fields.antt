@@ -7,6 +7,7 @@ use Rattle.co_sdo.specs.declared.stage.Ongoing.{Ongoing}
 use Rattle.co_sdo.specs.Uploads.{segments_for}
 use Rattle.co_sdo.specs.Opened.{OpenTransfer}
 
+-- the open transfer, by the fields of a channel and its buffer
 abbrev pub opened_in : Option Ongoing → List ℕ → Option OpenTransfer
 opened_in None buffer = None
 opened_in (Some ongoing) buffer = Some (record { key = ongoing.key; stage = ongoing.stage; bytes = buffer })
@@ -21,6 +22,7 @@ stage_room (BlockUploadInitiated block_size) held greatest = (held ≤ greatest)
 stage_room (BlockUpload acknowledged sent) held greatest = (held ≤ greatest) × (acknowledged + sent ≤ segments_for held) × (sent ≤ segments_per_sub_block)
 stage_room BlockUploadEnded held greatest = held ≤ greatest
 
+-- the same for an open transfer, if there is one
 abbrev pub has_room : Option Ongoing → ℕ → ℕ → Type 0
 has_room None held greatest = Unit {0}
 has_room (Some ongoing) held greatest = stage_room ongoing.stage held greatest

@@ -38,6 +38,7 @@ pub record Exchange : Type 0 where
   pub contents : Contents
   pub answers : List Answer
 
+-- an event of a channel
 pub data Event : Type 0 where
   -- a request came and was answered
   Exchanged : Exchange → Event

@@ -25,6 +25,7 @@ is_initiate (Some (BlockUploadInitiate key block_size threshold)) = true
 is_initiate (Some (BlockDownloadInitiate key size)) = true
 is_initiate _ = false
 
+-- after this initiate and these requests, newest first, the next frame falls inside a sub-block
 abbrev pub is_inside_after : Option SdoRequest → List (List ℕ) → Bool
 is_inside_after (Some (BlockDownloadInitiate key size)) later = not (has_last later)
 is_inside_after _ later = false
@@ -34,6 +35,7 @@ is_inside_after _ later = false
 abbrev pub is_inside : Transfer → Bool
 is_inside t = is_inside_after (request_in t.begin.request) (requests t.later)
 
+-- a request is an abort (7.2.4.3.17)
 abbrev pub is_abort_request : Option SdoRequest → Bool
 is_abort_request (Some (Abort key code)) = true
 is_abort_request _ = false
@@ -63,14 +65,17 @@ is_last_part (Response (UploadExpedited key expedited)) = true
 is_last_part (Response (UploadSegment toggle segment last)) = last
 is_last_part _ = false
 
+-- the newest exchange of a transfer
 abbrev pub newest : Exchange → List Exchange → Exchange
 newest begin [] = begin
 newest begin (x ∷ older) = x
 
+-- a request is the client's end of a block upload (7.2.4.3.15)
 abbrev pub is_upload_end : Option SdoRequest → Bool
 is_upload_end (Some BlockUploadEnd) = true
 is_upload_end _ = false
 
+-- an upload is finished after this initiate, with its newest exchange
 abbrev pub is_uploaded : Option SdoRequest → Exchange → Bool
 is_uploaded (Some (Upload key)) last = list_any is_last_part last.answers
 is_uploaded (Some (BlockUploadInitiate key block_size threshold)) last = is_upload_end (request_in last.request)
@@ -86,6 +91,7 @@ pub record Since : Type 0 where
   pub begin : Exchange
   pub later : Log
 
+-- the transfer of an initiate and the events after it
 abbrev pub transfer_of : Since → Transfer
 transfer_of s = record { begin = s.begin; later = exchanges s.later }
 
@@ -98,10 +104,12 @@ open_since (Some s) = if has_cut s.begin s.later || is_finished (transfer_of s) 
 abbrev pub begins : Option Transfer → List ℕ → Bool
 begins current request = not (option_map_or is_inside current false) && is_initiate (request_in request)
 
+-- one more event after an initiate
 abbrev pub and_event : Event → Option Since → Option Since
 and_event e None = None
 and_event e (Some s) = Some (record { begin = s.begin; later = e ∷ s.later })
 
+-- the last initiate, with one more event
 abbrev pub since_with : Event → Option Since → Option Since
 since_with (Exchanged x) s = if begins (open_since s) x.request then Some (record { begin = x; later = [] }) else and_event (Exchanged x) s
 since_with Ticked s = and_event Ticked s

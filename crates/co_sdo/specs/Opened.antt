@@ -27,6 +27,7 @@ abbrev pub acknowledged_by : Option SdoRequest → ℕ
 acknowledged_by (Some (BlockUploadAcknowledge sequence block_size)) = sequence
 acknowledged_by _ = 0
 
+-- how many segments of a block upload these requests, newest first, have acknowledged
 abbrev pub acknowledged : List (List ℕ) → ℕ
 acknowledged [] = 0
 acknowledged (frame ∷ older) = acknowledged older + acknowledged_by (request_in frame)
@@ -47,6 +48,7 @@ block_upload_stage block_size (x ∷ older) =
 abbrev pub block_download_stage : Option ℕ → List (List ℕ) → Stage
 block_download_stage size later = if has_last later then LastTaken size else SubBlock size (length (taken_segments (sub_block later)))
 
+-- the progress of a transfer and its bytes, by its initiate request
 abbrev pub opened_by : Option SdoRequest → Transfer → Option OpenTransfer
 opened_by (Some (DownloadInitiate key size)) t = Some (record { key = key; stage = Download size (is_odd (length (requests t.later))); bytes = segments_joined (requests t.later) })
 opened_by (Some (Upload key)) t = Some (record { key = key; stage = Uploading (length t.later); bytes = value_at t.begin.contents key })

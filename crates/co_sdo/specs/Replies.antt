@@ -22,6 +22,7 @@ use Rattle.co_sdo.specs.Uploads.{value_at, upload_initiated, upload_segment, seg
 use Rattle.co_sdo.specs.OpenTransfers.{is_initiate}
 use Rattle.co_sdo.specs.Opened.{OpenTransfer, opened_after}
 
+-- an abort with a key and a code (7.2.4.3.17)
 abbrev pub aborted : Key → ℕ → List Answer
 aborted key code = Response (Aborted key (record { 0 = code })) ∷ []
 
@@ -134,6 +135,7 @@ abbrev pub on_open : Option OpenTransfer → (OpenTransfer → Stage → List An
 on_open None answers = unexpected None
 on_open (Some o) answers = answers o o.stage
 
+-- the answers to a request that initiates no transfer
 abbrev pub later_answers : Description → Contents → Option OpenTransfer → SdoRequest → List Answer
 later_answers d contents current (DownloadSegment toggle segment last) = on_open current (λ o stage. segment_answers d contents o stage toggle segment.items last)
 later_answers d contents current (UploadSegment toggle) = on_open current (λ o stage. upload_answers o stage toggle)
@@ -149,6 +151,7 @@ request_answers d contents current None = unexpected current
 request_answers d contents current (Some request) =
     if is_initiate (Some request) then initiate_answers d contents request else later_answers d contents current request
 
+-- a block download is inside a sub-block
 abbrev pub is_sub_block : Stage → Bool
 is_sub_block (SubBlock indicated taken) = true
 is_sub_block _ = false
@@ -157,6 +160,7 @@ is_sub_block _ = false
 abbrev pub is_in_sub_block : Option OpenTransfer → Bool
 is_in_sub_block current = option_map_or (λ o. is_sub_block o.stage) current false
 
+-- the answers to a frame inside a sub-block, by the progress of the transfer
 abbrev pub frame_answers : Rows → OpenTransfer → Stage → List ℕ → List Answer
 frame_answers rows o (SubBlock indicated taken) frame = sub_block_answers rows o taken frame
 frame_answers rows o _ frame = unexpected (Some o)
@@ -176,5 +180,6 @@ reply_to d contents log frame = answers_to d contents (opened_after log) frame
 abbrev pub time_out_answers : Option OpenTransfer → List Answer
 time_out_answers current = aborted (open_key current) timed_out
 
+-- what is sent when the transfer that is open after a log times out
 abbrev pub time_out_reply : Log → List Answer
 time_out_reply log = time_out_answers (opened_after log)

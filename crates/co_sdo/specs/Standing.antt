@@ -45,6 +45,7 @@ pub record IsSegmentedDownload (capacity : ℕ) (later : List (List ℕ)) : Type
   pub segments : are_segments later ≡ true
   pub bytes : length (segments_joined later) ≤ capacity
 
+-- the requests of a transfer and its bytes, by its initiate request
 abbrev pub is_transfer_after : Rows → Option SdoRequest → Transfer → Type 0
 is_transfer_after rows (Some (DownloadInitiate key size)) t = IsSegmentedDownload (capacity_at rows key) (requests t.later)
 is_transfer_after rows (Some (Upload key)) t = length (value_at t.begin.contents key) ≤ capacity_at rows key
@@ -57,6 +58,7 @@ abbrev pub is_under_way : Rows → Option Transfer → Type 0
 is_under_way rows None = Unit {0}
 is_under_way rows (Some t) = is_transfer_after rows (request_in t.begin.request) t
 
+-- the room is the capacity of the entry, during a segmented download
 abbrev pub is_room_at : Rows → ℕ → Key → Stage → Type 0
 is_room_at rows room key (Downloading indicated expected) = room ≡ capacity_at rows key
 is_room_at rows room key _ = Unit {0}
@@ -73,14 +75,17 @@ pub record Stands (d : Description) (channel : Standing) (log : Log) : Type 0 wh
   pub room : is_room_for d.rows channel.room channel.current
   pub under_way : is_under_way d.rows (open_transfer log)
 
--- ---- one frame: those that are no request of the channel are passed over
+-- ---- one frame: those that are no request of the channel are ignored
 
+-- the answers to a frame after a log
 abbrev pub reply_on : ℕ → Description → Contents → Log → FrameContent → List Answer
 reply_on id d contents log frame = if is_request_on id frame then reply_to d contents log frame.bytes else []
 
+-- the download that a frame sets after a log
 abbrev pub set_on : ℕ → Description → Contents → Log → FrameContent → Option Download
 set_on id d contents log frame = if is_request_on id frame then set_by d contents log frame.bytes else None
 
+-- the log after a frame
 abbrev pub log_on : ℕ → Description → Contents → Log → FrameContent → Log
 log_on id d contents log frame =
     if is_request_on id frame
