@@ -8,6 +8,7 @@ use Rattle.co_frame.specs.declared.block_segment.BlockSegment.{BlockSegment}
 use Rattle.co_frame.specs.declared.sdo_request.SdoRequest.{SdoRequest}
 use Rattle.co_sdo_client.specs.declared.mode.Mode.{Mode}
 
+-- what a client is to do
 pub data Job : Type 0 where
   -- these bytes are written; their number is indicated at initiate if the flag is set
   Download : List ℕ → Bool → Job
@@ -63,6 +64,7 @@ pub record Answers : Type 0 where
   pub first : List ℕ
   pub later : List (List ℕ)
 
+-- the first answer and those after it, with one more
 abbrev pub with_answer : List ℕ → Option Answers → Answers
 with_answer frame None = record { first = frame; later = [] }
 with_answer frame (Some a) = record { first = a.first; later = frame ∷ a.later }

@@ -17,6 +17,7 @@ abbrev pub job_of : Direction → List ℕ → Job
 job_of (Writes tells) bytes = Write bytes tells
 job_of (Reads cap) bytes = Read cap
 
+-- the call, by the fields of a client
 abbrev pub call_of : Key → Mode → ℕ → Direction → List ℕ → Call
 call_of key mode time direction bytes = record { key = key; mode = mode; time = time; job = job_of direction bytes }
 

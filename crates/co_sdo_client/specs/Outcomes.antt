@@ -7,6 +7,7 @@ use Rattle.co_sdo_client.specs.Calls.{Call, Message, Request, Event}
 use Rattle.co_sdo_client.specs.Segments.{initiate_messages}
 use Rattle.co_sdo_client.specs.Verdicts.{Verdict, GoesOn, Ends, GivesUp, IsAborted, verdict}
 
+-- the state after a verdict
 abbrev pub state_by : Verdict → ClientState
 state_by (GoesOn messages) = Waiting
 state_by (Ends messages value) = Done
@@ -20,6 +21,7 @@ messages_by call (Ends messages value) = messages
 messages_by call (GivesUp code) = Request (Abort call.key (record { 0 = code })) ∷ []
 messages_by call (IsAborted code) = []
 
+-- the bytes of an upload that a verdict completes
 abbrev pub value_by : Verdict → List ℕ
 value_by (Ends messages value) = value
 value_by _ = []

@@ -30,6 +30,7 @@ size_sent (Upload cap) = None
 abbrev pub plain_download : List ℕ → Transfer
 plain_download bytes = if nat_le 1 (length bytes) && nat_le (length bytes) 4 then ExpeditedDownload else SegmentedDownload
 
+-- the protocol of a job, by the mode
 abbrev pub transfer_by : Mode → Job → Transfer
 transfer_by Plain (Download bytes tells) = plain_download bytes
 transfer_by Segmented (Download bytes tells) = SegmentedDownload
@@ -42,6 +43,7 @@ transfer_by Block (Upload cap) = BlockUpload
 abbrev pub transfer_of : Call → Transfer
 transfer_of call = transfer_by call.mode call.job
 
+-- the initiate request of a protocol
 abbrev pub initiate_request : Call → Transfer → Message
 initiate_request call ExpeditedDownload = Request (DownloadExpedited call.key (Indicated (record { items = bytes_of call.job })))
 initiate_request call SegmentedDownload = Request (DownloadInitiate call.key (size_sent call.job))

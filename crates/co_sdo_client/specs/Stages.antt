@@ -61,6 +61,7 @@ block_download_stage bytes count block_size =
 abbrev pub block_upload_stage : Option ℕ → List (List ℕ) → Stage
 block_upload_stage size later = if has_last later then LastTaken size else SubBlock size (length (taken_segments (sub_block later)))
 
+-- the progress after these answers, by the protocol
 abbrev pub stage_by : Call → Transfer → Answers → Stage
 stage_by call ExpeditedDownload a = Begun
 stage_by call SegmentedDownload a = Download (length a.later)
@@ -68,6 +69,7 @@ stage_by call InBlocks a = block_download_stage (bytes_of call.job) (acknowledge
 stage_by call SegmentedUpload a = Upload (size_by (response_in a.first)) (is_odd (length a.later))
 stage_by call BlockUpload a = block_upload_stage (size_by (response_in a.first)) a.later
 
+-- the progress after these answers, if there are any
 abbrev pub stage_since : Call → Option Answers → Stage
 stage_since call None = Begun
 stage_since call (Some a) = stage_by call (transfer_of call) a
@@ -76,11 +78,13 @@ stage_since call (Some a) = stage_by call (transfer_of call) a
 abbrev pub stage_after : Call → List Event → Stage
 stage_after call events = stage_since call (since_first (answers events))
 
+-- the bytes held after these answers, by the protocol
 abbrev pub held_by : Transfer → Answers → List ℕ
 held_by SegmentedUpload a = segments_joined a.later
 held_by BlockUpload a = block_bytes a.later
 held_by _ a = []
 
+-- the bytes held after these answers, if there are any
 abbrev pub held_since : Call → Option Answers → List ℕ
 held_since call None = []
 held_since call (Some a) = held_by (transfer_of call) a

@@ -61,14 +61,16 @@ pub record ClientStands (call : Call) (events : List Event) (client : Standing) 
   pub shown : shown_by client.state client.held ≡ result call events
   pub sent : client.sent ≡ counted (sent call events)
 
--- ---- one frame: those that are no answers to the client are passed over
+-- ---- one frame: those that are no answers to the client are ignored
 
 -- a frame is an answer: eight bytes on the answer identifier
 abbrev pub is_answer_on : ℕ → FrameContent → Bool
 is_answer_on id frame = (frame.id == id) && (length frame.bytes == 8)
 
+-- the events after a frame
 abbrev pub events_with : ℕ → List Event → FrameContent → List Event
 events_with id events frame = if is_answer_on id frame then Answered frame.bytes ∷ events else events
 
+-- what the client sends at a frame
 abbrev pub asked_with : ℕ → Call → List Event → FrameContent → List Message
 asked_with id call events frame = if is_answer_on id frame then asked_by call events (Answered frame.bytes) else []

@@ -24,6 +24,7 @@ pub use Rattle.co_sdo_segments.specs.Taken.{segment_next, taken_with, held_with}
 use Rattle.co_sdo_client.specs.Stages.{stage_after, held_after}
 pub use Rattle.co_frame.specs.Segments.{same_bool, without}
 
+-- the reaction of a client to an event
 pub data Verdict : Type 0 where
   -- the client goes on waiting, and sends these
   GoesOn : List Message → Verdict
@@ -59,17 +60,19 @@ no_room call size = (nat_lt (cap_of call.job) size, out_of_memory)
 abbrev pub no_room_indicated : Call → Option ℕ → Bool × ℕ
 no_room_indicated call size = no_room call (option_map_or (λ s. s) size 0)
 
--- there are more bytes than the indicated size
+-- more bytes than the indicated size
 abbrev pub is_above_size : Option ℕ → ℕ → Bool
 is_above_size size total = option_map_or (λ s. nat_lt s total) size false
 
+-- the fault of more bytes than the indicated size
 abbrev pub above_indicated : Option ℕ → ℕ → Bool × ℕ
 above_indicated size total = (is_above_size size total, too_long)
 
--- there are fewer bytes than the indicated size
+-- fewer bytes than the indicated size
 abbrev pub is_below_size : Option ℕ → ℕ → Bool
 is_below_size size total = option_map_or (λ s. nat_lt total s) size false
 
+-- the fault of fewer bytes than the indicated size
 abbrev pub below_indicated : Option ℕ → ℕ → Bool × ℕ
 below_indicated size total = (is_below_size size total, too_short)
 
@@ -118,7 +121,7 @@ abbrev pub upload_expedited : Call → Transfer → Key → List ℕ → Verdict
 upload_expedited call SegmentedUpload key value = unless_fault (other_key call key ∷ no_room call (length value) ∷ []) (Ends [] value)
 upload_expedited call _ key value = unexpected
 
--- the confirmation of initiate SDO upload: the first segment is asked for
+-- the confirmation of initiate SDO upload: the first segment is requested
 abbrev pub upload_confirmed : Call → Transfer → Key → Option ℕ → Verdict
 upload_confirmed call SegmentedUpload key size =
     unless_fault (other_key call key ∷ no_room_indicated call size ∷ []) (GoesOn (Request (NextSegment false) ∷ []))
