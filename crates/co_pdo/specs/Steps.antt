@@ -31,10 +31,11 @@ wants (Sync overflow counter) c t = if t.transmission_type.0 == 0 then t.event_s
 wants Event c t = is_event_driven t.transmission_type.0 && (true && t.inhibit_left == 0)
 wants Tick c t = is_event_driven t.transmission_type.0 && ((t.event_waits || t.timer_left == 1) && t.inhibit_left - 1 == 0)
 
--- the same, by the settings of the TPDO
+-- the countdowns after an occasion, by the settings of the TPDO
 abbrev pub counted_with : Settings → Occasion → Tpdo → Tpdo
 counted_with s o t = counted o (counts s o t) t
 
+-- whether the countdowns make the TPDO due, by its settings
 abbrev pub wants_with : Settings → Occasion → Tpdo → Bool
 wants_with s o t = wants o (counts s o t) t
 

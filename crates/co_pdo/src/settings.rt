@@ -10,6 +10,7 @@ use co_profile::TransmissionType;
 pub struct Settings {
     /// Its COB-ID word is valid, something is mapped, and its transmission type is supported.
     pub is_active: bool,
+    /// The transmission type.
     pub transmission_type: TransmissionType,
     /// In 100 µs.
     pub inhibit_time: u16,
