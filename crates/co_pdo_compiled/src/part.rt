@@ -12,6 +12,7 @@ use co_value::{DataType, Key};
 /// A mapped entry with its place and its row.
 #[derive(Clone, Copy, Debug)]
 pub struct PlacedEntry {
+    /// The key of the entry.
     pub key: Key,
     /// In bytes, 1 to 8.
     pub width: u8,
