@@ -23,6 +23,7 @@ use Rattle.co_node_model.specs.declared.app_answer.AppAnswer.{AppAnswer}
 
 -- ---- an input as it is received, by its kind; a frame by its addressee
 
+-- the moment with a received frame, by its addressee
 abbrev pub with_frame : Constants → History → Address → FrameContent → Moment → Moment
 with_frame k history Nmt frame m =
     with_service k.description.initial (service_for k.description.node (nmt_command_in frame)) m
@@ -32,16 +33,19 @@ with_frame k history (Rpdo n) frame m = with_rpdo n (state_at history) frame m
 with_frame k history (ErrorControl node) frame m = with_error_control node frame m
 with_frame k history Nobody frame m = m
 
+-- the moment with a received input
 abbrev pub with_input : Constants → History → InputView → Moment → Moment
 with_input k history (Framed frame) m = with_frame k history (address_at k history frame.id) frame m
 with_input k history Ticked m = with_tick (timed_out_at k history) m
 with_input k history (Applied event) m = with_app_event k.description event (event_refusal k.description m.received event) m
 
+-- the moment of an input as received, after a history
 abbrev pub received_at : Constants → History → InputView → Moment
 received_at k history input = with_input k history input (nothing_of input (contents_at k history))
 
 -- ---- one input, after this history: each service reads the results of those before it
 
+-- the whole moment of an input, after a history
 abbrev pub moment : Constants → History → InputView → Moment
 moment k history input =
     with_tpdos k history (with_life k history (with_emergency history (with_pdos k history (with_losses k history (received_at k history input)))))
@@ -58,6 +62,7 @@ frames k m =
 
 -- ---- over all inputs, the newest first
 
+-- a history with the moment of one more input
 abbrev pub and_moment : Constants → InputView → History → History
 and_moment k input history = moment k history input ∷ history
 

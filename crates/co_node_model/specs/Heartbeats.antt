@@ -36,6 +36,7 @@ use Rattle.co_node_model.specs.Marks.{marked_heartbeat, marked_key, marked_tick}
 
 -- ---- consumers: a received heartbeat of another node, in every state; a boot-up is none
 
+-- an error control frame is a heartbeat
 abbrev pub is_heartbeat : Option Heartbeat → Bool
 is_heartbeat None = false
 is_heartbeat (Some heartbeat.BootUp) = false
@@ -43,6 +44,7 @@ is_heartbeat (Some heartbeat.Stopped) = true
 is_heartbeat (Some heartbeat.Operational) = true
 is_heartbeat (Some heartbeat.PreOperational) = true
 
+-- the moment with an error control frame
 abbrev pub with_error_control : ℕ → FrameContent → Moment → Moment
 with_error_control node frame m =
     if is_heartbeat (heartbeat_in frame.bytes) then record m { mark = was.Heard node } else m
@@ -79,6 +81,7 @@ consumers_call mark contents = if is_reset mark then AllBegun (consumer_words co
 
 -- ---- consumers: over all inputs; each entry of 1016h begins when the device is built
 
+-- the calls of the consumers
 abbrev pub consumers_log : Constants → History → ConsumersLog
 consumers_log k [] = AllBegun (consumer_words k.start) ∷ []
 consumers_log k (m ∷ history) = consumers_call m.mark m.received ∷ consumers_log k history
@@ -99,6 +102,7 @@ abbrev pub loss_event : List ℕ → Contents → StateEvent
 loss_event [] contents = Quiet
 loss_event (sub ∷ lost) contents = HeartbeatLost (reaction_with (number_at contents error_behaviour_key))
 
+-- the moment with these lost heartbeats
 abbrev pub with_lost : Description → List ℕ → Moment → Moment
 with_lost d lost m = record m {
   lost = lost;
@@ -107,6 +111,7 @@ with_lost d lost m = record m {
   loss = loss_event lost m.received;
 }
 
+-- the moment with the heartbeats that are lost at it
 abbrev pub with_losses : Constants → History → Moment → Moment
 with_losses k history m = with_lost k.description (lost_by (consumers_call m.mark m.received) (consumers_log k history)) m
 
@@ -125,6 +130,7 @@ life_of mark after due = if is_reset mark then Some BootUp else (if due then Som
 
 -- ---- producer: over all inputs; it begins when the device is built
 
+-- the events of the producer
 abbrev pub producer_log : Constants → History → ProducerLog
 producer_log k [] = Begin (number_at k.start producer_key) ∷ []
 producer_log k (m ∷ history) = producer_event m.mark m.contents ∷ producer_log k history

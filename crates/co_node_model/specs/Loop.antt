@@ -25,10 +25,11 @@ download_of k key bytes mode = record {
   call = record { key = key; mode = mode; time = 0; job = Download bytes true };
 }
 
--- the identifiers of the default SDO channel of the node: of requests and of responses
+-- the identifier of the requests of the node's default SDO channel
 abbrev pub request_id : Loop → ℕ
 request_id l = 0x600 + l.node.description.node
 
+-- and of its responses
 abbrev pub response_id : Loop → ℕ
 response_id l = 0x580 + l.node.description.node
 
@@ -61,6 +62,7 @@ asked_after request id call events [] = []
 asked_after request id call events (frame ∷ frames) =
     frames_on request (asked_with id call events frame) ++ asked_after request id call (events_with id events frame) frames
 
+-- both ends after these frames of the node
 abbrev pub with_frames : Loop → List FrameContent → BothEnds → BothEnds
 with_frames l frames e = record e {
   events = events_after (response_id l) e.events frames;
@@ -85,6 +87,7 @@ abbrev pub round_of : Loop → List FrameContent → BothEnds → BothEnds
 round_of l [] e = with_input l NodeTicked (with_client_tick l e)
 round_of l (request ∷ later) e = with_input l (Framed request) (record e { waiting = later })
 
+-- both ends after a round
 abbrev pub after_round : Loop → BothEnds → BothEnds
 after_round l e = round_of l e.waiting e
 
@@ -96,10 +99,12 @@ frames_of l (request ∷ later) inputs = request ∷ prescribed l.node inputs (F
 -- ---- all rounds: as long as the client waits, or one of its requests does, and at most a given
 -- number
 
+-- a request waits
 abbrev pub some_wait : List FrameContent → Bool
 some_wait [] = false
 some_wait (request ∷ later) = true
 
+-- there is one more round
 abbrev pub goes_on : Loop → BothEnds → Bool
 goes_on l e = waits (state_at l e) || some_wait e.waiting
 
@@ -120,9 +125,11 @@ frames_in (suc left) l e =
 abbrev pub most_rounds : ℕ
 most_rounds = 20000
 
+-- both ends after all rounds
 abbrev pub last_ends : Loop → Inputs → BothEnds
 last_ends l before = rounds most_rounds l (first_ends l before)
 
+-- the frames of all rounds
 abbrev pub all_frames : Loop → Inputs → List FrameContent
 all_frames l before = frames_in most_rounds l (first_ends l before)
 

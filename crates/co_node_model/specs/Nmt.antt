@@ -61,12 +61,14 @@ after_service initial (Some EnterPreOperational) contents = contents
 after_service initial (Some ResetNode) contents = restored All initial contents
 after_service initial (Some ResetCommunication) contents = restored Communication initial contents
 
+-- the moment with an NMT command, by its service
 abbrev pub with_service : Contents → Option NmtService → Moment → Moment
 with_service initial service m =
     record m { mark = command_mark service; received = after_service initial service m.received }
 
 -- ---- the state, over all inputs: commands and lost heartbeats
 
+-- the events of the NMT state
 abbrev pub state_log : History → StateLog
 state_log [] = []
 state_log (m ∷ history) = m.loss ∷ state_event m.mark ∷ state_log history

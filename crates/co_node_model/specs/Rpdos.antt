@@ -66,6 +66,7 @@ is_short d contents rpdo = nat_lt (length rpdo.frame.bytes) (mapped_length d con
 
 -- ---- a frame is received: in operational alone
 
+-- the moment with a frame of RPDO n
 abbrev pub with_rpdo : ℕ → NodeState → FrameContent → Moment → Moment
 with_rpdo n state frame m =
     if is_state Operational state then record m { mark = was.Rpdo (record { number = n; frame = frame }) } else m
@@ -100,6 +101,7 @@ slot_event d contents mark t =
 
 -- ---- over all inputs
 
+-- the events of the waiting frames
 abbrev pub slot_log : Constants → History → SlotLog
 slot_log k [] = []
 slot_log k (m ∷ history) = slot_event k.description m.watched m.mark (transition_of m history) ∷ slot_log k history
@@ -183,5 +185,6 @@ with_taken d errors taken m =
       contents = after_all_data d arrived taken;
     }
 
+-- the moment with SYNC and RPDOs
 abbrev pub with_pdos : Constants → History → Moment → Moment
 with_pdos k history m = with_taken k.description (arrival_errors k.description m) (effective k history m) m

@@ -46,12 +46,14 @@ with_request k logs frame m =
       received = contents_with m.received set;
     }
 
+-- the moment with a frame to a channel
 abbrev pub with_channel_frame : Constants → History → FrameContent → Moment → Moment
 with_channel_frame k history frame m =
     if is_state Stopped (state_at history) then m else with_request k (channel_logs history) frame m
 
 -- ---- a tick: the lowest channel that has timed out aborts its transfer; the others wait
 
+-- the moment with a tick
 abbrev pub with_tick : Option ChannelEvent → Moment → Moment
 with_tick timed_out m =
     record m { mark = was.Tick (is_some timed_out); timed_out = timed_out }

@@ -24,6 +24,7 @@ counter_in frame = option_and_then (λ sync. sync.counter) (sync_in frame.bytes)
 
 -- ---- a SYNC is received: not while stopped
 
+-- the moment with a SYNC
 abbrev pub with_sync : NodeState → FrameContent → Moment → Moment
 with_sync state frame m = if is_state Stopped state then m else record m { mark = was.Sync frame }
 

@@ -118,6 +118,7 @@ with_turn d turn.Tick contents due history = with_tick contents due history
 abbrev pub turn_at : Moment → History → Turn
 turn_at m history = turn_of m.mark (transition_of m history)
 
+-- the calls of the schedule
 abbrev pub schedule_log : Constants → History → Schedule
 schedule_log k [] = []
 schedule_log k (m ∷ history) = with_turn k.description (turn_at m history) m.contents m.due (schedule_log k history)
