@@ -233,6 +233,7 @@ by_tick k d =
 
 -- ---- the kind of an input
 
+-- a kind of input, as it is received
 pub data Kind : Type 0 where
   -- 1 ms elapsed
   Tick : Kind

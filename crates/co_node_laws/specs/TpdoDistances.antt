@@ -42,7 +42,8 @@ tpdo_log k n (input ∷ inputs) =
     turn_log k.description n (turn_of_input k inputs input) (contents_of k (input ∷ inputs)) (moment_at k inputs input).due
     ++ tpdo_log k n inputs
 
--- how many ticks came since the event timer of TPDO n began: when the TPDO was last started or sent
+-- how many ticks came since the event timer of TPDO n began, after one more turn: it begins when
+-- the TPDO is started or sent
 abbrev pub timer_after : ℕ → Turn → Bool → ℕ → ℕ
 timer_after n Quiet sent before = before
 timer_after n StartAll sent before = 0
@@ -51,6 +52,7 @@ timer_after n (Sync counter) sent before = if sent then 0 else before
 timer_after n (Asked asked) sent before = if sent then 0 else before
 timer_after n Tick sent before = if sent then 0 else before + 1
 
+-- the same after all inputs
 abbrev pub ticks_of_timer : Constants → ℕ → Inputs → ℕ
 ticks_of_timer k n [] = 0
 ticks_of_timer k n (input ∷ inputs) = timer_after n (turn_of_input k inputs input) (is_sent k n inputs input) (ticks_of_timer k n inputs)

@@ -35,8 +35,8 @@ pub fn event_answer()
         app_answer k.description (contents_of k inputs) event }
 {}
 
-/// A reset of all nodes, in whatever state and after whatever inputs, restores its area and ends in
-/// pre-operational (CiA 301, 7.3.2.2).
+/// A reset of all nodes, in any state and after any inputs, restores its area (`contents`) and ends
+/// in pre-operational (`state`; CiA 301, 7.3.2.2).
 #[tactic(auto, using(crate::proofs::ResetsOfAll::pre_operational, crate::proofs::ResetsOfAll::area_restored))]
 pub fn reset_restores_area()
     ensures state { (k : Constants) (inputs : Inputs) (area : Area) →

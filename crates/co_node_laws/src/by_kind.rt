@@ -89,8 +89,7 @@ pub fn inert_input()
 }
 
 /// Only NMT commands to this node or to all nodes, and lost heartbeats of other nodes, change the
-/// NMT state (CiA 301, 7.3.2 and 7.5.2.32): after one more input, of whatever kind, it is
-/// `state_with`.
+/// NMT state (CiA 301, 7.3.2 and 7.5.2.32): after one more input of any kind it is `state_with`.
 pub fn state_by_kind()
     ensures { (k : Constants) (inputs : Inputs) (input : InputView) →
         state_of k (input ∷ inputs)
