@@ -11,11 +11,13 @@ state_code PreOperational = 127
 state_code Operational = 5
 state_code Stopped = 4
 
+-- an answer as a number
 abbrev pub answer_code : AppAnswer → ℕ
 answer_code app.None = 0
 answer_code app.Done = 1
 answer_code (app.Refused code) = 2
 
+-- the abort code of an answer, 0 unless it is a refusal
 abbrev pub refusal_code : AppAnswer → ℕ
 refusal_code app.None = 0
 refusal_code app.Done = 0
@@ -28,11 +30,13 @@ pub record IsCopied (value before after : List ℕ) : Type 0 where
       → slice_index_or after i e ≡ slice_index_or value i e
   pub kept : (i e : ℕ) → length value ≤ i → slice_index_or after i e ≡ slice_index_or before i e
 
+-- there is an entry: its bytes are copied and counted
 pub record IsFound (value before after : List ℕ) (size : ℕ) (found : Bool) : Type 0 where
   pub copied : IsCopied value before after
   pub counted : size ≡ length value
   pub yes : found ≡ true
 
+-- there is no entry: nothing changes
 pub record IsAbsent (before after : List ℕ) (old_size size : ℕ) (found : Bool) : Type 0 where
   pub same : after ≡ before
   pub kept : size ≡ old_size

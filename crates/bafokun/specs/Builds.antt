@@ -57,6 +57,7 @@ pub record IsBuilt (text : List ℕ) (node : ℕ) (settings : Settings) (held : 
   pub is_whole : IsWhole text sheet
   pub is_held : IsHeldOf (original_at text) node settings sheet held
 
+-- the content of a place was built from a text
 abbrev pub IsFilled : List ℕ → ℕ → Settings → Option Held → Type 0
 IsFilled text node settings None = ⊥
 IsFilled text node settings (Some held) = IsBuilt text node settings held

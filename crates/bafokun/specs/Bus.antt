@@ -69,10 +69,12 @@ pub record IsIdle (k : Constants) (before : Inputs) (held : Held) : Type 0 where
   pub stands : Stands k held.node before
   pub sent : held.sent.items ≡ []
 
+-- a held device after a change
 abbrev pub GaveBus : Constants → Inputs → Option InputView → Held → Type 0
 GaveBus k before None held = IsIdle k before held
 GaveBus k before (Some input) held = Gave k before input held
 
+-- the result of a change that is no input: no frame
 pub record GivesNothing (k : Constants) (before : Inputs)
     (place : Handle) (array filled : List CanFrame) (count : ℕ) : Type 0 where
   pub stands : IsDevice k place before

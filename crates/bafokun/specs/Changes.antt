@@ -43,6 +43,7 @@ abbrev pub known_with : Contents → Option EntryContent → List Known → ℕ 
 known_with contents None known number = known
 known_with contents (Some e) known number = with_known known number (bytes_at contents e.facts.key)
 
+-- the known bytes after the entry with a number was returned, if one was
 abbrev pub known_after : Contents → List EntryContent → List Known → Option ℕ → List Known
 known_after contents entries known None = known
 known_after contents entries known (Some number) = known_with contents (entry_at entries number) known number

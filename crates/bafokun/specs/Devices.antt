@@ -26,6 +26,7 @@ IsDevice k place before = HasStood k place.seal.value before
 abbrev pub IsEmpty : Handle → Type 0
 IsEmpty place = place.seal.value ≡ None
 
+-- the frames of the last input of a held device
 abbrev pub frames_of : Option Held → List FrameContent
 frames_of None = []
 frames_of (Some held) = held.sent.items
@@ -34,6 +35,7 @@ frames_of (Some held) = held.sent.items
 abbrev pub sent_of : Handle → List FrameContent
 sent_of place = frames_of place.seal.value
 
+-- the entry table of a held device
 abbrev pub entries_in : Option Held → List EntryContent
 entries_in None = []
 entries_in (Some held) = held.entries
@@ -42,6 +44,7 @@ entries_in (Some held) = held.entries
 abbrev pub entries_of : Handle → List EntryContent
 entries_of place = entries_in place.seal.value
 
+-- the known bytes of a held device
 abbrev pub known_in : Option Held → List Known
 known_in None = []
 known_in (Some held) = held.known

@@ -55,8 +55,9 @@ pub struct Fault {
     pub stage: u16,
     /// The fault's number: 1 to 20 of a data sheet, 1 to 7 of a device.
     pub number: u16,
-    /// Index and sub-index of the entry that a fault of a device names; else 0.
+    /// The index of the entry that a fault of a device names; else 0, as the sub-index.
     pub index: u16,
+    /// The sub-index.
     pub sub_index: u16,
 }
 

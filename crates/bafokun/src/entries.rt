@@ -11,8 +11,9 @@ use co_profile::Access;
 #[repr(C)]
 #[derive(Clone, Copy)]
 pub struct Entry {
-    /// Its key.
+    /// Its index.
     pub index: u16,
+    /// Its sub-index.
     pub sub_index: u8,
     /// 1 ro, 2 wo, 3 rw, 4 rwr, 5 rww, 6 const.
     pub access: u8,
