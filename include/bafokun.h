@@ -284,7 +284,7 @@ uint8_t bafokun_answer(bafokun_node *node, uint32_t *abort_code);
 
 /*
  * How many bytes are held for the transfer of an SDO channel: at most the capacity of the
- * transferred entry and 889. 0 if there is no such channel.
+ * transferred entry plus 889. 0 if there is no such channel.
  */
 size_t bafokun_held(bafokun_node *node, uint8_t channel);
 

@@ -195,7 +195,7 @@ pub extern "C" fn bafokun_answer(alloc: Global, node: &mut Handle, abort: &mut u
 }
 
 /// How many bytes are held for the transfer of an SDO channel; 0 if there is no such channel or no
-/// device. They are at most the capacity of the transferred entry and 889. C must pass what
+/// device. They are at most the capacity of the transferred entry plus 889. C must pass what
 /// `bafokun_tick` requires.
 #[unsafe(no_mangle)]
 pub extern "C" fn bafokun_held(alloc: Global, node: &mut Handle, channel: u8) -> usize

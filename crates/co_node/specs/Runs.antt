@@ -20,6 +20,6 @@ recorded_after k inputs more r = record r {
   ends = r.ends ++ all_ends k inputs (length r.frames) more;
 }
 
--- the most frames of an input: 127 and 2, or the number of TPDOs and 2 if that is more
+-- the most frames of an input: 129, or the number of TPDOs plus 2 if that is more
 abbrev pub most_frames : Constants → ℕ
 most_frames k = max 127 (tpdo_count k.description.rows) + 2

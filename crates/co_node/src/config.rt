@@ -7,7 +7,7 @@ use co_dict_build::Limits;
 pub struct Config<'a> {
     /// The capacities of strings and domains, in bytes.
     pub limits: Limits<'a>,
-    /// The SDO timeout in ms: without the next request for so long an SDO channel aborts its
-    /// transfer. 0 disables it (CiA 301, 7.2.4.3).
+    /// The SDO timeout in ms: an SDO channel aborts its transfer if the next request doesn't come
+    /// within this time. 0 disables it (CiA 301, 7.2.4.3).
     pub time: u16,
 }

@@ -247,7 +247,7 @@ impl Node {
     }
 
     /// How many bytes are held for the transfer of an SDO channel; 0 if there is no such channel.
-    /// They are at most the capacity of the transferred entry and 889.
+    /// They are at most the capacity of the transferred entry plus 889.
     pub fn held(&self, channel: u8) -> usize
         ensures held { (k : Constants) (before : Inputs) → Stands k self.now before →
             result ≡ held_of k before channel }
@@ -287,9 +287,9 @@ impl Node {
     }
 
     /// Takes inputs in order, and appends the frames of each and their end to the record. It stops
-    /// at an input for which the record may lack room: it needs room for one more input, and for
-    /// the most frames of an input, 127 and 2, or the number of TPDOs and 2 if that is more.
-    /// Returns how many inputs it took.
+    /// at an input for which the record may lack room: it needs room for one more input and the
+    /// most frames of an input: 129, or the number of TPDOs plus 2 if that is more. Returns how
+    /// many inputs it took.
     pub fn run(&mut self, inputs: &[Input<'_>], kept: &mut Record) -> usize
         ensures within { result ≤ length inputs.now }
         ensures frames { (k : Constants) (before : Inputs) → Stands k self.old before →

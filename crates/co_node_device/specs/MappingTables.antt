@@ -16,7 +16,7 @@ abbrev pub AreForms : Side → Description → Contents → List (List Part) →
 AreForms side d contents table = (k : ℕ) (parts : List Part) → k < length table
     → IsCompiledForm d (mapping_of side d contents k) (slice_index_or table k parts)
 
--- `count` is the number of the last PDO that the dictionary has, and 1; 0 if it has none
+-- `count` is the number of the last PDO that the dictionary has, plus 1; 0 if it has none
 pub record Covers (side : Side) (d : Description) (count : ℕ) : Type 0 where
   pub all : (k : ℕ) → k < 512 → has_pdo side d.rows k ≡ true → k < count
   pub last : (k : ℕ) → k + 1 ≡ count → has_pdo side d.rows k ≡ true

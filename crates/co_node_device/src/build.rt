@@ -134,8 +134,8 @@ impl<S: ObjectStore> Device<S> {
         }
     }
 
-    /// The most frames that one input sends: 127 and 2, or the number of TPDOs and 2 if that is
-    /// more; so at most 514.
+    /// The most frames that one input sends: 129, or the number of TPDOs plus 2 if that is more; so
+    /// at most 514.
     pub fn most_frames(&self) -> usize
         ensures most { (k : Constants) (inputs : Inputs) → Stands k self.now inputs →
             result ≡ max 127 (tpdo_count k.description.rows) + 2 }

@@ -54,7 +54,7 @@ fn may_change_mappings(mark: &Mark) -> bool
     mark.is_reset() || is_mapping_set(mark.written())
 }
 
-/// The number of the last PDO of a side that the dictionary has, and 1; 0 if it has none.
+/// The number of the last PDO of a side that the dictionary has, plus 1; 0 if it has none.
 fn count_of<S: ObjectStore>(store: &S, side: Side) -> u16
     ensures covers { Covers side (S.description store.now) result }
     ensures few { result ≤ 512 }

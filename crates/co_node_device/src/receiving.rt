@@ -65,7 +65,7 @@ fn take_frame<S: ObjectStore>(
 /// The mark of a received input, and the answer if it is an application event.
 #[derive(Clone, Copy, Debug)]
 pub(crate) struct Received {
-    /// What the input was to the parts of the device.
+    /// The mark of the input, for the parts of the device.
     pub(crate) mark: Mark,
     /// The answer to an application event.
     pub(crate) app: AppAnswer,

@@ -7,7 +7,7 @@ ghost use Rattle.co_node_model.specs.Moments.{Constants};
 ghost use Rattle.co_node_model.specs.Device.{held_of, room_of};
 ghost use Rattle.co_node_laws.specs.Lengths.{AllDictionaries};
 
-/// An SDO channel holds at most the capacity of the transferred entry and 889 bytes, a sub-block,
+/// An SDO channel holds at most the capacity of the transferred entry plus 889 bytes, a sub-block,
 /// for its transfer. The condition is that the entries were always those of a dictionary, as each
 /// store ensures.
 #[tactic(auto, using(crate::proofs::HeldBytes::held_within))]

@@ -30,7 +30,7 @@ pub fn few_responses()
 {}
 
 /// No input sends more frames than its bound: an NMT command 1, a request to an SDO channel 128,
-/// SYNC and an application event the number of TPDOs and 1, a tick the number of TPDOs and 2, any
+/// SYNC and an application event the number of TPDOs plus 1, a tick the number of TPDOs plus 2, any
 /// other 1. The condition is that the entries are those of a dictionary, as each store ensures.
 #[tactic(auto, using(crate::proofs::Bounds::few))]
 pub fn few()
@@ -38,7 +38,7 @@ pub fn few()
         length (prescribed k inputs input) ≤ frame_bound k inputs input }
 {}
 
-/// No bound is above 129, or the number of TPDOs and 2 if that is more.
+/// No bound is above 129, or the number of TPDOs plus 2 if that is more.
 #[tactic(auto, using(crate::proofs::Bounds::greatest))]
 pub fn greatest_bound()
     ensures { (k : Constants) (inputs : Inputs) (input : InputView) →

@@ -91,7 +91,7 @@ app_after k inputs = app_at (moments k inputs)
 abbrev pub held_of : Constants → Inputs → ℕ → ℕ
 held_of k inputs j = held_on (channels k) (channel_logs (moments k inputs)) j
 
--- how many may be held for it: the capacity of the transferred entry and 889
+-- how many may be held for it: the capacity of the transferred entry plus 889
 abbrev pub room_of : Constants → Inputs → ℕ → ℕ
 room_of k inputs j = room_after k.description.rows (channel_logs (moments k inputs) j)
 

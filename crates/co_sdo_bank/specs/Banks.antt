@@ -22,7 +22,7 @@ settings_of c = record {
 abbrev pub all_settings : List NumberedChannel → List ChannelSettings
 all_settings bank = map settings_of bank
 
--- these are the channels, and each stands after the log of its number
+-- these are the channels, and each is in the state after the log of its number
 pub record BankStands (d : Description) (channels : List ChannelSettings) (bank : List NumberedChannel) (logs : ℕ → Log) : Type 0 where
   pub settings : all_settings bank ≡ channels
   pub each : (i : ℕ) (e : NumberedChannel) → i < length bank →

@@ -61,10 +61,10 @@ impl Model for Bank {
 }
 
 impl Bank {
-    /// The channels that exist in a dictionary: channel 0, and channel j where the COB-ID words
-    /// 1200h + j, sub-index 1 and 2, are valid (CiA 301, 7.5.2.33). None of them has received
-    /// anything. Each asks for a buffer of `greatest` + 889 bytes, where `greatest` is the greatest
-    /// capacity of an entry. `time` is the SDO timeout between two requests, in ms; 0 disables it.
+    /// The channels that exist in a dictionary: channel 0, and channel j if the COB-ID words 1200h
+    /// + j, sub-index 1 and 2, are valid (CiA 301, 7.5.2.33). None of them has received anything.
+    /// Each allocates a buffer of `greatest` + 889 bytes, where `greatest` is the greatest capacity
+    /// of an entry. `time` is the SDO timeout between two requests, in ms; 0 disables it.
     /// `AllocError` if memory can't be allocated.
     pub fn new<S: ObjectStore>(
         alloc: Global,
