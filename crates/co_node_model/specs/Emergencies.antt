@@ -114,8 +114,7 @@ abbrev pub may_send : Mark → NodeState → Contents → Bool
 may_send mark after contents =
     not (is_state Stopped after) && is_valid (number_at contents emergency_key) && not (marked_time_out mark)
 
--- ---- over all inputs: the emergencies of each service in their order, then the event of the
--- input, then a sending
+-- ---- over all inputs: the emergencies of an input, then its event, then a sending
 
 -- the log before a sending
 abbrev pub unsent_log : Moment → EmergencyLog → EmergencyLog

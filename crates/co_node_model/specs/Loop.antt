@@ -29,7 +29,7 @@ download_of k key bytes mode = record {
 abbrev pub request_id : Loop → ℕ
 request_id l = 0x600 + l.node.description.node
 
--- and of its responses
+-- the identifier of the responses of that channel
 abbrev pub response_id : Loop → ℕ
 response_id l = 0x580 + l.node.description.node
 
@@ -48,8 +48,7 @@ first_ends l before = record { events = []; inputs = before; waiting = frames_on
 abbrev pub state_at : Loop → BothEnds → ClientState
 state_at l e = outcome l.call e.events
 
--- ---- the node's frames arrive at the client, in their order; those that are no answers are
--- ignored
+-- ---- the node's frames arrive at the client in order; those that are no answers are ignored
 
 -- the events of the client after these frames
 abbrev pub events_after : ℕ → List Event → List FrameContent → List Event
@@ -96,8 +95,7 @@ abbrev pub frames_of : Loop → List FrameContent → Inputs → List FrameConte
 frames_of l [] inputs = prescribed l.node inputs NodeTicked
 frames_of l (request ∷ later) inputs = request ∷ prescribed l.node inputs (Framed request)
 
--- ---- all rounds: as long as the client waits, or one of its requests does, and at most a given
--- number
+-- ---- all rounds: while the client or one of its requests waits, and at most a given number
 
 -- a request waits
 abbrev pub some_wait : List FrameContent → Bool

@@ -48,8 +48,8 @@ abbrev pub IsAsStarted : Settings → Log → Type 0
 IsAsStarted s log = s.is_active ≡ true → IsAsAt (started_with log) s
 
 -- the last starts of this log had these settings: if the TPDO is active, its last whole start had
--- this transmission type and inhibit time; the last start, whole or of the timer, had this event
--- timer
+-- this transmission type and inhibit time; and the last start, whole or of the timer, had this
+-- event timer
 pub record IsCurrent (s : Settings) (log : Log) : Type 0 where
   pub started : IsAsStarted s log
   pub timer : s.event_timer ≡ timer_of log

@@ -57,27 +57,27 @@ abbrev pub log_of : ℕ → History → Log
 log_of k [] = []
 log_of k (m ∷ history) = part_of k m.call m.contents m.sent ++ log_of k history
 
--- a history with one more call: here a start of TPDO k
+-- a history with one more call: a start of TPDO k
 abbrev pub with_start : ℕ → Part → Contents → History → History
 with_start k part contents history = record { call = Start k part; contents = contents; sent = [] } ∷ history
 
--- all TPDOs start
+-- a history with one more call: a start of all TPDOs
 abbrev pub with_all_started : Contents → History → History
 with_all_started contents history = record { call = StartAll; contents = contents; sent = [] } ∷ history
 
--- a SYNC
+-- a history with one more call: a SYNC, with or without a counter
 abbrev pub with_sync : Option ℕ → Contents → List ℕ → History → History
 with_sync counter contents sent history = record { call = OnSync counter; contents = contents; sent = sent } ∷ history
 
--- an event of TPDO k
+-- a history with one more call: an event of TPDO k, which was sent or not
 abbrev pub with_event : ℕ → Contents → Bool → History → History
 with_event k contents is_sent history = record { call = OnEvent k; contents = contents; sent = if is_sent then k ∷ [] else [] } ∷ history
 
--- an event of each of these TPDOs
+-- a history with one more call: an event of each of these TPDOs
 abbrev pub with_events : List ℕ → Contents → List ℕ → History → History
 with_events numbers contents sent history = record { call = OnEvents numbers; contents = contents; sent = sent } ∷ history
 
--- a tick
+-- a history with one more call: a tick
 abbrev pub with_tick : Contents → List ℕ → History → History
 with_tick contents sent history = record { call = OnTick; contents = contents; sent = sent } ∷ history
 
