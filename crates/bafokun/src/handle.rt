@@ -149,8 +149,8 @@ impl Handle {
         }
     }
 
-    /// The application writes an entry, and knows its bytes then. The frames that are sent are put
-    /// and counted as by `take_frame`.
+    /// The application writes an entry, and knows its bytes if that is done. The frames that are
+    /// sent are put and counted as by `take_frame`.
     pub(crate) fn write(
         &mut self,
         alloc: Global,

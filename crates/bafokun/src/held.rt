@@ -88,7 +88,7 @@ impl Held {
         self.node.take_event(event, &mut self.sent);
     }
 
-    /// The application writes an entry, and knows its bytes then.
+    /// The application writes an entry, and knows its bytes if that is done.
     pub(crate) fn write(&mut self, key: Key, bytes: &[u8])
         ensures gave { (k : Constants) (before : Inputs) → Stands k self.old.node before →
             Gave k before (Applied (Written key bytes.now)) self.new }

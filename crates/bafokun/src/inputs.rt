@@ -115,9 +115,9 @@ pub extern "C" fn bafokun_ticks(
     }
 }
 
-/// The application writes an entry, even if SDO clients may only read it; it knows the bytes then.
-/// `bafokun_answer` is the answer. C must pass what `bafokun_tick` requires, and as many bytes as
-/// it states, outside the array.
+/// The application writes an entry, even if SDO clients may only read it. If that is done it knows
+/// the bytes; `bafokun_answer` returns the answer. C must pass what `bafokun_tick` requires, and as
+/// many bytes as it states, outside the array.
 #[unsafe(no_mangle)]
 pub extern "C" fn bafokun_write(
     alloc: Global,

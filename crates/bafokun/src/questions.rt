@@ -132,8 +132,8 @@ pub extern "C" fn bafokun_idle(alloc: Global, node: &mut Handle) -> u32
     }
 }
 
-/// If a device is idle for as many ticks as `bafokun_ticks` may pass at once, all elapse: it
-/// doesn't end early. This is a law: a call of it changes nothing.
+/// If a device is quiet for at least `most` ticks, as by `bafokun_idle`, `bafokun_ticks` lets all
+/// of these elapse: it doesn't end early. This is a law: a call of it changes nothing.
 #[tactic(auto, using(crate::proofs::Ticks::all_elapse))]
 pub fn idle_ticks_elapse()
     ensures { (k : Constants) (before : Inputs) (count most elapsed : ℕ) →

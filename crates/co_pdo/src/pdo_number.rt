@@ -24,7 +24,7 @@ impl Model for PdoNumber {
 }
 
 impl PdoNumber {
-    /// A number as that of a PDO; `None` from 512 on.
+    /// Makes a PDO number of a number below 512; `None` from 512 on.
     pub fn new(number: u16) -> Option<PdoNumber>
         ensures { MatchOption result (512 ≤ number) (λ k. (k ≡ number) × (number < 512)) }
     {
@@ -35,7 +35,7 @@ impl PdoNumber {
         }
     }
 
-    /// A number below 512 as that of a PDO.
+    /// Makes a PDO number of a number below 512.
     pub fn of(number: u16) -> PdoNumber
         requires { number < 512 }
         ensures { result ≡ number }
