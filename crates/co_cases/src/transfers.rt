@@ -90,8 +90,8 @@ fn takes(server: &mut Device, requests: &Outbox) -> Outbox {
     last
 }
 
-// The answers of the server to a block download; at `again` the client hears the last one once
-// more, and the frames that it had sent are lost.
+// The answers of the server to a block download of three sub-blocks; at `again` the client hears
+// the last one once more, and the frames that it had sent are lost.
 const LOST: &str = "\
 585#A00021007F000000
 585#A27F7F0000000000
