@@ -1,4 +1,4 @@
-//! What an application event is answered.
+//! The answer to an application event.
 
 use co_frame::AbortCode;
 
@@ -7,8 +7,8 @@ use co_frame::AbortCode;
 pub enum AppAnswer {
     /// The last input was no application event.
     None,
-    /// It was done.
+    /// The event was done.
     Done,
-    /// It was refused, and changed nothing.
+    /// The event was refused with this abort code, and changed nothing.
     Refused(AbortCode),
 }

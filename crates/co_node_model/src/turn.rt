@@ -1,4 +1,4 @@
-//! What the schedule of TPDOs is asked.
+//! What an input is to the schedule of TPDOs.
 
 use crate::mark::Asked;
 use co_pdo::{Part, PdoNumber};
@@ -10,11 +10,12 @@ pub enum Turn {
     Quiet,
     /// NMT state operational was entered: all TPDOs start.
     StartAll,
-    /// An entry of the TPDO with this number was written: it starts, whole or its event timer.
+    /// A communication parameter of the TPDO with this number was written: the whole TPDO starts,
+    /// or its event timer alone.
     Start(PdoNumber, Part),
-    /// A SYNC came, with its counter where its data are exactly one byte.
+    /// A SYNC, with its counter if its data are exactly one byte.
     Sync(Option<u8>),
-    /// The application gave an event.
+    /// An application event of TPDOs.
     Asked(Asked),
     /// 1 ms elapsed.
     Tick,
