@@ -7,8 +7,8 @@ ghost use Rattle.conode_stats_counts.specs.Loads.{busier, load_of, load_with, se
 use crate::size::Size;
 use crate::tally::counted;
 
-/// Frames in a row whose stamps are in one second: that second, counted from the stamp 0, their bits, and the most that
-/// such frames can take.
+/// Consecutive frames with stamps in the same second: that second, counted from stamp 0, their
+/// bits, and the most bits that such frames can take.
 #[derive(Clone, Copy, Debug, PartialEq, Eq)]
 pub struct Second {
     pub second: u64,
@@ -16,8 +16,8 @@ pub struct Second {
     pub most: u64,
 }
 
-/// The bits of frames, the most that such frames can take, how many of them have bits that aren't known, and the second
-/// with the most bits. Sums stay at 2^64 - 1.
+/// The bits of frames, the most bits that such frames can take, how many frames have an unknown
+/// size, the newest second, and the busiest one. Sums saturate at 2^64 - 1.
 #[derive(Clone, Copy, Debug, PartialEq, Eq)]
 pub struct Load {
     pub bits: u64,
@@ -56,7 +56,7 @@ impl Second {
 }
 
 impl Load {
-    /// Of no frame.
+    /// The load of no frame.
     #[tactic(auto, using(crate::proofs::Loaded::none))]
     pub fn new() -> Load
         ensures { result ≡ load_of [] }
@@ -75,7 +75,7 @@ impl Load {
         }
     }
 
-    /// One frame more.
+    /// Adds a frame of this size, with its stamp in this second.
     #[tactic(auto, unfolding(crate::specs::Loads::load_with))]
     pub(crate) fn add(&mut self, second: u64, size: Size)
         ensures { self.new ≡ load_with self.old second size }

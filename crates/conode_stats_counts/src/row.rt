@@ -28,7 +28,7 @@ pub(crate) fn can_id(id: Identifier) -> u32
 }
 
 impl Row {
-    /// No frame came.
+    /// A row without frames.
     pub(crate) fn new(can_id: u32) -> Row
         ensures { result ≡ new_row can_id }
     {
@@ -38,7 +38,7 @@ impl Row {
         }
     }
 
-    /// One frame more.
+    /// Counts a frame with this stamp, in microseconds.
     pub(crate) fn add(&mut self, micros: u64)
         ensures { self.new ≡ row_with micros self.old }
     {

@@ -4,10 +4,10 @@ ghost use Rattle.std.specs.Prelude.{◌≡◌, [], ◌+◌, ◌^◌};
 ghost use Rattle.conode_stats_counts.specs.Gaps.{counted};
 ghost use Rattle.conode_stats_counts.specs.Tallies.{tally_of, tally_with};
 
-/// Frames counted: the stamps of the first and the last one, in microseconds, how many frames there are, and how many
-/// of their stamps step back, to before the one before them. All others but the first have a gap, in microseconds: how
-/// many gaps there are, their sum, the smallest and the greatest (2^64 - 1 and 0 where there is none). Counts and sums
-/// stay at 2^64 - 1.
+/// Frames and the gaps between their stamps, in microseconds. `first` and `last` are stamps;
+/// `steps_back` counts stamps before the one before them. Every other frame but the first has a
+/// gap: `gaps` counts them, `total` is their sum, `smallest` and `greatest` are 2^64 - 1 and 0 if
+/// there is none. Counts and sums saturate at 2^64 - 1.
 #[derive(Clone, Copy, Debug, PartialEq, Eq)]
 pub struct Tally {
     pub first: u64,
@@ -20,7 +20,7 @@ pub struct Tally {
     pub greatest: u64,
 }
 
-/// A sum that stays at the greatest number.
+/// A sum that saturates at 2^64 - 1.
 pub(crate) fn counted(count: u64, more: u64) -> u64
     ensures { result ≡ counted (count + more) }
 {
@@ -28,7 +28,7 @@ pub(crate) fn counted(count: u64, more: u64) -> u64
 }
 
 impl Tally {
-    /// Of no frame.
+    /// The tally of no frame.
     #[tactic(auto, using(crate::proofs::Tallied::none))]
     pub fn new() -> Tally
         ensures { result ≡ tally_of [] }
@@ -45,7 +45,7 @@ impl Tally {
         }
     }
 
-    /// One frame more.
+    /// Counts a frame with this stamp, in microseconds.
     #[tactic(auto, unfolding(crate::specs::Tallies::tally_with))]
     pub(crate) fn add(&mut self, micros: u64)
         ensures { self.new ≡ tally_with self.old micros }
