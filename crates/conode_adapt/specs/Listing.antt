@@ -32,10 +32,11 @@ abbrev pub sections_text : ℕ → ℕ → List ℕ
 sections_text index count =
     codes ", [" ++ digits_text 16 4 index ++ codes "sub0] and " ++ decimal count ++ codes " more"
 
--- the sub-indices from 3 on of a communication object, by the bits of a number
+-- a word, or nothing
 abbrev pub word_if : Bool → List ℕ → List ℕ
 word_if is word = if is then word else []
 
+-- the sub-indices from 3 on of a communication object, by bits 2 to 5 of a number
 abbrev pub subs_text : ℕ → List ℕ
 subs_text subs =
     word_if (subs / 4 % 2 == 1) (codes " 3") ++ word_if (subs / 8 % 2 == 1) (codes " 4")
