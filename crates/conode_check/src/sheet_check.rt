@@ -227,11 +227,11 @@ fn check_sheet<W: Write>(
 }
 
 /// Checks a data sheet (CiA 306), and with a node-ID whether a dictionary can be built from it.
-/// Writes what the sheet has: `ok: 3 objects, 4 entries, 0 notes`, a line for each note, as `note
-/// 12 SubNumber`, and its build fault, as `build fault 3 BadCobId 1800:01`. For a text that is no
-/// sheet it writes the fault, as `fault 9 BadList line 1`. Returns whether there is neither a fault
-/// nor a build fault. If no node-ID is given, the sheet's own counts (device commissioning), and is
-/// written after the notes, as `node 5`.
+/// Writes what the sheet has: `ok: 3 objects, 4 entries, 0 notes`, a line for each note, as
+/// `note 12 SubNumber`, and its build fault, as `build fault 3 BadCobId 1800:01`. For a text that
+/// is no sheet it writes the fault, as `fault 9 BadList line 1`. Returns whether there is neither a
+/// fault nor a build fault. If no node-ID is given, the sheet's own counts (device commissioning),
+/// and is written after the notes, as `node 5`.
 ///
 /// The dictionary is built before the first line is written, and not kept. `Write` if the writer
 /// failed: some of the lines have been written, and perhaps a part of the next one. `Memory` if

@@ -38,7 +38,9 @@ pub struct Finding<'a> {
     pub line: usize,
     /// Which part of the line it is about.
     pub place: Place,
+    /// What it is about, if the line doesn't show it.
     pub about: About,
+    /// How severe it is.
     pub severity: Severity,
     /// The name of its kind, as `BadList`.
     pub name: &'a str,
@@ -55,9 +57,14 @@ pub struct Finding<'a> {
 /// A kind of finding, as a log of SARIF lists it.
 #[derive(Clone, Copy, Debug)]
 pub struct Rule<'a> {
+    /// The name of the kind, as `BadList`.
     pub name: &'a str,
+    /// How severe its findings are.
     pub severity: Severity,
+    /// What is wrong.
     pub meaning: &'a str,
+    /// How to fix it.
     pub fix: &'a str,
+    /// The subject of the standard that has the rule; empty if none has.
     pub subject: &'a str,
 }

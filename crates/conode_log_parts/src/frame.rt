@@ -32,7 +32,7 @@ impl LogBytes {
         }
     }
 
-    // appends a byte
+    /// Appends a byte.
     #[inline(always)]
     pub fn append(&mut self, byte: u8)
         requires { length self.old < 64 }

@@ -22,8 +22,8 @@ use Rattle.conode_log_parts.specs.Numbers.{moment_at, moved}
 use Rattle.conode_log_parts.specs.Parts.{bytes_at, frame_of, name_at, short_id}
 use Rattle.conode_log_parts.specs.Words.{is_over, next_is, past_gap, word_at}
 
--- the stamp at the front in microseconds, seconds (`-t a`, `-t z`, `-t d`) or a date in UTC (`-t
--- A`) in parentheses; 0 if there is none; and what follows
+-- the stamp at the front in microseconds, seconds (`-t a`, `-t z`, `-t d`) or a date in UTC
+-- (`-t A`) in parentheses; 0 if there is none; and what follows
 unfoldable pub screen_stamp_at : List ℕ → Option (ℕ × List ℕ)
 screen_stamp_at line =
     let text = past_gap false line in

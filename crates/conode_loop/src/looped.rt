@@ -109,9 +109,9 @@ fn loop_download<W: Write>(
 /// that the client sends.
 ///
 /// Each frame is written as the line of a trace at time 0: a request, and after it what the node
-/// sends; in a round with a tick only the latter. The last line is `; done, 3 requests` or `;
-/// failed 06070012, 1 requests`, with the number of frames that the client sent, or `; gave up` if
-/// it still waits after the last round. Returns the state of the client.
+/// sends; in a round with a tick only the latter. The last line is `; done, 3 requests` or
+/// `; failed 06070012, 1 requests`, with the number of frames that the client sent, or `; gave up`
+/// if it still waits after the last round. Returns the state of the client.
 ///
 /// A segmented download that the node permits completes: it takes one request, and one for each
 /// segment of at most seven bytes, and the entry then has the bytes (`done`).

@@ -40,6 +40,7 @@ use std::alloc::AllocError;
 pub struct Word {
     /// Whether the node-ID has to be added.
     pub relative: bool,
+    /// The number; without the node-ID, if that has to be added.
     pub number: u64,
 }
 

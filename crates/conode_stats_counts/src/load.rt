@@ -7,23 +7,29 @@ ghost use Rattle.conode_stats_counts.specs.Loads.{busier, load_of, load_with, se
 use crate::size::Size;
 use crate::tally::counted;
 
-/// Consecutive frames with stamps in the same second: that second, counted from stamp 0, their
-/// bits, and the most bits that such frames can take.
+/// Consecutive frames with stamps in the same second. Sums saturate at 2^64 - 1.
 #[derive(Clone, Copy, Debug, PartialEq, Eq)]
 pub struct Second {
+    /// The second, counted from stamp 0.
     pub second: u64,
+    /// The bits of these frames.
     pub bits: u64,
+    /// The most bits that such frames can take.
     pub most: u64,
 }
 
-/// The bits of frames, the most bits that such frames can take, how many frames have an unknown
-/// size, the newest second, and the busiest one. Sums saturate at 2^64 - 1.
+/// The bits that the frames of a bus take. Sums saturate at 2^64 - 1.
 #[derive(Clone, Copy, Debug, PartialEq, Eq)]
 pub struct Load {
+    /// The bits of all frames.
     pub bits: u64,
+    /// The most bits that such frames can take.
     pub most: u64,
+    /// How many frames have an unknown size; their bits count as 0.
     pub unknown: u64,
+    /// The second of the newest frame.
     pub now: Second,
+    /// The second with the most bits, the first one if several have as many.
     pub busiest: Second,
 }
 

@@ -12,6 +12,7 @@ use conode_record::Identifier;
 pub struct Row {
     /// The identifier; one of 29 bits with bit 31, the class of an error frame with bit 29.
     pub can_id: u32,
+    /// Its frames and their gaps.
     pub tally: Tally,
 }
 

@@ -14,11 +14,13 @@ ghost use Rattle.conode_stats_counts.specs.Sizes.{size_as, size_of};
 use crate::wire::Wire;
 use conode_record::{Content, Identifier};
 
-/// The bits of a frame on the bus, with the intermission after it (ISO 11898-1): as sent, with its
-/// stuff bits, and the most that a frame of its length can take. Both are 0 if unknown.
+/// The bits of a frame on the bus, with the intermission after it (ISO 11898-1). Both numbers are 0
+/// if they are unknown.
 #[derive(Clone, Copy, Debug, PartialEq, Eq)]
 pub struct Size {
+    /// The bits as sent, with the stuff bits.
     pub bits: u32,
+    /// The most bits that a frame of its length can take.
     pub most: u32,
 }
 

@@ -4,19 +4,25 @@ ghost use Rattle.std.specs.Prelude.{◌≡◌, [], ◌+◌, ◌^◌};
 ghost use Rattle.conode_stats_counts.specs.Gaps.{counted};
 ghost use Rattle.conode_stats_counts.specs.Tallies.{tally_of, tally_with};
 
-/// Frames and the gaps between their stamps, in microseconds. `first` and `last` are stamps;
-/// `steps_back` counts stamps before the one before them. Every other frame but the first has a
-/// gap: `gaps` counts them, `total` is their sum, `smallest` and `greatest` are 2^64 - 1 and 0 if
-/// there is none. Counts and sums saturate at 2^64 - 1.
+/// Frames and the gaps between their stamps, in microseconds. Every frame has a gap but the first,
+/// and those that step back. Counts and sums saturate at 2^64 - 1.
 #[derive(Clone, Copy, Debug, PartialEq, Eq)]
 pub struct Tally {
+    /// The stamp of the first frame; 0 without frames.
     pub first: u64,
+    /// The stamp of the last frame; 0 without frames.
     pub last: u64,
+    /// The number of frames.
     pub frames: u64,
+    /// How many frames have a stamp before that of the frame before them.
     pub steps_back: u64,
+    /// The number of gaps.
     pub gaps: u64,
+    /// The sum of the gaps.
     pub total: u64,
+    /// The smallest gap; 2^64 - 1 without gaps.
     pub smallest: u64,
+    /// The greatest gap; 0 without gaps.
     pub greatest: u64,
 }
 

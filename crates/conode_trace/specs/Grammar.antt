@@ -126,8 +126,8 @@ pub record SpellsKey (key : Key) (text : List ℕ) : Type 0 where
 abbrev pub SpellsHex : List ℕ → List ℕ → Type 0
 SpellsHex bytes text = ((bytes ≡ []) × (text ≡ codes "-")) ⊎ ((0 < length text) × SpellsPairs bytes text)
 
--- the name of an event, and after a space its words, with a space between two: `!tick N`, `!event
--- K`, `!changed KEY`, `!clear BITS`, `!write KEY HEX`, `!raise CODE BITS EXTRA`
+-- the name of an event, and after a space its words, with a space between two: `!tick N`,
+-- `!event K`, `!changed KEY`, `!clear BITS`, `!write KEY HEX`, `!raise CODE BITS EXTRA`
 abbrev pub SpellsEvent : EventLine → List ℕ → Type 0
 SpellsEvent (Ticks count) line =
     (number : List ℕ) × SpellsNumber 1 86400000 count number × (line ≡ codes "!tick " ++ number)

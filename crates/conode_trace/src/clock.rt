@@ -48,9 +48,9 @@ impl Clock {
     }
 
     /// Advances the clock to the stamp of a frame line, in ms, and returns the ticks of 1 ms
-    /// elapsed. The first frame line sets the clock without a tick, also backwards. An older stamp
-    /// doesn't move it later. `None` if the stamp is more than a day past the clock: the clock
-    /// stays.
+    /// elapsed. The first frame line sets the clock without a tick, also backwards. After that an
+    /// older stamp doesn't move it. `None` if the stamp is more than a day past the clock: the
+    /// clock stays.
     pub(crate) fn move_to(&mut self, stamp: u64) -> Option<u32>
         ensures exact { option_map (λ ticks. (ticks, self.new)) result ≡ move_to self.old stamp }
         ensures within { IfSome result (λ ticks. ticks ≤ 86400000) }

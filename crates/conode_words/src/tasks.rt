@@ -121,7 +121,9 @@ pub struct LintWords<'a> {
     pub allowed: Vec<&'a str>,
     /// The dictionary that is to be built from each sheet.
     pub dictionary: DictionaryWords,
+    /// How it writes what it finds.
     pub format: Format,
+    /// When it writes in colours.
     pub colours: Colours,
     /// Whether a warning counts as an error.
     pub strict: bool,
