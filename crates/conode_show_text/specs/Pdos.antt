@@ -27,7 +27,7 @@ abbrev pub is_pdo_cob_id : Key → Bool
 is_pdo_cob_id key =
     key.sub == 1 && (is_within rpdo_communication key.index || is_within tpdo_communication key.index)
 
--- the section of an entry: that of its sub-index, or for sub-index 0 that of its object
+-- the section of an entry: that of its sub-index, or else for sub-index 0 that of its object
 abbrev pub entry_section : List TextSection → Key → Option TextSection
 entry_section sections key =
     option_or (section_at (SubIndex key) sections)

@@ -121,7 +121,7 @@ fn set_pdo_line(
     end(line)
 }
 
-/// The section of an entry: that of its sub-index, or for sub-index 0 that of its object.
+/// The section of an entry: that of its sub-index, or else for sub-index 0 that of its object.
 pub fn entry_section<'s, 'a>(
     sections: &'s [TextSection<'s, 'a>],
     key: Key,
