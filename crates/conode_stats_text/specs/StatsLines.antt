@@ -8,7 +8,7 @@ use Rattle.conode_stats_counts.specs.declared.tally.Tally.{Tally}
 use Rattle.conode_stats_text.specs.Cells.{left, name_text, or_none, right, seconds, tenths, thousandths}
 use Rattle.conode_stats_text.specs.Figures.{gap_of, has_lost, is_emergency, is_heartbeat, is_silent, load, mean, rate, room_in}
 
--- an identifier in three digits, or where it is one of 29 bits or of an error frame in eight
+-- an identifier in three digits; in eight, if it has 29 bits or is of an error frame
 unfoldable pub id_text : ℕ → List ℕ
 id_text id = if nat_lt id 0x800 then digits_text 16 3 id else digits_text 16 8 (id % 0x80000000)
 

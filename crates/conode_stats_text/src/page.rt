@@ -24,7 +24,7 @@ pub struct Page<'a> {
 const HEAD: &str =
     "interface              id       frames    frames/s    smallest ms     mean ms   greatest ms\n";
 
-/// What is said of frames that have no row, and of those that have no bus.
+/// The words about frames without a row, and about frames without a bus.
 const MORE_IDENTIFIERS: &str = "frames of more than 4,096 identifiers, not in the table";
 
 const MORE_INTERFACES: &str = "frames of more than 16 interfaces, not counted";
