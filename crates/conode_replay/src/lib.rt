@@ -1,4 +1,4 @@
-//! A CAN trace replayed against a CANopen device: what comes to it, line by line, and what it then
+//! A CAN trace replayed against a CANopen device: what it receives, line by line, and what it then
 //! sends.
 #![tactic(auto)]
 
