@@ -39,7 +39,7 @@ ending_in text =
     else (if not (is_blank (slice_index text 0)) then Err bad.Data
     else (if is_marked text then Ok (Some (direction_of (slice_index text (length text - 1)))) else Err bad.Ending))
 
--- the bytes that the pairs of digits at the front spell, where they are at most so many, and what
+-- the bytes that the pairs of digits at the front spell, if they are at most so many, and what
 -- follows
 abbrev pub few_pairs : ℕ → List ℕ → Option (List ℕ × List ℕ)
 few_pairs most text = let pairs = pairs_at text in if nat_le (length pairs.0) most then Some pairs else None

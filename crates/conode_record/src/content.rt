@@ -138,7 +138,7 @@ fn ending_in(text: &[u8]) -> Result<Option<Direction>, BadLine>
     }
 }
 
-// the bytes of the pairs at the front, where they are at most 8, and what follows
+// the bytes of the pairs at the front, if they are at most 8, and what follows
 #[inline(always)]
 fn few_pairs_at(text: &[u8]) -> Option<(PackedBytes, &[u8])>
     ensures { option_map (λ found. (found.0, found.1.now)) result ≡ few_pairs 8 text.now }
@@ -155,7 +155,7 @@ fn few_pairs_at(text: &[u8]) -> Option<(PackedBytes, &[u8])>
     Some((bytes, rest))
 }
 
-// the same for a CAN FD frame, where they are at most 64
+// the same for a CAN FD frame, if they are at most 64
 fn fd_pairs_at(text: &[u8]) -> Option<(FdBytes, &[u8])>
     ensures { option_map (λ found. (found.0, found.1.now)) result ≡ few_pairs 64 text.now }
 {
