@@ -118,7 +118,7 @@ fn shown(alloc: Global, form: Form, node: Option<u8>, text: &[u8]) -> Result<Vec
 /// written instead, in JSON as a document. Returns whether the dictionary is shown.
 ///
 /// All is written at once. `Memory`: memory ran out, and nothing has been written. `Write`: the
-/// writer failed, and a part has been written.
+/// writer failed, and at most a part has been written.
 pub fn show<W: Write>(
     alloc: Global,
     text: &[u8],
