@@ -200,8 +200,8 @@ fn lint_all<R: Files + AllocGlobal + Input + Clone + Drop, O: Write, E: Write>(
 
 /// Lints files, the `*.eds` and `*.dcf` of folders, and standard input for `-`, and writes what is
 /// found to `out`. A file or a folder that can't be read is named on `err`, and the others are
-/// linted all the same. The status is 2 if one couldn't be read, or no finding has a name that is
-/// to be allowed. Else it is 1 with an error, if `strict` also with a warning, and if the command
+/// linted all the same. The status is 2 if one couldn't be read, or if a name to be allowed is that
+/// of no finding. Else it is 1 with an error, if `strict` also with a warning, and if the command
 /// stopped early. Else it is 0.
 pub fn lint_files<R: Files + AllocGlobal + Input + Clone + Drop, O: Write, E: Write>(
     rt: &R,

@@ -23,7 +23,7 @@ pub enum Subject {
     Fault(FaultKind),
     /// Why no dictionary can be built.
     Build(BuildFault),
-    /// Why a word of a mapping, or its count, can't begin so.
+    /// Why the initial value of a mapping's word, or of its count, can't be used.
     Mapping(MappingFault),
     /// What is legal, but suspicious.
     Warning(WarningKind),
