@@ -17,9 +17,9 @@ Gives (Some text) (Some rest) first next written bad =
     (converted_from first (lines text) ≡ written ++ converted_from next (lines rest))
     × (bad_count first text ≡ bad + bad_count next rest)
 
--- Lines were taken: they are converted on a writer, and so many of them are bad. `held` and `holds`
--- are what is held of the reader before and after, `before` and `after` its bytes, as far as known,
--- `old` and `new` the writer's.
+-- Lines were taken: a writer has what they are converted to, and so many of them are bad. `held`
+-- and `holds` are what is held of the reader before and after, `before` and `after` its bytes, as
+-- far as known, `old` and `new` the writer's.
 pub record Takes (held holds : Held) (before after : Option (List ℕ)) (first next : Log) (old new : Option (List ℕ)) (bad : ℕ) : Type 0 where
   pub written : List (List ℕ)
   pub appended : WritesLines old new written
