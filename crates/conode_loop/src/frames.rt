@@ -55,7 +55,8 @@ pub(crate) fn take_frames(
     Ok(())
 }
 
-/// The client takes a tick of 1 ms; queues what it then sends. `Err`: out of memory.
+/// Passes a tick of 1 ms to the client, and queues what the client then sends. `Err`: out of
+/// memory.
 pub(crate) fn take_tick(client: &mut Client<'_>, waiting: &mut Vec<Frame>) -> Result<(), AllocError>
     ensures stands { (call : Call) (events : List Event) → ClientStands call events client.old →
         OnOk result (ClientStands call (Ticked ∷ events) client.new) }
