@@ -132,8 +132,8 @@ log_option = worded (codes "log") (codes "auto")
 abbrev pub stamps_option : Rule
 stamps_option = lettered (codes "stamps") 116 (codes "relative")
 
--- `explain TRACE [--sheet SHEET].. [--stamps FORM|-t FORM] [--transfers] [--changes] [--format
--- FORMAT] [--log FORM] [--of NODES] [--id IDS] [--kind KINDS] [--from TIME] [--to TIME]`
+-- `explain TRACE [--sheet SHEET].. [--stamps FORM|-t FORM] [--transfers] [--changes]
+-- [--format FORMAT] [--log FORM] [--of NODES] [--id IDS] [--kind KINDS] [--from TIME] [--to TIME]`
 unfoldable pub explain_command : App
 explain_command =
     with_filters (with_rule (with_rule (with_rule (with_rule (with_rule (with_rule (with_rule (new_app (codes "explain"))
@@ -163,8 +163,8 @@ with_timing app =
     (numbered (codes "drift") 0 100 (codes "1" ∷ []))) (numbered (codes "answer") 0 most_ms (codes "1000" ∷ [])))
     (numbered (codes "boot") 0 most_ms (codes "10000" ∷ []))
 
--- `compare SHEET TRACE [--node N] [--interface NAME] [--log FORM] [--tolerance MS] [--drift
--- PERCENT] [--answer MS] [--boot MS]`
+-- `compare SHEET TRACE [--node N] [--interface NAME] [--log FORM] [--tolerance MS]
+-- [--drift PERCENT] [--answer MS] [--boot MS]`
 unfoldable pub compare_command : App
 compare_command =
     with_timing (with_rule (with_rule (with_rule (with_rule (with_rule (new_app (codes "compare")) (wanted (codes "SHEET")))

@@ -1,4 +1,4 @@
-//! Words of options that name a choice. Each function answers `None` for a word that is none of its
+//! Words of options that name a choice. Each function returns `None` for a word that is none of its
 //! choices.
 
 ghost use Rattle.std.specs.Prelude.{◌≡◌, map, option_and_then};

@@ -19,7 +19,7 @@ use clap::builder::ValueParser;
 use clap::{Arg, ArgAction, Command};
 use std::alloc::{AllocError, Global};
 
-/// The kind of a word or an option. Its first text is the name of an option's value in help.
+/// The kind of a word or an option.
 #[derive(Clone, Copy)]
 pub(crate) enum Kind {
     /// A word that has to be there.
@@ -28,11 +28,11 @@ pub(crate) enum Kind {
     ManyWanted,
     /// An option without a value.
     Flag,
-    /// An option with a value.
+    /// An option with a value, which help calls so.
     Valued(&'static str),
-    /// An option with a value, which may be used several times.
+    /// The same, which may be used several times.
     Repeated(&'static str),
-    /// An option with a value, and its default.
+    /// An option with a value, which help calls so, and its default.
     Worded(&'static str, &'static str),
     /// The same with a letter too, as `-t`.
     Lettered(char, &'static str, &'static str),
