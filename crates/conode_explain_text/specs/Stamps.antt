@@ -19,7 +19,8 @@ micros_text micros = digits_text 10 6 micros
 unfoldable pub time_text : ℕ → ℕ → List ℕ
 time_text width micros = padded width (micros / 1000000) ++ codes "." ++ micros_text (micros % 1000000)
 
--- the time from one stamp to another, with a hyphen before it where the other is the earlier one, else with this text
+-- the time from one stamp to another, with a hyphen before it where the other is the earlier one,
+-- else with this text
 unfoldable pub difference_text : List ℕ → ℕ → ℕ → ℕ → List ℕ
 difference_text plus width from to =
     if nat_le from to then plus ++ time_text width (to - from) else codes "-" ++ time_text width (from - to)
