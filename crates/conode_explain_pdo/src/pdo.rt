@@ -59,8 +59,9 @@ fn push_more(
     Ok(())
 }
 
-/// Appends what data say as each of these PDOs: `TPDO1 node 5: Temperature 2001:01 = 1000; Humidity 2001:02 = 10000`, with
-/// a bar between two. On an `Err` memory ran out, and a part of it may be there.
+/// Appends what data say as each of these PDOs: `TPDO1 node 5: Temperature 2001:01 = 1000; Humidity
+/// 2001:02 = 10000`, with a bar between two. On an `Err` memory ran out, and a part of it may be
+/// there.
 #[tactic(auto, unfolding(crate::specs::Pdos::pdos_text))]
 pub fn push_pdos(
     text: &mut String,
