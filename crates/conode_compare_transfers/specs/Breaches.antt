@@ -1,4 +1,4 @@
--- What a device does otherwise in an open transfer, by what both ends named (CiA 301, 7.2.4.3).
+-- Where a device differs from CiA 301 in an open transfer (7.2.4.3).
 use Rattle.std.specs.Prelude.{ℕ, ◌+◌, ◌*◌, ◌/◌, ◌==◌, Bool, ◌||◌, if◌then◌else◌, slice_index, Option, Some, None}
 use Rattle.co_frame.specs.AbortCodes.{unknown_command}
 use Rattle.co_frame.specs.FrameContent.{FrameContent}
@@ -31,11 +31,13 @@ key_in frame = record { index = byte_at frame 1 + byte_at frame 2 * 256; sub = b
 
 -- ---- the end of a transfer
 
--- `abort-key`: an abort of another entry; a server that doesn't know a command may not know where its multiplexer is
+-- `abort-key`: an abort of another entry; a server that doesn't know a command may not know where
+-- its multiplexer is
 abbrev pub abort_breach : Key → Key → AbortCode → Option Breach
 abort_breach named key code = if same_key named key || (code.0 == unknown_command) then None else Some (AbortKey key)
 
--- `answer-size`, `answer-crc`: an upload whose bytes aren't those that the device named
+-- `answer-size`, `answer-crc`: an upload whose bytes don't have the size or the CRC that the device
+-- sent
 abbrev pub ending_breach : FrameContent → Ended → Direction → Ending → Option Breach
 ending_breach frame ended direction (Aborted Server code) = abort_breach (key_in frame) ended.key code
 ending_breach frame ended Upload (SizeDiffers indicated) = Some (Size ended.key indicated ended.bytes)
@@ -47,8 +49,9 @@ ended_breach frame ended = ending_breach frame ended ended.direction ended.endin
 
 -- ---- another frame of the device
 
--- `answer-toggle`, `answer-form`, by the first byte: the answer to a request of the open transfer. Among the segments of a block
--- upload one whose number is 0 or above the block size; not what looks like its end, before which frames may be missing.
+-- `answer-toggle`, `answer-form`: the answer to a request of the open transfer. After a segment of
+-- a block upload, `answer-form` is a segment whose number is 0 or above the block size; not one
+-- with the first byte of its end, scs = 6, before which frames may be missing.
 abbrev pub server_breach : Newest → Key → What → ℕ → Option Breach
 server_breach Request key Repeated first = Some (Toggle key)
 server_breach Request key Unexpected first = Some (Form key)
@@ -66,7 +69,7 @@ abbrev pub breach_by : Newest → Side → Heard → FrameContent → Option End
 breach_by newest side heard frame (Some ended) = ended_breach frame ended
 breach_by newest side heard frame None = keyed_breach newest side heard.of heard.what (byte_at frame 0)
 
--- of a frame by an end, after the newest one of the open transfer
+-- the difference of a frame by an end; `newest` is whose frame came before it in the open transfer
 unfoldable pub breach_at : Option Newest → Side → Heard → FrameContent → Option Breach
 breach_at None side heard frame = None
 breach_at (Some newest) side heard frame = breach_by newest side heard frame heard.ended

@@ -18,15 +18,17 @@ use conode_explain_transfers::{Direction, Ended, Ending, Heard, Side, What};
 /// A difference in the transfer of an entry.
 #[derive(Clone, Copy)]
 pub enum Breach {
-    /// `answer-toggle`: a segment, or its confirmation, hasn't the toggle bit of its request.
+    /// `answer-toggle`: an upload segment, or the confirmation of a download segment, hasn't the
+    /// toggle bit of its request.
     Toggle(Key),
-    /// `answer-form`: the protocol has no such answer there, or no segment of a block with this number.
+    /// `answer-form`: the protocol has no such answer there, or a block segment has a number that
+    /// it can't have.
     Form(Key),
-    /// `abort-key`: an abort has another multiplexer.
+    /// `abort-key`: an abort has another multiplexer than the open transfer, whose entry this is.
     AbortKey(Key),
-    /// `answer-size`: an upload indicates so many bytes, and has so many.
+    /// `answer-size`: the size that an upload indicates, and the number of bytes that it has.
     Size(Key, u32, u64),
-    /// `answer-crc`: a block upload has this CRC, and its bytes have that one.
+    /// `answer-crc`: the CRC at the end of a block upload, and the CRC of its bytes.
     Crc(Key, u16, u16),
 }
 
@@ -40,7 +42,8 @@ pub fn byte_at(frame: &Frame, place: usize) -> u8
     }
 }
 
-/// The multiplexer of an initiate request, of its response, and of an abort.
+/// The multiplexer of an initiate request, of its response, and of an abort: index and sub-index in
+/// bytes 1 to 3.
 pub fn key_in(frame: &Frame) -> Key
     ensures { result ≡ key_in frame.now }
 {
@@ -50,7 +53,8 @@ pub fn key_in(frame: &Frame) -> Key
     }
 }
 
-// An abort of another entry; a server that doesn't know a command may not know where its multiplexer is.
+// The difference of an abort of another entry. With 05040001 there is none: a server that doesn't
+// know a command may not know where its multiplexer is.
 fn abort_breach(named: Key, key: Key, code: AbortCode) -> Option<Breach>
     ensures { result ≡ abort_breach named key code }
 {
@@ -83,8 +87,9 @@ fn ended_breach(frame: &Frame, ended: &Ended) -> Option<Breach>
     }
 }
 
-// The difference of a frame of the device with this first byte that doesn't end the transfer. Where a block upload's frames may be
-// missing in the recording, its end looks like a segment.
+// The difference of a frame of the device that doesn't end the transfer; `first` is its first byte.
+// After a segment, scs = 6 may be the end of the block upload, with frames missing before it: it
+// has no difference.
 fn server_breach(newest: Newest, key: Key, what: What, first: u8) -> Option<Breach>
     ensures { result ≡ server_breach newest key what first }
 {
@@ -96,7 +101,9 @@ fn server_breach(newest: Newest, key: Key, what: What, first: u8) -> Option<Brea
     }
 }
 
-/// The difference of a frame by an end, after the newest one of the open transfer.
+/// The difference that a frame shows in the open transfer. `newest` is whose frame came before it,
+/// `side` the end that sent it, `heard` what it is in the transfer. `None` where it shows none, or
+/// `newest` is `None`.
 #[tactic(auto, unfolding(crate::specs::Breaches::breach_at))]
 pub fn breach_at(newest: Option<Newest>, side: Side, heard: &Heard, frame: &Frame) -> Option<Breach>
     ensures { result ≡ breach_at newest side heard.now frame.now }
