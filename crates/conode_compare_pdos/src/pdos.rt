@@ -48,7 +48,8 @@ pub struct Sighting {
     pub judged: bool,
 }
 
-/// What a data sheet, whose entries are in increasing key, has of the TPDOs of the device with a node-ID.
+/// What a data sheet, whose entries are in increasing key, has of the TPDOs of the device with a
+/// node-ID.
 #[tactic(auto, unfolding(crate::specs::Followed::pdos_of))]
 pub fn pdos_of(rows: &[EntryRow<'_>], node: u8) -> Pdos
     requires { AllPairs (λ e f. is_key_before e.key f.key ≡ true) rows.now }
@@ -181,7 +182,8 @@ impl Pdos {
         self.fourth = self.fourth.after_frame(moment, id);
     }
 
-    /// What is said of a data frame with this identifier and so many bytes, where it is of one of the TPDOs.
+    /// What is said of a data frame with this identifier and so many bytes, where it is of one of
+    /// the TPDOs.
     #[tactic(auto, unfolding(crate::specs::Followed::sighting))]
     pub fn sighting(&self, moment: &Moment, id: u16, length: u8) -> Option<Sighting>
         ensures { result ≡ sighting moment.now self.now id length }
