@@ -15,9 +15,9 @@ use conode_logs::Form;
 use std::alloc::Global;
 use std::io::{Read, Write};
 
-/// Compares a log of the form that is given, or that its first lines show, line by line and in constant memory: for each
-/// difference a line is written on `out`. A bad line, or one of more than 512 bytes, is named on `err`, and the rest goes on.
-/// Gives what is known at the end.
+/// Compares a log of the form that is given, or that its first lines show, line by line and in
+/// constant memory: for each difference a line is written on `out`. A bad line, or one of more than
+/// 512 bytes, is named on `err`, and the rest goes on. Gives what is known at the end.
 ///
 /// `out` is flushed before each read, and not while a whole line is held.
 ///

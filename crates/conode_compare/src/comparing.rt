@@ -37,7 +37,8 @@ pub struct Comparing {
     pub(crate) several: bool,
 }
 
-// whether a frame is of the interface that is compared: the one that is named, else that of the first frame
+// whether a frame is of the interface that is compared: the one that is named, else that of the
+// first frame
 fn is_compared(interface: Option<&[u8]>, first: &[u8], name: &[u8]) -> bool
     ensures { result ≡ is_compared (option_copied interface.entry) first.now name.now }
 {
@@ -60,7 +61,8 @@ impl Comparing {
         }
     }
 
-    /// How many frames of the device have which verdict, and whether there were frames of another interface, where none was named.
+    /// How many frames of the device have which verdict; and whether no interface was named, and
+    /// there were frames of several.
     pub fn ends(&self) -> (Tally, bool)
         ensures { result ≡ (self.now.tally, self.now.several) }
     {
