@@ -39,9 +39,11 @@ use std::marker::Model;
 /// What a frame is, and the transfer that ended with it.
 #[derive(Drop)]
 pub struct Heard {
+    /// What the frame is.
     pub what: What,
     /// The open transfer's entry; `None` where the frame has a key of its own.
     pub of: Option<Key>,
+    /// The transfer that ended with the frame.
     pub ended: Option<Ended>,
 }
 

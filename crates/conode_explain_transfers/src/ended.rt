@@ -55,6 +55,7 @@ pub struct Ended {
     pub newest: u64,
     /// The stamp of the end.
     pub end: u64,
+    /// How it ended.
     pub ending: Ending,
 }
 
