@@ -51,7 +51,7 @@ placed_at None tracks interface node =
 unfoldable pub placed : List Track → List ℕ → ℕ → Placed
 placed tracks interface node = placed_at (place_of tracks interface node) tracks interface node
 
--- ---- what is told
+-- ---- what is said about frames
 
 pub record Telling : Type 0 where
   pub told : Option Told

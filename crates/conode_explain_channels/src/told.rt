@@ -8,6 +8,7 @@ use conode_explain_transfers::{Ended, Side, What};
 pub struct Part {
     /// The end that sent it.
     pub side: Side,
+    /// What it is.
     pub what: What,
     /// The open transfer's entry; `None` where the frame has a key of its own.
     pub of: Option<Key>,
@@ -17,7 +18,10 @@ pub struct Part {
 /// channel, and the transfer that ended with it.
 #[derive(Drop)]
 pub struct Told {
+    /// The node-ID of the server.
     pub node: u8,
+    /// What it is in the transfers; `None` for a boot-up.
     pub part: Option<Part>,
+    /// The transfer that ended with it.
     pub ended: Option<Ended>,
 }
