@@ -31,9 +31,11 @@ const MOST_PDOS: usize = 2048;
 pub struct ShownPdo {
     /// The index of its communication parameter.
     pub index: u16,
+    /// The node-ID.
     pub node: u8,
     /// The name of the interface.
     pub interface: ArrayVec<u8, 15>,
+    /// What the recording shows of its entries.
     pub state: PdoState,
 }
 

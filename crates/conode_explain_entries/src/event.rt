@@ -39,6 +39,7 @@ pub enum PdoPart {
 pub struct PdoEntry {
     /// The index of the PDO's communication parameter.
     pub index: u16,
+    /// Which of its entries.
     pub part: PdoPart,
 }
 
