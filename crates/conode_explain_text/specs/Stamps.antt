@@ -43,7 +43,7 @@ unfoldable pub time_of_day_text : ℕ → List ℕ
 time_of_day_text seconds =
     two_digits (seconds / 3600) ++ codes ":" ++ two_digits (seconds / 60 % 60) ++ codes ":" ++ two_digits (seconds % 60)
 
--- the date and the time of day of a stamp that is counted from the begin of 1970, in UTC
+-- the date and the time of day of a stamp that is counted from 1 January 1970, in UTC
 unfoldable pub moment_text : ℕ → List ℕ
 moment_text micros =
     date_text (date_of (micros / 1000000 / 86400)) ++ codes " " ++ time_of_day_text (micros / 1000000 % 86400)

@@ -33,7 +33,7 @@ pub enum StampForm {
     Absolute,
     /// Since the frame before.
     Delta,
-    /// The date and the time of day in UTC, where stamps are counted from the begin of 1970.
+    /// The date and the time of day in UTC, where stamps are counted from 1 January 1970.
     Date,
 }
 
