@@ -20,6 +20,7 @@ use conode_record::{Content, Identifier, Record};
 pub struct Subject {
     /// Its identifier.
     pub id: Written,
+    /// Its kind.
     pub kind: Kind,
     /// Its node; 0 for all nodes, `None` for none.
     pub node: Option<u8>,
