@@ -47,8 +47,8 @@ fn original_type(code: &[u8]) -> Option<ValueType>
 }
 
 impl ValueType {
-    /// The type of an entry's values: its original one, by the code that a sheet which was adapted
-    /// has for it in `OriginalDataType`, as `0x000C`; else that of the sheet.
+    /// The type of an entry's values: the one that an adapted sheet has in `OriginalDataType`, as
+    /// `0x000C`, if it is one of these; else `data_type`.
     pub fn of(original: Option<&[u8]>, data_type: DataType) -> ValueType
         ensures value_type { result ≡ type_of (option_copied original.entry) data_type }
     {
