@@ -32,6 +32,7 @@ use std::alloc::AllocError;
 /// A node's PDO that has the identifier.
 #[derive(Clone, Copy, Debug, PartialEq, Eq)]
 pub struct Claim {
+    /// The node-ID.
     pub node: u8,
     /// The index of its communication parameter.
     pub index: u16,

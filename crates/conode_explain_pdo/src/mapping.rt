@@ -345,7 +345,7 @@ pub fn push_data(
     bytes: &[u8],
 ) -> Result<(), AllocError>
     requires { length bytes.now ≤ 8 }
-    // Of an entry the bits are shown that are at its offset by this mapping.
+    // Each entry is shown with the bits at its offset in this mapping.
     ensures { OnOk result (string_bytes text.new ≡ string_bytes text.old
         ++ data_text (names_view names.entry) node mapping.now bytes.now) }
 {

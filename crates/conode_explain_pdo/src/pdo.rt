@@ -70,7 +70,7 @@ pub fn push_pdos(
     claims: &[Claim],
 ) -> Result<(), AllocError>
     requires { length bytes.now ≤ 8 }
-    // Of an entry the bits are shown that are at the offset that the mapping in force gives.
+    // Each entry is shown with the bits at its offset in the mapping in force.
     ensures { OnOk result (string_bytes text.new
         ≡ string_bytes text.old ++ pdos_text (bus_view bus.entry) bytes.now claims.now) }
 {
