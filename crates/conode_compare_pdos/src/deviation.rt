@@ -192,7 +192,7 @@ fn time_deviation(moment: &Moment, pdo: &Tpdo) -> Option<Deviation>
 }
 
 /// The difference of a frame of a TPDO with so many bytes, where its parameters are settled;
-/// whether SYNC is known.
+/// `has_sync`: the COB-ID of SYNC is known.
 #[tactic(auto, unfolding(crate::specs::Deviations::deviation_at))]
 pub(crate) fn deviation_at(
     moment: &Moment,

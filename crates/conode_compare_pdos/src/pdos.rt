@@ -34,8 +34,11 @@ pub struct Pdos {
     pub sync: Option<u16>,
     /// By 1800h and 1A00h.
     pub first: Tpdo,
+    /// By 1801h and 1A01h.
     pub second: Tpdo,
+    /// By 1802h and 1A02h.
     pub third: Tpdo,
+    /// By 1803h and 1A03h.
     pub fourth: Tpdo,
 }
 
@@ -44,7 +47,9 @@ pub struct Pdos {
 pub struct Sighting {
     /// Which one it is, from 1 on.
     pub number: u8,
+    /// Its difference, if it has one.
     pub deviation: Option<Deviation>,
+    /// Whether the frame is judged.
     pub judged: bool,
 }
 

@@ -34,6 +34,7 @@ pub struct Sent {
 /// What a recording shows of a TPDO.
 #[derive(Clone, Copy)]
 pub struct Tpdo {
+    /// Its parameters, as far as they are known.
     pub parameters: Parameters,
     /// Its newest frame; `None` where its times count anew from the next one.
     pub sent: Option<Sent>,
