@@ -1,5 +1,4 @@
--- What a recording shows of a device, frame by frame, and what it does otherwise than CiA 301
--- prescribes.
+-- What a recording shows of a device, frame by frame, and where it differs from CiA 301.
 use Rattle.std.specs.Prelude.{ℕ, ◌==◌, nat_lt, Bool, true, false, not, ◌&&◌, ◌||◌, if◌then◌else◌, List, Option, Some, None, is_some, option_map}
 use Rattle.std.specs.Option.{option_map_or}
 use Rattle.co_frame.specs.FrameContent.{FrameContent}

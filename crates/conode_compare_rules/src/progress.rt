@@ -1,4 +1,4 @@
-//! What a recording shows of a device, frame by frame, and what it does otherwise than prescribed.
+//! What a recording shows of a device, frame by frame, and its differences.
 
 ghost use Rattle.std.specs.Prelude.{◌≡◌, true, map};
 ghost use Rattle.std.specs.List.{AllPairs};
@@ -556,7 +556,7 @@ impl Progress {
     }
 
     /// Takes a frame of the recording with its stamp in microseconds, by what it is to the device.
-    /// Gives what is found at it, with a data sheet whose entries are in increasing key.
+    /// Returns what is found at it; `rows` are the data sheet's entries, in increasing key.
     #[tactic(auto, unfolding(crate::specs::Progresses::findings_at, crate::specs::Progresses::progress_with))]
     pub fn take(
         &mut self,
