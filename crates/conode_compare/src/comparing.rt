@@ -69,7 +69,7 @@ impl Comparing {
         (self.tally, self.several)
     }
 
-    // takes note of the interface of the first frame
+    // notes the interface of the first frame
     fn note_first(&mut self, name: &[u8])
         requires { length name.now ≤ 15 }
         ensures { self.new ≡ record self.old { first = first_with self.old.first name.now } }
@@ -80,7 +80,7 @@ impl Comparing {
         }
     }
 
-    // takes note of a frame of another interface
+    // notes a frame of another interface
     fn note_other(&mut self, interface: Option<&[u8]>)
         ensures { self.new ≡ other_seen (option_copied interface.entry) self.old }
     {
